@@ -1,0 +1,3 @@
+pub mod IdTexts
+pub mod Ovn
+pub mod Airspace

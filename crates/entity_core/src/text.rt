@@ -1,0 +1,55 @@
+//! Texts that are kept as they came.
+ghost use Rattle.std.specs.Prelude.{◌≡◌, [], IfOk};
+ghost use Rattle.std.specs.String.{string_bytes};
+
+use std::alloc::{AllocError, Global};
+use std::marker::Model;
+
+/// A text of any form. Contracts see its bytes.
+#[derive(Debug, Drop)]
+pub struct Text {
+    letters: String,
+}
+
+impl Model for Text {
+    ghost use Rattle.std.specs.Prelude.{List, ℕ};
+    ghost use Rattle.std.specs.String.{string_bytes};
+
+    ghost Value = { List ℕ };
+
+    ghost view = { λ a. string_bytes a.letters };
+}
+
+impl Text {
+    /// The string as a text. It takes no memory.
+    pub fn from_string(letters: String) -> Text
+        ensures { result ≡ string_bytes letters }
+    {
+        Text { letters }
+    }
+
+    /// The empty text. It takes no memory.
+    pub fn empty(alloc: Global) -> Text
+        ensures { result ≡ [] }
+    {
+        Text {
+            letters: String::new(alloc),
+        }
+    }
+
+    /// The text.
+    pub fn text(&self) -> &str
+        ensures { result.now ≡ self.now }
+    {
+        self.letters.as_str()
+    }
+
+    /// An equal text.
+    pub fn clone(&self) -> Result<Text, AllocError>
+        ensures { IfOk result (λ text. text ≡ self.now) }
+    {
+        Ok(Text {
+            letters: self.letters.clone()?,
+        })
+    }
+}

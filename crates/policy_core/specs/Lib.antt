@@ -1,0 +1,5 @@
+pub mod Scope
+pub mod Call
+pub mod Rule
+pub mod Policy
+pub mod Standing

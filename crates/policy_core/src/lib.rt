@@ -1,0 +1,8 @@
+//! The policy: who may do what, and which rule a call breaks first.
+#![tactic(auto)]
+
+pub mod call;
+pub mod early;
+pub mod rule;
+pub mod scope;
+pub mod standing;

@@ -1,0 +1,104 @@
+//! The rules, by number, name and HTTP status.
+ghost use Rattle.std.specs.Prelude.{◌≡◌};
+ghost use Rattle.policy_core.specs.Rule.{number_of, name_of, status_of};
+
+/// A rule of the policy, P1 to P15. A call is denied by the first rule that it breaks.
+#[derive(Clone, Copy, Debug, PartialEq, Eq)]
+pub enum Rule {
+    /// P1: the path is no route.
+    Route,
+    /// P2: the route does not take the method.
+    Method,
+    /// P3: there is no caller.
+    Token,
+    /// P4: the caller has none of the scopes that open the operation.
+    Scope,
+    /// P5: a path word or the body has a wrong form.
+    Form,
+    /// P6: the cells of all volumes cover too much.
+    Area,
+    /// P7: what is to be read, updated or deleted is not there.
+    Found,
+    /// P8: what is to be created is there.
+    Fresh,
+    /// P9: the caller is not the manager.
+    Manager,
+    /// P10: the version is not the present one.
+    Version,
+    /// P11: the caller's scopes do not allow the state.
+    Role,
+    /// P12: the state may not become this one.
+    Change,
+    /// P13: all volumes have ended.
+    Ended,
+    /// P14: the key lacks something needed.
+    Key,
+    /// P15: a serial or a version is the greatest.
+    Limit,
+}
+
+impl Rule {
+    ghost use Rattle.policy_core.specs.Rule.{number_of, name_of, status_of};
+
+    /// The rule's number, 1 to 15.
+    pub fn number(self) -> u8
+        ensures { result ≡ number_of self }
+    {
+        match self {
+            Rule::Route => 1,
+            Rule::Method => 2,
+            Rule::Token => 3,
+            Rule::Scope => 4,
+            Rule::Form => 5,
+            Rule::Area => 6,
+            Rule::Found => 7,
+            Rule::Fresh => 8,
+            Rule::Manager => 9,
+            Rule::Version => 10,
+            Rule::Role => 11,
+            Rule::Change => 12,
+            Rule::Ended => 13,
+            Rule::Key => 14,
+            Rule::Limit => 15,
+        }
+    }
+
+    /// The rule's name, in capital letters.
+    pub fn name(self) -> &'static str
+        ensures { result.now ≡ name_of self }
+    {
+        match self {
+            Rule::Route => "ROUTE",
+            Rule::Method => "METHOD",
+            Rule::Token => "TOKEN",
+            Rule::Scope => "SCOPE",
+            Rule::Form => "FORM",
+            Rule::Area => "AREA",
+            Rule::Found => "FOUND",
+            Rule::Fresh => "FRESH",
+            Rule::Manager => "MANAGER",
+            Rule::Version => "VERSION",
+            Rule::Role => "ROLE",
+            Rule::Change => "CHANGE",
+            Rule::Ended => "ENDED",
+            Rule::Key => "KEY",
+            Rule::Limit => "LIMIT",
+        }
+    }
+
+    /// The HTTP status of a denial by the rule (RFC 9110).
+    pub fn status(self) -> u16
+        ensures { result ≡ status_of self }
+    {
+        match self {
+            Rule::Route | Rule::Found => 404,
+            Rule::Method => 405,
+            Rule::Token => 401,
+            Rule::Scope | Rule::Manager | Rule::Role => 403,
+            Rule::Form | Rule::Change | Rule::Ended => 400,
+            Rule::Area => 413,
+            Rule::Fresh | Rule::Version | Rule::Key => 409,
+            Rule::Limit => 503,
+        }
+    }
+}

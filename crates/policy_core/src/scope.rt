@@ -1,0 +1,97 @@
+//! Scopes: what a token allows.
+ghost use Rattle.std.specs.Prelude.{◌≡◌, MatchOption, false};
+ghost use Rattle.policy_core.specs.Scope.{scope_name, has_scope, no_scopes, with_scope};
+
+use entity_core::uss_id::UssId;
+
+/// What a token allows its holder to do. The names are those of ASTM F3548's scopes as this project's
+/// profile has them.
+#[derive(Clone, Copy, Debug, PartialEq, Eq)]
+pub enum Scope {
+    StrategicCoordination,
+    ConformanceMonitoring,
+    ConstraintProcessing,
+    ConstraintManagement,
+    AvailabilityArbitration,
+}
+
+impl Scope {
+    ghost use Rattle.policy_core.specs.Scope.{scope_name};
+
+    /// The scope of that name, with case. No other text is a scope's name.
+    pub fn named(name: &str) -> Option<Scope>
+        ensures { MatchOption result ((s : Scope) → scope_name s ≡ name.now → ⊥) (λ s. scope_name s ≡ name.now) }
+    {
+        match name {
+            "utm.strategic_coordination" => Some(Scope::StrategicCoordination),
+            "utm.conformance_monitoring_sa" => Some(Scope::ConformanceMonitoring),
+            "utm.constraint_processing" => Some(Scope::ConstraintProcessing),
+            "utm.constraint_management" => Some(Scope::ConstraintManagement),
+            "utm.availability_arbitration" => Some(Scope::AvailabilityArbitration),
+            _ => None,
+        }
+    }
+}
+
+/// A set of scopes.
+#[derive(Clone, Copy, Debug, PartialEq, Eq)]
+pub struct ScopeSet {
+    strategic_coordination: bool,
+    conformance_monitoring: bool,
+    constraint_processing: bool,
+    constraint_management: bool,
+    availability_arbitration: bool,
+}
+
+impl ScopeSet {
+    ghost use Rattle.policy_core.specs.Scope.{has_scope, no_scopes, with_scope};
+
+    /// The set without a scope.
+    pub fn empty() -> ScopeSet
+        ensures none { (s : Scope) → has_scope result s ≡ false }
+        ensures value { result ≡ no_scopes }
+    {
+        ScopeSet {
+            strategic_coordination: false,
+            conformance_monitoring: false,
+            constraint_processing: false,
+            constraint_management: false,
+            availability_arbitration: false,
+        }
+    }
+
+    /// The set with one more scope.
+    pub fn with(self, scope: Scope) -> ScopeSet
+        ensures { result ≡ with_scope self scope }
+    {
+        let mut scopes = self;
+        match scope {
+            Scope::StrategicCoordination => scopes.strategic_coordination = true,
+            Scope::ConformanceMonitoring => scopes.conformance_monitoring = true,
+            Scope::ConstraintProcessing => scopes.constraint_processing = true,
+            Scope::ConstraintManagement => scopes.constraint_management = true,
+            Scope::AvailabilityArbitration => scopes.availability_arbitration = true,
+        }
+        scopes
+    }
+
+    /// Whether the scope is in the set.
+    pub fn has(self, scope: Scope) -> bool
+        ensures { result ≡ has_scope self scope }
+    {
+        match scope {
+            Scope::StrategicCoordination => self.strategic_coordination,
+            Scope::ConformanceMonitoring => self.conformance_monitoring,
+            Scope::ConstraintProcessing => self.constraint_processing,
+            Scope::ConstraintManagement => self.constraint_management,
+            Scope::AvailabilityArbitration => self.availability_arbitration,
+        }
+    }
+}
+
+/// Who makes a call: a supplier, with what its token allows.
+#[derive(Debug, Drop)]
+pub struct Caller {
+    pub uss: UssId,
+    pub scopes: ScopeSet,
+}

@@ -1,0 +1,4 @@
+pub mod Looked
+pub mod Outcome
+pub mod Runs
+pub mod Steps

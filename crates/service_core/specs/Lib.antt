@@ -1,0 +1,5 @@
+pub mod Step
+pub mod Looks
+pub mod Service
+pub mod Held
+pub mod Run

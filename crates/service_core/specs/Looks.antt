@@ -1,0 +1,70 @@
+-- What the looks at a space tell and leave, before anything is changed.
+use Rattle.std.specs.Prelude.{◌≡◌, ℕ, ◌<◌, Bool, true, List, Option, Some, None, Result, IfOk, MatchResult, ◌⊎◌, IfSome}
+use Rattle.space_core.specs.declared.space.SpaceFault.TheVariants.{Unchanged, Broken}
+use Rattle.space_core.specs.declared.space.Change.{Change}
+use Rattle.entity_core.specs.Airspace.{Airspace}
+use Rattle.space_core.specs.Space.{greatest_count, changed, Fits}
+use Rattle.policy_core.specs.declared.call.Call.{Call}
+use Rattle.policy_core.specs.declared.rule.Rule.{Rule}
+use Rattle.service_core.specs.declared.reply.Missing.{Missing}
+use Rattle.service_core.specs.declared.look.Halt.{Halt}
+use Rattle.service_core.specs.declared.look.Halt.TheVariants.{NoMemory, Space}
+use Rattle.service_core.specs.declared.look.Grounds.{Grounds}
+use Rattle.service_core.specs.declared.decide.Verdict.{Verdict}
+use Rattle.service_core.specs.declared.decide.Verdict.TheVariants as verdicts
+use Rattle.service_core.specs.declared.reply.Answer.{Answer}
+use Rattle.service_core.specs.declared.reply.Reply.TheVariants.{Done}
+use Rattle.policy_core.specs.Policy.{first_broken}
+use Rattle.policy_core.specs.Standing.{Regards}
+use Rattle.service_core.specs.Step.{effect, told_missing}
+
+-- P, but where the space broke
+abbrev pub UnlessBroke : Halt → Type 0 → Type 0
+UnlessBroke NoMemory P = P
+UnlessBroke (Space Unchanged) P = P
+UnlessBroke (Space Broken) P = Unit {0}
+
+-- what a halt says of the space
+abbrev pub ToldBy : Halt → ℕ → ℕ → Bool → Type 0
+ToldBy NoMemory refusals refusals' broken = Unit {0}
+ToldBy (Space Unchanged) refusals refusals' broken = (refusals < refusals') ⊎ (refusals' ≡ greatest_count)
+ToldBy (Space Broken) refusals refusals' broken = broken ≡ true
+
+-- A look leaves what the space holds; what it finds has P of each airspace that was held.
+pub record Looks {S T : Type 0} (Holds : S → Airspace → Type 0) (IsSound : S → Type 0) (refusals : S → ℕ) (is_broken : S → Bool) (old new : S) (result : Result T Halt) (P : Airspace → T → Type 0) : Type 0 where
+  pub sound : IsSound new → IsSound old
+  pub stays : IsSound new → MatchResult result (λ _. (a : Airspace) → Holds old a → Holds new a) (λ h. UnlessBroke h ((a : Airspace) → Holds old a → Holds new a))
+  pub no_other : IsSound new → (a : Airspace) → Holds new a → Holds old a
+  pub found : IsSound new → IfOk result (λ x. (a : Airspace) → Holds old a → P a x)
+  pub told : MatchResult result (λ _. (refusals new ≡ refusals old) × (is_broken new ≡ is_broken old)) (λ h. ToldBy h (refusals old) (refusals new) (is_broken new))
+
+-- what was looked up is what the airspace has for the call
+abbrev pub IsGround : Call → Airspace → Grounds → Type 0
+IsGround c a g = Regards a c g.kept g.serial
+
+-- the first rule that a call breaks, with what is missing
+abbrev pub IsFirst : ℕ → Call → Airspace → Option (Rule × Missing) → Type 0
+IsFirst now c a None = first_broken a now c ≡ None
+IsFirst now c a (Some broken) = (first_broken a now c ≡ Some broken.0) × (broken.1 ≡ told_missing a c broken.0)
+
+abbrev pub verdict_of : Grounds → Option (Rule × Missing) → Verdict
+verdict_of g None = verdicts.Allowed g
+verdict_of g (Some broken) = verdicts.Refused broken.0 broken.1
+
+-- what was decided of a call is what the policy says
+abbrev pub Judges : ℕ → Call → Airspace → Verdict → Type 0
+Judges now c a (verdicts.Refused p m) = (first_broken a now c ≡ Some p) × (m ≡ told_missing a c p)
+Judges now c a (verdicts.Allowed g) = (first_broken a now c ≡ None) × IsGround c a g
+
+abbrev pub changed_by : Option Change → Airspace → Airspace
+changed_by None a = a
+changed_by (Some change) a = changed change a
+
+-- A change and an answer are the effect of a call that breaks no rule, and the change can be made.
+pub record Makes (salt : List ℕ) (now : ℕ) (c : Call) (g : Grounds) (a : Airspace) (made : Option Change × Answer) : Type 0 where
+  pub effect : effect salt a c.op ≡ (changed_by made.0 a, Done made.1)
+  pub fits : IfSome made.0 (λ change. Fits change a)
+
+-- for each airspace in which the call breaks no rule
+abbrev pub Prepares : List ℕ → ℕ → Call → Grounds → Airspace → Option Change × Answer → Type 0
+Prepares salt now c g a made = first_broken a now c ≡ None → IsGround c a g → Makes salt now c g a made

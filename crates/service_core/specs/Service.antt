@@ -1,0 +1,44 @@
+-- What a service may answer.
+use Rattle.std.specs.Prelude.{◌≡◌, ℕ, ◌<◌, Bool, true, false, List, find, ◌⊎◌, IsSome, IsNone}
+use Rattle.entity_core.specs.Airspace.{Airspace}
+use Rattle.space_core.specs.Space.{greatest_count, IsContent}
+use Rattle.policy_core.specs.declared.call.Call.{Call}
+use Rattle.service_core.specs.declared.reply.Reply.{Reply}
+use Rattle.service_core.specs.declared.reply.Reply.TheVariants.{Done, Denied, Fault, Stopped}
+use Rattle.policy_core.specs.Policy.{breaks, early_rules, standing_rules}
+use Rattle.space_core.specs.declared.space.SpaceFault.TheVariants.{Unchanged, Broken}
+use Rattle.service_core.specs.declared.look.Halt.{Halt}
+use Rattle.service_core.specs.declared.look.Halt.TheVariants.{NoMemory, Space}
+use Rattle.service_core.specs.Step.{step}
+
+-- the reply where a call was given up
+abbrev pub reply_of : Halt → Reply
+reply_of NoMemory = Fault
+reply_of (Space Unchanged) = Fault
+reply_of (Space Broken) = Stopped
+
+abbrev pub is_stopped : Reply → Bool
+is_stopped Stopped = true
+is_stopped r = false
+
+-- What a call leaves of a space whose content was the airspace `a`: after an answer the policy's airspace, after a
+-- denial or a fault `a` itself, and after `Stopped` nothing is held but `a` or the policy's.
+abbrev pub Leaves : {S : Type 0} → (S → Airspace → Type 0) → List ℕ → Airspace → ℕ → Call → Reply → S → Type 0
+Leaves Holds salt a now c (Done answer) new = ((step salt a now c).1 ≡ Done answer) × IsContent Holds new (step salt a now c).0
+Leaves Holds salt a now c (Denied r m) new = (step salt a now c ≡ (a, Denied r m)) × IsContent Holds new a
+Leaves Holds salt a now c Fault new = IsContent Holds new a
+Leaves Holds salt a now c Stopped new = (b : Airspace) → Holds new b → (b ≡ a) ⊎ (b ≡ (step salt a now c).0)
+
+-- when a call may fail: only where no early rule is broken, and where a later one of P7 to P13 is, only for the space
+abbrev pub MayFail : Airspace → ℕ → Call → Reply → ℕ → ℕ → Type 0
+MayFail a now c Fault refusals refusals' = IsNone (find (breaks a now c) early_rules) × (IsSome (find (breaks a now c) standing_rules) → (refusals < refusals') ⊎ (refusals' ≡ greatest_count))
+MayFail a now c (Done answer) refusals refusals' = Unit {0}
+MayFail a now c (Denied r m) refusals refusals' = Unit {0}
+MayFail a now c Stopped refusals refusals' = Unit {0}
+
+-- what is known of a call of a service that was not stopped
+pub record Answers {S : Type 0} (Holds : S → Airspace → Type 0) (IsSound : S → Type 0) (refusals : S → ℕ) (is_broken : S → Bool) (salt : List ℕ) (now : ℕ) (c : Call) (old new : S) (reply : Reply) : Type 0 where
+  pub step : IsSound new → (a : Airspace) → IsContent Holds old a → Leaves Holds salt a now c reply new
+  pub fails : IsSound new → (a : Airspace) → IsContent Holds old a → MayFail a now c reply (refusals old) (refusals new)
+  pub sound : IsSound new → IsSound old
+  pub cause : reply ≡ Stopped → is_broken new ≡ true

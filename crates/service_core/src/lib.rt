@@ -1,0 +1,8 @@
+//! The service: one call, and a run of calls, answered as the policy says.
+#![tactic(auto)]
+
+pub mod decide;
+pub mod effects;
+pub mod look;
+pub mod reply;
+pub mod service;

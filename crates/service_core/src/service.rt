@@ -1,0 +1,179 @@
+//! A service over a space.
+ghost use Rattle.std.specs.Prelude.{◌≡◌, ℕ, Some, None, find, IfSome, IfOk, OnErr, IsTrue, true, false, length, All};
+ghost use Rattle.std.specs.Borrow.{Lends, sem};
+ghost use Rattle.entity_core.specs.Airspace.{Airspace};
+ghost use Rattle.policy_core.specs.Policy.{breaks, early_rules, first_broken};
+ghost use Rattle.space_core.specs.Space.{IsContent};
+ghost use Rattle.service_core.specs.contracts.service.Service.{the_row};
+ghost use Rattle.service_core.specs.Looks.{Judges, Makes};
+ghost use Rattle.service_core.specs.Service.{Answers, reply_of, is_stopped};
+ghost use Rattle.service_core.specs.Step.{nothing_missing};
+ghost use Rattle.service_core.specs.Run.{Runs, StayStopped, has_stopped};
+ghost use Rattle.service_core.specs.Held.{space_of, salt_of, is_shut, with_space};
+
+use crate::decide::{Verdict, decide};
+use crate::effects::prepared;
+use crate::look::{Grounds, Halt};
+use crate::reply::{Answer, Missing, Reply};
+use entity_core::salt::Salt;
+use policy_core::call::Call;
+use policy_core::early::early;
+use space_core::space::{Change, Space, SpaceFault};
+use std::alloc::{AllocError, Global};
+
+// The reply where a call was given up.
+fn gave_up(halt: Halt) -> Reply
+    ensures { result ≡ reply_of halt }
+{
+    match halt {
+        Halt::NoMemory => Reply::Fault,
+        Halt::Space(SpaceFault::Unchanged) => Reply::Fault,
+        Halt::Space(SpaceFault::Broken) => Reply::Stopped,
+    }
+}
+
+// The reply to a call that breaks no early rule.
+fn answered<S: Space>(space: &mut S, alloc: Global, salt: &Salt, now: u64, call: &Call) -> Reply
+    requires { (a : Airspace) → find (breaks a now call.now) early_rules ≡ None }
+    ensures { Answers S.holds S.is_sound S.refusals S.is_broken salt.now now call.now space.old space.new result }
+{
+    match decide(space, now, call) {
+        Ok(Verdict::Refused(broken, missing)) => Reply::Denied(broken, missing),
+        Ok(Verdict::Allowed(grounds)) => allowed(space, alloc, salt, now, call, &grounds),
+        Err(halt) => gave_up(halt),
+    }
+}
+
+// The reply to a call that breaks no rule.
+fn allowed<S: Space>(
+    space: &mut S,
+    alloc: Global,
+    salt: &Salt,
+    now: u64,
+    call: &Call,
+    grounds: &Grounds,
+) -> Reply
+    requires early { (a : Airspace) → find (breaks a now call.now) early_rules ≡ None }
+    requires given { S.is_sound space.old → (a : Airspace) → S.holds space.old a → Judges now call.now a (Verdict.Allowed grounds.now) }
+    ensures { Answers S.holds S.is_sound S.refusals S.is_broken salt.now now call.now space.old space.new result }
+{
+    let (change, answer) = match prepared(alloc, salt, now, call, grounds) {
+        Ok(made) => made,
+        Err(_) => return Reply::Fault,
+    };
+    match change {
+        Some(change) => changed(space, salt, now, call, grounds, change, answer),
+        None => Reply::Done(answer),
+    }
+}
+
+// The change is made.
+fn changed<S: Space>(
+    space: &mut S,
+    salt: &Salt,
+    now: u64,
+    call: &Call,
+    grounds: &Grounds,
+    change: Change,
+    answer: Answer,
+) -> Reply
+    requires early { (a : Airspace) → find (breaks a now call.now) early_rules ≡ None }
+    requires given { S.is_sound space.old → (a : Airspace) → S.holds space.old a → (first_broken a now call.now ≡ None) × Makes salt.now now call.now grounds.now a (Some change, answer) }
+    ensures { Answers S.holds S.is_sound S.refusals S.is_broken salt.now now call.now space.old space.new result }
+{
+    let (_salt, _now, _call, _grounds) = (salt, now, call, grounds);
+    match space.apply(change) {
+        Ok(()) => Reply::Done(answer),
+        Err(fault) => gave_up(Halt::Space(fault)),
+    }
+}
+
+/// Answers calls by the policy, over a space.
+#[derive(Drop)]
+pub struct Service<S: Space> {
+    space: S,
+    salt: Salt,
+    stopped: bool,
+}
+
+impl<S: Space + Drop> Service<S> {
+    /// A service over a space, which makes its versions with the salt. It takes no memory.
+    pub fn new(space: S, salt: Salt) -> Self
+        ensures space { space_of result ≡ space }
+        ensures salt { salt_of result ≡ salt }
+        ensures goes { is_shut result ≡ false }
+    {
+        Service {
+            space,
+            salt,
+            stopped: false,
+        }
+    }
+
+    /// The space, lent.
+    pub fn space(&mut self) -> &mut S
+        ensures* lends { sem 𝓛 (Lends (the_row S.row) S.row self.entry result (with_space self.entry.now)) }
+        ensures value { result.now ≡ space_of self.entry.now }
+    {
+        &mut self.space
+    }
+
+    /// The space, as it is then.
+    pub fn into_space(self) -> S
+        ensures { result ≡ space_of self }
+    {
+        let Service {
+            space,
+            salt: _,
+            stopped: _,
+        } = self;
+        space
+    }
+
+    /// Answers one call at a moment (in seconds since 1970) with what the policy says of it.
+    ///
+    /// `Fault` comes only for want of memory or where the space answered `Unchanged`, and then nothing
+    /// was changed. `Stopped` comes for the call in which the space answered `Broken`, and for each
+    /// call after it. A call that breaks one of P1 to P6 is denied without memory, and the space is not
+    /// asked.
+    pub fn call(&mut self, alloc: Global, now: u64, call: &Call) -> Reply
+        ensures salt { salt_of self.new ≡ salt_of self.old }
+        ensures stays_shut { IsTrue (is_shut self.old) → (result ≡ Reply.Stopped) × (self.new ≡ self.old) }
+        ensures shuts { is_shut self.old ≡ false → is_shut self.new ≡ is_stopped result }
+        ensures early { is_shut self.old ≡ false → (a : Airspace) (t : ℕ) → IfSome (find (breaks a t call.now) early_rules) (λ p. (result ≡ Reply.Denied p nothing_missing) × (self.new ≡ self.old)) }
+        ensures answers { is_shut self.old ≡ false → Answers S.holds S.is_sound S.refusals S.is_broken (salt_of self.old) now call.now (space_of self.old) (space_of self.new) result }
+    {
+        if self.stopped {
+            return Reply::Stopped;
+        }
+        if let Some(broken) = early(call) {
+            return Reply::Denied(broken, Missing::nothing());
+        }
+        let reply = answered(&mut self.space, alloc, &self.salt, now, call);
+        self.stopped = reply.is_stopped();
+        reply
+    }
+
+    /// Answers calls in order, each at its moment. The room for the replies is taken first, so that
+    /// after an error no call was made.
+    pub fn run(&mut self, alloc: Global, calls: &[(u64, Call)]) -> Result<Vec<Reply>, AllocError>
+        ensures none_made { OnErr result (self.new ≡ self.old) }
+        ensures salt { salt_of self.new ≡ salt_of self.old }
+        ensures one_each { IfOk result (λ replies. length replies.items ≡ length calls.now) }
+        ensures sound { S.is_sound (space_of self.new) → S.is_sound (space_of self.old) }
+        ensures shut { IsTrue (is_shut self.old) → (self.new ≡ self.old) × IfOk result (λ replies. All (λ r. r ≡ Reply.Stopped) replies.items) }
+        ensures shuts { is_shut self.old ≡ false → IfOk result (λ replies. (is_shut self.new ≡ has_stopped replies.items) × StayStopped replies.items) }
+        ensures runs { is_shut self.old ≡ false → S.is_sound (space_of self.new) → IfOk result (λ replies. (a : Airspace) → IsContent S.holds (space_of self.old) a
+            → Runs S.holds (salt_of self.old) a calls.now replies.items (space_of self.new)) }
+        ensures cause { is_shut self.old ≡ false → IfOk result (λ replies. has_stopped replies.items ≡ true → S.is_broken (space_of self.new) ≡ true) }
+    {
+        let mut replies = Vec::with_capacity(alloc, calls.len())?;
+        for entry in calls {
+            let reply = self.call(alloc, entry.0, &entry.1);
+            let Ok(()) = replies.push(reply) else {
+                unreachable!();
+            };
+        }
+        Ok(replies)
+    }
+}

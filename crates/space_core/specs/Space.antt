@@ -1,0 +1,62 @@
+-- What the calls of a space tell and leave.
+use Rattle.std.specs.Prelude.{◌≡◌, ℕ, ◌+◌, ◌<◌, Bool, true, Result, Ok, Err, IfOk, OnOk, IsErrOf, min, MatchResult, ◌⊎◌, ◌↔◌}
+use Rattle.entity_core.specs.Airspace.{Airspace, with_availability, greatest_serial}
+use Rattle.space_core.specs.declared.space.SpaceFault.{SpaceFault}
+use Rattle.space_core.specs.declared.space.SpaceFault.TheVariants.{Unchanged, Broken}
+use Rattle.space_core.specs.declared.space.Change.{Change}
+use Rattle.space_core.specs.declared.space.Change.TheVariants.{Avail}
+
+-- the greatest count
+abbrev pub greatest_count : ℕ
+greatest_count = 18446744073709551615
+
+-- the count of answers `Unchanged` after a call
+abbrev pub refusals_after : {T : Type 0} → ℕ → Result T SpaceFault → ℕ
+refusals_after n (Ok x) = n
+refusals_after n (Err Unchanged) = min (n + 1) greatest_count
+refusals_after n (Err Broken) = n
+
+-- whether the space has answered `Broken`, after a call
+abbrev pub is_broken_after : {T : Type 0} → Bool → Result T SpaceFault → Bool
+is_broken_after b (Ok x) = b
+is_broken_after b (Err Unchanged) = b
+is_broken_after b (Err Broken) = true
+
+-- the airspace with a change
+abbrev pub changed : Change → Airspace → Airspace
+changed (Avail uss availability version) a = with_availability a uss (availability, version)
+
+-- The change can be made in the airspace: its serial can go on.
+pub record Fits (change : Change) (a : Airspace) : Type 0 where
+  pub room : a.serial < greatest_serial
+
+-- what each call tells of its faults
+pub record Tells {T : Type 0} (refusals refusals' : ℕ) (broken broken' : Bool) (result : Result T SpaceFault) : Type 0 where
+  pub counted : refusals' ≡ refusals_after refusals result
+  pub breaks : broken' ≡ is_broken_after broken result
+  pub stays_broken : broken ≡ true → IsErrOf result Broken
+
+-- It holds this airspace and no other: its content.
+pub record IsContent {S : Type 0} (Holds : S → Airspace → Type 0) (s : S) (a : Airspace) : Type 0 where
+  pub held : Holds s a
+  pub only : (b : Airspace) → Holds s b → b ≡ a
+
+-- P, but after the fault `Broken`
+abbrev pub UnlessBroken : SpaceFault → Type 0 → Type 0
+UnlessBroken Unchanged P = P
+UnlessBroken Broken P = Unit {0}
+
+-- A call that reads leaves what the space holds; an answer has P of each airspace that was held. After `Broken` no other is held.
+pub record Reads {S T : Type 0} (Holds : S → Airspace → Type 0) (IsSound : S → Type 0) (old new : S) (result : Result T SpaceFault) (P : Airspace → T → Type 0) : Type 0 where
+  pub sound : IsSound new → IsSound old
+  pub stays : IsSound new → MatchResult result (λ _. (a : Airspace) → Holds old a → Holds new a) (λ e. UnlessBroken e ((a : Airspace) → Holds old a → Holds new a))
+  pub no_other : IsSound new → (a : Airspace) → Holds new a → Holds old a
+  pub answer : IsSound new → IfOk result (λ found. (a : Airspace) → Holds old a → P a found)
+
+-- A call that changes: after `Ok` the new airspace alone is held, after `Unchanged` what was held before, after `Broken`
+-- nothing but what was held before or the new one.
+pub record Changes {S T : Type 0} (Holds : S → Airspace → Type 0) (IsSound : S → Type 0) (old new : S) (result : Result T SpaceFault) (change : Airspace → Airspace) : Type 0 where
+  pub sound : IsSound new → IsSound old
+  pub done : IsSound new → OnOk result ((a : Airspace) → Holds old a → IsContent Holds new (change a))
+  pub refused : IsSound new → IsErrOf result Unchanged → (a : Airspace) → Holds old a ↔ Holds new a
+  pub broken : IsSound new → IsErrOf result Broken → (b : Airspace) → Holds new b → Holds old b ⊎ ((a : Airspace) → Holds old a → b ≡ change a)

@@ -1,0 +1,5 @@
+//! Where an airspace is kept: the trait of spaces, and a space in memory.
+#![tactic(auto)]
+
+pub mod list;
+pub mod space;

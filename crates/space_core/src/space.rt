@@ -1,0 +1,63 @@
+//! The trait of spaces: what its calls tell, read and change.
+ghost use Rattle.std.specs.Prelude.{◌≡◌, ℕ, Bool, false};
+ghost use Rattle.entity_core.specs.Airspace.{Airspace};
+ghost use Rattle.std.specs.FinMap.{get};
+ghost use Rattle.space_core.specs.Space.{Tells, Reads, Changes, Fits, changed};
+
+use entity_core::availability::Availability;
+use entity_core::ovn::Ovn;
+use entity_core::uss_id::UssId;
+
+/// Why a space did not do what it was asked.
+#[derive(Clone, Copy, Debug, PartialEq, Eq)]
+pub enum SpaceFault {
+    /// Nothing was changed, and the space goes on.
+    Unchanged,
+    /// It cannot be told what the space holds: from now on every call answers this.
+    Broken,
+}
+
+/// A change of an airspace.
+#[derive(Debug, Drop)]
+pub enum Change {
+    /// The supplier has the availability, under the version.
+    Avail(UssId, Availability, Ovn),
+}
+
+/// A place where an airspace is kept.
+///
+/// What a space holds is a relation, since a crash or a fault may leave it open which of two airspaces
+/// is kept. A constructor gives a space with one content (`IsContent`); each call says what becomes of
+/// it. A space that is broken before its first call has no one content.
+pub trait Space {
+    /// An airspace that it may turn out to hold, also after a crash. It is one, until the space is broken.
+    ghost holds: { Self → Airspace → Type 0 };
+
+    /// Whether what is said of its content stands.
+    ghost is_sound: { Self → Type 0 };
+
+    /// How often it has answered `Unchanged`; the count stays at the greatest 64-bit number.
+    ghost refusals: { Self → ℕ };
+
+    /// Whether it has answered `Broken`.
+    ghost is_broken: { Self → Bool };
+
+    /// What is kept of a supplier, if it has set its availability.
+    fn availability(&mut self, uss: &UssId) -> Result<Option<(Availability, Ovn)>, SpaceFault>
+        ensures tells { Tells (refusals self.old) (refusals self.new) (is_broken self.old) (is_broken self.new) result }
+        ensures reads { Reads holds is_sound self.old self.new result (λ a found. found ≡ get a.availabilities uss.now) };
+
+    /// How many changes there were.
+    fn serial(&mut self) -> Result<u64, SpaceFault>
+        ensures tells { Tells (refusals self.old) (refusals self.new) (is_broken self.old) (is_broken self.new) result }
+        ensures reads { Reads holds is_sound self.old self.new result (λ a serial. serial ≡ a.serial) };
+
+    /// Makes a change, and the serial goes on by one.
+    fn apply(&mut self, change: Change) -> Result<(), SpaceFault>
+        requires fits { is_sound self.old → (a : Airspace) → holds self.old a → Fits change a }
+        ensures tells { Tells (refusals self.old) (refusals self.new) (is_broken self.old) (is_broken self.new) result }
+        ensures changes { Changes holds is_sound self.old self.new result (changed change) };
+
+    /// A sound space that is not broken holds no two airspaces.
+    ghost one: { (s : Self) (a b : Airspace) → is_sound s → is_broken s ≡ false → holds s a → holds s b → a ≡ b };
+}

@@ -1,0 +1,3 @@
+pub mod Availability
+pub mod Body
+pub mod Answer

@@ -1,0 +1,6 @@
+//! Bodies of requests and answers, as JSON (RFC 8259).
+#![tactic(auto)]
+
+pub mod answer;
+pub mod availability;
+pub mod body;
