@@ -1,0 +1,35 @@
+//! The program `dss`.
+#![tactic(auto)]
+
+use dss_cli::command::run_line;
+use std::process::ExitCode;
+use std::{env, io};
+
+// Runs the program's command line with the standard streams.
+fn run(rt: &HostRuntime) -> io::Result<u8> {
+    let mut owned = Vec::new(rt.alloc());
+    for word in env::args(rt)? {
+        owned.push(word)?;
+    }
+    let mut words = Vec::new(rt.alloc());
+    for word in &owned {
+        words.push(word.as_str())?;
+    }
+    Ok(run_line(
+        rt,
+        words.as_slice(),
+        &mut rt.reader(),
+        &mut io::writer(rt),
+        &mut rt.stderr(),
+    ))
+}
+
+fn main(rt: HostRuntime) -> ExitCode {
+    match run(&rt) {
+        Ok(status) => ExitCode::from(status),
+        Err(_) => {
+            let _ = eprintln!(rt; "dss: memory");
+            ExitCode::from(1)
+        }
+    }
+}

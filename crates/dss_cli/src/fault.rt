@@ -1,0 +1,43 @@
+//! Why a command failed.
+use std::fmt;
+use token_conf::conf_fault::ConfFault;
+use wire_http::StreamFault;
+
+/// Why a command failed. Printed, it is the line that the program writes to standard error, without
+/// the line end.
+#[derive(Debug, Drop)]
+pub enum Fault {
+    /// The token file does not open, fails to read or is not UTF-8.
+    TokensUnread,
+    /// The token file is wrong.
+    Tokens(ConfFault),
+    /// The file of requests does not open.
+    RequestsUnread,
+    /// The stream of requests was given up.
+    Stream(StreamFault),
+    /// What is printed beside the answers was not written.
+    Output,
+    /// Memory ran out.
+    Memory,
+}
+
+impl fmt::Display for Fault {
+    fn fmt<W: fmt::Write>(&self, f: &mut fmt::Formatter<W>) -> fmt::Result {
+        match self {
+            Fault::TokensUnread => write!(f, "dss: tokens: cannot read"),
+            Fault::Tokens(fault) => {
+                let number = fault.number();
+                let name = fault.name();
+                write!(f, "dss: tokens: fault {number} {name}")
+            }
+            Fault::RequestsUnread => write!(f, "dss: requests: cannot read"),
+            Fault::Stream(fault) => {
+                let number = fault.number();
+                let name = fault.name();
+                write!(f, "dss: stream: fault {number} {name}")
+            }
+            Fault::Output => write!(f, "dss: output"),
+            Fault::Memory => write!(f, "dss: memory"),
+        }
+    }
+}

@@ -1,0 +1,26 @@
+use Rattle.std.proofs.Common.{◌≡◌, true, refl, ap, subst, inr, ◌∙◌}
+use Rattle.clap.specs.Faults.{fault_of as mistakes_of, is_simple_and_free}
+use Rattle.clap.specs.Kinds.{HasKind}
+use Rattle.clap.specs.Words.{App, app_of, is_simple, subcommand_of, subcommand_rows_of}
+use Rattle.dss_line.specs.Grammar.{dss_app}
+use Rattle.dss_line.specs.Line.{AsksNothing, texts}
+use Rattle.dss_line.proofs.Matches.{fault_of_kind}
+use Rattle.dss_line.proofs.line.parse.Goals as goal
+
+is_free : is_simple_and_free dss_app ≡ true
+is_free = refl
+
+simple : is_simple dss_app ≡ true
+simple = refl
+
+pub returns-in-Err-clause-err : goal.returns-in-Err-clause-err
+returns-in-Err-clause-err c =
+    let app : app_of c.in_ok-command.field-0 ≡ dss_app = c.in_ok-command.ensures.0 in
+    let has = subst (λ (a : App). HasKind (mistakes_of a (texts c.args.words.now)) c.in-Err.error) app (c.in-Err.ensures.kinds (ap is_simple_and_free app ∙ is_free)) in
+    fault_of_kind _ _ _ c.fault_of.result has c.fault_of.ensures
+
+pub returns-clause-err : goal.returns-clause-err
+returns-clause-err c =
+    let app : app_of c.in_ok-command.field-0 ≡ dss_app = c.in_ok-command.ensures.0 in
+    let rows : subcommand_rows_of c.in-Ok.matches ≡ subcommand_of dss_app (texts c.args.words.now) = (c.in-Ok.ensures.matches (ap is_simple app ∙ simple)).1 ∙ ap (λ (a : App). subcommand_of a (texts c.args.words.now)) app in
+    inr (subst AsksNothing rows c.in-None.ensures.none)

@@ -1,0 +1,28 @@
+-- The command line's grammar, in `clap`'s words: its commands, and the rule of each argument.
+use Rattle.std.specs.Prelude.{List, ℕ, Some, codes, true}
+use Rattle.clap.specs.Simple.{on_top}
+use Rattle.clap.specs.Words.{App, Rule, new_app, new_rule, with_rule, with_subcommand}
+use Rattle.clap.specs.declared.builder.value_parser.ValueParser.TheVariants.{Unsigned}
+use Rattle.dss_line.specs.declared.line.TheConstants.{LAST_MOMENT}
+
+-- an option that has to be there, with a value
+abbrev pub option_rule : List ℕ → Rule
+option_rule name = record (new_rule name) { long = Some name; required = true }
+
+abbrev pub tokens_rule : Rule
+tokens_rule = record (option_rule (codes "tokens")) { value_names = 1 }
+
+-- the value is a number from 0 to the last moment
+abbrev pub now_rule : Rule
+now_rule = record (option_rule (codes "now")) { value_names = 1; parser = Some (Unsigned 0 LAST_MOMENT) }
+
+-- a word that has to be there
+abbrev pub requests_rule : Rule
+requests_rule = record (new_rule (codes "requests")) { value_names = 1; required = true }
+
+abbrev pub run_app : App
+run_app = with_rule (with_rule (with_rule (new_app (codes "run")) tokens_rule) now_rule) requests_rule
+
+-- one of the commands has to be there
+abbrev pub dss_app : App
+dss_app = with_subcommand (on_top (λ s. record s { subcommand_required = true }) (new_app (codes "dss"))) run_app.top

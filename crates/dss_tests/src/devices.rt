@@ -1,0 +1,147 @@
+//! A service for tests, and readers and writers that are slow or fail.
+ghost use Rattle.std.specs.Prelude.{◌≤◌};
+
+use entity_core::salt::Salt;
+use service_core::service::Service;
+use space_core::list::ListSpace;
+use std::alloc::Global;
+use std::io;
+use std::io::{ErrorKind, Read, Write};
+use std::test::Fail;
+use token_conf::token_table::TokenTable;
+use wire_http::{Counted, End, Fixed, StreamFault, serve_stream};
+
+/// The tokens of the worked examples that these tests use.
+pub const TOKENS: &str = "salt = \"demo\"
+
+[[token]]
+text = \"tok-a\"
+uss = \"uss-a\"
+scopes = [\"utm.strategic_coordination\"]
+
+[[token]]
+text = \"tok-v\"
+uss = \"uss-v\"
+scopes = [\"utm.availability_arbitration\"]
+";
+
+/// A request that reads an availability, and its answer in an empty airspace.
+pub const GET: &str =
+    "GET /dss/v1/uss_availability/uss-b HTTP/1.1\r\nAuthorization: Bearer tok-a\r\nConnection: close\r\n\r\n";
+
+pub const GET_ANSWER: &str =
+    "HTTP/1.1 200 OK\r\nContent-Type: application/json\r\nContent-Length: 64\r\nConnection: close\r\n\r\n{\"status\":{\"availability\":\"Unknown\",\"uss\":\"uss-b\"},\"version\":\"\"}";
+
+/// A request that sets one, and its answer in an empty airspace.
+pub const PUT: &str =
+    "PUT /dss/v1/uss_availability/uss-b HTTP/1.1\r\nAuthorization: Bearer tok-v\r\nConnection: close\r\nContent-Length: 40\r\n\r\n{\"old_version\":\"\",\"availability\":\"Down\"}";
+
+pub const PUT_ANSWER: &str =
+    "HTTP/1.1 200 OK\r\nContent-Type: application/json\r\nContent-Length: 125\r\nConnection: close\r\n\r\n{\"status\":{\"availability\":\"Down\",\"uss\":\"uss-b\"},\"version\":\"0c8bab20c7aa631feb6e9d12df89abda74886cd1be999754333b0cbdafd072d7\"}";
+
+/// The greatest serial that a test begins at.
+pub const LAST_START: u64 = 9_223_372_036_854_775_806;
+
+/// A service over an empty airspace at a serial, with the salt of the worked examples.
+pub fn service_at(rt: &impl AllocGlobal, serial: u64) -> Result<Service<ListSpace>, Fail> {
+    let salt = Salt::read(rt.alloc(), "demo")?;
+    let space = ListSpace::at_serial(rt.alloc(), serial.min(LAST_START));
+    Ok(Service::new(space, salt))
+}
+
+/// A reader that gives at most so many bytes a call, and whose call of one place fails.
+#[derive(Drop)]
+pub struct Reader<'a> {
+    pub bytes: &'a [u8],
+    pub piece: usize,
+    pub left: u64,
+}
+
+impl Read for Reader<'_> {
+    fn read(&mut self, buf: &mut [u8]) -> io::Result<usize> {
+        if self.left == 0 {
+            return Err(ErrorKind::Interrupted.into());
+        }
+        self.left -= 1;
+        let n = buf.len().min(self.piece);
+        self.bytes.read(&mut buf[..n])
+    }
+}
+
+/// A writer that takes at most so many bytes a call, and whose call of one place fails.
+#[derive(Drop)]
+pub struct Writer {
+    pub taken: Vec<u8>,
+    pub piece: usize,
+    pub left: u64,
+}
+
+impl Write for Writer {
+    fn write(&mut self, buf: &[u8]) -> io::Result<usize> {
+        if self.left == 0 {
+            return Err(ErrorKind::BrokenPipe.into());
+        }
+        self.left -= 1;
+        let n = buf.len().min(self.piece);
+        self.taken.write(&buf[..n])
+    }
+
+    fn flush(&mut self) -> io::Result<()> {
+        Ok(())
+    }
+}
+
+/// What became of a stream: how it ended, and what was written.
+pub type Outcome = (Result<End, StreamFault>, Vec<u8>);
+
+/// Serves an input with devices that move so many bytes a call and make so many calls.
+pub fn served_by(
+    alloc: Global,
+    service: &mut Service<ListSpace>,
+    tokens: &TokenTable,
+    input: &str,
+    piece: usize,
+    reads: u64,
+    writes: u64,
+) -> Outcome {
+    let mut reader = Counted::new(Reader {
+        bytes: input.as_bytes(),
+        piece,
+        left: reads,
+    });
+    let mut writer = Counted::new(Writer {
+        taken: Vec::new(alloc),
+        piece,
+        left: writes,
+    });
+    let mut clock = Fixed::new(1000);
+    let end = match serve_stream(alloc, service, tokens, &mut clock, &mut reader, &mut writer) {
+        Ok(served) => Ok(served.end),
+        Err(fault) => Err(fault),
+    };
+    (end, writer.into_inner().taken)
+}
+
+/// The token table of these tests.
+pub fn token_table(alloc: Global) -> Result<TokenTable, Fail> {
+    Ok(TokenTable::read(alloc, TOKENS)?)
+}
+
+/// Serves an input in one piece.
+pub fn served(
+    rt: &impl AllocGlobal,
+    service: &mut Service<ListSpace>,
+    input: &str,
+) -> Result<(End, Vec<u8>), Fail> {
+    let tokens = token_table(rt.alloc())?;
+    let (end, text) = served_by(
+        rt.alloc(),
+        service,
+        &tokens,
+        input,
+        65_536,
+        100_000,
+        100_000,
+    );
+    Ok((end?, text))
+}

@@ -1,0 +1,6 @@
+pub mod Intervals
+pub mod Family
+pub mod Tokens
+pub mod Meets
+pub mod Covers
+pub mod IndexLaws

@@ -1,0 +1,6 @@
+pub mod Cell
+pub mod CellNumber
+pub mod Token
+pub mod VolumeFault
+pub mod Extent
+pub mod Laws

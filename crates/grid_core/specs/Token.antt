@@ -1,0 +1,54 @@
+-- Tokens: texts of hexadecimal digits that are the number of a cell.
+use Rattle.std.specs.Prelude.{◌≡◌, ◌≢◌, ℕ, ◌-◌, ◌*◌, ◌^◌, ◌/◌, ◌≤◌, ◌&&◌, ◌||◌, nat_le, Bool, List, length, codes, Result, Ok, Err, IsTrue}
+use Rattle.std.specs.List.{list_all}
+use Rattle.std.specs.Str.Parse.{AllDigits, digits_value}
+use Rattle.grid_core.specs.Cell.{Cell, IsCell, number_of}
+use Rattle.grid_core.specs.declared.token.TokenFault.{TokenFault}
+use Rattle.grid_core.specs.declared.token.TokenFault.TheVariants.{Length, Digit, Invalid}
+
+abbrev pub fault_number : TokenFault → ℕ
+fault_number Length = 1
+fault_number Digit = 2
+fault_number Invalid = 3
+
+abbrev pub fault_name : TokenFault → List ℕ
+fault_name Length = codes "Length"
+fault_name Digit = codes "Digit"
+fault_name Invalid = codes "Invalid"
+
+abbrev pub HasTokenLength : List ℕ → Type 0
+HasTokenLength text = (1 ≤ length text) × (length text ≤ 16)
+
+-- the number that a text writes, zeros filling it up to 16 digits on the right
+abbrev pub token_number : List ℕ → ℕ
+token_number text = digits_value 16 text * 16 ^ (16 - length text)
+
+-- the text reads as the cell
+pub record IsTokenOf (text : List ℕ) (c : Cell) : Type 0 where
+  pub size : HasTokenLength text
+  pub digits : AllDigits 16 text
+  pub number : number_of c ≡ token_number text
+
+-- what reading a text gives
+abbrev pub Parses : List ℕ → Result Cell TokenFault → Type 0
+Parses text (Ok c) = IsCell c × IsTokenOf text c
+Parses text (Err Length) = HasTokenLength text → ⊥
+Parses text (Err Digit) = HasTokenLength text × (AllDigits 16 text → ⊥)
+Parses text (Err Invalid) = HasTokenLength text × AllDigits 16 text × ((c : Cell) → IsCell c → number_of c ≢ token_number text)
+
+-- '0' to '9' or 'a' to 'f'
+abbrev pub is_lower_digit : ℕ → Bool
+is_lower_digit b = (nat_le 48 b && nat_le b 57) || (nat_le 97 b && nat_le b 102)
+
+-- the shortest text in lower case that reads as the cell
+pub record IsShortest (text : List ℕ) (c : Cell) : Type 0 where
+  pub reads : IsTokenOf text c
+  pub lower : IsTrue (list_all is_lower_digit text)
+  pub shortest : (other : List ℕ) → IsTokenOf other c → length text ≤ length other
+
+-- the first digits of a number of 16, in lower case
+pub record Written (n count : ℕ) (text : List ℕ) : Type 0 where
+  pub size : length text ≡ count
+  pub digits : AllDigits 16 text
+  pub value : digits_value 16 text ≡ n / 2 ^ (64 - 4 * count)
+  pub lower : IsTrue (list_all is_lower_digit text)

@@ -1,0 +1,9 @@
+//! Cells of the S2 grid, volumes and areas, and when two of them meet.
+#![tactic(auto)]
+
+pub mod cell;
+pub mod laws;
+pub mod range;
+pub mod token;
+pub mod volume;
+pub mod volume_fault;

@@ -1,0 +1,2 @@
+pub mod ConfFault
+pub mod TokenFile

@@ -1,0 +1,78 @@
+//! Why a token file was refused.
+ghost use Rattle.std.specs.Prelude.{◌≡◌};
+
+use std::alloc::{AllocError, AllocFailed};
+
+/// The first fault of a token file. The salt comes first, then the tables in their order; in a table
+/// the faults come in the order of their numbers.
+#[derive(Clone, Copy, Debug, PartialEq, Eq)]
+pub enum ConfFault {
+    /// The text is not TOML.
+    Toml,
+    /// There is no salt, or it does not read as one.
+    Salt,
+    /// `token` is no list, or an item of it is no table or has no `text` of 1 to 255 visible bytes.
+    Token,
+    /// A table has no `uss` that reads as a supplier's id.
+    Uss,
+    /// A table has no list of texts `scopes`.
+    Scopes,
+    /// A table has the `text` of an earlier one.
+    Repeated,
+    /// Memory ran out, which says nothing of the file.
+    Memory,
+}
+
+impl ConfFault {
+    ghost use Rattle.token_conf.specs.ConfFault.{fault_number, fault_name};
+
+    /// The number under which the fault is told, from 1 to 7.
+    pub fn number(self) -> u8
+        ensures { result ≡ fault_number self }
+    {
+        match self {
+            ConfFault::Toml => 1,
+            ConfFault::Salt => 2,
+            ConfFault::Token => 3,
+            ConfFault::Uss => 4,
+            ConfFault::Scopes => 5,
+            ConfFault::Repeated => 6,
+            ConfFault::Memory => 7,
+        }
+    }
+
+    /// The name under which the fault is told.
+    pub fn name(self) -> &'static str
+        ensures { result.now ≡ fault_name self }
+    {
+        match self {
+            ConfFault::Toml => "Toml",
+            ConfFault::Salt => "Salt",
+            ConfFault::Token => "Token",
+            ConfFault::Uss => "Uss",
+            ConfFault::Scopes => "Scopes",
+            ConfFault::Repeated => "Repeated",
+            ConfFault::Memory => "Memory",
+        }
+    }
+}
+
+impl From<AllocError> for ConfFault {
+    ghost use Rattle.token_conf.specs.declared.conf_fault.ConfFault.TheVariants as fault;
+
+    ghost from_gives = { λ _ answered. answered ≡ fault.Memory };
+
+    fn from(_error: AllocError) -> ConfFault {
+        ConfFault::Memory
+    }
+}
+
+impl<T: Drop> From<AllocFailed<T>> for ConfFault {
+    ghost use Rattle.token_conf.specs.declared.conf_fault.ConfFault.TheVariants as fault;
+
+    ghost from_gives = { λ _ answered. answered ≡ fault.Memory };
+
+    fn from(_error: AllocFailed<T>) -> ConfFault {
+        ConfFault::Memory
+    }
+}

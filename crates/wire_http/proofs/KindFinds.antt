@@ -1,0 +1,121 @@
+-- From what the bytes so far say to the kind of the rest.
+use Rattle.std.proofs.Common.{◌≡◌, ℕ, ◌+◌, ◌-◌, ◌<◌, ◌≤◌, List, [], ◌++◌, length, take, drop, true, false, refl, sym, ap, ◌∙◌, Option, IfSome, inl, inr, arith, cond, ◌∷◌}
+use Rattle.std.specs.Prelude.{◌==◌, ◌||◌}
+use Rattle.std.proofs.lemmas.List.{append-nil, length-append, take_all}
+use Rattle.std.specs.Io.KnownBytes.{Consumes, IsAtEnd}
+use Rattle.httparse.specs.declared.spans.HeaderSpan.{HeaderSpan}
+use Rattle.httparse.specs.declared.spans.RequestSpans.{RequestSpans}
+use Rattle.httparse.specs.Grammar.{ReadsRequest}
+use Rattle.httparse.proofs.GrammarLemmas.{ReadsRequest-append}
+use Rattle.wire_http.specs.Found.{Finds}
+use Rattle.wire_http.specs.declared.rest.Verdict.TheVariants.{More, Head, Bad, Large}
+use Rattle.wire_http.specs.declared.rest.Found.{Found}
+use Rattle.wire_http.specs.declared.rest.Found.TheVariants as found
+use Rattle.wire_http.proofs.WindowLaws.{knows, knows_end, window_of, has_line-append, Never-append, Exceeds-append, Consumes_next}
+use Rattle.std.proofs.lemmas.Bool.{cases_lt}
+use Rattle.wire_http.specs.Rest.{has_line, has_feed, window, feeds, skip_ends, Decides, EndsAs, IsOpen, HasNoWhole, HasManyLines}
+use Rattle.wire_http.proofs.KindLaws.{many_lines, feeds-append}
+use Rattle.wire_http.proofs.TargetLaws.{whole_line, not_never}
+
+-- no whole head, and it is still open
+no_whole : (x : List ℕ) (fields : List HeaderSpan) (rest : List ℕ) → window rest ≡ x → Decides x fields More → HasNoWhole rest
+no_whole x fields rest e (inl line) h (r, reads, few) =
+    let yes : has_line x ≡ true = whole_line x h r (rw e at reads) in let bad : true ≡ false = sym yes ∙ line in cc
+no_whole x fields rest e (inr (line, none, may)) h (r, reads, few) = none h r (rw e at reads)
+
+still_open : (x : List ℕ) (fields : List HeaderSpan) → (HasManyLines x → ⊥) → Decides x fields More → IsOpen x
+still_open x fields few (inl line) = inl line
+still_open x fields few (inr (line, none, may)) = inr (not_never x line may, few)
+
+full_large : (x : List ℕ) (fields : List HeaderSpan) (rest : List ℕ) → window rest ≡ x → 8192 ≤ length rest → Decides x fields More
+    → Finds rest x fields found.Large
+full_large x fields rest e le (inl line) = (no_whole x fields rest e (inl line), inl (le, inl (rw e line)))
+full_large x fields rest e le (inr (line, none, may)) =
+    elim (cases_lt (feeds (skip_ends x)) 66) [
+      | inl lt ↦ (no_whole x fields rest e (inr (line, none, may)), inl (le, rw e (inr (not_never x line may, λ many. omega (arith, many, lt)))))
+      | inr ge ↦ (no_whole x fields rest e (inr (line, none, may)), inr (rw e (line, ge)))
+    ]
+
+pub kind_head : (a b : Option (List ℕ)) (x : List ℕ) (fields : List HeaderSpan) (spans : RequestSpans)
+    → Consumes a b x → length x ≤ 8192 → Decides x fields (Head spans) → IfSome a (λ rest. Finds rest x fields (found.Head spans))
+kind_head a b x fields spans e le ((h, at, few), within) =
+    knows (λ rest. Finds rest x fields (found.Head spans)) a b x e (λ rest.
+    let more : List ℕ = take (8192 - length x) rest in
+    let reads : ReadsRequest (window (x ++ rest)) h (drop spans.len x ++ more) = rw (window_of x rest le) (ReadsRequest-append x h (drop spans.len x) more at.reads) in (
+      h,
+      (whole_line _ h _ reads, (drop spans.len x ++ more, reads, few)),
+      record {
+        len = at.len;
+        method = at.method;
+        path = at.path;
+        version = at.version;
+        fields = at.fields;
+      },
+    ))
+
+pub kind_bad : (a b : Option (List ℕ)) (x : List ℕ) (fields : List HeaderSpan)
+    → Consumes a b x → length x ≤ 8192 → Decides x fields Bad → IfSome a (λ rest. Finds rest x fields found.Bad)
+kind_bad a b x fields e le (line, never) =
+    knows (λ rest. Finds rest x fields found.Bad) a b x e (λ rest.
+    rw (window_of x rest le) (has_line-append x _ line, Never-append x _ never))
+
+pub kind_large : (a b : Option (List ℕ)) (x : List ℕ) (fields : List HeaderSpan)
+    → Consumes a b x → length x ≤ 8192 → Decides x fields Large → IfSome a (λ rest. Finds rest x fields found.Large)
+kind_large a b x fields e le (line, over, none) =
+    knows (λ rest. Finds rest x fields found.Large) a b x e (λ rest. (
+      λ h w. let many : 64 < length h.fields = none (take (8192 - length x) rest) h w.0 (rw (window_of x rest le) at w.1) in omega (arith, many, w.2),
+      inr (rw (window_of x rest le) (has_line-append x _ line, many_lines _ (Exceeds-append x _ over))),
+    ))
+
+pub kind_full : (a b : Option (List ℕ)) (x : List ℕ) (fields : List HeaderSpan)
+    → Consumes a b x → length x ≤ 8192 → 8192 ≤ length x → Decides x fields More → IfSome a (λ rest. Finds rest x fields found.Large)
+kind_full a b x fields e le ge part =
+    knows (λ rest. Finds rest x fields found.Large) a b x e (λ rest.
+    full_large x fields (x ++ rest) (window_full rest) (omega (arith, length-append x rest)) part)
+  where
+    window_full : (rest : List ℕ) → window (x ++ rest) ≡ x
+    window_full rest = let z : 8192 - length x ≡ 0 = omega arith in window_of x rest le ∙ ap (λ n. x ++ take n rest) z ∙ append-nil x
+
+feeds-none : (x : ℕ) (xs : List ℕ) → (x == 10) ≡ false → feeds xs ≡ 0 → feeds (x ∷ xs) ≡ 0
+feeds-none x xs e f =
+    let step : feeds (x ∷ xs) ≡ (0 + cond (x == 10) 1 0) + feeds xs = feeds-append (x ∷ []) xs in
+    let none : 0 + cond (x == 10) 1 0 ≡ 0 = ap (λ v. 0 + cond v 1 0) e in
+    omega (arith, step, none, f)
+
+no_count : (xs : List ℕ) → has_feed xs ≡ false → feeds xs ≡ 0
+no_count [] e = refl
+no_count (x ∷ xs) e =
+    elim (x == 10) as (λ v. (x == 10) ≡ v → (v || has_feed xs) ≡ false → feeds (x ∷ xs) ≡ 0) [
+      | true ↦ λ f h. cc
+      | false ↦ λ f h. feeds-none x xs f (no_count xs h)
+    ] refl e
+
+line_feeds : (x : List ℕ) → has_line x ≡ false → feeds (skip_ends x) ≡ 0
+line_feeds [] e = refl
+line_feeds (b ∷ x) e =
+    elim (b == 13) as (λ u. cond (u || b == 10) (has_line x) (has_feed x) ≡ false → feeds (cond (u || b == 10) (skip_ends x) (b ∷ x)) ≡ 0) [
+      | true ↦ λ h. line_feeds x h
+      | false ↦ λ h. elim (b == 10) as (λ v. (b == 10) ≡ v → cond v (has_line x) (has_feed x) ≡ false → feeds (cond v (skip_ends x) (b ∷ x)) ≡ 0) [
+        | true ↦ λ f k. line_feeds x k
+        | false ↦ λ f k. feeds-none b x f (no_count x k)
+      ] refl h
+    ] e
+
+ended : (x : List ℕ) (fields : List HeaderSpan) (f : Found) → length x < 8192 → Decides x fields More → EndsAs x f → Finds x x fields f
+ended x fields found.Nothing lt part e = e
+ended x fields found.Part lt part (some, few) =
+    let w : window x ≡ x = take_all 8192 x (omega arith) in
+    (no_whole x fields x w part, some, lt, rw w (still_open x fields (λ many. omega (arith, many, few)) part))
+ended x fields found.Large lt (inl line) (some, many) = absurd (omega (arith, many, line_feeds x line))
+ended x fields found.Large lt (inr (line, none, may)) (some, many) =
+    let w : window x ≡ x = take_all 8192 x (omega arith) in
+    (no_whole x fields x w (inr (line, none, may)), inr (rw w (line, many)))
+ended x fields found.Bad lt part e = absurd e
+ended x fields (found.Head spans) lt part e = absurd e
+
+pub kind_end : (a b c : Option (List ℕ)) (x y more : List ℕ) (fields : List HeaderSpan) (f : Found)
+    → Consumes a b x → Consumes b c more → y ≡ x ++ more → y ≡ x → IsAtEnd c → length x < 8192
+    → Decides x fields More → EndsAs y f → IfSome a (λ rest. Finds rest y fields f)
+kind_end a b c x y more fields f p q joined same z short part e =
+    knows_end (λ rest. Finds rest y fields f) a c y (Consumes_next a b c x more y p q joined) z
+    (ended y fields f (rw same short) (rw same part) e)

@@ -1,0 +1,30 @@
+-- Laws of the bytes that are known of readers and writers.
+use Rattle.std.proofs.Common.{◌≡◌, ℕ, List, [], ◌++◌, sym, ap, ◌∙◌, append_assoc, Option, Some, None, ◌+◌, ◌-◌, length, take, drop, arith}
+use Rattle.std.proofs.lemmas.List.{append-nil, take_all, length-drop}
+use Rattle.std.proofs.Math.Seq.{take-add}
+use Rattle.std.specs.Io.KnownBytes.{Appends, Consumes}
+
+pub Appends_more : (a b c : Option (List ℕ)) (x y : List ℕ) → Appends a b x → Appends b c y → Appends a c (x ++ y)
+Appends_more None b c x y p q = tt
+Appends_more (Some s) None c x y p q = absurd p
+Appends_more (Some s) (Some t) None x y p q = absurd q
+Appends_more (Some s) (Some t) (Some u) x y p q = q ∙ ap (λ v. v ++ y) p ∙ append_assoc s x y
+
+pub Consumes_more : (a b c : Option (List ℕ)) (x y : List ℕ) → Consumes a b x → Consumes b c y → Consumes a c (x ++ y)
+Consumes_more None b c x y p q = tt
+Consumes_more (Some s) None c x y p q = absurd p
+Consumes_more (Some s) (Some t) None x y p q = absurd q
+Consumes_more (Some s) (Some t) (Some u) x y p q = p ∙ ap (λ v. x ++ v) q ∙ sym (append_assoc x y u)
+
+-- what stands from a place to the end
+pub rest_is : (xs : List ℕ) (at : ℕ) → take (length xs - at) (drop at xs) ≡ drop at xs
+rest_is xs at = take_all (length xs - at) (drop at xs) (omega (arith, length-drop at xs))
+
+-- a write at a place takes the next bytes
+pub Appends_at : (a b c : Option (List ℕ)) (xs : List ℕ) (at n : ℕ) → Appends a b (take at xs)
+    → Appends b c (take n (take (length xs - at) (drop at xs))) → Appends a c (take (at + n) xs)
+Appends_at a b c xs at n p q = rw (take-add at n xs) (Appends_more a b c _ _ p (rw (rest_is xs at) at q))
+
+pub Appends_nil : (a : Option (List ℕ)) → Appends a a []
+Appends_nil None = tt
+Appends_nil (Some s) = sym (append-nil s)

@@ -1,0 +1,14 @@
+pub mod BearerLaws
+pub mod CallLaws
+pub mod CallUnique
+pub mod CountLaws
+pub mod KindFinds
+pub mod KindLaws
+pub mod KnownBytes
+pub mod LengthLaws
+pub mod NextLaws
+pub mod RouteLaws
+pub mod ServeLaws
+pub mod StreamUnique
+pub mod TargetLaws
+pub mod WindowLaws

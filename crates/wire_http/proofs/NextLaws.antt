@@ -1,0 +1,159 @@
+-- From what was found at the front of the rest to the next request.
+use Rattle.std.proofs.Common.{◌≡◌, ℕ, ◌+◌, ◌-◌, ◌<◌, ◌≤◌, List, [], ◌∷◌, ◌++◌, length, take, drop, map, All, refl, sym, ap, subst, ◌∙◌, Option, Some, None, IfSome, Ok, Err, arith}
+use Rattle.std.specs.Io.KnownBytes.{Consumes, IsAtEnd}
+use Rattle.std.proofs.lemmas.List.{length-append, length-drop, length-take, drop-append-le, take-append-le}
+use Rattle.std.proofs.lemmas.List.Elements.{All-head, All-tail}
+use Rattle.httparse.specs.declared.spans.HeaderSpan.{HeaderSpan}
+use Rattle.httparse.specs.declared.spans.Span.{Span}
+use Rattle.httparse.specs.declared.spans.RequestSpans.{RequestSpans}
+use Rattle.httparse.specs.Grammar.{RequestHead, print_request}
+use Rattle.httparse.specs.Spans.{IsRequestWithin, IsHeaderWithin, IsWithin, header_bytes, span_bytes}
+use Rattle.wire_http.specs.declared.end.End.TheVariants as ends
+use Rattle.wire_http.specs.declared.end.WireRule.{WireRule}
+use Rattle.wire_http.specs.declared.rest.Found.{Found}
+use Rattle.wire_http.specs.declared.rest.Found.TheVariants as found
+use Rattle.wire_http.specs.declared.request.Next.TheVariants.{Request, Stop}
+use Rattle.wire_http.specs.Rest.{Kind, IsKind, nothing, cut, bad, large, whole, after}
+use Rattle.wire_http.specs.Found.{Finds, Covers}
+use Rattle.wire_http.specs.Length.{length_of}
+use Rattle.wire_http.specs.Asked.{fields_of}
+use Rattle.wire_http.specs.Wire.{HasNoRequest, end_of}
+use Rattle.wire_http.specs.Next.{IsNext, body_at}
+use Rattle.wire_http.proofs.KindLaws.{one_kind}
+use Rattle.wire_http.proofs.WindowLaws.{knows, knows_end}
+
+-- ---- no request
+
+pub if_some : (o : Option (List ℕ)) (P Q : List ℕ → Type 0) → IfSome o P → ((x : List ℕ) → P x → Q x) → IfSome o Q
+if_some None P Q h f = tt
+if_some (Some x) P Q h f = f x h
+
+some_rest : (rest : List ℕ) (j : Kind) → IsKind rest j → (j ≡ nothing → ⊥) → ends.Cut ≡ end_of rest
+some_rest [] j x n = absurd (n (one_kind [] nothing j refl x))
+some_rest (b ∷ rest) j x n = refl
+
+stops_cut : (rest : List ℕ) → IsKind rest cut → HasNoRequest rest × (ends.Cut ≡ end_of rest)
+stops_cut rest x = (λ h body r. let e = one_kind rest cut (whole h) x r.head in cc, some_rest rest cut x (λ e. cc))
+
+stops_bad : (rest : List ℕ) → IsKind rest bad → HasNoRequest rest × (ends.Cut ≡ end_of rest)
+stops_bad rest x = (λ h body r. one_kind rest bad (whole h) x r.head, some_rest rest bad x (λ e. cc))
+
+stops_large : (rest : List ℕ) → IsKind rest large → HasNoRequest rest × (ends.Cut ≡ end_of rest)
+stops_large rest x = (λ h body r. one_kind rest large (whole h) x r.head, some_rest rest large x (λ e. cc))
+
+module _ (o : Option (List ℕ)) (f : Found) (buffer : List ℕ) (fields : List HeaderSpan) where
+  pub after_part : f ≡ found.Part → IfSome o (λ rest. Finds rest buffer fields f) → IfSome o (λ rest. IsNext rest buffer fields (Stop ends.Cut))
+  after_part e h =
+      if_some o (λ rest. Finds rest buffer fields found.Part) (λ rest. IsNext rest buffer fields (Stop ends.Cut))
+      (subst (λ (v : Found). IfSome o (λ rest. Finds rest buffer fields v)) e h) stops_cut
+
+  pub after_bad : f ≡ found.Bad → IfSome o (λ rest. Finds rest buffer fields f) → IfSome o (λ rest. IsNext rest buffer fields (Stop ends.Cut))
+  after_bad e h =
+      if_some o (λ rest. Finds rest buffer fields found.Bad) (λ rest. IsNext rest buffer fields (Stop ends.Cut))
+      (subst (λ (v : Found). IfSome o (λ rest. Finds rest buffer fields v)) e h) stops_bad
+
+  pub after_large : f ≡ found.Large → IfSome o (λ rest. Finds rest buffer fields f) → IfSome o (λ rest. IsNext rest buffer fields (Stop ends.Cut))
+  after_large e h =
+      if_some o (λ rest. Finds rest buffer fields found.Large) (λ rest. IsNext rest buffer fields (Stop ends.Cut))
+      (subst (λ (v : Found). IfSome o (λ rest. Finds rest buffer fields v)) e h) stops_large
+
+-- ---- a head, and its body
+
+pub same_head : (rest : List ℕ) (h k : RequestHead) → IsKind rest (whole h) → IsKind rest (whole k) → k ≡ h
+same_head rest h k x y = let e : whole k ≡ whole h = one_kind rest (whole h) (whole k) x y in cc
+
+whole_some : (rest : List ℕ) (h : RequestHead) → IsKind rest (whole h) → ends.Cut ≡ end_of rest
+whole_some rest h x = some_rest rest (whole h) x (λ e. cc)
+
+-- the length that the spans tell is the length that the head tells
+told_by_head : (buffer : List ℕ) (fields : List HeaderSpan) (spans : RequestSpans) (h : RequestHead) → Covers buffer fields spans h
+    → length_of (map (header_bytes buffer) (take spans.headers fields)) ≡ length_of (fields_of h)
+told_by_head buffer fields spans h c = ap length_of c.fields
+
+pub refused : (a : Option (List ℕ)) (buffer new : List ℕ) (fields : List HeaderSpan) (spans : RequestSpans) (e : WireRule)
+    → length_of (map (header_bytes buffer) (take spans.headers fields)) ≡ Err e
+    → IfSome a (λ rest. (h : RequestHead) → IsKind rest (whole h) → Covers buffer fields spans h → IsNext rest new fields (Stop ends.Cut))
+refused None buffer new fields spans e told = tt
+refused (Some rest) buffer new fields spans e told = λ h x c. (
+  λ k body r.
+      let same = same_head rest h k x r.head in
+      let one : length_of (fields_of h) ≡ Ok (length body) = ap (λ v. length_of (fields_of v)) (sym same) ∙ r.told in
+      let two : length_of (fields_of h) ≡ Err e = sym (told_by_head buffer fields spans h c) ∙ told in
+      cc,
+  whole_some rest h x,
+)
+
+head_fits : (rest : List ℕ) (h : RequestHead) → IsKind rest (whole h) → length (print_request h) ≤ length rest
+head_fits rest h (line, (more, reads, few)) = omega (arith, length-take 8192 rest, ap length reads.1, length-append (print_request h) more)
+
+short_body : (rest : List ℕ) (h : RequestHead) (body : List ℕ) → take (length body) (after h rest) ≡ body → length body ≤ length (after h rest)
+short_body rest h body e = let n = ap length e in omega (arith, n, length-take (length body) (after h rest))
+
+pub ended : (a b : Option (List ℕ)) (buffer new : List ℕ) (fields : List HeaderSpan) (spans : RequestSpans) (size : ℕ)
+    → Consumes a b new → IsAtEnd b → length new < spans.len + size
+    → length_of (map (header_bytes buffer) (take spans.headers fields)) ≡ Ok size
+    → IfSome a (λ rest. (h : RequestHead) → IsKind rest (whole h) → Covers buffer fields spans h → IsNext rest new fields (Stop ends.Cut))
+ended a b buffer new fields spans size p z short told =
+    knows_end (λ rest. (h : RequestHead) → IsKind rest (whole h) → Covers buffer fields spans h → IsNext rest new fields (Stop ends.Cut)) a b new p z (λ h x c. (
+      λ k body r.
+          let same = same_head new h k x r.head in
+          let one : length_of (fields_of h) ≡ Ok (length body) = ap (λ v. length_of (fields_of v)) (sym same) ∙ r.told in
+          let two : length_of (fields_of h) ≡ Ok size = sym (told_by_head buffer fields spans h c) ∙ told in
+          let n : length body ≡ size = cc in
+          let there : length body ≤ length (after h new) = short_body new h body (subst (λ (v : RequestHead). take (length body) (after v new) ≡ body) same r.follows) in
+          omega (arith, n, there, short, c.len, head_fits new h x, length-drop (length (print_request h)) new),
+      whole_some new h x,
+    ))
+
+-- ---- a buffer that has grown
+
+span_more : (x y : List ℕ) (n : ℕ) (s : Span) → IsWithin n s → n ≤ length x → span_bytes (x ++ y) s ≡ span_bytes x s
+span_more x y n s (ordered, within) le =
+    let fits : s.start ≤ length x = omega arith in
+    let room : s.end - s.start ≤ length (drop s.start x) = omega (arith, length-drop s.start x) in
+    ap (λ v. take (s.end - s.start) v) (drop-append-le s.start x y fits) ∙ take-append-le (s.end - s.start) (drop s.start x) y room
+
+headers_more : (x y : List ℕ) (n : ℕ) (fs : List HeaderSpan) → All (IsHeaderWithin n) fs → n ≤ length x → map (header_bytes (x ++ y)) fs ≡ map (header_bytes x) fs
+headers_more x y n [] all le = refl
+headers_more x y n (f ∷ fs) all le =
+    let here : IsHeaderWithin n f = All-head (IsHeaderWithin n) f fs all in
+    let name : span_bytes (x ++ y) f.name ≡ span_bytes x f.name = span_more x y n f.name here.0 le in
+    let value : span_bytes (x ++ y) f.value ≡ span_bytes x f.value = span_more x y n f.value here.1 le in
+    let later : map (header_bytes (x ++ y)) fs ≡ map (header_bytes x) fs = headers_more x y n fs (All-tail (IsHeaderWithin n) f fs all) le in
+    cc
+
+covers_more : (x y : List ℕ) (fields : List HeaderSpan) (spans : RequestSpans) (h : RequestHead) → IsRequestWithin x fields spans → Covers x fields spans h → Covers (x ++ y) fields spans h
+covers_more x y fields spans h w c = record {
+  len = c.len;
+  method = span_more x y spans.len spans.method w.method w.section.len_fits ∙ c.method;
+  path = span_more x y spans.len spans.path w.path w.section.len_fits ∙ c.path;
+  version = c.version;
+  fields = headers_more x y spans.len (take spans.headers fields) w.section.headers_fit w.section.len_fits ∙ c.fields;
+}
+
+body_size : (new : List ℕ) (len size : ℕ) → len + size ≤ length new → length (body_at new len size) ≡ size
+body_size new len size fits = omega (arith, length-take size (drop len new), length-drop len new, fits)
+
+body_more : (new tail : List ℕ) (len size : ℕ) → len + size ≤ length new → take size (drop len (new ++ tail)) ≡ body_at new len size
+body_more new tail len size fits =
+    let l : len ≤ length new = omega arith in
+    let room : size ≤ length (drop len new) = omega (arith, length-drop len new) in
+    ap (λ v. take size v) (drop-append-le len new tail l) ∙ take-append-le size (drop len new) tail room
+
+pub taken : (a b : Option (List ℕ)) (buffer more new : List ℕ) (fields : List HeaderSpan) (spans : RequestSpans) (size : ℕ)
+    → Consumes a b new → new ≡ buffer ++ more → IsRequestWithin buffer fields spans → spans.len + size ≤ length new
+    → length_of (map (header_bytes buffer) (take spans.headers fields)) ≡ Ok size
+    → IfSome a (λ rest. (h : RequestHead) → IsKind rest (whole h) → Covers buffer fields spans h → IsNext rest new fields (Request spans size))
+taken a b buffer more new fields spans size p grown within fits told =
+    knows (λ rest. (h : RequestHead) → IsKind rest (whole h) → Covers buffer fields spans h → IsNext rest new fields (Request spans size)) a b new p (λ tail h x c. (
+      h,
+      record {
+        head = x;
+        told = sym (told_by_head buffer fields spans h c) ∙ told ∙ ap Ok (sym (body_size new spans.len size fits));
+        follows =
+            ap (λ n. take n (after h (new ++ tail))) (body_size new spans.len size fits)
+            ∙ ap (λ n. take size (drop n (new ++ tail))) (sym c.len)
+            ∙ body_more new tail spans.len size fits;
+      },
+      subst (λ (v : List ℕ). Covers v fields spans h) (sym grown) (covers_more buffer more fields spans h within c),
+    ))

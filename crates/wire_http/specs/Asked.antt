@@ -1,0 +1,59 @@
+-- What a request asks of the service.
+use Rattle.std.specs.Prelude.{◌≡◌, ◌⊎◌, ℕ, List, map, codes, if◌then◌else◌, Option, Some, None, option_and_then}
+use Rattle.std.specs.Str.{bytes_eq}
+use Rattle.std.specs.FinMap.{get}
+use Rattle.httparse.specs.Grammar.{RequestHead}
+use Rattle.httparse.specs.Spans.{name_and_value}
+use Rattle.policy_core.specs.declared.scope.Caller.{Caller}
+use Rattle.policy_core.specs.declared.call.OpKind.{OpKind}
+use Rattle.policy_core.specs.declared.call.OpKind.TheVariants as kinds
+use Rattle.policy_core.specs.declared.call.Operation.{Operation}
+use Rattle.policy_core.specs.declared.call.Operation.TheVariants.{NoRoute, NoMethod, Malformed}
+use Rattle.policy_core.specs.declared.call.Call.{Call}
+use Rattle.token_conf.specs.TokenFile.{Callers}
+use Rattle.wire_json.specs.Body.{IsBody, Words}
+use Rattle.wire_http.specs.declared.route.Place.{Place}
+use Rattle.wire_http.specs.declared.route.Place.TheVariants.{Availability}
+use Rattle.wire_http.specs.Fields.{Fields}
+use Rattle.wire_http.specs.Bearer.{token_of}
+use Rattle.wire_http.specs.Route.{path_of, IsRoute, HasNoRoute}
+
+-- the names and the values of a head's fields
+abbrev pub fields_of : RequestHead → Fields
+fields_of h = map name_and_value h.fields
+
+-- the caller of the token that the fields bear
+abbrev pub caller_of : Callers → Fields → Option Caller
+caller_of callers fields = option_and_then (get callers) (token_of fields)
+
+-- what a method asks at a place; methods have case
+abbrev pub kind_at : Place → List ℕ → Option OpKind
+kind_at Availability method =
+    if bytes_eq method (codes "GET") then Some kinds.ReadAvail
+    else (if bytes_eq method (codes "PUT") then Some kinds.SetAvail else None)
+
+-- the word of a place's path
+abbrev pub words_at : Place → List ℕ → Words
+words_at Availability word = record { first = word; second = None }
+
+-- the operation of the kind, or malformed exactly where the words and the body ask for none
+abbrev pub IsReadAs : OpKind → Words → List ℕ → Operation → Type 0
+IsReadAs kind words body op =
+    IsBody kind words body op
+    ⊎ (((other : Operation) → IsBody kind words body other → ⊥) × (op ≡ Malformed kind))
+
+-- the operation of a method's kind; without a kind the method is not one of the place
+abbrev pub IsAskedAs : Option OpKind → Words → List ℕ → Operation → Type 0
+IsAskedAs None words body op = op ≡ NoMethod
+IsAskedAs (Some kind) words body op = IsReadAs kind words body op
+
+-- the operation that a path, a method and a body ask for
+abbrev pub IsAsked : List ℕ → List ℕ → List ℕ → Operation → Type 0
+IsAsked path method body op =
+    (HasNoRoute path × (op ≡ NoRoute))
+    ⊎ ((place : Place) × (word : List ℕ) × IsRoute path place word × IsAskedAs (kind_at place method) (words_at place word) body op)
+
+-- the call that a request makes
+pub record IsCallOf (callers : Callers) (h : RequestHead) (body : List ℕ) (call : Call) : Type 0 where
+  pub caller : call.caller ≡ caller_of callers (fields_of h)
+  pub op : IsAsked (path_of h.target) h.method body call.op

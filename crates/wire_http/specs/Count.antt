@@ -1,0 +1,42 @@
+-- Counts of calls and failures, which stay at their greatest value.
+use Rattle.std.specs.Prelude.{◌≡◌, ◌<◌, ◌≤◌, ◌⊎◌, ℕ, zero, suc, ◌+◌, ◌-◌, ◌^◌, min, Result, Ok, Err}
+
+-- where a count stays
+abbrev pub greatest_count : ℕ
+greatest_count = 2 ^ 64 - 1
+
+-- one more, up to the greatest count
+abbrev pub one_more : ℕ → ℕ
+one_more n = min (n + 1) greatest_count
+
+-- the failures after a read
+abbrev pub after_read : {E : Type 0} → Result ℕ E → ℕ → ℕ
+after_read (Ok n) count = count
+after_read (Err e) count = one_more count
+
+-- the failures after a write: one that takes no byte is a failure, too
+abbrev pub after_write : {E : Type 0} → Result ℕ E → ℕ → ℕ
+after_write (Ok zero) count = one_more count
+after_write (Ok (suc n)) count = count
+after_write (Err e) count = one_more count
+
+-- the failures after a flush
+abbrev pub after_flush : {A E : Type 0} → Result A E → ℕ → ℕ
+after_flush (Ok u) count = count
+after_flush (Err e) count = one_more count
+
+-- a count stands where it stays
+abbrev pub IsGreatest : ℕ → Type 0
+IsGreatest count = greatest_count ≤ count
+
+-- a count has risen, or stands at its greatest value
+abbrev pub HasRisen : ℕ → ℕ → Type 0
+HasRisen old new = (old < new) ⊎ IsGreatest new
+
+-- of the turns that were left as many are gone as the count of calls rose by, or that count stands at its greatest value
+abbrev pub Spends : ℕ → ℕ → ℕ → ℕ → Type 0
+Spends left left' calls calls' = (left' ≤ left) × ((calls' + left' ≡ calls + left) ⊎ IsGreatest calls')
+
+-- how many reads a stream may take
+abbrev pub most_reads : ℕ
+most_reads = 1000000

@@ -1,0 +1,73 @@
+-- The text of an answer (RFC 9112, section 2.1; this project's profile).
+use Rattle.std.specs.Prelude.{◌==◌, ℕ, List, [], ◌++◌, length, codes, if◌then◌else◌, Option, Some, None}
+use Rattle.std.specs.Fmt.{decimal}
+use Rattle.httparse.specs.Grammar.{RequestHead}
+use Rattle.policy_core.specs.declared.rule.Rule.{Rule}
+use Rattle.policy_core.specs.declared.rule.Rule.TheVariants.{Method, Token}
+use Rattle.service_core.specs.declared.reply.Reply.{Reply}
+use Rattle.service_core.specs.declared.reply.Reply.TheVariants.{Denied}
+use Rattle.wire_json.specs.Answer.{reply_text, status_of}
+use Rattle.wire_http.specs.declared.route.Place.{Place}
+use Rattle.wire_http.specs.declared.route.Place.TheVariants.{Availability}
+use Rattle.wire_http.specs.Route.{path_of}
+use Rattle.wire_http.specs.Table.{named_place}
+
+-- a line with its end
+abbrev pub line : List ℕ → List ℕ
+line text = text ++ codes "\r\n"
+
+-- the reason phrase of a status
+unfoldable pub reason_of : ℕ → List ℕ
+reason_of status =
+    if status == 200 then codes "OK"
+    else (if status == 201 then codes "Created"
+    else (if status == 400 then codes "Bad Request"
+    else (if status == 401 then codes "Unauthorized"
+    else (if status == 403 then codes "Forbidden"
+    else (if status == 404 then codes "Not Found"
+    else (if status == 405 then codes "Method Not Allowed"
+    else (if status == 409 then codes "Conflict"
+    else (if status == 413 then codes "Content Too Large"
+    else (if status == 431 then codes "Request Header Fields Too Large"
+    else (if status == 500 then codes "Internal Server Error"
+    else (if status == 501 then codes "Not Implemented"
+    else (if status == 503 then codes "Service Unavailable" else []))))))))))))
+
+-- the methods that a place takes
+abbrev pub methods_of : Option Place → List ℕ
+methods_of (Some Availability) = codes "GET, PUT"
+methods_of None = []
+
+-- the field that a denial adds: the methods for one that the place does not take, the scheme for a missing token
+abbrev pub rule_field : Option Place → Rule → List ℕ
+rule_field place Method = line (codes "Allow: " ++ methods_of place)
+rule_field place Token = line (codes "WWW-Authenticate: Bearer")
+rule_field place _ = []
+
+abbrev pub reply_field : Option Place → Reply → List ℕ
+reply_field place (Denied rule missing) = rule_field place rule
+reply_field place reply = []
+
+unfoldable pub status_line : ℕ → List ℕ
+status_line status = line (codes "HTTP/1.1 " ++ decimal status ++ codes " " ++ reason_of status)
+
+unfoldable pub length_line : ℕ → List ℕ
+length_line size = line (codes "Content-Length: " ++ decimal size)
+
+-- a status line, fields, and an empty line
+unfoldable pub front_of : ℕ → List ℕ → ℕ → List ℕ
+front_of status field size =
+    status_line status
+    ++ line (codes "Content-Type: application/json")
+    ++ length_line size
+    ++ field
+    ++ line (codes "Connection: close")
+    ++ line []
+
+-- and then the body
+abbrev pub message : ℕ → List ℕ → List ℕ → List ℕ
+message status field body = front_of status field (length body) ++ body
+
+-- the answer to a request with that head
+abbrev pub answer_text : RequestHead → Reply → List ℕ
+answer_text h reply = message (status_of reply) (reply_field (named_place (path_of h.target)) reply) (reply_text reply)

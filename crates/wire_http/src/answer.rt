@@ -1,0 +1,107 @@
+//! The text of an answer (RFC 9112, section 2.1; this project's profile).
+ghost use Rattle.std.specs.Prelude.{◌≡◌, IfOk};
+ghost use Rattle.std.specs.String.{string_bytes};
+ghost use Rattle.wire_json.specs.Answer.{reply_text, status_of};
+ghost use Rattle.wire_http.specs.Text.{reason_of, rule_field, reply_field, status_line, length_line, front_of, message};
+
+use crate::route::Place;
+use policy_core::rule::Rule;
+use service_core::reply::Reply;
+use std::alloc::{AllocError, Global};
+use wire_json::answer::{reply_text, status};
+
+// The reason phrase of a status.
+#[tactic(auto, unfolding(crate::specs::Text::reason_of))]
+fn reason_of(status: u16) -> &'static str
+    ensures { result.now ≡ reason_of status }
+{
+    match status {
+        200 => "OK",
+        201 => "Created",
+        400 => "Bad Request",
+        401 => "Unauthorized",
+        403 => "Forbidden",
+        404 => "Not Found",
+        405 => "Method Not Allowed",
+        409 => "Conflict",
+        413 => "Content Too Large",
+        431 => "Request Header Fields Too Large",
+        500 => "Internal Server Error",
+        501 => "Not Implemented",
+        503 => "Service Unavailable",
+        _ => "",
+    }
+}
+
+// The line of the field that a denial adds.
+fn rule_field(place: Option<Place>, rule: Rule) -> &'static str
+    ensures { result.now ≡ rule_field place rule }
+{
+    match rule {
+        Rule::Method => match place {
+            Some(Place::Availability) => "Allow: GET, PUT\r\n",
+            None => "Allow: \r\n",
+        },
+        Rule::Token => "WWW-Authenticate: Bearer\r\n",
+        _ => "",
+    }
+}
+
+// The line of the field that a reply adds.
+fn reply_field(place: Option<Place>, reply: &Reply) -> &'static str
+    ensures { result.now ≡ reply_field place reply.now }
+{
+    match reply {
+        Reply::Denied(rule, _) => rule_field(place, *rule),
+        _ => "",
+    }
+}
+
+// The status line.
+#[tactic(auto, unfolding(crate::specs::Text::status_line))]
+fn status_line(alloc: Global, status: u16) -> Result<String, AllocError>
+    ensures { IfOk result (λ text. string_bytes text ≡ status_line status) }
+{
+    let mut text = format!(in alloc; "HTTP/1.1 {status} ")?;
+    text.push_str(reason_of(status))?;
+    text.push_str("\r\n")?;
+    Ok(text)
+}
+
+// The line that tells the length of the body.
+#[tactic(auto, unfolding(crate::specs::Text::length_line))]
+fn length_line(alloc: Global, length: usize) -> Result<String, AllocError>
+    ensures { IfOk result (λ text. string_bytes text ≡ length_line length) }
+{
+    format!(in alloc; "Content-Length: {length}\r\n")
+}
+
+// What stands before the body.
+#[tactic(auto, unfolding(crate::specs::Text::front_of))]
+fn front_of(alloc: Global, status: u16, field: &str, length: usize) -> Result<String, AllocError>
+    ensures { IfOk result (λ front. string_bytes front ≡ front_of status field.now length) }
+{
+    let mut front = status_line(alloc, status)?;
+    front.push_str("Content-Type: application/json\r\n")?;
+    front.push_str(length_line(alloc, length)?.as_str())?;
+    front.push_str(field)?;
+    front.push_str("Connection: close\r\n")?;
+    front.push_str("\r\n")?;
+    Ok(front)
+}
+
+/// The answer to a request at a place.
+pub(crate) fn answer_text(
+    alloc: Global,
+    place: Option<Place>,
+    reply: &Reply,
+) -> Result<Vec<u8>, AllocError>
+    ensures { IfOk result (λ text. text.items
+        ≡ message (status_of reply.now) (reply_field place reply.now) (reply_text reply.now)) }
+{
+    let body = reply_text(alloc, reply)?;
+    let front = front_of(alloc, status(reply), reply_field(place, reply), body.len())?;
+    let mut text = front.into_bytes();
+    text.extend_from_slice(body.as_slice())?;
+    Ok(text)
+}

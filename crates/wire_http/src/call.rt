@@ -1,0 +1,185 @@
+//! The call that a request makes.
+ghost use Rattle.std.specs.Prelude.{◌≡◌, length, map, All, IfOk, IfErr, OnOk};
+ghost use Rattle.httparse.specs.Spans.{IsHeaderWithin, header_bytes};
+ghost use Rattle.token_conf.specs.TokenFile.{callers_of};
+ghost use Rattle.wire_json.specs.Body.{words_of};
+ghost use Rattle.wire_http.specs.Fault.{GaveUpAsking};
+ghost use Rattle.wire_http.specs.Received.{IsReceived, IsMadeBy};
+ghost use Rattle.wire_http.specs.Table.{table};
+ghost use Rattle.wire_http.specs.Asked.{caller_of, kind_at, words_at, IsReadAs, IsAsked};
+
+use crate::bearer::token_of;
+use crate::fault::StreamFault;
+use crate::moments::Moments;
+use crate::route::{Place, Route, find_route, named_place, path_of};
+use httparse::spans::{HeaderSpan, RequestSpans};
+use matchit::Router;
+use policy_core::call::{Call, OpKind, Operation};
+use policy_core::scope::Caller;
+use std::alloc::{AllocError, Global};
+use token_conf::token_table::TokenTable;
+use wire_json::body::{BodyFault, PathWords, read_body};
+
+// What a method asks at a place. Methods have case.
+fn kind_at(place: Place, method: &[u8]) -> Option<OpKind>
+    ensures { result ≡ kind_at place method.now }
+{
+    match place {
+        Place::Availability => {
+            if method == b"GET".as_slice() {
+                Some(OpKind::ReadAvail)
+            } else if method == b"PUT".as_slice() {
+                Some(OpKind::SetAvail)
+            } else {
+                None
+            }
+        }
+    }
+}
+
+// The word that a route leaves open.
+fn words_at<'p>(route: Route<'p>) -> PathWords<'p>
+    ensures { words_of result ≡ words_at route.entry.place route.entry.word.now }
+{
+    match route.place {
+        Place::Availability => PathWords {
+            first: route.word,
+            second: None,
+        },
+    }
+}
+
+// The operation of a kind, or malformed where the words and the body ask for none.
+fn read_as(
+    alloc: Global,
+    kind: OpKind,
+    words: &PathWords<'_>,
+    body: &[u8],
+) -> Result<Operation, AllocError>
+    ensures { IfOk result (IsReadAs kind (words_of words.now) body.now) }
+{
+    match read_body(alloc, kind, words, body) {
+        Ok(op) => Ok(op),
+        Err(BodyFault::Malformed) => Ok(Operation::Malformed(kind)),
+        Err(BodyFault::Memory) => Err(AllocError),
+    }
+}
+
+// The operation that a path, a method and a body ask for.
+fn operation_of(
+    alloc: Global,
+    router: &Router<Place>,
+    path: &str,
+    method: &[u8],
+    body: &[u8],
+) -> Result<Operation, AllocError>
+    requires { router.now ≡ table }
+    ensures { IfOk result (IsAsked path.now method.now body.now) }
+{
+    let Some(route) = find_route(router, path) else {
+        return Ok(Operation::NoRoute);
+    };
+    let Some(kind) = kind_at(route.place, method) else {
+        return Ok(Operation::NoMethod);
+    };
+    let words = words_at(route);
+    read_as(alloc, kind, &words, body)
+}
+
+// The caller of the token that the fields bear.
+fn caller_of(
+    tokens: &TokenTable,
+    buffer: &[u8],
+    fields: &[HeaderSpan],
+) -> Result<Option<Caller>, AllocError>
+    requires { All (IsHeaderWithin (length buffer.now)) fields.now }
+    ensures { IfOk result (λ caller. caller
+        ≡ caller_of (callers_of tokens.now) (map (header_bytes buffer.now) fields.now)) }
+{
+    let Some(token) = token_of(buffer, fields) else {
+        return Ok(None);
+    };
+    let Some(caller) = tokens.caller(token) else {
+        return Ok(None);
+    };
+    let uss = caller.uss.clone()?;
+    Ok(Some(Caller {
+        uss,
+        scopes: caller.scopes,
+    }))
+}
+
+/// A whole request as it was received: the bytes, where the parts of its head are in them, and the
+/// size of the body that follows the head.
+#[derive(Clone, Copy)]
+pub(crate) struct Received<'b> {
+    pub(crate) buffer: &'b [u8],
+    pub(crate) fields: &'b [HeaderSpan],
+    pub(crate) spans: RequestSpans,
+    pub(crate) size: usize,
+}
+
+/// The call that a request makes, with the place of its path and its moment.
+#[derive(Drop)]
+pub(crate) struct Pending {
+    pub(crate) place: Option<Place>,
+    pub(crate) moment: u64,
+    pub(crate) call: Call,
+}
+
+// The call that a request makes, with the place of its path.
+fn call_of(
+    alloc: Global,
+    router: &Router<Place>,
+    tokens: &TokenTable,
+    received: Received<'_>,
+) -> Result<(Option<Place>, Call), AllocError>
+    requires router { router.now ≡ table }
+    requires fits { IsReceived received }
+    ensures { IfOk result (λ made. IsMadeBy (callers_of tokens.now) received.entry made.0 made.1) }
+{
+    let Received {
+        buffer,
+        fields,
+        spans,
+        size,
+    } = received;
+    let Ok(target) = str::from_utf8(spans.path.of(buffer)) else {
+        unreachable!();
+    };
+    let path = path_of(target);
+    let body = &buffer[spans.len..spans.len + size];
+    let op = operation_of(alloc, router, path, spans.method.of(buffer), body)?;
+    let caller = caller_of(tokens, buffer, &fields[..spans.headers])?;
+    Ok((named_place(router, path), Call { caller, op }))
+}
+
+/// The call that a request makes, at the next moment.
+pub(crate) fn ask<M: Moments>(
+    alloc: Global,
+    router: &Router<Place>,
+    tokens: &TokenTable,
+    moments: &mut M,
+    received: Received<'_>,
+) -> Result<Pending, StreamFault>
+    requires router { router.now ≡ table }
+    requires fits { IsReceived received }
+    ensures made { IfOk result (λ p.
+        IsMadeBy (callers_of tokens.now) received.entry p.place p.call) }
+    ensures moment { IfOk result (λ p. M.gives moments.old p.moment moments.new) }
+    ensures good { OnOk result (M.failures moments.new ≡ M.failures moments.old) }
+    ensures err { IfErr result (λ e.
+        GaveUpAsking e (M.failures moments.old) (M.failures moments.new)) }
+{
+    let Ok(moment) = moments.next() else {
+        return Err(StreamFault::Clock);
+    };
+    let Ok((place, call)) = call_of(alloc, router, tokens, received) else {
+        return Err(StreamFault::Memory);
+    };
+    Ok(Pending {
+        place,
+        moment,
+        call,
+    })
+}

@@ -1,0 +1,131 @@
+//! A reader or a writer that counts its calls and its failures.
+use std::io;
+use std::io::{Read, Write};
+
+/// A device, with how often it was called and how often it failed.
+///
+/// A failure is any error, an interrupted call too, and a write that takes no byte. Both counts
+/// stay at their greatest value. No call here takes memory.
+#[derive(Drop)]
+pub struct Counted<T> {
+    inner: T,
+    calls: u64,
+    failures: u64,
+}
+
+impl<T> Counted<T> {
+    ghost use Rattle.std.specs.Prelude.{◌≡◌};
+    ghost use Rattle.wire_http.specs.Counted.{inner_of, calls_of, failures_of};
+
+    /// A device that was never called.
+    pub fn new(inner: T) -> Counted<T>
+        ensures inner { inner_of result ≡ inner }
+        ensures calls { calls_of result ≡ 0 }
+        ensures failures { failures_of result ≡ 0 }
+    {
+        Counted {
+            inner,
+            calls: 0,
+            failures: 0,
+        }
+    }
+
+    /// How often it was called.
+    pub fn calls(&self) -> u64
+        ensures { result ≡ calls_of self.now }
+    {
+        self.calls
+    }
+
+    /// How often it failed.
+    pub fn failures(&self) -> u64
+        ensures { result ≡ failures_of self.now }
+    {
+        self.failures
+    }
+
+    /// The device.
+    pub fn into_inner(self) -> T
+        ensures { result ≡ inner_of self }
+    {
+        let Counted {
+            inner,
+            calls: _,
+            failures: _,
+        } = self;
+        inner
+    }
+}
+
+impl<R: Read> Read for Counted<R> {
+    ghost use Rattle.std.specs.Prelude.{◌≡◌};
+    ghost use Rattle.std.specs.Io.{ReadsAtMost};
+    ghost use Rattle.std.specs.Io.KnownBytes.{ReadConsumes};
+    ghost use Rattle.wire_http.specs.Counted.{inner_of, calls_of, failures_of};
+    ghost use Rattle.wire_http.specs.Count.{one_more, after_read};
+
+    ghost remaining = { λ c. R.remaining (inner_of c) };
+
+    fn read(&mut self, buf: &mut [u8]) -> io::Result<usize>
+        ensures bound { ReadsAtMost result buf.new }
+        ensures bytes { ReadConsumes (R.remaining (inner_of self.old))
+            (R.remaining (inner_of self.new)) result buf.new }
+        ensures calls { calls_of self.new ≡ one_more (calls_of self.old) }
+        ensures failures { failures_of self.new ≡ after_read result (failures_of self.old) }
+    {
+        self.calls = self.calls.saturating_add(1);
+        match self.inner.read(buf) {
+            Ok(n) => Ok(n),
+            Err(e) => {
+                self.failures = self.failures.saturating_add(1);
+                Err(e)
+            }
+        }
+    }
+}
+
+impl<W: Write> Write for Counted<W> {
+    ghost use Rattle.std.specs.Prelude.{◌≡◌};
+    ghost use Rattle.std.specs.Io.{WritesAtMost};
+    ghost use Rattle.std.specs.Io.KnownBytes.{WriteAppends, Keeps};
+    ghost use Rattle.wire_http.specs.Counted.{inner_of, calls_of, failures_of};
+    ghost use Rattle.wire_http.specs.Count.{one_more, after_write, after_flush};
+
+    ghost contents = { λ c. W.contents (inner_of c) };
+
+    fn write(&mut self, buf: &[u8]) -> io::Result<usize>
+        ensures bound { WritesAtMost result buf.now }
+        ensures bytes { WriteAppends (W.contents (inner_of self.old))
+            (W.contents (inner_of self.new)) result buf.now }
+        ensures calls { calls_of self.new ≡ one_more (calls_of self.old) }
+        ensures failures { failures_of self.new ≡ after_write result (failures_of self.old) }
+    {
+        self.calls = self.calls.saturating_add(1);
+        match self.inner.write(buf) {
+            Ok(0) => {
+                self.failures = self.failures.saturating_add(1);
+                Ok(0)
+            }
+            Ok(n) => Ok(n),
+            Err(e) => {
+                self.failures = self.failures.saturating_add(1);
+                Err(e)
+            }
+        }
+    }
+
+    fn flush(&mut self) -> io::Result<()>
+        ensures bytes { Keeps (W.contents (inner_of self.old)) (W.contents (inner_of self.new)) }
+        ensures calls { calls_of self.new ≡ one_more (calls_of self.old) }
+        ensures failures { failures_of self.new ≡ after_flush result (failures_of self.old) }
+    {
+        self.calls = self.calls.saturating_add(1);
+        match self.inner.flush() {
+            Ok(()) => Ok(()),
+            Err(e) => {
+                self.failures = self.failures.saturating_add(1);
+                Err(e)
+            }
+        }
+    }
+}

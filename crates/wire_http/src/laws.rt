@@ -1,0 +1,51 @@
+//! Laws of what the bytes of a stream spell.
+ghost use Rattle.std.specs.Prelude.{◌≡◌, ℕ, List, codes};
+ghost use Rattle.httparse.specs.Grammar.{RequestHead};
+ghost use Rattle.policy_core.specs.declared.call.Call.{Call};
+ghost use Rattle.token_conf.specs.TokenFile.{Callers};
+ghost use Rattle.wire_http.specs.Asked.{IsCallOf};
+ghost use Rattle.wire_http.specs.declared.end.End.{End};
+ghost use Rattle.wire_http.specs.Wire.{Asked, IsRequest, Requests};
+ghost use Rattle.wire_http.specs.Rest.{Kind, IsKind, AreSame};
+ghost use Rattle.wire_http.specs.Route.{IsRoute, HasNoRoute, path_of};
+ghost use Rattle.wire_http.specs.declared.route.Place.TheVariants.{Availability};
+
+use crate::moments::Moments;
+
+/// A rest is of one kind, but for a head that breaks the grammar and has too many lines: there both
+/// answers are right.
+pub fn one_kind()
+    ensures { (rest : List ℕ) (j k : Kind) → IsKind rest j → IsKind rest k → AreSame j k }
+{}
+
+/// A rest has at most one request next.
+pub fn one_request()
+    ensures { (rest : List ℕ) (h k : RequestHead) (a b : List ℕ)
+        → IsRequest rest h a → IsRequest rest k b → (k ≡ h) × (b ≡ a) }
+{}
+
+/// A request makes one call at most.
+pub fn one_call()
+    ensures { (callers : Callers) (h : RequestHead) (body : List ℕ) (c d : Call)
+        → IsCallOf callers h body c → IsCallOf callers h body d → d ≡ c }
+{}
+
+/// Where a clock gives one moment at a time, the bytes of a stream spell one list of calls, and one
+/// end.
+pub fn one_stream<M: Moments>()
+    ensures { ((c : M) (m n : ℕ) (d e : M) → M.gives c m d → M.gives c n e → (n ≡ m) × (e ≡ d))
+        → (callers : Callers) (bound : ℕ) (rest : List ℕ) (clock : M)
+        → (all others : List Asked) (d e : M) (end other : End)
+        → Requests M.gives callers bound rest clock all d end
+        → Requests M.gives callers bound rest clock others e other
+        → (others ≡ all) × (other ≡ end) }
+{}
+
+/// What some paths lead to.
+pub fn sample_paths()
+    ensures one { IsRoute (codes "/dss/v1/uss_availability/uss-a") Availability (codes "uss-a") }
+    ensures no_word { HasNoRoute (codes "/dss/v1/uss_availability/") }
+    ensures two_words { HasNoRoute (codes "/dss/v1/uss_availability/a/b") }
+    ensures other { HasNoRoute (codes "/dss/v1/subscriptions/a") }
+    ensures query { path_of (codes "/a?b?c") ≡ codes "/a" }
+{}

@@ -1,0 +1,29 @@
+//! A stream of HTTP/1.x requests over a reader and a writer, answered by a service.
+#![tactic(auto)]
+
+mod answer;
+mod bearer;
+mod body;
+mod call;
+mod counted;
+mod end;
+mod fault;
+mod fields;
+pub mod laws;
+mod length;
+mod moments;
+mod request;
+mod rest;
+mod route;
+mod serve;
+mod source;
+mod write;
+
+pub use counted::Counted;
+pub use end::{End, Served, WireRule};
+pub use fault::StreamFault;
+pub use moments::{ClockFault, Fixed, Listed, Moments};
+pub use serve::serve_stream;
+
+#[cfg(test)]
+mod tests;

@@ -1,0 +1,103 @@
+//! Where the moments of requests come from.
+
+/// No moment could be told.
+#[derive(Clone, Copy, Debug, PartialEq, Eq)]
+pub struct ClockFault;
+
+/// A source of moments, in seconds since the start of 1970.
+///
+/// `gives old moment new`: it gives that moment and is then `new`. `failures` counts the calls that
+/// gave none, and stays at the greatest number of 64 bits.
+pub trait Moments {
+    ghost use Rattle.std.specs.Prelude.{◌≡◌, ℕ, OnOk, OnErr, IfOk};
+    ghost use Rattle.wire_http.specs.Count.{one_more};
+
+    ghost gives: { Self → ℕ → Self → Type 0 };
+
+    ghost failures: { Self → ℕ };
+
+    /// The next moment.
+    fn next(&mut self) -> Result<u64, ClockFault>
+        ensures moment { IfOk result (λ moment. gives self.old moment self.new) }
+        ensures ok { OnOk result (failures self.new ≡ failures self.old) }
+        ensures err { OnErr result (failures self.new ≡ one_more (failures self.old)) };
+}
+
+/// A clock that stands still: each moment is the same. It never fails.
+#[derive(Clone, Copy, Debug, PartialEq, Eq)]
+pub struct Fixed {
+    moment: u64,
+}
+
+impl Fixed {
+    ghost use Rattle.std.specs.Prelude.{◌≡◌};
+    ghost use Rattle.wire_http.specs.Moments.{moment_of};
+
+    /// A clock that stands at that moment.
+    pub fn new(moment: u64) -> Fixed
+        ensures { moment_of result ≡ moment }
+    {
+        Fixed { moment }
+    }
+}
+
+impl Moments for Fixed {
+    ghost use Rattle.std.specs.Prelude.{◌≡◌};
+    ghost use Rattle.wire_http.specs.Moments.{moment_of};
+
+    ghost gives = { λ old moment new. (moment ≡ moment_of old) × (new ≡ old) };
+
+    ghost failures = { λ _. 0 };
+
+    fn next(&mut self) -> Result<u64, ClockFault> {
+        Ok(self.moment)
+    }
+}
+
+/// A list of moments, and after the last of them faults.
+#[derive(Debug, Drop)]
+pub struct Listed {
+    moments: Vec<u64>,
+    next: usize,
+    failures: u64,
+}
+
+impl Listed {
+    ghost use Rattle.std.specs.Prelude.{◌≡◌};
+    ghost use Rattle.wire_http.specs.Moments.{moments_left, faults_of};
+
+    /// These moments, in their order.
+    pub fn new(moments: Vec<u64>) -> Listed
+        ensures moments { moments_left result ≡ moments.items }
+        ensures failures { faults_of result ≡ 0 }
+    {
+        Listed {
+            moments,
+            next: 0,
+            failures: 0,
+        }
+    }
+}
+
+impl Moments for Listed {
+    ghost use Rattle.std.specs.Prelude.{◌≡◌, ◌∷◌};
+    ghost use Rattle.wire_http.specs.Moments.{moments_left, faults_of};
+
+    ghost gives = { λ old moment new. moments_left old ≡ moment ∷ moments_left new };
+
+    ghost failures = { λ m. faults_of m };
+
+    fn next(&mut self) -> Result<u64, ClockFault> {
+        match self.moments.get(self.next) {
+            Some(moment) => {
+                let moment = *moment;
+                self.next += 1;
+                Ok(moment)
+            }
+            None => {
+                self.failures = self.failures.saturating_add(1);
+                Err(ClockFault)
+            }
+        }
+    }
+}
