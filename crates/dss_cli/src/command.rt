@@ -1,4 +1,5 @@
 //! One command line, run.
+use crate::cell::token_line;
 use crate::fault::Fault;
 use crate::tokens::{token_table, unread};
 use dss_line::fault::LineFault;
@@ -60,6 +61,15 @@ fn run<N: Files + AllocGlobal, R: Read, W: Write>(
     }
 }
 
+// The command `cell`.
+fn cell<W: Write>(alloc: Global, token: &str, output: &mut W) -> Result<(), Fault> {
+    let line = token_line(alloc, token)?;
+    if output.write_all(line.as_bytes()).is_err() {
+        return Err(Fault::Output);
+    }
+    Ok(())
+}
+
 // The status of a command that ended, after its fault was told on one line.
 fn ended<E: Write>(done: Result<(), Fault>, error: &mut E) -> u8 {
     match done {
@@ -109,6 +119,7 @@ pub fn run_line<'a, N: Files + AllocGlobal, R: Read, O: Write, E: Write>(
             let done = run(rt, tokens, now, requests, input, output);
             ended(done, error)
         }
+        Ok(Line::Cell { token }) => ended(cell(rt.alloc(), token, output), error),
         Err(fault) => refused(fault, output, error),
     }
 }

@@ -1,4 +1,5 @@
 //! Why a command failed.
+use grid_core::token::TokenFault;
 use std::fmt;
 use token_conf::conf_fault::ConfFault;
 use wire_http::StreamFault;
@@ -15,6 +16,8 @@ pub enum Fault {
     RequestsUnread,
     /// The stream of requests was given up.
     Stream(StreamFault),
+    /// The token is of no cell.
+    Token(TokenFault),
     /// What is printed beside the answers was not written.
     Output,
     /// Memory ran out.
@@ -35,6 +38,11 @@ impl fmt::Display for Fault {
                 let number = fault.number();
                 let name = fault.name();
                 write!(f, "dss: stream: fault {number} {name}")
+            }
+            Fault::Token(fault) => {
+                let number = fault.number();
+                let name = fault.name();
+                write!(f, "dss: token: fault {number} {name}")
             }
             Fault::Output => write!(f, "dss: output"),
             Fault::Memory => write!(f, "dss: memory"),

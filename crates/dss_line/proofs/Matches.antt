@@ -1,5 +1,5 @@
 -- What the getters of `clap`'s matches read, by the rows of the matches.
-use Rattle.std.proofs.Common.{◌≡◌, ◌<◌, ◌≤◌, ◌^◌, ℕ, List, Option, Some, None, codes, refl, sym, inl, inr, ap, ◌∙◌, arith}
+use Rattle.std.proofs.Common.{◌≡◌, ◌<◌, ◌≤◌, ◌^◌, ℕ, List, Option, Some, None, codes, refl, sym, inl, inr, ap, ◌∙◌, arith, slice_index, nat_eq, true, eq-eqb}
 use Rattle.std.specs.Prelude.{IfNone, ◌⊎◌}
 use Rattle.std.specs.Str.Parse.{IsNumeral, digits_value, without_leading_plus}
 use Rattle.clap.specs.Matches.{one_text}
@@ -14,7 +14,7 @@ use Rattle.dss_line.specs.LineFault.{IsFaultOf}
 use Rattle.dss_line.specs.declared.fault.LineFault.{LineFault}
 use Rattle.dss_line.specs.declared.fault.LineFault.TheVariants as fault
 use Rattle.dss_line.specs.declared.line.TheConstants.{LAST_MOMENT}
-use Rattle.dss_line.specs.declared.line.Line.TheVariants.{Run}
+use Rattle.dss_line.specs.declared.line.Line.TheVariants.{Cell, Run}
 
 -- a number that was read is that of the argument's text
 pub number_from_text : (f : Found) (id : Text) (n : ℕ) → (one_text f id ≡ None → Some n ≡ None) → ((t : List ℕ) → one_text f id ≡ Some t → (IsNumeral 10 (without_leading_plus t) × (digits_value 10 (without_leading_plus t) < 2 ^ 64)) × (n ≡ digits_value 10 (without_leading_plus t))) → HasNumber id (rows_of f) n
@@ -35,14 +35,31 @@ same_number id rows m n (t, t_is, t_numeral, m_is) (u, u_is, u_numeral, n_is) =
     let texts : t ≡ u = cc in
     m_is ∙ ap (λ x. digits_value 10 (without_leading_plus x)) texts ∙ sym n_is
 
-pub nothing_by_tokens : (name : Text) (rows : List Row) → first_of (codes "tokens") rows ≡ None → AsksNothing (Some (name, rows))
-nothing_by_tokens name rows none (Run tokens now requests) asks = let bad : None ≡ Some tokens.now = sym none ∙ asks.1 in cc
+-- the names of the commands differ
+other_name : codes "run" ≡ codes "cell" → ⊥
+other_name same = differ (ap first same)
+  where
+    first : List ℕ → ℕ
+    first text = slice_index text 0
 
-pub nothing_by_requests : (name : Text) (rows : List Row) → first_of (codes "requests") rows ≡ None → AsksNothing (Some (name, rows))
-nothing_by_requests name rows none (Run tokens now requests) asks = let bad : None ≡ Some requests.now = sym none ∙ asks.4 in cc
+    differ : first (codes "run") ≡ first (codes "cell") → ⊥
+    differ e = let bad : nat_eq 114 99 ≡ true = eq-eqb (first (codes "run")) (first (codes "cell")) e in cc
 
-pub nothing_by_now : (name : Text) (rows : List Row) → ((n : ℕ) → HasNumber (codes "now") rows n → n ≤ LAST_MOMENT → ⊥) → AsksNothing (Some (name, rows))
-nothing_by_now name rows none (Run tokens now requests) asks = none now asks.2 asks.3
+pub nothing_by_tokens : (rows : List Row) → first_of (codes "tokens") rows ≡ None → AsksNothing (Some (codes "run", rows))
+nothing_by_tokens rows none (Run tokens now requests) asks = let bad : None ≡ Some tokens.now = sym none ∙ asks.1 in cc
+nothing_by_tokens rows none (Cell token) asks = other_name asks.0
+
+pub nothing_by_requests : (rows : List Row) → first_of (codes "requests") rows ≡ None → AsksNothing (Some (codes "run", rows))
+nothing_by_requests rows none (Run tokens now requests) asks = let bad : None ≡ Some requests.now = sym none ∙ asks.4 in cc
+nothing_by_requests rows none (Cell token) asks = other_name asks.0
+
+pub nothing_by_now : (rows : List Row) → ((n : ℕ) → HasNumber (codes "now") rows n → n ≤ LAST_MOMENT → ⊥) → AsksNothing (Some (codes "run", rows))
+nothing_by_now rows none (Run tokens now requests) asks = none now asks.2 asks.3
+nothing_by_now rows none (Cell token) asks = other_name asks.0
+
+pub nothing_by_token : (rows : List Row) → first_of (codes "token") rows ≡ None → AsksNothing (Some (codes "cell", rows))
+nothing_by_token rows none (Run tokens now requests) asks = other_name (sym asks.0)
+nothing_by_token rows none (Cell token) asks = let bad : None ≡ Some token.now = sym none ∙ asks.1 in cc
 
 -- a fact that holds anyway holds where there is no value
 pub anyway : {A : Type 0} (o : Option A) (P : Type 0) → P → IfNone o P

@@ -23,6 +23,13 @@ requests_rule = record (new_rule (codes "requests")) { value_names = 1; required
 abbrev pub run_app : App
 run_app = with_rule (with_rule (with_rule (new_app (codes "run")) tokens_rule) now_rule) requests_rule
 
+-- the one word of the command `cell`
+abbrev pub token_rule : Rule
+token_rule = record (new_rule (codes "token")) { value_names = 1; required = true }
+
+abbrev pub cell_app : App
+cell_app = with_rule (new_app (codes "cell")) token_rule
+
 -- one of the commands has to be there
 abbrev pub dss_app : App
-dss_app = with_subcommand (on_top (λ s. record s { subcommand_required = true }) (new_app (codes "dss"))) run_app.top
+dss_app = with_subcommand (with_subcommand (on_top (λ s. record s { subcommand_required = true }) (new_app (codes "dss"))) run_app.top) cell_app.top

@@ -10,7 +10,7 @@ use Rattle.dss_line.specs.declared.fault.LineFault.{LineFault}
 use Rattle.dss_line.specs.declared.fault.LineFault.TheVariants as fault
 use Rattle.dss_line.specs.declared.line.TheConstants.{LAST_MOMENT}
 use Rattle.dss_line.specs.declared.line.Line.{Line}
-use Rattle.dss_line.specs.declared.line.Line.TheVariants.{Run}
+use Rattle.dss_line.specs.declared.line.Line.TheVariants.{Cell, Run}
 
 -- the texts of some words
 abbrev pub texts : List (Bor (List ℕ)) → List Text
@@ -26,6 +26,7 @@ abbrev pub Asks : Option (Text × List Row) → Line → Type 0
 Asks None line = ⊥
 Asks (Some (name, rows)) (Run tokens now requests) =
     (name ≡ codes "run") × (first_of (codes "tokens") rows ≡ Some tokens.now) × HasNumber (codes "now") rows now × (now ≤ LAST_MOMENT) × (first_of (codes "requests") rows ≡ Some requests.now)
+Asks (Some (name, rows)) (Cell token) = (name ≡ codes "cell") × (first_of (codes "token") rows ≡ Some token.now)
 
 -- the subcommand, if there is one, asks for no line
 abbrev pub AsksNothing : Option (Text × List Row) → Type 0

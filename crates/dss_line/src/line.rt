@@ -3,7 +3,7 @@ ghost use Rattle.std.specs.Prelude.{◌≡◌, IfErr, IfNone, IfOk, IfSome, Some
 ghost use Rattle.clap.specs.Faults.{fault_of as mistakes_of};
 ghost use Rattle.clap.specs.Words.{app_of, found_of, rows_of, rule_of, subcommand_of, subcommand_rows_of};
 ghost use Rattle.clap.specs.declared.builder.command.Command.TheViews.{out-Command};
-ghost use Rattle.dss_line.specs.Grammar.{dss_app, option_rule, run_app};
+ghost use Rattle.dss_line.specs.Grammar.{cell_app, dss_app, option_rule, run_app};
 ghost use Rattle.dss_line.specs.Line.{Asks, AsksNothing, Explains, texts};
 
 use crate::fault::{LineFault, fault_of};
@@ -25,6 +25,11 @@ pub enum Line<'a> {
         now: u64,
         /// The name of the file of requests; `-` is the standard input.
         requests: &'a str,
+    },
+    /// Say what a token's cell is.
+    Cell {
+        /// The token, as it was given.
+        token: &'a str,
     },
 }
 
@@ -57,13 +62,26 @@ fn run_command<'a>(alloc: Global) -> Result<Command<'a>, AllocError>
         .arg(requests)
 }
 
+fn cell_command<'a>(alloc: Global) -> Result<Command<'a>, AllocError>
+    ensures { IfOk result (λ command. (app_of command ≡ cell_app) × ((out-Command command).has_globals ≡ false)) }
+{
+    let token = Arg::new(alloc, "token")
+        .required(true)
+        .value_name("TOKEN")
+        .help("The token of the cell");
+    Command::new(alloc, "cell")
+        .about("Prints the cell of a token")
+        .arg(token)
+}
+
 fn command<'a>(alloc: Global) -> Result<Command<'a>, AllocError>
     ensures { IfOk result (λ command. (app_of command ≡ dss_app) × ((out-Command command).has_globals ≡ false)) }
 {
     Command::new(alloc, "dss")
         .about("A discovery and synchronization service for drone suppliers")
         .subcommand_required(true)
-        .subcommand(run_command(alloc)?)
+        .subcommand(run_command(alloc)?)?
+        .subcommand(cell_command(alloc)?)
 }
 
 // What the matches of the subcommand `run` ask for; `None` where a value is not there or out of its range.
@@ -82,6 +100,16 @@ fn run_line<'a>(matches: &ArgMatches<'a>) -> Option<Line<'a>>
     })
 }
 
+// What the matches of the subcommand `cell` ask for; `None` where the token is not there.
+fn cell_line<'a>(matches: &ArgMatches<'a>) -> Option<Line<'a>>
+    ensures some { IfSome result (Asks (Some (codes "cell", rows_of (found_of matches.now)))) }
+    ensures none { IfNone result (AsksNothing (Some (codes "cell", rows_of (found_of matches.now)))) }
+{
+    Some(Line::Cell {
+        token: matches.get_str("token")?,
+    })
+}
+
 // What the matches of a subcommand ask for; `None` where no subcommand has that name.
 fn line_of<'a>(name: &str, matches: &ArgMatches<'a>) -> Option<Line<'a>>
     ensures some { IfSome result (Asks (Some (name.now, rows_of (found_of matches.now)))) }
@@ -89,6 +117,7 @@ fn line_of<'a>(name: &str, matches: &ArgMatches<'a>) -> Option<Line<'a>>
 {
     match name {
         "run" => run_line(matches),
+        "cell" => cell_line(matches),
         _ => None,
     }
 }

@@ -1,12 +1,11 @@
 -- The bytes of a stream spell one list of calls, and one end.
-use Rattle.std.proofs.Common.{◌≡◌, ℕ, zero, suc, List, [], ◌∷◌, length, drop, refl, sym, ap, subst, ◌∙◌, inl, inr}
+use Rattle.std.proofs.Common.{◌≡◌, ℕ, zero, suc, List, ◌∷◌, length, drop, sym, ap, subst, ◌∙◌, inl, inr}
 use Rattle.token_conf.specs.TokenFile.{Callers}
-use Rattle.policy_core.specs.declared.call.Call.{Call}
 use Rattle.httparse.specs.Grammar.{RequestHead}
 use Rattle.wire_http.specs.declared.end.End.{End}
 use Rattle.wire_http.specs.Rest.{after}
 use Rattle.wire_http.specs.Asked.{IsCallOf}
-use Rattle.wire_http.specs.Wire.{Asked, Asks, Requests, IsRequest}
+use Rattle.wire_http.specs.Wire.{Asked, Asks, Requests}
 use Rattle.wire_http.proofs.CallUnique.{one_request, one_call}
 
 -- the parts of what was asked are the same

@@ -35,6 +35,20 @@ fn run_is_read_in_any_order(rt: HostRuntime) -> Result<(), Fail> {
 }
 
 #[test]
+fn cell_takes_one_word(rt: HostRuntime) -> Result<(), Fail> {
+    for token in ["89c25904", "X", ""] {
+        let words = ["dss", "cell", token];
+        let wanted = Line::Cell { token };
+        assert!(rt;
+            matches!(parse(rt.alloc(), words.as_slice()), Ok(line) if line == wanted),
+            "at {token}"
+        );
+    }
+    assert_eq!(rt; status(&rt, ["dss", "cell", "--help"].as_slice())?, 0);
+    Ok(())
+}
+
+#[test]
 fn moments_end_at_both_sides(rt: HostRuntime) -> Result<(), Fail> {
     let rows = [
         ("0", 0),
@@ -69,7 +83,12 @@ fn other_words_are_refused(rt: HostRuntime) -> Result<(), Fail> {
     assert_eq!(rt; status(&rt, [].as_slice())?, 2);
     assert_eq!(rt; status(&rt, ["dss"].as_slice())?, 2);
     assert_eq!(rt; status(&rt, ["dss", "nothing"].as_slice())?, 2);
-    assert_eq!(rt; status(&rt, ["dss", "cell", "1"].as_slice())?, 2);
+    assert_eq!(rt; status(&rt, ["dss", "cell"].as_slice())?, 2);
+    assert_eq!(rt; status(&rt, ["dss", "cell", "1", "3"].as_slice())?, 2);
+    assert_eq!(rt;
+        status(&rt, ["dss", "cell", "--now", "1", "3"].as_slice())?,
+        2
+    );
     assert_eq!(rt; status(&rt, ["dss", "--version"].as_slice())?, 2);
     assert_eq!(rt; status(&rt, ["dss", "run"].as_slice())?, 2);
     assert_eq!(rt;
@@ -106,6 +125,8 @@ fn faults_have_their_texts(rt: HostRuntime) -> Result<(), Fail> {
     assert!(rt; help.as_str().contains("Usage: dss <COMMAND>"));
     let help = text(&rt, ["dss", "run", "--help"].as_slice())?;
     assert!(rt; help.as_str().contains("--now <SECONDS>"));
+    let help = text(&rt, ["dss", "cell", "--help"].as_slice())?;
+    assert!(rt; help.as_str().contains("dss cell <TOKEN>"));
     let refusal = text(&rt, ["dss", "run", "--now", "1", "r"].as_slice())?;
     assert!(rt; refusal.as_str().contains("--tokens <FILE>"));
     Ok(())

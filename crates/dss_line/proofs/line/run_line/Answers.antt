@@ -19,23 +19,23 @@ pub returns-in_err-now-clause-none : goal.returns-in_err-now-clause-none
 returns-in_err-now-clause-none c =
     let f = found_of c.args.matches.now in
     let rows = rows_of f in
-    anyway _ _ (nothing_by_now (codes "run") rows (no_moment f (codes "now") (λ t e. (c.in_err-now.ensures.value t e).1.0)))
+    anyway _ _ (nothing_by_now rows (no_moment f (codes "now") (λ t e. (c.in_err-now.ensures.value t e).1.0)))
 
 pub returns-then-now-gt-LAST_MOMENT-clause-none : goal.returns-then-now-gt-LAST_MOMENT-clause-none
 returns-then-now-gt-LAST_MOMENT-clause-none c =
     let f = found_of c.args.matches.now in
     let rows = rows_of f in
     let read = number_from_text f (codes "now") c.in_ok-now.now c.in_ok-now.ensures.none (λ t e. (c.in_ok-now.ensures.value t e).0) in
-    nothing_by_now (codes "run") rows (λ n has within. let same : c.in_ok-now.now ≡ n = same_number (codes "now") rows c.in_ok-now.now n read has in omega arith)
+    nothing_by_now rows (λ n has within. let same : c.in_ok-now.now ≡ n = same_number (codes "now") rows c.in_ok-now.now n read has in omega arith)
 
 pub returns-in_err-get_str-clause-none : goal.returns-in_err-get_str-clause-none
 returns-in_err-get_str-clause-none c =
     let f = found_of c.args.matches.now in
     let rows = rows_of f in
-    anyway _ _ (nothing_by_tokens (codes "run") rows (sym (c.in_err-get_str.ensures ∙ first_value-rows f (codes "tokens"))))
+    anyway _ _ (nothing_by_tokens rows (sym (c.in_err-get_str.ensures ∙ first_value-rows f (codes "tokens"))))
 
 pub returns-in_err-get_str-2-clause-none : goal.returns-in_err-get_str-2-clause-none
 returns-in_err-get_str-2-clause-none c =
     let f = found_of c.args.matches.now in
     let rows = rows_of f in
-    anyway _ _ (nothing_by_requests (codes "run") rows (sym (c.in_err-get_str-2.ensures ∙ first_value-rows f (codes "requests"))))
+    anyway _ _ (nothing_by_requests rows (sym (c.in_err-get_str-2.ensures ∙ first_value-rows f (codes "requests"))))
