@@ -104,7 +104,7 @@ fn rules_that_a_call_breaks(rt: HostRuntime) -> Result<(), Fail> {
     assert!(rt; early(&malformed) == Some(Rule::Form));
     let set = setting(alloc, "x", Availability::Down)?;
     assert!(rt; early(&set) == None);
-    let findings = standing(1000, &set, None, 0);
+    let findings = standing(1000, &set, None, None, 0);
     assert!(rt; findings.first == Some(Rule::Version));
     assert!(rt; !findings.limit);
     Ok(())

@@ -8,6 +8,8 @@ mod commands;
 #[cfg(test)]
 mod devices;
 #[cfg(test)]
+mod entities;
+#[cfg(test)]
 mod examples;
 #[cfg(test)]
 mod failures;

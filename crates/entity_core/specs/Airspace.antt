@@ -1,11 +1,14 @@
 -- What a service keeps.
 use Rattle.std.specs.Prelude.{ℕ, ◌+◌, List, [], unwrap_or}
-use Rattle.std.specs.Ordering.{nat_cmp}
+use Rattle.std.specs.Ordering.{nat_cmp, ordering_then}
 use Rattle.std.specs.declared.cmp.Ordering.{Ordering}
 use Rattle.std.specs.Cmp.Lexicographic.{slice_cmp}
-use Rattle.std.specs.FinMap.{FinMap, get, insert, empty}
+use Rattle.std.specs.FinMap.{FinMap, get, insert, remove, empty}
 use Rattle.entity_core.specs.declared.availability.Availability.{Availability}
 use Rattle.entity_core.specs.declared.availability.Availability.TheVariants.{Unknown}
+use Rattle.entity_core.specs.declared.nature.Kind.{Kind}
+use Rattle.entity_core.specs.declared.entity.Entity.{Entity}
+use Rattle.entity_core.specs.Entity.{kind_index, kind_of}
 
 -- texts in the order of their bytes
 abbrev pub text_cmp : List ℕ → List ℕ → Ordering
@@ -18,22 +21,45 @@ Stated = Availability × List ℕ
 abbrev pub Availabilities : Type 0
 Availabilities = FinMap text_cmp Stated
 
--- the availability of each supplier that has set one, and how many changes there were
+-- a kind and an id; each kind has ids of its own
+abbrev pub EntityKey : Type 0
+EntityKey = Kind × ℕ
+
+-- kind by kind, each by rising ids
+abbrev pub key_cmp : EntityKey → EntityKey → Ordering
+key_cmp a b = ordering_then (nat_cmp (kind_index a.0) (kind_index b.0)) (nat_cmp a.1 b.1)
+
+abbrev pub key_of : Entity → EntityKey
+key_of e = (kind_of e.nature, e.id)
+
+abbrev pub Entities : Type 0
+Entities = FinMap key_cmp Entity
+
+-- the entities by kind and id, the availability of each supplier that has set one, and how many
+-- changes there were
 pub record Airspace : Type 0 where
+  pub entities : Entities
   pub availabilities : Availabilities
   pub serial : ℕ
-
-abbrev pub greatest_serial : ℕ
-greatest_serial = 9223372036854775807
 
 -- what is kept of a supplier; of one that has set nothing, `Unknown` under the empty version
 abbrev pub availability_of : Airspace → List ℕ → Stated
 availability_of a uss = unwrap_or (get a.availabilities uss) (Unknown, [])
 
--- with the availability of a supplier under a version; the serial goes on by one
+-- Each change lets the serial go on by one.
+
+-- with the availability of a supplier under a version
 abbrev pub with_availability : Airspace → List ℕ → Stated → Airspace
-with_availability a uss stated = record { availabilities = insert a.availabilities uss stated; serial = a.serial + 1 }
+with_availability a uss stated = record { entities = a.entities; availabilities = insert a.availabilities uss stated; serial = a.serial + 1 }
+
+-- with an entity, in the place of the one that has its kind and id
+abbrev pub with_entity : Airspace → Entity → Airspace
+with_entity a e = record { entities = insert a.entities (key_of e) e; availabilities = a.availabilities; serial = a.serial + 1 }
+
+-- without the entity of a kind and an id
+abbrev pub without_entity : Airspace → EntityKey → Airspace
+without_entity a k = record { entities = remove a.entities k; availabilities = a.availabilities; serial = a.serial + 1 }
 
 -- an airspace in which nothing is kept, at a serial
 abbrev pub empty_at : ℕ → Airspace
-empty_at serial = record { availabilities = empty; serial = serial }
+empty_at serial = record { entities = empty; availabilities = empty; serial = serial }

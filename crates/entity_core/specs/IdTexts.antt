@@ -1,8 +1,13 @@
 -- The texts of ids, and what reading one gives.
-use Rattle.std.specs.Prelude.{◌≡◌, ℕ, ◌==◌, ◌&&◌, ◌||◌, nat_le, Bool, List, length, Result, MatchResult, Option, Some, None, if◌then◌else◌}
+use Rattle.std.specs.Prelude.{◌≡◌, ℕ, ◌==◌, ◌&&◌, ◌||◌, nat_eq, nat_le, Bool, List, length, Result, MatchResult, Option, Some, None, if◌then◌else◌}
 use Rattle.std.specs.List.{list_all}
+use Rattle.std.specs.Cmp.Lexicographic.{pointwise}
 use Rattle.entity_core.specs.declared.id_fault.IdFault.{IdFault}
 use Rattle.entity_core.specs.declared.id_fault.IdFault.TheVariants.{Length, Form, Memory}
+
+-- letter by letter the same
+abbrev pub same_text : List ℕ → List ℕ → Bool
+same_text a b = pointwise nat_eq a b
 
 -- from the first byte to the last one
 abbrev pub is_from : ℕ → ℕ → ℕ → Bool
@@ -28,6 +33,10 @@ name_fault text = first_fault 1 64 is_name_byte text
 -- a version number
 abbrev pub ovn_fault : List ℕ → Option IdFault
 ovn_fault text = first_fault 16 128 is_visible_byte text
+
+-- an address
+abbrev pub url_fault : List ℕ → Option IdFault
+url_fault text = first_fault 1 255 is_visible_byte text
 
 -- the fault that is told where the text has this one: `Memory` only where it has none
 abbrev pub IsToldOf : Option IdFault → IdFault → Type 0

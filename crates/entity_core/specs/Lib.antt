@@ -1,3 +1,7 @@
 pub mod IdTexts
+pub mod EntityId
+pub mod Entity
 pub mod Ovn
+pub mod Serial
 pub mod Airspace
+pub mod Search

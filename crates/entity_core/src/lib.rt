@@ -2,10 +2,17 @@
 #![tactic(auto)]
 
 pub mod availability;
+pub mod base_url;
+pub mod entity;
+pub mod entity_id;
 pub mod id_fault;
 pub mod name;
+pub mod nature;
 pub mod ovn;
 pub mod salt;
 pub mod serial;
 pub mod text;
 pub mod uss_id;
+pub mod version;
+mod visible;
+pub mod volumes;

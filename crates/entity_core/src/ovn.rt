@@ -1,14 +1,14 @@
 //! Version numbers (OVNs).
 ghost use Rattle.std.specs.Prelude.{◌≡◌, IfOk, None, length};
-ghost use Rattle.std.specs.List.{list_all};
 ghost use Rattle.std.specs.String.{string_bytes};
 ghost use Rattle.hex.specs.Hex.{encode_lower};
-ghost use Rattle.entity_core.specs.IdTexts.{Reads, is_visible_byte, ovn_fault};
+ghost use Rattle.entity_core.specs.IdTexts.{Reads, ovn_fault};
 ghost use Rattle.entity_core.specs.Ovn.{ovn_text, ovn_message};
 
 use crate::id_fault::IdFault;
 use crate::salt::Salt;
 use crate::text::Text;
+use crate::visible::read_visible;
 use sha2::{Digest, Sha256};
 use std::alloc::{AllocError, Global};
 use std::marker::Model;
@@ -33,27 +33,13 @@ impl Model for Ovn {
     ghost invariant = { λ a. ovn_fault (string_bytes a.letters) ≡ None };
 }
 
-fn is_visible(text: &str) -> bool
-    ensures { result ≡ list_all is_visible_byte text.now }
-{
-    text.as_bytes().iter().all(|b| b.is_ascii_graphic())
-}
-
 impl Ovn {
     /// Reads a version as a caller writes it. The error is the first fault of the text.
     pub fn read(alloc: Global, text: &str) -> Result<Ovn, IdFault>
         ensures { Reads (ovn_fault text.now) text.now result }
     {
-        if text.len() < 16 || text.len() > 128 {
-            return Err(IdFault::Length);
-        }
-        if !is_visible(text) {
-            return Err(IdFault::Form);
-        }
-        match String::from_str(alloc, text) {
-            Ok(letters) => Ok(Ovn { letters }),
-            Err(_) => Err(IdFault::Memory),
-        }
+        let letters = read_visible(alloc, text, 16, 128)?;
+        Ok(Ovn { letters })
     }
 
     /// The version as it was read or made.

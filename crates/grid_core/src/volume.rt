@@ -110,7 +110,8 @@ fn covers(cell: CellId) -> u64
 
 fn covered_by(cells: &[CellId]) -> u64
     requires { length cells.now ≤ 512 }
-    ensures { result ≡ covered_by cells.now }
+    ensures count { result ≡ covered_by cells.now }
+    ensures most { result ≤ 34359738368 }
 {
     let mut total = 0u64;
     for cell in cells {
@@ -164,7 +165,8 @@ impl Volume {
 
     /// How many cells of level 13 its cells cover, each of its cells counted. It takes no memory.
     pub fn covered(&self) -> u64
-        ensures { result ≡ covered_by self.now.cells }
+        ensures count { result ≡ covered_by self.now.cells }
+        ensures most { result ≤ 34359738368 }
     {
         covered_by(&self.cells)
     }
@@ -263,7 +265,8 @@ impl Area {
 
     /// How many cells of level 13 its cells cover, each of its cells counted. It takes no memory.
     pub fn covered(&self) -> u64
-        ensures { result ≡ covered_by self.now.cells }
+        ensures count { result ≡ covered_by self.now.cells }
+        ensures most { result ≤ 34359738368 }
     {
         covered_by(&self.cells)
     }

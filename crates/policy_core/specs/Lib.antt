@@ -1,5 +1,7 @@
 pub mod Scope
 pub mod Call
 pub mod Rule
-pub mod Policy
 pub mod Standing
+pub mod Policy
+pub mod View
+pub mod Missing

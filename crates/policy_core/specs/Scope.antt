@@ -4,7 +4,9 @@ use Rattle.policy_core.specs.declared.scope.Scope.{Scope}
 use Rattle.policy_core.specs.declared.scope.Scope.TheVariants.{StrategicCoordination, ConformanceMonitoring, ConstraintProcessing, ConstraintManagement, AvailabilityArbitration}
 use Rattle.policy_core.specs.declared.scope.ScopeSet.{ScopeSet}
 use Rattle.policy_core.specs.declared.call.OpKind.{OpKind}
-use Rattle.policy_core.specs.declared.call.OpKind.TheVariants.{ReadAvail, SetAvail}
+use Rattle.policy_core.specs.declared.call.OpKind.TheVariants.{Query, Read, Create, Update, Delete, ReadAvail, SetAvail}
+use Rattle.entity_core.specs.declared.nature.Kind.{Kind}
+use Rattle.entity_core.specs.declared.nature.Kind.TheVariants.{Intent, Constraint}
 
 -- the name of a scope in a token file
 abbrev pub scope_name : Scope → List ℕ
@@ -33,7 +35,22 @@ with_scope s ConstraintProcessing = record s { constraint_processing = true }
 with_scope s ConstraintManagement = record s { constraint_management = true }
 with_scope s AvailabilityArbitration = record s { availability_arbitration = true }
 
+-- whether one of the scopes opens the query and the reading of entities of a kind
+abbrev pub may_see : Kind → ScopeSet → Bool
+may_see Intent s = has_scope s StrategicCoordination || has_scope s ConformanceMonitoring
+may_see Constraint s = has_scope s ConstraintProcessing || has_scope s ConstraintManagement
+
+-- and their creation, update and deletion
+abbrev pub may_change : Kind → ScopeSet → Bool
+may_change Intent s = has_scope s StrategicCoordination || has_scope s ConformanceMonitoring
+may_change Constraint s = has_scope s ConstraintManagement
+
 -- whether one of the scopes opens a kind of operation
 abbrev pub is_open : OpKind → ScopeSet → Bool
+is_open (Query kind) s = may_see kind s
+is_open (Read kind) s = may_see kind s
+is_open (Create kind) s = may_change kind s
+is_open (Update kind) s = may_change kind s
+is_open (Delete kind) s = may_change kind s
 is_open ReadAvail s = has_scope s AvailabilityArbitration || has_scope s StrategicCoordination || has_scope s ConformanceMonitoring
 is_open SetAvail s = has_scope s AvailabilityArbitration

@@ -1,16 +1,44 @@
 //! Calls: what is asked, and by whom.
+use crate::key::Key;
 use crate::scope::Caller;
 use entity_core::availability::Availability;
+use entity_core::base_url::BaseUrl;
+use entity_core::entity_id::EntityId;
+use entity_core::nature::{Kind, Nature};
+use entity_core::ovn::Ovn;
 use entity_core::text::Text;
 use entity_core::uss_id::UssId;
+use entity_core::volumes::Volumes;
+use grid_core::volume::Area;
 
 /// A kind of operation, to which scopes are given.
 #[derive(Clone, Copy, Debug, PartialEq, Eq)]
 pub enum OpKind {
+    /// The query of an area for entities of a kind.
+    Query(Kind),
+    /// The reading of an entity of a kind.
+    Read(Kind),
+    /// The creation of one.
+    Create(Kind),
+    /// The update of one.
+    Update(Kind),
+    /// The deletion of one.
+    Delete(Kind),
     /// The reading of a supplier's availability.
     ReadAvail,
     /// The setting of a supplier's availability.
     SetAvail,
+}
+
+/// What an entity is to be: what its supplier says of it.
+#[derive(Debug, Drop)]
+pub struct Put {
+    /// Its kind, and the state of an intent.
+    pub nature: Nature,
+    pub volumes: Volumes,
+    /// The version numbers of what its supplier knows.
+    pub key: Key,
+    pub url: BaseUrl,
 }
 
 /// What is asked.
@@ -22,6 +50,16 @@ pub enum Operation {
     NoMethod,
     /// A path word or the body has not the form of this kind.
     Malformed(OpKind),
+    /// Which entities of the kind meet the area?
+    Query(Kind, Area),
+    /// What is the entity of the kind and the id?
+    Read(Kind, EntityId),
+    /// There is to be this entity under the id.
+    Create(EntityId, Put),
+    /// The entity of the id, whose version number is this, is now to be so.
+    Update(EntityId, Ovn, Put),
+    /// The entity of the kind and the id, whose version number is this, is not to be any more.
+    Delete(Kind, EntityId, Ovn),
     /// What is the availability of the supplier?
     ReadAvail(UssId),
     /// The supplier's availability, whose version is the text, is now this.

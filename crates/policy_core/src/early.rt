@@ -1,18 +1,50 @@
 //! The rules that look at the call alone.
 ghost use Rattle.std.specs.Prelude.{◌≡◌, ℕ, find};
 ghost use Rattle.entity_core.specs.Airspace.{Airspace};
-ghost use Rattle.policy_core.specs.Scope.{is_open};
-ghost use Rattle.policy_core.specs.Call.{kind_of};
+ghost use Rattle.policy_core.specs.Scope.{is_open, may_change, may_see};
+ghost use Rattle.policy_core.specs.Call.{covered_of, kind_of};
 ghost use Rattle.policy_core.specs.Policy.{breaks, early_rules};
 
 use crate::call::{Call, OpKind, Operation};
 use crate::rule::Rule;
 use crate::scope::{Scope, ScopeSet};
+use entity_core::nature::Kind;
+
+/// How many cells of level 13 the areas of a call may count for (this project's profile).
+pub const GREATEST_COVER: u64 = 16_384;
+
+fn may_see(kind: Kind, scopes: ScopeSet) -> bool
+    ensures { result ≡ may_see kind scopes }
+{
+    match kind {
+        Kind::Intent => {
+            scopes.has(Scope::StrategicCoordination) || scopes.has(Scope::ConformanceMonitoring)
+        }
+        Kind::Constraint => {
+            scopes.has(Scope::ConstraintProcessing) || scopes.has(Scope::ConstraintManagement)
+        }
+    }
+}
+
+fn may_change(kind: Kind, scopes: ScopeSet) -> bool
+    ensures { result ≡ may_change kind scopes }
+{
+    match kind {
+        Kind::Intent => {
+            scopes.has(Scope::StrategicCoordination) || scopes.has(Scope::ConformanceMonitoring)
+        }
+        Kind::Constraint => scopes.has(Scope::ConstraintManagement),
+    }
+}
 
 fn is_open(kind: OpKind, scopes: ScopeSet) -> bool
     ensures { result ≡ is_open kind scopes }
 {
     match kind {
+        OpKind::Query(kind) | OpKind::Read(kind) => may_see(kind, scopes),
+        OpKind::Create(kind) | OpKind::Update(kind) | OpKind::Delete(kind) => {
+            may_change(kind, scopes)
+        }
         OpKind::ReadAvail => {
             scopes.has(Scope::AvailabilityArbitration)
                 || scopes.has(Scope::StrategicCoordination)
@@ -29,8 +61,24 @@ fn kind_of(op: &Operation) -> Option<OpKind>
         Operation::NoRoute => None,
         Operation::NoMethod => None,
         Operation::Malformed(kind) => Some(*kind),
+        Operation::Query(kind, _) => Some(OpKind::Query(*kind)),
+        Operation::Read(kind, _) => Some(OpKind::Read(*kind)),
+        Operation::Create(_, put) => Some(OpKind::Create(put.nature.kind())),
+        Operation::Update(_, _, put) => Some(OpKind::Update(put.nature.kind())),
+        Operation::Delete(kind, _, _) => Some(OpKind::Delete(*kind)),
         Operation::ReadAvail(_) => Some(OpKind::ReadAvail),
         Operation::SetAvail(_, _, _) => Some(OpKind::SetAvail),
+    }
+}
+
+fn covered_of(op: &Operation) -> u64
+    ensures { result ≡ covered_of op.now }
+{
+    match op {
+        Operation::Query(_, area) => area.covered(),
+        Operation::Create(_, put) => put.volumes.covered(),
+        Operation::Update(_, _, put) => put.volumes.covered(),
+        _ => 0,
     }
 }
 
@@ -52,8 +100,11 @@ pub fn early(call: &Call) -> Option<Rule>
             return Some(Rule::Scope);
         }
     }
-    match &call.op {
-        Operation::Malformed(_) => Some(Rule::Form),
-        _ => None,
+    if let Operation::Malformed(_) = &call.op {
+        return Some(Rule::Form);
     }
+    if covered_of(&call.op) > GREATEST_COVER {
+        return Some(Rule::Area);
+    }
+    None
 }

@@ -3,6 +3,12 @@
 
 pub mod call;
 pub mod early;
+pub mod key;
+pub mod key_index;
+pub mod missing;
+pub mod reference;
 pub mod rule;
 pub mod scope;
 pub mod standing;
+#[cfg(test)]
+mod tests;

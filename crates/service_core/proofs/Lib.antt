@@ -1,4 +1,5 @@
 pub mod Looked
 pub mod Outcome
 pub mod Runs
+pub mod Judged
 pub mod Steps

@@ -9,7 +9,7 @@ use Rattle.space_core.specs.declared.space.Change.{Change}
 use Rattle.space_core.specs.Space.{greatest_count, IsContent, Changes, Tells, changed}
 use Rattle.policy_core.specs.declared.call.Call.{Call}
 use Rattle.policy_core.specs.declared.rule.Rule.{Rule}
-use Rattle.service_core.specs.declared.reply.Missing.{Missing}
+use Rattle.policy_core.specs.declared.reference.Missing.{Missing}
 use Rattle.service_core.specs.declared.look.Halt.{Halt}
 use Rattle.service_core.specs.declared.look.Halt.TheVariants.{NoMemory, Space}
 use Rattle.service_core.specs.declared.look.Grounds.{Grounds}
@@ -26,7 +26,7 @@ pub step_denied : (salt : List ℕ) (a : Airspace) (t : ℕ) (c : Call) (p : Rul
 unfolding step
 step_denied salt a t c p m h is = ap (step_by salt a c) h ∙ ap (λ (x : Missing). (a, Denied p x)) (sym is)
 
-pub step_done : (salt : List ℕ) (a : Airspace) (t : ℕ) (c : Call) → first_broken a t c ≡ None → step salt a t c ≡ effect salt a c.op
+pub step_done : (salt : List ℕ) (a : Airspace) (t : ℕ) (c : Call) → first_broken a t c ≡ None → step salt a t c ≡ effect salt a c.caller c.op
 unfolding step
 step_done salt a t c h = ap (step_by salt a c) h
 

@@ -1,140 +1,165 @@
--- Which rule is the first that is broken, and which effect follows.
-use Rattle.std.specs.Prelude.{◌≡◌, ℕ, ◌+◌, ◌<◌, ◌&&◌, Bool, true, false, List, [], ◌∷◌, ◌++◌, Option, Some, None, find, cond, refl, nat_le, unwrap_or, IfSome, not}
+-- Which effect follows where no rule is broken.
+use Rattle.std.specs.Prelude.{◌≡◌, ℕ, ◌+◌, ◌<◌, ◌&&◌, ◌||◌, Bool, true, false, List, ◌++◌, Option, Some, None, find, cond, refl, is_some, nat_le, IfSome, not}
 use Rattle.std.proofs.Common.{inl, inr, sym, ap, ◌∙◌, subst}
 use Rattle.std.proofs.lemmas.Bool.{cases_lt, false≢true, le-leb}
 use Rattle.std.specs.FinMap.{get}
-use Rattle.entity_core.specs.Airspace.{Airspace, Stated, greatest_serial, with_availability}
+use Rattle.grid_core.specs.Extent.{Region}
+use Rattle.entity_core.specs.Serial.{greatest_serial}
+use Rattle.entity_core.specs.Entity.{greatest_version, kind_of}
+use Rattle.entity_core.specs.Airspace.{Airspace, with_availability, with_entity}
 use Rattle.entity_core.specs.Ovn.{ovn_text}
+use Rattle.entity_core.specs.declared.entity.Entity.{Entity}
+use Rattle.entity_core.specs.declared.nature.Kind.{Kind}
 use Rattle.entity_core.specs.declared.availability.Availability.{Availability}
-use Rattle.entity_core.specs.declared.availability.Availability.TheVariants.{Unknown}
 use Rattle.policy_core.specs.declared.call.Call.{Call}
+use Rattle.policy_core.specs.declared.call.Put.{Put}
 use Rattle.policy_core.specs.declared.scope.Caller.{Caller}
 use Rattle.policy_core.specs.declared.call.Operation.{Operation}
-use Rattle.policy_core.specs.declared.call.Operation.TheVariants.{NoRoute, NoMethod, Malformed, ReadAvail, SetAvail}
-use Rattle.policy_core.specs.declared.rule.Rule.{Rule}
-use Rattle.policy_core.specs.declared.rule.Rule.TheVariants.{Scope, Form, Limit}
+use Rattle.policy_core.specs.declared.call.Operation.TheVariants.{NoRoute, NoMethod, Malformed, Query, Read, Create, Update, Delete, ReadAvail, SetAvail}
+use Rattle.policy_core.specs.declared.rule.Rule.TheVariants.{Scope, Form, Key, Limit}
 use Rattle.policy_core.specs.Scope.{is_open}
-use Rattle.policy_core.specs.Call.{is_change, supplier_of}
-use Rattle.policy_core.specs.Policy.{breaks, early_rules, standing_rules, last_rules, first_broken}
-use Rattle.policy_core.specs.Standing.{Regards}
+use Rattle.policy_core.specs.Call.{is_change}
+use Rattle.policy_core.specs.Policy.{breaks, early_rules, standing_rules, last_rules, first_broken, has_last_version, is_spent}
+use Rattle.policy_core.specs.Standing.{found_of}
+use Rattle.policy_core.specs.View.{view_of}
+use Rattle.policy_core.specs.declared.reference.Reference.{Reference}
 use Rattle.space_core.specs.Space.{Fits}
 use Rattle.space_core.specs.declared.space.Change as space_change
 use Rattle.space_core.specs.declared.space.Change.TheVariants as changes
 use Rattle.service_core.specs.declared.reply.Answer.{Answer}
-use Rattle.service_core.specs.declared.reply.Answer.TheVariants.{Avail}
-use Rattle.service_core.specs.declared.reply.Reply.{Reply}
+use Rattle.service_core.specs.declared.reply.Answer.TheVariants as answers
 use Rattle.service_core.specs.declared.reply.Reply.TheVariants.{Done}
 use Rattle.service_core.specs.declared.look.Grounds.{Grounds}
-use Rattle.service_core.specs.Step.{effect}
-use Rattle.service_core.specs.Looks.{IsGround, Prepares, changed_by}
+use Rattle.service_core.specs.Step.{effect, effect_by, kept_as, create_effect, put_effect, update_effect, delete_effect}
+use Rattle.service_core.specs.Looks.{IsGround, Makes, Prepares, changed_by}
+use Rattle.service_core.proofs.Judged.{find_rest}
 
-find_front : {X : Type 0} (p : X → Bool) (xs ys : List X) (x : X) → find p xs ≡ Some x → find p (xs ++ ys) ≡ Some x
-find_front p [] ys x h = cc
-find_front p (y ∷ xs) ys x h =
-    elim (p y) as (λ b. cond b (Some y) (find p xs) ≡ Some x → cond b (Some y) (find p (xs ++ ys)) ≡ Some x) [
-      | true ↦ λ e. e
-      | false ↦ λ e. find_front p xs ys x e
-    ] h
+no_limit : (k l : Bool) → cond k (Some Key) (cond l (Some Limit) None) ≡ None → l ≡ false
+no_limit true l h = cc
+no_limit false true h = cc
+no_limit false false h = refl
 
-find_later : {X : Type 0} (p : X → Bool) (xs ys : List X) → find p xs ≡ None → find p (xs ++ ys) ≡ find p ys
-find_later p [] ys h = refl
-find_later p (y ∷ xs) ys h =
-    elim (p y) as (λ b. cond b (Some y) (find p xs) ≡ None → cond b (Some y) (find p (xs ++ ys)) ≡ find p ys) [
-      | true ↦ λ e. cc
-      | false ↦ λ e. find_later p xs ys e
-    ] h
+neither : (x y : Bool) → (x || y) ≡ false → (x ≡ false) × (y ≡ false)
+neither true y h = cc
+neither false y h = (refl, h)
 
-find_rest : {X : Type 0} (p : X → Bool) (xs ys : List X) → find p (xs ++ ys) ≡ None → find p ys ≡ None
-find_rest p [] ys h = h
-find_rest p (y ∷ xs) ys h =
-    elim (p y) as (λ b. cond b (Some y) (find p (xs ++ ys)) ≡ None → find p ys ≡ None) [
-      | true ↦ λ e. cc
-      | false ↦ λ e. find_rest p xs ys e
-    ] h
+below : (n most : ℕ) → nat_le most n ≡ false → n < most
+below n most h = elim (cases_lt n most) [
+  | inl lt ↦ lt
+  | inr ge ↦ absurd (false≢true (sym h ∙ le-leb most n ge))
+]
 
-find_none : {X : Type 0} (p : X → Bool) (xs ys : List X) → find p (xs ++ ys) ≡ None → find p xs ≡ None
-find_none p [] ys h = refl
-find_none p (y ∷ xs) ys h =
-    elim (p y) as (λ b. cond b (Some y) (find p (xs ++ ys)) ≡ None → cond b (Some y) (find p xs) ≡ None) [
-      | true ↦ λ e. cc
-      | false ↦ λ e. find_none p xs ys e
-    ] h
-
-pub first_early : (a : Airspace) (t : ℕ) (c : Call) (r : Rule) → find (breaks a t c) early_rules ≡ Some r → first_broken a t c ≡ Some r
+-- what breaks no rule is at no limit
+limits : (a : Airspace) (t : ℕ) (c : Call) → first_broken a t c ≡ None → ((is_change c.op && nat_le greatest_serial a.serial) ≡ false) × (is_spent c.op (found_of a c.op) ≡ false)
 unfolding first_broken
-first_early a t c r h = find_front (breaks a t c) early_rules (standing_rules ++ last_rules) r h
-
-pub first_standing : (a : Airspace) (t : ℕ) (c : Call) (r : Rule) → find (breaks a t c) early_rules ≡ None → find (breaks a t c) standing_rules ≡ Some r → first_broken a t c ≡ Some r
-unfolding first_broken
-first_standing a t c r h k = find_later (breaks a t c) early_rules (standing_rules ++ last_rules) h ∙ find_front (breaks a t c) standing_rules last_rules r k
-
-pub first_limit : (a : Airspace) (t : ℕ) (c : Call) → find (breaks a t c) early_rules ≡ None → find (breaks a t c) standing_rules ≡ None → first_broken a t c ≡ cond (breaks a t c Limit) (Some Limit) None
-unfolding first_broken
-first_limit a t c h k = find_later (breaks a t c) early_rules (standing_rules ++ last_rules) h ∙ find_later (breaks a t c) standing_rules last_rules k
-
-pub standing_none : (a : Airspace) (t : ℕ) (c : Call) → first_broken a t c ≡ None → find (breaks a t c) standing_rules ≡ None
-unfolding first_broken
-standing_none a t c h = find_none (breaks a t c) standing_rules last_rules (find_rest (breaks a t c) early_rules (standing_rules ++ last_rules) h)
-
-no_limit : (l : Bool) → cond l (Some Limit) None ≡ None → l ≡ false
-no_limit true h = cc
-no_limit false h = refl
+limits a t c h =
+    let last : find (breaks a t c) last_rules ≡ None = find_rest (breaks a t c) standing_rules last_rules (find_rest (breaks a t c) early_rules (standing_rules ++ last_rules) h) in
+    neither (is_change c.op && nat_le greatest_serial a.serial) (is_spent c.op (found_of a c.op)) (no_limit (breaks a t c Key) (breaks a t c Limit) last)
 
 -- a change that breaks no rule has room
 pub room_of : (a : Airspace) (t : ℕ) (c : Call) → first_broken a t c ≡ None → is_change c.op ≡ true → a.serial < greatest_serial
-unfolding first_broken
-room_of a t c h is =
-    let last : find (breaks a t c) last_rules ≡ None = find_rest (breaks a t c) standing_rules last_rules (find_rest (breaks a t c) early_rules (standing_rules ++ last_rules) h) in
-    let l : (is_change c.op && nat_le greatest_serial a.serial) ≡ false = no_limit (breaks a t c Limit) last in
-    let m : nat_le greatest_serial a.serial ≡ false = ap (λ (b : Bool). b && nat_le greatest_serial a.serial) (sym is) ∙ l in
-    elim (cases_lt a.serial greatest_serial) [
-      | inl lt ↦ lt
-      | inr ge ↦ absurd (false≢true (sym m ∙ le-leb greatest_serial a.serial ge))
-    ]
+room_of a t c h is = below a.serial greatest_serial (ap (λ (b : Bool). b && nat_le greatest_serial a.serial) (sym is) ∙ (limits a t c h).0)
+
+-- what an update that breaks no rule has found has not the greatest version
+pub unspent : (a : Airspace) (t : ℕ) (c : Call) (id : ℕ) (ovn : List ℕ) (put : Put) (e : Entity) → first_broken a t c ≡ None → c.op ≡ Update id ovn put → get a.entities (kind_of put.nature, id) ≡ Some e → e.version < greatest_version
+unspent a t c id ovn put e h op there =
+    below e.version greatest_version (
+    ap has_last_version (sym there) ∙ (ap (λ (o : Operation). is_spent o (found_of a o)) (sym op) ∙ (limits a t c h).1))
 
 -- a call that breaks no early rule has an effect
 pub well_formed : (a : Airspace) (t : ℕ) (caller : Option Caller) (op : Operation) → find (breaks a t (record { caller = caller; op = op })) early_rules ≡ None
+    → ((kind : Kind) (area : Region) → op ≡ Query kind area → ⊥) → ((kind : Kind) (id : ℕ) → op ≡ Read kind id → ⊥) → ((id : ℕ) (put : Put) → op ≡ Create id put → ⊥)
+    → ((id : ℕ) (ovn : List ℕ) (put : Put) → op ≡ Update id ovn put → ⊥) → ((kind : Kind) (id : ℕ) (ovn : List ℕ) → op ≡ Delete kind id ovn → ⊥)
     → ((uss : List ℕ) → op ≡ ReadAvail uss → ⊥) → ((uss old : List ℕ) (availability : Availability) → op ≡ SetAvail uss old availability → ⊥) → ⊥
-well_formed a t caller NoRoute h q s = cc
-well_formed a t caller NoMethod h q s = cc
-well_formed a t None (Malformed kind) h q s = cc
-well_formed a t (Some x) (Malformed kind) h q s = elim (is_open kind x.scopes) as (λ b. cond (not b) (Some Scope) (Some Form) ≡ None → ⊥) [ true ↦ λ e. cc | false ↦ λ e. cc ] h
-well_formed a t caller (ReadAvail uss) h q s = q uss refl
-well_formed a t caller (SetAvail uss old availability) h q s = s uss old availability refl
+well_formed a t caller NoRoute h l r p u d q s = cc
+well_formed a t caller NoMethod h l r p u d q s = cc
+well_formed a t None (Malformed kind) h l r p u d q s = cc
+well_formed a t (Some x) (Malformed kind) h l r p u d q s = elim (is_open kind x.scopes) as (λ b. cond (not b) (Some Scope) (Some Form) ≡ None → ⊥) [ true ↦ λ e. cc | false ↦ λ e. cc ] h
+well_formed a t caller (Query kind area) h l r p u d q s = l kind area refl
+well_formed a t caller (Read kind id) h l r p u d q s = r kind id refl
+well_formed a t caller (Create id put) h l r p u d q s = p id put refl
+well_formed a t caller (Update id ovn put) h l r p u d q s = u id ovn put refl
+well_formed a t caller (Delete kind id ovn) h l r p u d q s = d kind id ovn refl
+well_formed a t caller (ReadAvail uss) h l r p u d q s = q uss refl
+well_formed a t caller (SetAvail uss old availability) h l r p u d q s = s uss old availability refl
 
--- what a ground says of the supplier
-stated_for : (a : Airspace) (c : Call) (g : Grounds) (uss : List ℕ) → supplier_of c.op ≡ Some uss → IsGround c a g → g.kept ≡ get a.availabilities uss
-stated_for a c g uss is ground = subst (λ (o : Option (List ℕ)). IfSome o (λ u. g.kept ≡ get a.availabilities u)) is ground.stated
+-- and a caller
+pub has_caller : (a : Airspace) (t : ℕ) (caller : Option Caller) (op : Operation) → caller ≡ None → find (breaks a t (record { caller = caller; op = op })) early_rules ≡ None → ⊥
+has_caller a t (Some x) op e h = cc
+has_caller a t None NoRoute e h = cc
+has_caller a t None NoMethod e h = cc
+has_caller a t None (Malformed kind) e h = cc
+has_caller a t None (Query kind area) e h = cc
+has_caller a t None (Read kind id) e h = cc
+has_caller a t None (Create id put) e h = cc
+has_caller a t None (Update id ovn put) e h = cc
+has_caller a t None (Delete kind id ovn) e h = cc
+has_caller a t None (ReadAvail uss) e h = cc
+has_caller a t None (SetAvail uss old availability) e h = cc
 
--- the effect of a reading
-pub makes_read : (salt : List ℕ) (t : ℕ) (c : Call) (g : Grounds) (a : Airspace) (uss : List ℕ) (made : Option space_change.Change × Answer) → c.op ≡ ReadAvail uss → made.0 ≡ None
-    → made.1 ≡ Avail uss (unwrap_or g.kept (Unknown, [])).0 (unwrap_or g.kept (Unknown, [])).1 → Prepares salt t c g a made
-makes_read salt t c g a uss made op none answer first ground =
-    let kept = stated_for a c g uss (ap supplier_of op) ground in
-    record {
-      effect = ap (effect salt a) op ∙ (ap (λ (k : Option Stated). (a, Done (Avail uss (unwrap_or k (Unknown, [])).0 (unwrap_or k (Unknown, [])).1))) (sym kept)
-          ∙ (ap (λ (x : Answer). (a, Done x)) (sym answer) ∙ ap (λ (x : Option space_change.Change). (changed_by x a, Done made.1)) (sym none)));
-      fits = subst (λ (x : Option space_change.Change). IfSome x (λ y. Fits y a)) (sym none) tt;
-    }
+-- ---- the effects
 
--- the effect of a setting
-pub makes_set : (salt : List ℕ) (t : ℕ) (c : Call) (g : Grounds) (a : Airspace) (uss old : List ℕ) (availability : Availability) (next : ℕ) (made : Option space_change.Change × Answer) → c.op ≡ SetAvail uss old availability
-    → (g.serial < greatest_serial → next ≡ g.serial + 1) → made.0 ≡ Some (changes.Avail uss availability (ovn_text salt next)) → made.1 ≡ Avail uss availability (ovn_text salt next) → Prepares salt t c g a made
-makes_set salt t c g a uss old availability next made op goes change answer first ground =
-    let room : a.serial < greatest_serial = room_of a t c first (ap is_change op) in
-    let n : next ≡ a.serial + 1 = goes (subst (λ (k : ℕ). k < greatest_serial) (sym ground.count) room) ∙ ap (λ (k : ℕ). k + 1) ground.count in
-    let set : ℕ → Airspace × Reply = λ (k : ℕ). (with_availability a uss (availability, ovn_text salt k), Done (Avail uss availability (ovn_text salt k))) in
-    let e : effect salt a c.op ≡ set (a.serial + 1) = ap (effect salt a) op in
-    let f : set next ≡ (changed_by made.0 a, Done made.1) =
-    ap (λ (x : Option space_change.Change). (changed_by x a, Done (Avail uss availability (ovn_text salt next)))) (sym change) ∙ ap (λ (x : Answer). (changed_by made.0 a, Done x)) (sym answer) in
-    record {
-      effect = e ∙ (ap set (sym n) ∙ f);
-      fits = subst (λ (x : Option space_change.Change). IfSome x (λ y. Fits y a)) (sym change) (record { room = room });
-    }
+abbrev pub Made : Type 0
+Made = Option space_change.Change × Answer
 
-pub some_of_none : (o : Option Rule) (P : Rule → Type 0) → None ≡ o → IfSome o P
-some_of_none o P e = subst (λ (x : Option Rule). IfSome x P) e tt
+makes_from : (salt : List ℕ) (t : ℕ) (c : Call) (g : Grounds) (a : Airspace) (made : Made) (change : Option space_change.Change) (answer : Answer)
+    → effect salt a c.caller c.op ≡ (changed_by change a, Done answer) → made.0 ≡ change → made.1 ≡ answer → IfSome change (λ x. Fits x a) → Makes salt t c g a made
+makes_from salt t c g a made change answer e one two fits = record {
+  effect = e ∙ (ap (λ (x : Answer). (changed_by change a, Done x)) (sym two) ∙ ap (λ (x : Option space_change.Change). (changed_by x a, Done made.1)) (sym one));
+  fits = subst (λ (x : Option space_change.Change). IfSome x (λ y. Fits y a)) (sym one) fits;
+}
 
--- what was lent of the grounds
-pub lent : (a : Airspace) (c : Call) (g : Grounds) (kept : Option Stated) → kept ≡ g.kept → IsGround c a g → Regards a c kept g.serial
-lent a c g kept is ground = subst (λ (k : Option Stated). Regards a c k g.serial) (sym is) ground
+effect_is : (salt : List ℕ) (a : Airspace) (c : Call) (caller : Caller) (op : Operation) → c.caller ≡ Some caller → c.op ≡ op → effect salt a c.caller c.op ≡ effect_by salt a caller op
+effect_is salt a c caller op who is = ap (λ (o : Option Caller). effect salt a o c.op) who ∙ ap (effect_by salt a caller) is
+
+next_is : (a : Airspace) (t : ℕ) (c : Call) (g : Grounds) (next : ℕ) → first_broken a t c ≡ None → is_change c.op ≡ true → IsGround c.op a g → (g.serial < greatest_serial → next ≡ g.serial + 1) → next ≡ a.serial + 1
+next_is a t c g next first is ground goes =
+    goes (subst (λ (k : ℕ). k < greatest_serial) (sym ground.count) (room_of a t c first is)) ∙ ap (λ (k : ℕ). k + 1) ground.count
+
+found_is : (a : Airspace) (c : Call) (g : Grounds) (op : Operation) (e : Entity) → c.op ≡ op → g.found ≡ Some e → IsGround c.op a g → found_of a op ≡ Some e
+found_is a c g op e is found ground = ap (found_of a) (sym is) ∙ (sym ground.entity ∙ found)
+
+same_view : (a : Airspace) (uss : List ℕ) (e x : Entity) → view_of (with_entity a e) uss x ≡ view_of a uss x
+unfolding view_of
+same_view a uss e x = refl
+
+pub makes_create : (salt : List ℕ) (t : ℕ) (c : Call) (g : Grounds) (a : Airspace) (caller : Caller) (id : ℕ) (put : Put) (next : ℕ) (made : Made) → c.caller ≡ Some caller → c.op ≡ Create id put → (g.serial < greatest_serial → next ≡ g.serial + 1)
+    → made.0 ≡ Some (changes.Put (kept_as salt next caller.uss 1 id put)) → made.1 ≡ answers.Created (view_of a caller.uss (kept_as salt next caller.uss 1 id put)) → Prepares salt t c g a made
+makes_create salt t c g a caller id put next made who op goes one two first ground =
+    let n = next_is a t c g next first (ap is_change op) ground goes in
+    let e = kept_as salt next caller.uss 1 id put in
+    makes_from salt t c g a made (Some (changes.Put e)) (answers.Created (view_of a caller.uss e))
+    (effect_is salt a c caller (Create id put) who op ∙ (ap (λ (k : ℕ). create_effect a caller.uss (kept_as salt k caller.uss 1 id put)) (sym n)
+    ∙ ap (λ (r : Reference). (with_entity a e, Done (answers.Created r))) (same_view a caller.uss e e)))
+    one two (record { room = room_of a t c first (ap is_change op); entities = n })
+
+pub makes_update : (salt : List ℕ) (t : ℕ) (c : Call) (g : Grounds) (a : Airspace) (caller : Caller) (id : ℕ) (ovn : List ℕ) (put : Put) (old : Entity) (next : ℕ) (made : Made) → c.caller ≡ Some caller → c.op ≡ Update id ovn put → g.found ≡ Some old
+    → (g.serial < greatest_serial → next ≡ g.serial + 1)
+    → (old.version < greatest_version → (made.0 ≡ Some (changes.Put (kept_as salt next old.manager (old.version + 1) id put))) × (made.1 ≡ answers.Changed (view_of a caller.uss (kept_as salt next old.manager (old.version + 1) id put)))) → Prepares salt t c g a made
+makes_update salt t c g a caller id ovn put old next made who op found goes makes first ground =
+    let n = next_is a t c g next first (ap is_change op) ground goes in
+    let there = found_is a c g (Update id ovn put) old op found ground in
+    let is = makes (unspent a t c id ovn put old first op there) in
+    let e = kept_as salt next old.manager (old.version + 1) id put in
+    makes_from salt t c g a made (Some (changes.Put e)) (answers.Changed (view_of a caller.uss e))
+    (effect_is salt a c caller (Update id ovn put) who op ∙ (ap (update_effect salt a caller.uss id put) there
+    ∙ (ap (λ (k : ℕ). put_effect a caller.uss (kept_as salt k old.manager (old.version + 1) id put)) (sym n)
+    ∙ ap (λ (r : Reference). (with_entity a e, Done (answers.Changed r))) (same_view a caller.uss e e))))
+    is.0 is.1 (record { room = room_of a t c first (ap is_change op); entities = n })
+
+pub makes_delete : (salt : List ℕ) (t : ℕ) (c : Call) (g : Grounds) (a : Airspace) (caller : Caller) (kind : Kind) (id : ℕ) (ovn : List ℕ) (e : Entity) (made : Made) → c.caller ≡ Some caller → c.op ≡ Delete kind id ovn → g.found ≡ Some e
+    → made.0 ≡ Some (changes.Remove kind id) → made.1 ≡ answers.Changed (view_of a caller.uss e) → Prepares salt t c g a made
+makes_delete salt t c g a caller kind id ovn e made who op found one two first ground =
+    let there = found_is a c g (Delete kind id ovn) e op found ground in
+    makes_from salt t c g a made (Some (changes.Remove kind id)) (answers.Changed (view_of a caller.uss e))
+    (effect_is salt a c caller (Delete kind id ovn) who op ∙ ap (delete_effect a caller.uss (kind, id)) there)
+    one two (record { room = room_of a t c first (ap is_change op); entities = ap is_some there })
+
+pub makes_set : (salt : List ℕ) (t : ℕ) (c : Call) (g : Grounds) (a : Airspace) (caller : Caller) (uss old : List ℕ) (availability : Availability) (next : ℕ) (made : Made) → c.caller ≡ Some caller → c.op ≡ SetAvail uss old availability
+    → (g.serial < greatest_serial → next ≡ g.serial + 1) → made.0 ≡ Some (changes.Avail uss availability (ovn_text salt next)) → made.1 ≡ answers.Avail uss availability (ovn_text salt next) → Prepares salt t c g a made
+makes_set salt t c g a caller uss old availability next made who op goes one two first ground =
+    let n = next_is a t c g next first (ap is_change op) ground goes in
+    makes_from salt t c g a made (Some (changes.Avail uss availability (ovn_text salt next))) (answers.Avail uss availability (ovn_text salt next))
+    (effect_is salt a c caller (SetAvail uss old availability) who op
+    ∙ ap (λ (k : ℕ). (with_availability a uss (availability, ovn_text salt k), Done (answers.Avail uss availability (ovn_text salt k)))) (sym n))
+    one two (record { room = room_of a t c first (ap is_change op); entities = tt })

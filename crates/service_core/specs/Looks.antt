@@ -1,12 +1,15 @@
 -- What the looks at a space tell and leave, before anything is changed.
-use Rattle.std.specs.Prelude.{◌≡◌, ℕ, ◌<◌, Bool, true, List, Option, Some, None, Result, IfOk, MatchResult, ◌⊎◌, IfSome}
+use Rattle.std.specs.Prelude.{◌≡◌, ℕ, ◌<◌, Bool, true, List, Option, Some, None, Result, IfOk, MatchResult, ◌⊎◌, IfSome, is_some}
 use Rattle.space_core.specs.declared.space.SpaceFault.TheVariants.{Unchanged, Broken}
 use Rattle.space_core.specs.declared.space.Change.{Change}
 use Rattle.entity_core.specs.Airspace.{Airspace}
 use Rattle.space_core.specs.Space.{greatest_count, changed, Fits}
 use Rattle.policy_core.specs.declared.call.Call.{Call}
 use Rattle.policy_core.specs.declared.rule.Rule.{Rule}
-use Rattle.service_core.specs.declared.reply.Missing.{Missing}
+use Rattle.policy_core.specs.declared.reference.Missing.{Missing}
+use Rattle.policy_core.specs.declared.call.Operation.{Operation}
+use Rattle.policy_core.specs.declared.call.Operation.TheVariants.{Read, Update, Delete}
+use Rattle.entity_core.specs.declared.entity.Entity.{Entity}
 use Rattle.service_core.specs.declared.look.Halt.{Halt}
 use Rattle.service_core.specs.declared.look.Halt.TheVariants.{NoMemory, Space}
 use Rattle.service_core.specs.declared.look.Grounds.{Grounds}
@@ -38,9 +41,16 @@ pub record Looks {S T : Type 0} (Holds : S → Airspace → Type 0) (IsSound : S
   pub found : IsSound new → IfOk result (λ x. (a : Airspace) → Holds old a → P a x)
   pub told : MatchResult result (λ _. (refusals new ≡ refusals old) × (is_broken new ≡ is_broken old)) (λ h. ToldBy h (refusals old) (refusals new) (is_broken new))
 
--- what was looked up is what the airspace has for the call
-abbrev pub IsGround : Call → Airspace → Grounds → Type 0
-IsGround c a g = Regards a c g.kept g.serial
+-- what was looked up is what the airspace has for the operation
+abbrev pub IsGround : Operation → Airspace → Grounds → Type 0
+IsGround op a g = Regards a op g.found g.kept g.serial
+
+-- what is to be read, updated or deleted was found
+abbrev pub IsReady : Operation → Option Entity → Type 0
+IsReady (Read kind id) found = is_some found ≡ true
+IsReady (Update id ovn put) found = is_some found ≡ true
+IsReady (Delete kind id ovn) found = is_some found ≡ true
+IsReady op found = Unit {0}
 
 -- the first rule that a call breaks, with what is missing
 abbrev pub IsFirst : ℕ → Call → Airspace → Option (Rule × Missing) → Type 0
@@ -54,7 +64,11 @@ verdict_of g (Some broken) = verdicts.Refused broken.0 broken.1
 -- what was decided of a call is what the policy says
 abbrev pub Judges : ℕ → Call → Airspace → Verdict → Type 0
 Judges now c a (verdicts.Refused p m) = (first_broken a now c ≡ Some p) × (m ≡ told_missing a c p)
-Judges now c a (verdicts.Allowed g) = (first_broken a now c ≡ None) × IsGround c a g
+Judges now c a (verdicts.Allowed g) = (first_broken a now c ≡ None) × IsGround c.op a g
+
+abbrev pub IsReadyIfAllowed : Operation → Verdict → Type 0
+IsReadyIfAllowed op (verdicts.Refused p m) = Unit {0}
+IsReadyIfAllowed op (verdicts.Allowed g) = IsReady op g.found
 
 abbrev pub changed_by : Option Change → Airspace → Airspace
 changed_by None a = a
@@ -62,9 +76,9 @@ changed_by (Some change) a = changed change a
 
 -- A change and an answer are the effect of a call that breaks no rule, and the change can be made.
 pub record Makes (salt : List ℕ) (now : ℕ) (c : Call) (g : Grounds) (a : Airspace) (made : Option Change × Answer) : Type 0 where
-  pub effect : effect salt a c.op ≡ (changed_by made.0 a, Done made.1)
+  pub effect : effect salt a c.caller c.op ≡ (changed_by made.0 a, Done made.1)
   pub fits : IfSome made.0 (λ change. Fits change a)
 
 -- for each airspace in which the call breaks no rule
 abbrev pub Prepares : List ℕ → ℕ → Call → Grounds → Airspace → Option Change × Answer → Type 0
-Prepares salt now c g a made = first_broken a now c ≡ None → IsGround c a g → Makes salt now c g a made
+Prepares salt now c g a made = first_broken a now c ≡ None → IsGround c.op a g → Makes salt now c g a made

@@ -1,15 +1,21 @@
 //! What a call is: refused, or allowed.
-ghost use Rattle.std.specs.Prelude.{◌≡◌, ◌≢◌, ℕ, None, Err, find};
+ghost use Rattle.std.specs.Prelude.{◌≡◌, ℕ, true, Ok, Err, Some, None, find, IfOk};
 ghost use Rattle.entity_core.specs.Airspace.{Airspace};
-ghost use Rattle.policy_core.specs.Policy.{breaks, early_rules};
-ghost use Rattle.service_core.specs.Looks.{Looks, IsGround, IsFirst, Judges, verdict_of};
+ghost use Rattle.policy_core.specs.Missing.{missing_by, missing_put, needs_key};
+ghost use Rattle.policy_core.specs.Policy.{breaks, breaks_found, early_rules, standing_rules};
+ghost use Rattle.service_core.specs.Looks.{Looks, IsGround, IsFirst, IsReady, IsReadyIfAllowed, Judges, verdict_of};
 
-use crate::look::{Grounds, Halt, look};
-use crate::reply::Missing;
-use policy_core::call::Call;
+use crate::look::{Grounds, Halt, lacking, look};
+use entity_core::entity_id::EntityId;
+use entity_core::nature::Kind;
+use policy_core::call::{Call, Operation, Put};
+use policy_core::missing::needs_key;
+use policy_core::reference::{Missing, References};
 use policy_core::rule::Rule;
+use policy_core::scope::{Caller, Scope};
 use policy_core::standing::standing;
 use space_core::space::Space;
+use std::alloc::Global;
 
 /// What was decided of a call.
 #[derive(Debug, Drop)]
@@ -20,19 +26,113 @@ pub enum Verdict {
     Allowed(Grounds),
 }
 
-// The first broken rule that is not early, and what is missing.
-fn judge(now: u64, call: &Call, grounds: &Grounds) -> Option<(Rule, Missing)>
-    requires { (a : Airspace) → find (breaks a now call.now) early_rules ≡ None }
-    ensures { (a : Airspace) → IsGround call.now a grounds.now → IsFirst now call.now a result }
+// All that the key of an operation lacks.
+fn missing_by<S: Space>(
+    space: &mut S,
+    alloc: Global,
+    caller: &Caller,
+    op: &Operation,
+) -> Result<Missing, Halt>
+    ensures { Looks S.holds S.is_sound S.refusals S.is_broken space.old space.new result (λ a missing. missing ≡ missing_by a caller.now op.now) }
 {
-    let findings = standing(now, call, grounds.stated(), grounds.serial);
+    match op {
+        Operation::Create(id, put) => missing_of(space, alloc, caller, *id, put),
+        Operation::Update(id, _, put) => missing_of(space, alloc, caller, *id, put),
+        _ => Ok(Missing::nothing(alloc)),
+    }
+}
+
+// All that the key of a put lacks.
+fn missing_of<S: Space>(
+    space: &mut S,
+    alloc: Global,
+    caller: &Caller,
+    id: EntityId,
+    put: &Put,
+) -> Result<Missing, Halt>
+    ensures { Looks S.holds S.is_sound S.refusals S.is_broken space.old space.new result (λ a missing. missing ≡ missing_put a caller.now id put.now) }
+{
+    if !needs_key(put.nature) {
+        return Ok(Missing::nothing(alloc));
+    }
+    missing_put(space, alloc, caller, id, put)
+}
+
+fn missing_put<S: Space>(
+    space: &mut S,
+    alloc: Global,
+    caller: &Caller,
+    id: EntityId,
+    put: &Put,
+) -> Result<Missing, Halt>
+    requires { needs_key put.now.nature ≡ true }
+    ensures { Looks S.holds S.is_sound S.refusals S.is_broken space.old space.new result (λ a missing. missing ≡ missing_put a caller.now id put.now) }
+{
+    let key = put.key.items();
+    let areas = put.volumes.areas(alloc)?;
+    let intents = lacking(
+        space,
+        alloc,
+        &caller.uss,
+        Kind::Intent,
+        &areas,
+        Some(id),
+        key,
+    )?;
+    if !caller.scopes.has(Scope::ConstraintProcessing) {
+        return Ok(Missing {
+            intents,
+            constraints: References::new(alloc),
+        });
+    }
+    let constraints = lacking(
+        space,
+        alloc,
+        &caller.uss,
+        Kind::Constraint,
+        &areas,
+        None,
+        key,
+    )?;
+    Ok(Missing {
+        intents,
+        constraints,
+    })
+}
+
+// The first broken rule that is not early, and what is missing.
+fn judge<S: Space>(
+    space: &mut S,
+    alloc: Global,
+    now: u64,
+    call: &Call,
+    caller: &Caller,
+    grounds: &Grounds,
+) -> Result<Option<(Rule, Missing)>, Halt>
+    requires caller { call.now.caller ≡ Some caller.now }
+    requires early { (a : Airspace) → find (breaks a now call.now) early_rules ≡ None }
+    ensures looks { Looks S.holds S.is_sound S.refusals S.is_broken space.old space.new result (λ a broken. IsGround call.now.op a grounds.now → IsFirst now call.now a broken) }
+    ensures ready { result ≡ Ok None → IsReady call.now.op grounds.now.found }
+    ensures memory { result ≡ Err Halt.NoMemory → find (breaks_found grounds.now.found grounds.now.kept now call.now) standing_rules ≡ None }
+{
+    let findings = standing(
+        now,
+        call,
+        grounds.entity(),
+        grounds.stated(),
+        grounds.serial,
+    );
     if let Some(broken) = findings.first {
-        return Some((broken, Missing::nothing()));
+        return Ok(Some((broken, Missing::nothing(alloc))));
+    }
+    let missing = missing_by(space, alloc, caller, &call.op)?;
+    if !missing.is_nothing() {
+        return Ok(Some((Rule::Key, missing)));
     }
     if findings.limit {
-        return Some((Rule::Limit, Missing::nothing()));
+        return Ok(Some((Rule::Limit, Missing::nothing(alloc))));
     }
-    None
+    Ok(None)
 }
 
 fn settled(grounds: Grounds, judged: Option<(Rule, Missing)>) -> Verdict
@@ -44,13 +144,22 @@ fn settled(grounds: Grounds, judged: Option<(Rule, Missing)>) -> Verdict
     }
 }
 
-/// Decides a call that breaks no early rule.
-pub fn decide<S: Space>(space: &mut S, now: u64, call: &Call) -> Result<Verdict, Halt>
-    requires { (a : Airspace) → find (breaks a now call.now) early_rules ≡ None }
+/// Decides a call that breaks no early rule. Want of memory comes only where none of P7 to P13 is
+/// broken.
+pub fn decide<S: Space>(
+    space: &mut S,
+    alloc: Global,
+    now: u64,
+    call: &Call,
+    caller: &Caller,
+) -> Result<Verdict, Halt>
+    requires caller { call.now.caller ≡ Some caller.now }
+    requires early { (a : Airspace) → find (breaks a now call.now) early_rules ≡ None }
     ensures looks { Looks S.holds S.is_sound S.refusals S.is_broken space.old space.new result (Judges now call.now) }
-    ensures memory { result ≢ Err Halt.NoMemory }
+    ensures ready { IfOk result (IsReadyIfAllowed call.now.op) }
+    ensures memory { result ≡ Err Halt.NoMemory → S.is_sound space.new → (a : Airspace) → S.holds space.old a → find (breaks a now call.now) standing_rules ≡ None }
 {
-    let grounds = look(space, call)?;
-    let judged = judge(now, call, &grounds);
+    let grounds = look(space, &call.op)?;
+    let judged = judge(space, alloc, now, call, caller, &grounds)?;
     Ok(settled(grounds, judged))
 }

@@ -1,8 +1,10 @@
 //! The service: one call, and a run of calls, answered as the policy says.
 #![tactic(auto)]
 
+pub mod availability_effects;
 pub mod decide;
 pub mod effects;
+pub mod entity_effects;
 pub mod look;
 pub mod reply;
 pub mod service;

@@ -1,14 +1,26 @@
-//! Looks at a space, before a call is judged.
-ghost use Rattle.std.specs.Prelude.{◌≡◌, ◌≢◌, IfSome, Err, option_map};
+//! Looks at a space, before a call is judged and its answer made.
+ghost use Rattle.std.specs.Prelude.{◌≡◌, ◌≢◌, ◌<◌, Err, length, option_map, map, unwrap_or, []};
+ghost use Rattle.std.specs.List.{All, filter_map, slice_get};
 ghost use Rattle.std.specs.FinMap.{get};
-ghost use Rattle.policy_core.specs.Call.{supplier_of};
+ghost use Rattle.entity_core.specs.Airspace.{availability_of};
+ghost use Rattle.entity_core.specs.Search.{meeting_in};
+ghost use Rattle.policy_core.specs.Missing.{lacking};
+ghost use Rattle.policy_core.specs.Standing.{found_of, kept_of};
+ghost use Rattle.policy_core.specs.View.{view_of};
 ghost use Rattle.service_core.specs.Looks.{Looks, IsGround};
 
 use entity_core::availability::Availability;
+use entity_core::entity::Entity;
+use entity_core::entity_id::EntityId;
+use entity_core::nature::Kind;
 use entity_core::ovn::Ovn;
-use policy_core::call::{Call, Operation};
+use entity_core::uss_id::UssId;
+use grid_core::volume::Area;
+use policy_core::call::Operation;
+use policy_core::missing::missing;
+use policy_core::reference::{Reference, References, view};
 use space_core::space::{Space, SpaceFault};
-use std::alloc::AllocError;
+use std::alloc::{AllocError, AllocFailed, Global};
 
 /// Why a call was given up.
 #[derive(Debug, Drop)]
@@ -28,6 +40,17 @@ impl From<AllocError> for Halt {
     }
 }
 
+impl<T: Drop> From<AllocFailed<T>> for Halt {
+    ghost use Rattle.service_core.specs.declared.look.Halt.TheVariants.{NoMemory};
+    ghost use Rattle.std.specs.Prelude.{◌≡◌};
+
+    ghost from_gives = { λ _ h. h ≡ NoMemory };
+
+    fn from(_refused: AllocFailed<T>) -> Halt {
+        Halt::NoMemory
+    }
+}
+
 impl From<SpaceFault> for Halt {
     ghost use Rattle.service_core.specs.declared.look.Halt.TheVariants.{Space};
     ghost use Rattle.std.specs.Prelude.{◌≡◌};
@@ -39,14 +62,25 @@ impl From<SpaceFault> for Halt {
     }
 }
 
-/// What was looked up for a call.
+/// What was looked up for an operation.
 #[derive(Debug, Drop)]
 pub struct Grounds {
+    pub found: Option<Entity>,
     pub kept: Option<(Availability, Ovn)>,
     pub serial: u64,
 }
 
 impl Grounds {
+    /// The entity, lent.
+    pub fn entity(&self) -> Option<&Entity>
+        ensures { option_map (λ e. e.now) result ≡ self.now.found }
+    {
+        match &self.found {
+            Some(entity) => Some(entity),
+            None => None,
+        }
+    }
+
     /// What is kept of the supplier, lent.
     pub fn stated(&self) -> Option<(Availability, &Ovn)>
         ensures { option_map (λ x. (x.0, x.1.now)) result ≡ self.now.kept }
@@ -58,8 +92,21 @@ impl Grounds {
     }
 }
 
+fn look_found<S: Space>(space: &mut S, op: &Operation) -> Result<Option<Entity>, Halt>
+    ensures looks { Looks S.holds S.is_sound S.refusals S.is_broken space.old space.new result (λ a found. found ≡ found_of a op.now) }
+    ensures memory { result ≢ Err Halt.NoMemory }
+{
+    match op {
+        Operation::Read(kind, id) => Ok(space.entity(*kind, *id)?),
+        Operation::Create(id, put) => Ok(space.entity(put.nature.kind(), *id)?),
+        Operation::Update(id, _, put) => Ok(space.entity(put.nature.kind(), *id)?),
+        Operation::Delete(kind, id, _) => Ok(space.entity(*kind, *id)?),
+        _ => Ok(None),
+    }
+}
+
 fn look_kept<S: Space>(space: &mut S, op: &Operation) -> Result<Option<(Availability, Ovn)>, Halt>
-    ensures looks { Looks S.holds S.is_sound S.refusals S.is_broken space.old space.new result (λ a kept. IfSome (supplier_of op.now) (λ uss. kept ≡ get a.availabilities uss)) }
+    ensures looks { Looks S.holds S.is_sound S.refusals S.is_broken space.old space.new result (λ a kept. kept ≡ kept_of a op.now) }
     ensures memory { result ≢ Err Halt.NoMemory }
 {
     match op {
@@ -76,12 +123,105 @@ fn look_serial<S: Space>(space: &mut S) -> Result<u64, Halt>
     Ok(space.serial()?)
 }
 
-/// Looks up what the rules and the effect of a call need. It takes no memory of its own.
-pub fn look<S: Space>(space: &mut S, call: &Call) -> Result<Grounds, Halt>
-    ensures looks { Looks S.holds S.is_sound S.refusals S.is_broken space.old space.new result (IsGround call.now) }
+/// Looks up what the rules and the effect of an operation need. It takes no memory of its own.
+pub fn look<S: Space>(space: &mut S, op: &Operation) -> Result<Grounds, Halt>
+    ensures looks { Looks S.holds S.is_sound S.refusals S.is_broken space.old space.new result (IsGround op.now) }
     ensures memory { result ≢ Err Halt.NoMemory }
 {
-    let kept = look_kept(space, &call.op)?;
+    let found = look_found(space, op)?;
+    let kept = look_kept(space, op)?;
     let serial = look_serial(space)?;
-    Ok(Grounds { kept, serial })
+    Ok(Grounds {
+        found,
+        kept,
+        serial,
+    })
+}
+
+/// The entities of a kind, but the one of an id, that meet some area, by rising ids.
+pub fn look_meeting<S: Space>(
+    space: &mut S,
+    kind: Kind,
+    areas: &[Area],
+    except: Option<EntityId>,
+) -> Result<Vec<Entity>, Halt>
+    ensures { Looks S.holds S.is_sound S.refusals S.is_broken space.old space.new result (λ a found. found.items ≡ meeting_in a.entities kind areas.now except) }
+{
+    Ok(space.meeting(kind, areas, except)?)
+}
+
+fn availability_in(kept: Option<(Availability, Ovn)>) -> Availability
+    ensures { result ≡ (unwrap_or kept (Availability.Unknown, [])).0 }
+{
+    match kept {
+        Some((availability, _)) => availability,
+        None => Availability::Unknown,
+    }
+}
+
+fn look_availability<S: Space>(space: &mut S, uss: &UssId) -> Result<Availability, Halt>
+    ensures { Looks S.holds S.is_sound S.refusals S.is_broken space.old space.new result (λ a availability. availability ≡ (availability_of a uss.now).0) }
+{
+    Ok(availability_in(space.availability(uss)?))
+}
+
+#[tactic(auto, unfolding(policy_core::specs::View::view_of))]
+/// The reference of an entity as a supplier sees it now.
+pub fn reference<S: Space>(space: &mut S, uss: &UssId, entity: &Entity) -> Result<Reference, Halt>
+    ensures { Looks S.holds S.is_sound S.refusals S.is_broken space.old space.new result (λ a reference. reference ≡ view_of a uss.now entity.now) }
+{
+    let availability = look_availability(space, &entity.manager)?;
+    Ok(view(uss, entity, availability)?)
+}
+
+/// The references of entities as a supplier sees them now, in their order.
+pub fn references<S: Space>(
+    space: &mut S,
+    alloc: Global,
+    uss: &UssId,
+    entities: &[Entity],
+) -> Result<References, Halt>
+    ensures { Looks S.holds S.is_sound S.refusals S.is_broken space.old space.new result (λ a references. references ≡ map (view_of a uss.now) entities.now) }
+{
+    let mut items = Vec::new(alloc);
+    for entity in entities {
+        items.push(reference(space, uss, entity)?)?;
+    }
+    Ok(References::from_vec(items))
+}
+
+// The references of the entities at some places.
+fn references_at<S: Space>(
+    space: &mut S,
+    alloc: Global,
+    uss: &UssId,
+    entities: &[Entity],
+    places: &[usize],
+) -> Result<References, Halt>
+    requires { All (λ i. i < length entities.now) places.now }
+    ensures { Looks S.holds S.is_sound S.refusals S.is_broken space.old space.new result (λ a references. references ≡ map (view_of a uss.now) (filter_map (slice_get entities.now) places.now)) }
+{
+    let mut items = Vec::new(alloc);
+    for place in places {
+        items.push(reference(space, uss, &entities[*place])?)?;
+    }
+    Ok(References::from_vec(items))
+}
+
+/// The references of the entities of a kind, but the one of an id, that meet some area and whose
+/// version numbers are not in the key.
+pub fn lacking<S: Space>(
+    space: &mut S,
+    alloc: Global,
+    uss: &UssId,
+    kind: Kind,
+    areas: &[Area],
+    except: Option<EntityId>,
+    key: &[Ovn],
+) -> Result<References, Halt>
+    ensures { Looks S.holds S.is_sound S.refusals S.is_broken space.old space.new result (λ a references. references ≡ map (view_of a uss.now) (lacking key.now (meeting_in a.entities kind areas.now except))) }
+{
+    let needed = look_meeting(space, kind, areas, except)?;
+    let places = missing(alloc, key, &needed)?;
+    references_at(space, alloc, uss, &needed, &places)
 }

@@ -1,30 +1,24 @@
 //! What is answered.
 ghost use Rattle.std.specs.Prelude.{◌≡◌};
-ghost use Rattle.service_core.specs.Step.{nothing_missing};
 
 use entity_core::availability::Availability;
+use entity_core::nature::Kind;
 use entity_core::text::Text;
 use entity_core::uss_id::UssId;
+use policy_core::reference::{Missing, Reference, References};
 use policy_core::rule::Rule;
-
-/// What a key lacks. As long as nothing is needed of a key, it has no members.
-#[derive(Debug, Drop)]
-pub struct Missing {}
-
-impl Missing {
-    ghost use Rattle.service_core.specs.Step.{nothing_missing};
-
-    /// Nothing is missing. It takes no memory.
-    pub fn nothing() -> Missing
-        ensures { result ≡ nothing_missing }
-    {
-        Missing {}
-    }
-}
 
 /// The answer to a call that broke no rule.
 #[derive(Debug, Drop)]
 pub enum Answer {
+    /// An entity is kept now: its reference.
+    Created(Reference),
+    /// An entity was updated, and this is its reference; or it is not kept any more, and this was it.
+    Changed(Reference),
+    /// The reference of an entity.
+    Found(Reference),
+    /// The references of the entities of a kind that meet an area, by rising ids.
+    Listed(Kind, References),
     /// A supplier's availability, and its version: that of its last setting, or the empty text.
     Avail(UssId, Availability, Text),
 }
@@ -34,7 +28,8 @@ pub enum Answer {
 pub enum Reply {
     /// The call broke no rule and had its effect.
     Done(Answer),
-    /// The call broke this rule first, and changed nothing.
+    /// The call broke this rule first, and changed nothing. Something is missing of its key where the
+    /// rule is P14.
     Denied(Rule, Missing),
     /// The call failed, for want of memory or by the space, and changed nothing.
     Fault,

@@ -5,19 +5,21 @@ ghost use Rattle.entity_core.specs.Airspace.{Airspace};
 ghost use Rattle.policy_core.specs.Policy.{breaks, early_rules, first_broken};
 ghost use Rattle.space_core.specs.Space.{IsContent};
 ghost use Rattle.service_core.specs.contracts.service.Service.{the_row};
-ghost use Rattle.service_core.specs.Looks.{Judges, Makes};
+ghost use Rattle.service_core.specs.Looks.{IsReady, Judges, Makes};
 ghost use Rattle.service_core.specs.Service.{Answers, reply_of, is_stopped};
-ghost use Rattle.service_core.specs.Step.{nothing_missing};
+ghost use Rattle.policy_core.specs.Missing.{nothing_missing};
 ghost use Rattle.service_core.specs.Run.{Runs, StayStopped, has_stopped};
 ghost use Rattle.service_core.specs.Held.{space_of, salt_of, is_shut, with_space};
 
 use crate::decide::{Verdict, decide};
 use crate::effects::prepared;
 use crate::look::{Grounds, Halt};
-use crate::reply::{Answer, Missing, Reply};
+use crate::reply::{Answer, Reply};
 use entity_core::salt::Salt;
 use policy_core::call::Call;
 use policy_core::early::early;
+use policy_core::reference::Missing;
+use policy_core::scope::Caller;
 use space_core::space::{Change, Space, SpaceFault};
 use std::alloc::{AllocError, Global};
 
@@ -33,13 +35,21 @@ fn gave_up(halt: Halt) -> Reply
 }
 
 // The reply to a call that breaks no early rule.
-fn answered<S: Space>(space: &mut S, alloc: Global, salt: &Salt, now: u64, call: &Call) -> Reply
-    requires { (a : Airspace) → find (breaks a now call.now) early_rules ≡ None }
+fn answered<S: Space>(
+    space: &mut S,
+    alloc: Global,
+    salt: &Salt,
+    now: u64,
+    call: &Call,
+    caller: &Caller,
+) -> Reply
+    requires caller { call.now.caller ≡ Some caller.now }
+    requires early { (a : Airspace) → find (breaks a now call.now) early_rules ≡ None }
     ensures { Answers S.holds S.is_sound S.refusals S.is_broken salt.now now call.now space.old space.new result }
 {
-    match decide(space, now, call) {
+    match decide(space, alloc, now, call, caller) {
         Ok(Verdict::Refused(broken, missing)) => Reply::Denied(broken, missing),
-        Ok(Verdict::Allowed(grounds)) => allowed(space, alloc, salt, now, call, &grounds),
+        Ok(Verdict::Allowed(grounds)) => allowed(space, alloc, salt, now, call, caller, &grounds),
         Err(halt) => gave_up(halt),
     }
 }
@@ -51,15 +61,18 @@ fn allowed<S: Space>(
     salt: &Salt,
     now: u64,
     call: &Call,
+    caller: &Caller,
     grounds: &Grounds,
 ) -> Reply
+    requires caller { call.now.caller ≡ Some caller.now }
     requires early { (a : Airspace) → find (breaks a now call.now) early_rules ≡ None }
+    requires ready { IsReady call.now.op grounds.now.found }
     requires given { S.is_sound space.old → (a : Airspace) → S.holds space.old a → Judges now call.now a (Verdict.Allowed grounds.now) }
     ensures { Answers S.holds S.is_sound S.refusals S.is_broken salt.now now call.now space.old space.new result }
 {
-    let (change, answer) = match prepared(alloc, salt, now, call, grounds) {
+    let (change, answer) = match prepared(space, alloc, salt, now, call, caller, grounds) {
         Ok(made) => made,
-        Err(_) => return Reply::Fault,
+        Err(halt) => return gave_up(halt),
     };
     match change {
         Some(change) => changed(space, salt, now, call, grounds, change, answer),
@@ -147,9 +160,12 @@ impl<S: Space + Drop> Service<S> {
             return Reply::Stopped;
         }
         if let Some(broken) = early(call) {
-            return Reply::Denied(broken, Missing::nothing());
+            return Reply::Denied(broken, Missing::nothing(alloc));
         }
-        let reply = answered(&mut self.space, alloc, &self.salt, now, call);
+        let Some(caller) = &call.caller else {
+            unreachable!();
+        };
+        let reply = answered(&mut self.space, alloc, &self.salt, now, call, caller);
         self.stopped = reply.is_stopped();
         reply
     }

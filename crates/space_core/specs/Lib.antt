@@ -1,2 +1,5 @@
 pub mod Space
+pub mod Sorted
+pub mod Entities
+pub mod Availabilities
 pub mod List

@@ -1,10 +1,12 @@
 -- What the calls of a space tell and leave.
-use Rattle.std.specs.Prelude.{◌≡◌, ℕ, ◌+◌, ◌<◌, Bool, true, Result, Ok, Err, IfOk, OnOk, IsErrOf, min, MatchResult, ◌⊎◌, ◌↔◌}
-use Rattle.entity_core.specs.Airspace.{Airspace, with_availability, greatest_serial}
+use Rattle.std.specs.Prelude.{◌≡◌, ℕ, ◌+◌, ◌<◌, Bool, true, IsSome, Result, Ok, Err, IfOk, OnOk, IsErrOf, min, MatchResult, ◌⊎◌, ◌↔◌}
+use Rattle.std.specs.FinMap.{get}
+use Rattle.entity_core.specs.Airspace.{Airspace, with_availability, with_entity, without_entity}
+use Rattle.entity_core.specs.Serial.{greatest_serial}
 use Rattle.space_core.specs.declared.space.SpaceFault.{SpaceFault}
 use Rattle.space_core.specs.declared.space.SpaceFault.TheVariants.{Unchanged, Broken}
 use Rattle.space_core.specs.declared.space.Change.{Change}
-use Rattle.space_core.specs.declared.space.Change.TheVariants.{Avail}
+use Rattle.space_core.specs.declared.space.Change.TheVariants.{Put, Remove, Avail}
 
 -- the greatest count
 abbrev pub greatest_count : ℕ
@@ -24,11 +26,20 @@ is_broken_after b (Err Broken) = true
 
 -- the airspace with a change
 abbrev pub changed : Change → Airspace → Airspace
+changed (Put e) a = with_entity a e
+changed (Remove kind id) a = without_entity a (kind, id)
 changed (Avail uss availability version) a = with_availability a uss (availability, version)
 
--- The change can be made in the airspace: its serial can go on.
+-- what a change needs of the entities: what is put bears the new serial, and what is removed is there
+abbrev pub FitsEntities : Change → Airspace → Type 0
+FitsEntities (Put e) a = e.serial ≡ a.serial + 1
+FitsEntities (Remove kind id) a = IsSome (get a.entities (kind, id))
+FitsEntities (Avail uss availability version) a = Unit {0}
+
+-- The change can be made in the airspace, and its serial can go on.
 pub record Fits (change : Change) (a : Airspace) : Type 0 where
   pub room : a.serial < greatest_serial
+  pub entities : FitsEntities change a
 
 -- what each call tells of its faults
 pub record Tells {T : Type 0} (refusals refusals' : ℕ) (broken broken' : Bool) (result : Result T SpaceFault) : Type 0 where

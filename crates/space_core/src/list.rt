@@ -1,29 +1,30 @@
-//! A space in memory: a list of what suppliers have set.
-ghost use Rattle.std.specs.Prelude.{◌≡◌, ◌≤◌, ℕ, Bool, true, false, [], ◌+◌, ◌<◌, OnOk, OnErr, IfOk, IfSome, IfNone, IsTrue, min, take, length, slice_get, Option, None};
-ghost use Rattle.entity_core.specs.Airspace.{Airspace, greatest_serial, empty_at, text_cmp};
-ghost use Rattle.std.specs.FinMap.{find, get, insert, from_entries};
-ghost use Rattle.space_core.specs.List.{content_of, pairs_of, IsFirst};
-ghost use Rattle.space_core.specs.Space.{greatest_count};
+//! A space in memory: sorted lists of the entities and of what suppliers have set.
+ghost use Rattle.std.specs.Prelude.{◌≡◌, ◌≤◌, ℕ, false, ◌+◌, OnOk, OnErr, min};
+ghost use Rattle.entity_core.specs.Airspace.{empty_at};
+ghost use Rattle.entity_core.specs.Serial.{greatest_serial};
+ghost use Rattle.space_core.specs.List.{airspace_of, content_of};
+ghost use Rattle.space_core.specs.Space.{changed, greatest_count};
+ghost use Rattle.space_core.specs.declared.space.SpaceFault.TheVariants.{Unchanged};
 ghost use Rattle.std.proofs.Common.{sym, ◌∙◌};
 
+use crate::availabilities::Availabilities;
+use crate::entities::Entities;
 use crate::space::{Change, Space, SpaceFault};
 use entity_core::availability::Availability;
+use entity_core::entity::Entity;
+use entity_core::entity_id::EntityId;
+use entity_core::nature::Kind;
 use entity_core::ovn::Ovn;
 use entity_core::uss_id::UssId;
+use grid_core::volume::Area;
 use std::alloc::{AllocError, Global};
-
-/// What one supplier has set.
-#[derive(Debug, Drop)]
-pub struct Entry {
-    uss: UssId,
-    availability: Availability,
-    version: Ovn,
-}
 
 /// An airspace in memory. It answers `Unchanged` for want of memory alone, and never `Broken`.
 #[derive(Debug, Drop)]
 pub struct ListSpace {
-    entries: Vec<Entry>,
+    alloc: Global,
+    entities: Entities,
+    availabilities: Availabilities,
     serial: u64,
     refusals: u64,
 }
@@ -44,24 +45,23 @@ impl ListSpace {
         ensures { IsContent ⟦<ListSpace as Space>⟧.holds result (empty_at serial) }
     {
         ListSpace {
-            entries: Vec::new(alloc),
+            alloc,
+            entities: Entities::new(alloc),
+            availabilities: Availabilities::new(alloc),
             serial,
             refusals: 0,
         }
     }
-}
 
-// Where a supplier's entry is.
-fn place_of(entries: &[Entry], uss: &UssId) -> Option<usize>
-    ensures found { IfSome result (IsFirst entries.now uss.now) }
-    ensures none { IfNone result (find text_cmp uss.now (pairs_of entries.now) ≡ None) }
-{
-    for (i, entry) in entries.iter().enumerate() {
-        if entry.uss.is(uss) {
-            return Some(i);
-        }
+    // Counts a refusal, and changes nothing else.
+    fn refuse(&mut self) -> SpaceFault
+        ensures fault { result ≡ Unchanged }
+        ensures content { content_of self.new ≡ content_of self.old }
+        ensures counted { self.new.refusals ≡ min (self.old.refusals + 1) greatest_count }
+    {
+        self.refusals = self.refusals.saturating_add(1);
+        SpaceFault::Unchanged
     }
-    None
 }
 
 impl Space for ListSpace {
@@ -75,13 +75,36 @@ impl Space for ListSpace {
 
     ghost one = { λ s a b sound whole h k. h ∙ sym k };
 
-    fn availability(&mut self, uss: &UssId) -> Result<Option<(Availability, Ovn)>, SpaceFault> {
-        match stated(&self.entries, uss) {
+    fn entity(&mut self, kind: Kind, id: EntityId) -> Result<Option<Entity>, SpaceFault> {
+        match self.entities.entity(self.alloc, kind, id) {
             Ok(found) => Ok(found),
-            Err(_) => {
-                self.refusals = self.refusals.saturating_add(1);
-                Err(SpaceFault::Unchanged)
-            }
+            Err(_) => Err(self.refuse()),
+        }
+    }
+
+    fn meeting(
+        &mut self,
+        kind: Kind,
+        areas: &[Area],
+        except: Option<EntityId>,
+    ) -> Result<Vec<Entity>, SpaceFault> {
+        match self.entities.meeting(self.alloc, kind, areas, except) {
+            Ok(found) => Ok(found),
+            Err(_) => Err(self.refuse()),
+        }
+    }
+
+    fn all(&mut self, kind: Kind) -> Result<Vec<Entity>, SpaceFault> {
+        match self.entities.all(self.alloc, kind) {
+            Ok(found) => Ok(found),
+            Err(_) => Err(self.refuse()),
+        }
+    }
+
+    fn availability(&mut self, uss: &UssId) -> Result<Option<(Availability, Ovn)>, SpaceFault> {
+        match self.availabilities.availability(uss) {
+            Ok(found) => Ok(found),
+            Err(_) => Err(self.refuse()),
         }
     }
 
@@ -90,46 +113,32 @@ impl Space for ListSpace {
     }
 
     fn apply(&mut self, change: Change) -> Result<(), SpaceFault> {
-        let Change::Avail(uss, availability, version) = change;
-        let entry = Entry {
-            uss,
-            availability,
-            version,
-        };
-        match set_entry(&mut self.entries, entry) {
+        match make(&mut self.entities, &mut self.availabilities, change) {
             Ok(()) => {
                 self.serial += 1;
                 Ok(())
             }
-            Err(_) => {
-                self.refusals = self.refusals.saturating_add(1);
-                Err(SpaceFault::Unchanged)
-            }
+            Err(_) => Err(self.refuse()),
         }
     }
 }
 
-// What is kept of a supplier.
-fn stated(entries: &[Entry], uss: &UssId) -> Result<Option<(Availability, Ovn)>, AllocError>
-    ensures { IfOk result (λ found. found ≡ find text_cmp uss.now (pairs_of entries.now)) }
+// Makes the change, but for the serial.
+fn make(
+    entities: &mut Entities,
+    availabilities: &mut Availabilities,
+    change: Change,
+) -> Result<(), AllocError>
+    ensures ok { OnOk result ((serial : ℕ) → airspace_of entities.new availabilities.new (serial + 1) ≡ changed change (airspace_of entities.old availabilities.old serial)) }
+    ensures same_entities { OnErr result (entities.new ≡ entities.old) }
+    ensures same_availabilities { OnErr result (availabilities.new ≡ availabilities.old) }
 {
-    match place_of(entries, uss) {
-        Some(i) => Ok(Some((entries[i].availability, entries[i].version.clone()?))),
-        None => Ok(None),
-    }
-}
-
-// Puts the entry in the place of the supplier's, or at the end.
-fn set_entry(entries: &mut Vec<Entry>, entry: Entry) -> Result<(), AllocError>
-    ensures ok { OnOk result (from_entries {R = text_cmp} (pairs_of entries.new.items)
-        ≡ insert (from_entries {R = text_cmp} (pairs_of entries.old.items)) entry.uss (entry.availability, entry.version)) }
-    ensures err { OnErr result (entries.new.items ≡ entries.old.items) }
-{
-    match place_of(entries, &entry.uss) {
-        Some(i) => {
-            entries[i] = entry;
+    match change {
+        Change::Put(entity) => entities.put(entity),
+        Change::Remove(kind, id) => {
+            entities.remove(kind, id);
             Ok(())
         }
-        None => Ok(entries.push(entry)?),
+        Change::Avail(uss, availability, version) => availabilities.put(uss, availability, version),
     }
 }

@@ -1,12 +1,17 @@
 //! The trait of spaces: what its calls tell, read and change.
 ghost use Rattle.std.specs.Prelude.{◌≡◌, ℕ, Bool, false};
 ghost use Rattle.entity_core.specs.Airspace.{Airspace};
+ghost use Rattle.entity_core.specs.Search.{meeting_in, all_in};
 ghost use Rattle.std.specs.FinMap.{get};
 ghost use Rattle.space_core.specs.Space.{Tells, Reads, Changes, Fits, changed};
 
 use entity_core::availability::Availability;
+use entity_core::entity::Entity;
+use entity_core::entity_id::EntityId;
+use entity_core::nature::Kind;
 use entity_core::ovn::Ovn;
 use entity_core::uss_id::UssId;
+use grid_core::volume::Area;
 
 /// Why a space did not do what it was asked.
 #[derive(Clone, Copy, Debug, PartialEq, Eq)]
@@ -20,6 +25,10 @@ pub enum SpaceFault {
 /// A change of an airspace.
 #[derive(Debug, Drop)]
 pub enum Change {
+    /// The entity is kept, in the place of the one that has its kind and id. It bears the new serial.
+    Put(Entity),
+    /// The entity of the kind and the id, which is there, is not kept any more.
+    Remove(Kind, EntityId),
     /// The supplier has the availability, under the version.
     Avail(UssId, Availability, Ovn),
 }
@@ -42,6 +51,27 @@ pub trait Space {
     /// Whether it has answered `Broken`.
     ghost is_broken: { Self → Bool };
 
+    /// The entity of a kind and an id, if there is one.
+    fn entity(&mut self, kind: Kind, id: EntityId) -> Result<Option<Entity>, SpaceFault>
+        ensures tells { Tells (refusals self.old) (refusals self.new) (is_broken self.old) (is_broken self.new) result }
+        ensures reads { Reads holds is_sound self.old self.new result (λ a found. found ≡ get a.entities (kind, id)) };
+
+    /// The entities of a kind, but the one of an id, of which some volume meets some area: each once,
+    /// by rising ids.
+    fn meeting(
+        &mut self,
+        kind: Kind,
+        areas: &[Area],
+        except: Option<EntityId>,
+    ) -> Result<Vec<Entity>, SpaceFault>
+        ensures tells { Tells (refusals self.old) (refusals self.new) (is_broken self.old) (is_broken self.new) result }
+        ensures reads { Reads holds is_sound self.old self.new result (λ a found. found.items ≡ meeting_in a.entities kind areas.now except) };
+
+    /// The entities of a kind: each once, by rising ids.
+    fn all(&mut self, kind: Kind) -> Result<Vec<Entity>, SpaceFault>
+        ensures tells { Tells (refusals self.old) (refusals self.new) (is_broken self.old) (is_broken self.new) result }
+        ensures reads { Reads holds is_sound self.old self.new result (λ a found. found.items ≡ all_in a.entities kind) };
+
     /// What is kept of a supplier, if it has set its availability.
     fn availability(&mut self, uss: &UssId) -> Result<Option<(Availability, Ovn)>, SpaceFault>
         ensures tells { Tells (refusals self.old) (refusals self.new) (is_broken self.old) (is_broken self.new) result }
@@ -52,7 +82,7 @@ pub trait Space {
         ensures tells { Tells (refusals self.old) (refusals self.new) (is_broken self.old) (is_broken self.new) result }
         ensures reads { Reads holds is_sound self.old self.new result (λ a serial. serial ≡ a.serial) };
 
-    /// Makes a change, and the serial goes on by one.
+    /// Makes a change that fits, and the serial goes on by one.
     fn apply(&mut self, change: Change) -> Result<(), SpaceFault>
         requires fits { is_sound self.old → (a : Airspace) → holds self.old a → Fits change a }
         ensures tells { Tells (refusals self.old) (refusals self.new) (is_broken self.old) (is_broken self.new) result }

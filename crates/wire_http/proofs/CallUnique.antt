@@ -66,6 +66,11 @@ same_setting bytes a b v w (d, json, name, version) (e, other, named, replaced) 
     )
 
 same_body : (kind : OpKind) (words : Words) (bytes : List ℕ) (p q : Operation) → IsBody kind words bytes p → IsBody kind words bytes q → q ≡ p
+same_body (kinds.Query kind) words bytes p q x y = absurd x
+same_body (kinds.Read kind) words bytes p q x y = absurd x
+same_body (kinds.Create kind) words bytes p q x y = absurd x
+same_body (kinds.Update kind) words bytes p q x y = absurd x
+same_body (kinds.Delete kind) words bytes p q x y = absurd x
 same_body kinds.ReadAvail words bytes p q x y = y.1 ∙ sym x.1
 same_body kinds.SetAvail words bytes p q (name, (a, v, set, is)) (named, (b, w, other, also)) =
     let same = same_setting bytes a b v w set other in

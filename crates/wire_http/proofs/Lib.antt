@@ -12,3 +12,4 @@ pub mod ServeLaws
 pub mod StreamUnique
 pub mod TargetLaws
 pub mod WindowLaws
+pub mod Written

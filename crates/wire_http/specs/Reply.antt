@@ -9,7 +9,7 @@ use Rattle.service_core.specs.declared.reply.Reply.{Reply}
 use Rattle.service_core.specs.declared.reply.Reply.TheVariants.{Denied, Stopped}
 use Rattle.service_core.specs.Held.{space_of, salt_of, is_shut}
 use Rattle.service_core.specs.Service.{Leaves, MayFail, is_stopped}
-use Rattle.service_core.specs.Step.{nothing_missing}
+use Rattle.policy_core.specs.Missing.{nothing_missing}
 use Rattle.policy_core.specs.Policy.{breaks, early_rules}
 use Rattle.wire_json.specs.Answer.{reply_text, status_of}
 use Rattle.wire_http.specs.declared.route.Place.{Place}

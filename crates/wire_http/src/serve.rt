@@ -5,7 +5,7 @@ ghost use Rattle.service_core.specs.Held.{space_of, salt_of, is_shut};
 ghost use Rattle.wire_http.specs.Counted.{inner_of, calls_of, failures_of};
 ghost use Rattle.wire_http.specs.Count.{HasRisen, IsGreatest, most_reads};
 ghost use Rattle.wire_http.specs.Fault.{GaveUpAnswering};
-ghost use Rattle.wire_http.specs.Reply.{Replies, RepliesPart};
+ghost use Rattle.wire_http.specs.Reply.{IsReplyTo, Replies, RepliesPart};
 ghost use Rattle.wire_http.specs.Wire.{Serves, ServesPart};
 
 use crate::answer::answer_text;
@@ -18,6 +18,7 @@ use crate::request::{Next, next_request};
 use crate::route::router;
 use crate::write::write_whole;
 use httparse::spans::EMPTY_HEADER_SPAN;
+use service_core::reply::Reply;
 use service_core::service::Service;
 use space_core::space::Space;
 use std::alloc::Global;
@@ -26,6 +27,16 @@ use token_conf::token_table::TokenTable;
 
 // The most reads of a stream.
 const TURNS: u32 = 1_000_000;
+
+// The reply to a call, asked for once.
+fn reply_to<S: Space + Drop>(alloc: Global, service: &mut Service<S>, pending: &Pending) -> Reply
+    ensures reply { IsReplyTo S.holds S.is_sound S.refusals S.is_broken service.old service.new pending.now.moment pending.now.call result }
+    ensures salt { salt_of service.new ≡ salt_of service.old }
+    ensures shut { is_shut service.old ≡ true → service.new ≡ service.old }
+    ensures sound { S.is_sound (space_of service.new) → S.is_sound (space_of service.old) }
+{
+    service.call(alloc, pending.moment, &pending.call)
+}
 
 // The reply to a call, asked for once, and its text written.
 fn answer<S: Space + Drop, W: Write>(
@@ -47,7 +58,7 @@ fn answer<S: Space + Drop, W: Write>(
     ensures shut { is_shut service.old ≡ true → service.new ≡ service.old }
     ensures sound { S.is_sound (space_of service.new) → S.is_sound (space_of service.old) }
 {
-    let reply = service.call(alloc, pending.moment, &pending.call);
+    let reply = reply_to(alloc, service, pending);
     let Ok(text) = answer_text(alloc, pending.place, &reply) else {
         return Err(StreamFault::Memory);
     };

@@ -1,20 +1,152 @@
--- The compact texts of answers, letter by letter.
-use Rattle.std.proofs.Common.{◌≡◌, ℕ, List, [], ◌∷◌, ◌++◌, refl, append_assoc, Bool, false}
-use Rattle.serde_json.specs.Written.{compact_text, has_float}
-use Rattle.serde_json.proofs.OnLiterals.{serde_json_on_literals}
+-- The texts of answers.
+use Rattle.std.proofs.Common.{◌≡◌, ℕ, List, [], ◌∷◌, ◌++◌, refl, ap, ap₂, ◌∙◌, map, codes, Bool, false, Option, Some, None}
+use Rattle.json.specs.Print.{quoted}
+use Rattle.serde_json.specs.Data.{Data, array, object, string, Items, item, no_items, Members, member, no_members}
+use Rattle.serde_json.specs.View.{items_of}
+use Rattle.serde_json.specs.Written.{compact_text, has_float, items_have_float}
+use Rattle.entity_core.specs.Entity.{kind_of}
 use Rattle.entity_core.specs.declared.availability.Availability.{Availability}
-use Rattle.wire_json.specs.Answer.{availability_data, availability_text, message_data, message_text}
+use Rattle.entity_core.specs.declared.nature.Kind.{Kind}
+use Rattle.entity_core.specs.declared.nature.Nature.{Nature}
+use Rattle.entity_core.specs.declared.nature.Nature.TheVariants.{Intent, Constraint}
+use Rattle.policy_core.specs.declared.reference.Missing.{Missing}
+use Rattle.policy_core.specs.declared.reference.Reference.{Reference}
+use Rattle.policy_core.specs.declared.rule.Rule.{Rule}
+use Rattle.policy_core.specs.declared.rule.Rule.TheVariants.{Key}
+use Rattle.service_core.specs.declared.reply.Answer.{Answer}
+use Rattle.service_core.specs.declared.reply.Answer.TheVariants as answers
+use Rattle.service_core.specs.declared.reply.Reply.{Reply}
+use Rattle.service_core.specs.declared.reply.Reply.TheVariants.{Done, Denied, Fault, Stopped}
+use Rattle.wire_json.specs.Answer.{answer_text, availability_text, changed_text, denied_text, found_text, listed_text, message_text, missing_text, reply_text, rule_words}
+use Rattle.wire_json.specs.Availability.{name_of}
+use Rattle.wire_json.specs.Built.{answer_data, availability_data, changed_data, denied_data, found_data, listed_data, message_data, missing_data, reference_data, references_data, reply_data}
+use Rattle.wire_json.specs.Json.{array_text, object_text}
+use Rattle.wire_json.specs.Reference.{reference_name, references_name, reference_text, references_text}
+use Rattle.wire_json.proofs.Compact.{compact_text-array, compact_text-object, item_texts}
 
-pub compact_availability : (uss : List ℕ) (a : Availability) (version : List ℕ) → compact_text (availability_data uss a version) ≡ availability_text uss a version
-unfolding serde_json_on_literals
-compact_availability uss a version = simp append_assoc
+-- ---- references
 
-pub no_float_availability : (uss : List ℕ) (a : Availability) (version : List ℕ) → has_float (availability_data uss a version) ≡ false
-no_float_availability uss a version = refl
+members_in : Data → Members
+members_in (object ms) = ms
+members_in d = no_members
 
-pub compact_message : (words : List ℕ) → compact_text (message_data words) ≡ message_text words
-unfolding serde_json_on_literals
-compact_message words = simp append_assoc
+compact_parts : (r : Reference) (ovn : Option (List ℕ)) (nature : Nature)
+    → compact_text (reference_data (record r { ovn = ovn; nature = nature })) ≡ reference_text (record r { ovn = ovn; nature = nature })
+unfolding members_in
+compact_parts r None (Intent state) = compact_text-object (members_in (reference_data (record r { ovn = None; nature = Intent state })))
+compact_parts r (Some ovn) (Intent state) = compact_text-object (members_in (reference_data (record r { ovn = Some ovn; nature = Intent state })))
+compact_parts r None Constraint = compact_text-object (members_in (reference_data (record r { ovn = None; nature = Constraint })))
+compact_parts r (Some ovn) Constraint = compact_text-object (members_in (reference_data (record r { ovn = Some ovn; nature = Constraint })))
 
-pub no_float_message : (words : List ℕ) → has_float (message_data words) ≡ false
-no_float_message words = refl
+pub compact_reference : (r : Reference) → compact_text (reference_data r) ≡ reference_text r
+compact_reference r = compact_parts r r.ovn r.nature
+
+no_float_parts : (r : Reference) (ovn : Option (List ℕ)) (nature : Nature) → has_float (reference_data (record r { ovn = ovn; nature = nature })) ≡ false
+no_float_parts r None (Intent state) = refl
+no_float_parts r (Some ovn) (Intent state) = refl
+no_float_parts r None Constraint = refl
+no_float_parts r (Some ovn) Constraint = refl
+
+pub no_float_reference : (r : Reference) → has_float (reference_data r) ≡ false
+no_float_reference r = no_float_parts r r.ovn r.nature
+
+item_texts-references : (rs : List Reference) → item_texts (items_of (map reference_data rs)) ≡ map reference_text rs
+item_texts-references [] = refl
+item_texts-references (r ∷ rs) = ap₂ (λ t ts. t ∷ ts) (compact_reference r) (item_texts-references rs)
+
+compact_references : (rs : List Reference) → compact_text (references_data rs) ≡ references_text rs
+compact_references rs = compact_text-array (items_of (map reference_data rs)) ∙ ap array_text (item_texts-references rs)
+
+no_float_references : (rs : List Reference) → has_float (references_data rs) ≡ false
+no_float_references [] = refl
+no_float_references (r ∷ rs) = rw (no_float_reference r) (no_float_references rs)
+
+-- ---- answers
+
+-- an object of one member, whose value has that text
+one_member : (name text : List ℕ) (d : Data) → compact_text d ≡ text → compact_text (object (member name d no_members)) ≡ object_text ((name, text) ∷ [])
+one_member name text d same = compact_text-object (member name d no_members) ∙ ap (λ t. object_text ((name, t) ∷ [])) same
+
+compact_found : (r : Reference) → compact_text (found_data r) ≡ found_text r
+compact_found r = one_member (reference_name (kind_of r.nature)) (reference_text r) (reference_data r) (compact_reference r)
+
+no_float_found : (r : Reference) → has_float (found_data r) ≡ false
+no_float_found r = rw (no_float_reference r) refl
+
+compact_changed_parts : (r : Reference) (nature : Nature) → compact_text (changed_data (record r { nature = nature })) ≡ changed_text (record r { nature = nature })
+unfolding members_in
+compact_changed_parts r (Intent state) =
+    let changed : Reference = record r { nature = Intent state } in
+    compact_text-object (members_in (changed_data changed))
+    ∙ ap (λ t. object_text ((reference_name (kind_of changed.nature), t) ∷ (codes "subscribers", array_text []) ∷ [])) (compact_reference changed)
+compact_changed_parts r Constraint =
+    let changed : Reference = record r { nature = Constraint } in
+    compact_text-object (members_in (changed_data changed))
+    ∙ ap (λ t. object_text ((reference_name (kind_of changed.nature), t) ∷ (codes "subscribers", array_text []) ∷ [])) (compact_reference changed)
+
+compact_changed : (r : Reference) → compact_text (changed_data r) ≡ changed_text r
+compact_changed r = compact_changed_parts r r.nature
+
+no_float_changed_parts : (r : Reference) (nature : Nature) → has_float (changed_data (record r { nature = nature })) ≡ false
+no_float_changed_parts r (Intent state) = rw (no_float_reference (record r { nature = Intent state })) refl
+no_float_changed_parts r Constraint = rw (no_float_reference (record r { nature = Constraint })) refl
+
+compact_listed : (kind : Kind) (rs : List Reference) → compact_text (listed_data kind rs) ≡ listed_text kind rs
+compact_listed kind rs = one_member (references_name kind) (references_text rs) (references_data rs) (compact_references rs)
+
+no_float_listed : (kind : Kind) (rs : List Reference) → has_float (listed_data kind rs) ≡ false
+no_float_listed kind rs = rw (no_float_references rs) refl
+
+compact_availability : (uss : List ℕ) (a : Availability) (version : List ℕ) → compact_text (availability_data uss a version) ≡ availability_text uss a version
+compact_availability uss a version =
+    let status = member (codes "availability") (string (name_of a)) (member (codes "uss") (string uss) no_members) in
+    compact_text-object (member (codes "status") (object status) (member (codes "version") (string version) no_members))
+    ∙ ap (λ t. object_text ((codes "status", t) ∷ (codes "version", quoted version) ∷ [])) (compact_text-object status)
+
+compact_answer : (a : Answer) → compact_text (answer_data a) ≡ answer_text a
+compact_answer (answers.Created r) = compact_changed r
+compact_answer (answers.Changed r) = compact_changed r
+compact_answer (answers.Found r) = compact_found r
+compact_answer (answers.Listed kind rs) = compact_listed kind rs
+compact_answer (answers.Avail uss a version) = compact_availability uss a version
+
+no_float_answer : (a : Answer) → has_float (answer_data a) ≡ false
+no_float_answer (answers.Created r) = no_float_changed_parts r r.nature
+no_float_answer (answers.Changed r) = no_float_changed_parts r r.nature
+no_float_answer (answers.Found r) = no_float_found r
+no_float_answer (answers.Listed kind rs) = no_float_listed kind rs
+no_float_answer (answers.Avail uss a version) = refl
+
+-- ---- replies
+
+compact_message : (words : List ℕ) → compact_text (message_data words) ≡ message_text words
+compact_message words = one_member (codes "message") (quoted words) (string words) refl
+
+compact_missing : (words : List ℕ) (m : Missing) → compact_text (missing_data words m) ≡ missing_text words m
+compact_missing words m =
+    let members = member (codes "message") (string words) (member (codes "missing_constraints") (references_data m.constraints) (member (codes "missing_operational_intents") (references_data m.intents) no_members)) in
+    compact_text-object members
+    ∙ ap₂ (λ c i. object_text ((codes "message", quoted words) ∷ (codes "missing_constraints", c) ∷ (codes "missing_operational_intents", i) ∷ [])) (compact_references m.constraints) (compact_references m.intents)
+
+no_float_missing : (words : List ℕ) (m : Missing) → has_float (missing_data words m) ≡ false
+no_float_missing words m = rw (no_float_references m.constraints, no_float_references m.intents) refl
+
+compact_denied : (p : Rule) (m : Missing) → compact_text (denied_data p m) ≡ denied_text p m
+compact_denied Key m = compact_missing (rule_words Key) m
+compact_denied p m = compact_message (rule_words p)
+
+no_float_denied : (p : Rule) (m : Missing) → has_float (denied_data p m) ≡ false
+no_float_denied Key m = no_float_missing (rule_words Key) m
+no_float_denied p m = refl
+
+pub compact_reply : (r : Reply) → compact_text (reply_data r) ≡ reply_text r
+compact_reply (Done a) = compact_answer a
+compact_reply (Denied p m) = compact_denied p m
+compact_reply Fault = compact_message (codes "fault")
+compact_reply Stopped = compact_message (codes "stopped")
+
+pub no_float_reply : (r : Reply) → has_float (reply_data r) ≡ false
+no_float_reply (Done a) = no_float_answer a
+no_float_reply (Denied p m) = no_float_denied p m
+no_float_reply Fault = refl
+no_float_reply Stopped = refl

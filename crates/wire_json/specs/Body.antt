@@ -41,8 +41,13 @@ IsSetting bytes a old =
     × (option_and_then as_str (get (codes "availability") d) ≡ Some (name_of a))
     × IsOldVersion (get (codes "old_version") d) old
 
--- Words and a body ask for this operation of a kind. They ask for at most one.
+-- Words and a body ask for this operation of a kind. They ask for at most one. Bodies of entities are not read yet: nothing routes to them.
 abbrev pub IsBody : OpKind → Words → List ℕ → Operation → Type 0
+IsBody (kinds.Query kind) words bytes op = ⊥
+IsBody (kinds.Read kind) words bytes op = ⊥
+IsBody (kinds.Create kind) words bytes op = ⊥
+IsBody (kinds.Update kind) words bytes op = ⊥
+IsBody (kinds.Delete kind) words bytes op = ⊥
 IsBody kinds.ReadAvail words bytes op = (name_fault words.first ≡ None) × (op ≡ ReadAvail words.first)
 IsBody kinds.SetAvail words bytes op =
     (name_fault words.first ≡ None)

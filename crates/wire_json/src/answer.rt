@@ -1,10 +1,14 @@
 //! The bodies of answers.
 ghost use Rattle.std.specs.Prelude.{◌≡◌, IfOk, string_bytes};
 ghost use Rattle.serde_json.specs.View.{view};
-ghost use Rattle.wire_json.specs.Answer.{availability_data, availability_text, message_data, message_text, rule_words, reply_text, status_of};
+ghost use Rattle.wire_json.specs.Answer.{rule_words, reply_text, answer_status, status_of};
+ghost use Rattle.wire_json.specs.Built.{availability_data, found_data, changed_data, listed_data, answer_data, message_data, missing_data, denied_data, reply_data};
 
 use crate::availability::name_of;
+use crate::reference::{reference_json, reference_name, references_json, references_name};
 use entity_core::availability::Availability;
+use entity_core::nature::Kind;
+use policy_core::reference::{Missing, Reference, References};
 use policy_core::rule::Rule;
 use serde_json::{Value, json};
 use service_core::reply::{Answer, Reply};
@@ -23,17 +27,45 @@ fn availability_json(
     json!(in alloc; {"status": {"availability": word, "uss": uss}, "version": version})
 }
 
-/// Its text.
-fn availability_text(
-    alloc: Global,
-    uss: &str,
-    availability: Availability,
-    version: &str,
-) -> Result<String, AllocError>
-    ensures { IfOk result (λ s. string_bytes s ≡ availability_text uss.now availability version.now) }
+/// The reference of an entity.
+fn found_json(alloc: Global, reference: &Reference) -> Result<Value, AllocError>
+    ensures { IfOk result (λ v. view v ≡ found_data reference.now) }
 {
-    let value = availability_json(alloc, uss, availability, version)?;
-    value.to_string(alloc)
+    let name = reference_name(reference.nature.kind());
+    let value = reference_json(alloc, reference)?;
+    json!(in alloc; {name: value})
+}
+
+/// The reference of an entity that was put or deleted. The service keeps no subscriptions.
+fn changed_json(alloc: Global, reference: &Reference) -> Result<Value, AllocError>
+    ensures { IfOk result (λ v. view v ≡ changed_data reference.now) }
+{
+    let name = reference_name(reference.nature.kind());
+    let value = reference_json(alloc, reference)?;
+    json!(in alloc; {name: value, "subscribers": []})
+}
+
+/// The references of a query for entities of a kind.
+fn listed_json(alloc: Global, kind: Kind, references: &References) -> Result<Value, AllocError>
+    ensures { IfOk result (λ v. view v ≡ listed_data kind references.now) }
+{
+    let name = references_name(kind);
+    let values = references_json(alloc, references)?;
+    json!(in alloc; {name: values})
+}
+
+fn answer_json(alloc: Global, answer: &Answer) -> Result<Value, AllocError>
+    ensures { IfOk result (λ v. view v ≡ answer_data answer.now) }
+{
+    match answer {
+        Answer::Created(reference) => changed_json(alloc, reference),
+        Answer::Changed(reference) => changed_json(alloc, reference),
+        Answer::Found(reference) => found_json(alloc, reference),
+        Answer::Listed(kind, references) => listed_json(alloc, *kind, references),
+        Answer::Avail(uss, availability, version) => {
+            availability_json(alloc, uss.text(), *availability, version.text())
+        }
+    }
 }
 
 /// A message as JSON.
@@ -43,12 +75,17 @@ fn message_json(alloc: Global, words: &str) -> Result<Value, AllocError>
     json!(in alloc; {"message": words})
 }
 
-/// Its text.
-fn message_text(alloc: Global, words: &str) -> Result<String, AllocError>
-    ensures { IfOk result (λ s. string_bytes s ≡ message_text words.now) }
+/// A message, and the references that a key lacks.
+fn missing_json(alloc: Global, words: &str, missing: &Missing) -> Result<Value, AllocError>
+    ensures { IfOk result (λ v. view v ≡ missing_data words.now missing.now) }
 {
-    let value = message_json(alloc, words)?;
-    value.to_string(alloc)
+    let constraints = references_json(alloc, &missing.constraints)?;
+    let intents = references_json(alloc, &missing.intents)?;
+    json!(in alloc; {
+        "message": words,
+        "missing_constraints": constraints,
+        "missing_operational_intents": intents,
+    })
 }
 
 /// The message of a denial: the rule's number and name.
@@ -60,24 +97,32 @@ fn rule_words(alloc: Global, rule: Rule) -> Result<String, AllocError>
     format!(in alloc; "P{number} {name}")
 }
 
-fn denied_text(alloc: Global, rule: Rule) -> Result<String, AllocError>
-    ensures { IfOk result (λ s. string_bytes s ≡ message_text (rule_words rule)) }
+fn denied_json(alloc: Global, rule: Rule, missing: &Missing) -> Result<Value, AllocError>
+    ensures { IfOk result (λ v. view v ≡ denied_data rule missing.now) }
 {
     let words = rule_words(alloc, rule)?;
-    message_text(alloc, words.as_str())
+    match rule {
+        Rule::Key => missing_json(alloc, words.as_str(), missing),
+        _ => message_json(alloc, words.as_str()),
+    }
+}
+
+fn reply_json(alloc: Global, reply: &Reply) -> Result<Value, AllocError>
+    ensures { IfOk result (λ v. view v ≡ reply_data reply.now) }
+{
+    match reply {
+        Reply::Done(answer) => answer_json(alloc, answer),
+        Reply::Denied(rule, missing) => denied_json(alloc, *rule, missing),
+        Reply::Fault => message_json(alloc, "fault"),
+        Reply::Stopped => message_json(alloc, "stopped"),
+    }
 }
 
 fn body_text(alloc: Global, reply: &Reply) -> Result<String, AllocError>
     ensures { IfOk result (λ s. string_bytes s ≡ reply_text reply.now) }
 {
-    match reply {
-        Reply::Done(Answer::Avail(uss, availability, version)) => {
-            availability_text(alloc, uss.text(), *availability, version.text())
-        }
-        Reply::Denied(rule, _) => denied_text(alloc, *rule),
-        Reply::Fault => message_text(alloc, "fault"),
-        Reply::Stopped => message_text(alloc, "stopped"),
-    }
+    let value = reply_json(alloc, reply)?;
+    value.to_string(alloc)
 }
 
 /// The body of the answer that a reply gets: compact JSON, the members of each object in the order of
@@ -88,12 +133,24 @@ pub fn reply_text(alloc: Global, reply: &Reply) -> Result<Vec<u8>, AllocError>
     Ok(body_text(alloc, reply)?.into_bytes())
 }
 
+fn answer_status(answer: &Answer) -> u16
+    ensures { result ≡ answer_status answer.now }
+{
+    match answer {
+        Answer::Created(_) => 201,
+        Answer::Changed(_) => 200,
+        Answer::Found(_) => 200,
+        Answer::Listed(_, _) => 200,
+        Answer::Avail(_, _, _) => 200,
+    }
+}
+
 /// The HTTP status of the answer (RFC 9110). It takes no memory.
 pub fn status(reply: &Reply) -> u16
     ensures { result ≡ status_of reply.now }
 {
     match reply {
-        Reply::Done(Answer::Avail(_, _, _)) => 200,
+        Reply::Done(answer) => answer_status(answer),
         Reply::Denied(rule, _) => rule.status(),
         Reply::Fault => 500,
         Reply::Stopped => 503,

@@ -111,10 +111,16 @@ pub fn read_body(
     ensures ok { IfOk result (λ op. IsBody kind (words_of words.now) body.now op) }
     ensures malformed { IfErr result (λ e. e ≡ BodyFault.Malformed → (op : Operation) → IsBody kind (words_of words.now) body.now op → ⊥) }
 {
-    let uss = supplier_of(alloc, words.first)?;
     match kind {
-        OpKind::ReadAvail => Ok(Operation::ReadAvail(uss)),
+        // Bodies of entities are not read yet, and nothing routes to them.
+        OpKind::Query(_) => Err(BodyFault::Malformed),
+        OpKind::Read(_) => Err(BodyFault::Malformed),
+        OpKind::Create(_) => Err(BodyFault::Malformed),
+        OpKind::Update(_) => Err(BodyFault::Malformed),
+        OpKind::Delete(_) => Err(BodyFault::Malformed),
+        OpKind::ReadAvail => Ok(Operation::ReadAvail(supplier_of(alloc, words.first)?)),
         OpKind::SetAvail => {
+            let uss = supplier_of(alloc, words.first)?;
             match setting_of(alloc, body) {
                 Ok((availability, old)) => Ok(Operation::SetAvail(uss, old, availability)),
                 Err(fault) => Err(fault),

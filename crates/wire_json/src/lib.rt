@@ -4,3 +4,7 @@
 pub mod answer;
 pub mod availability;
 pub mod body;
+mod reference;
+mod state;
+#[cfg(test)]
+mod tests;

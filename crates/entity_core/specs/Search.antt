@@ -1,0 +1,32 @@
+-- What is looked for among the entities of an airspace.
+use Rattle.std.specs.Prelude.{ℕ, ◌&&◌, not, nat_eq, Bool, true, T, List, map, filter, Option, Some, None}
+use Rattle.std.specs.FinMap.{entries}
+use Rattle.std.specs.FinMap.Entries.{is_sorted}
+use Rattle.grid_core.specs.Extent.{Region, any_meet}
+use Rattle.entity_core.specs.declared.nature.Kind.{Kind}
+use Rattle.entity_core.specs.declared.entity.Entity.{Entity}
+use Rattle.entity_core.specs.Airspace.{Entities, EntityKey, key_cmp}
+use Rattle.entity_core.specs.Entity.{kind_index}
+
+abbrev pub has_kind : Kind → EntityKey → Bool
+has_kind kind k = nat_eq (kind_index k.0) (kind_index kind)
+
+abbrev pub is_not : Option ℕ → EntityKey → Bool
+is_not None k = true
+is_not (Some id) k = not (nat_eq k.1 id)
+
+-- an entity of the kind, but the one of that id, some volume of which meets some area
+abbrev pub is_sought : Kind → List Region → Option ℕ → EntityKey × Entity → Bool
+is_sought kind areas except e = has_kind kind e.0 && (is_not except e.0 && any_meet e.1.volumes areas)
+
+-- all of them, by rising ids
+unfoldable pub meeting_in : Entities → Kind → List Region → Option ℕ → List Entity
+meeting_in m kind areas except = map (λ e. e.1) (filter (is_sought kind areas except) (entries m))
+
+-- all entities of a kind, by rising ids
+unfoldable pub all_in : Entities → Kind → List Entity
+all_in m kind = map (λ e. e.1) (filter (λ e. has_kind kind e.0) (entries m))
+
+-- What is sought comes with rising keys, and so each once.
+abbrev pub FoundInOrder : Type 0
+FoundInOrder = (m : Entities) (kind : Kind) (areas : List Region) (except : Option ℕ) → T (is_sorted key_cmp (filter (is_sought kind areas except) (entries m)))

@@ -1,0 +1,73 @@
+//! What an entity is.
+ghost use Rattle.std.specs.Prelude.{◌≡◌, nat_eq};
+ghost use Rattle.entity_core.specs.Entity.{kind_index, kind_of, state_of};
+
+/// The kinds of entities. Each has ids of its own.
+#[derive(Clone, Copy, Debug, PartialEq, Eq)]
+pub enum Kind {
+    /// An operational intent.
+    Intent,
+    /// A constraint.
+    Constraint,
+}
+
+impl Kind {
+    /// Whether the two are one kind.
+    pub fn is(self, other: Kind) -> bool
+        ensures { result ≡ nat_eq (kind_index self) (kind_index other) }
+    {
+        self.index() == other.index()
+    }
+
+    // Its place in the order of kinds.
+    pub(crate) fn index(self) -> u8
+        ensures { result ≡ kind_index self }
+    {
+        match self {
+            Kind::Intent => 0,
+            Kind::Constraint => 1,
+        }
+    }
+}
+
+/// How far an operational intent has come.
+#[derive(Clone, Copy, Debug, PartialEq, Eq)]
+pub enum State {
+    /// It is planned.
+    Accepted,
+    /// It is flown.
+    Activated,
+    /// It is flown, and not as it was planned.
+    Nonconforming,
+    /// It cannot be flown as it was planned any more.
+    Contingent,
+}
+
+/// The kind of an entity, with what only that kind has: a state stands exactly for an intent.
+#[derive(Clone, Copy, Debug, PartialEq, Eq)]
+pub enum Nature {
+    Intent(State),
+    Constraint,
+}
+
+impl Nature {
+    /// The kind.
+    pub fn kind(self) -> Kind
+        ensures { result ≡ kind_of self }
+    {
+        match self {
+            Nature::Intent(_) => Kind::Intent,
+            Nature::Constraint => Kind::Constraint,
+        }
+    }
+
+    /// The state, of an intent.
+    pub fn state(self) -> Option<State>
+        ensures { result ≡ state_of self }
+    {
+        match self {
+            Nature::Intent(state) => Some(state),
+            Nature::Constraint => None,
+        }
+    }
+}

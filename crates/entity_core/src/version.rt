@@ -1,0 +1,73 @@
+//! Versions of entities, as counts.
+ghost use Rattle.std.specs.Prelude.{◌≡◌, ◌≤◌, ◌+◌, IfSome, IfNone};
+ghost use Rattle.entity_core.specs.Entity.{greatest_version};
+
+use std::marker::Model;
+
+/// The greatest version, 2^31 - 1 (this project's profile).
+pub const GREATEST_VERSION: u32 = 2_147_483_647;
+
+/// How often an entity was put, from 1 to 2,147,483,647 (this project's profile). Contracts see the
+/// number.
+#[derive(Clone, Copy, Debug, PartialEq, Eq)]
+pub struct Version {
+    number: u32,
+}
+
+impl Model for Version {
+    ghost use Rattle.std.specs.Prelude.{ℕ, ◌≤◌};
+    ghost use Rattle.entity_core.specs.Entity.{greatest_version};
+
+    ghost Value = { ℕ };
+
+    ghost view = { λ a. a.number };
+
+    ghost invariant = { λ a. (1 ≤ a.number) × (a.number ≤ greatest_version) };
+
+    ghost inverse = { λ n. record { number = n } };
+}
+
+impl Version {
+    /// That of an entity which was created.
+    pub fn first() -> Version
+        ensures { result ≡ 1 }
+    {
+        Version { number: 1 }
+    }
+
+    /// That of a number from 1 to [`GREATEST_VERSION`].
+    pub fn from_number(number: u32) -> Option<Version>
+        ensures some { IfSome result (λ v. v ≡ number) }
+        ensures none { IfNone result ((1 ≤ number) → (number ≤ greatest_version) → ⊥) }
+    {
+        if number < 1 || number > GREATEST_VERSION {
+            None
+        } else {
+            Some(Version { number })
+        }
+    }
+
+    /// The next one, if this is not the greatest.
+    pub fn next(self) -> Option<Version>
+        ensures some { IfSome result (λ v. v ≡ self + 1) }
+        ensures none { IfNone result (self ≡ greatest_version) }
+    {
+        if self.number < GREATEST_VERSION {
+            Some(Version {
+                number: self.number + 1,
+            })
+        } else {
+            None
+        }
+    }
+
+    /// The number.
+    pub fn number(self) -> u32
+        ensures number { result ≡ self }
+        ensures least { 1 ≤ self }
+        ensures most { self ≤ greatest_version }
+    {
+        let Version { number } = self;
+        number
+    }
+}

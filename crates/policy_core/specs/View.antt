@@ -1,0 +1,30 @@
+-- What a supplier sees of an entity.
+use Rattle.std.specs.Prelude.{ℕ, List, Option, Some, None, if◌then◌else◌}
+use Rattle.entity_core.specs.IdTexts.{same_text}
+use Rattle.entity_core.specs.Entity.{span_of}
+use Rattle.entity_core.specs.Airspace.{Airspace, availability_of}
+use Rattle.entity_core.specs.declared.availability.Availability.{Availability}
+use Rattle.entity_core.specs.declared.entity.Entity.{Entity}
+use Rattle.policy_core.specs.declared.reference.Reference.{Reference}
+
+-- its version number, which its manager alone sees
+abbrev pub shown_ovn : List ℕ → Entity → Option (List ℕ)
+shown_ovn uss e = if same_text e.manager uss then Some e.ovn else None
+
+-- the reference of an entity, as a supplier sees it where the manager has this availability
+abbrev pub view_with : List ℕ → Entity → Availability → Reference
+view_with uss e availability = record {
+  nature = e.nature;
+  id = e.id;
+  manager = e.manager;
+  availability = availability;
+  version = e.version;
+  ovn = shown_ovn uss e;
+  time_start = (span_of e.volumes).0;
+  time_end = (span_of e.volumes).1;
+  url = e.url;
+}
+
+-- as a supplier sees it in an airspace, with the availability that the manager has there
+unfoldable pub view_of : Airspace → List ℕ → Entity → Reference
+view_of a uss e = view_with uss e (availability_of a e.manager).0

@@ -1,0 +1,34 @@
+//! What a key lacks.
+ghost use Rattle.std.specs.Prelude.{◌≡◌, IfOk};
+ghost use Rattle.policy_core.specs.Missing.{is_lacking, needs_key, places_from};
+
+use crate::key_index::KeyIndex;
+use entity_core::entity::Entity;
+use entity_core::nature::{Nature, State};
+use entity_core::ovn::Ovn;
+use std::alloc::{AllocError, Global};
+
+/// Whether a key is asked of a put of that nature.
+pub fn needs_key(nature: Nature) -> bool
+    ensures { result ≡ needs_key nature }
+{
+    match nature {
+        Nature::Intent(State::Accepted | State::Activated) => true,
+        _ => false,
+    }
+}
+
+/// The places of the entities whose version numbers are not in the key, rising. Where the key has k
+/// version numbers, this takes O(k log k) comparisons, and O(log k) more for each entity.
+pub fn missing(alloc: Global, key: &[Ovn], needed: &[Entity]) -> Result<Vec<usize>, AllocError>
+    ensures { IfOk result (λ places. places.items ≡ places_from (is_lacking key.now) 0 needed.now) }
+{
+    let index = KeyIndex::of(alloc, key)?;
+    let mut places = Vec::new(alloc);
+    for place in 0..needed.len() {
+        if !index.has(&needed[place].ovn) {
+            places.push(place)?;
+        }
+    }
+    Ok(places)
+}

@@ -1,0 +1,53 @@
+//! The effects of the operations on availabilities.
+ghost use Rattle.std.specs.Prelude.{◌≡◌, IfOk, Some, None, unwrap_or, []};
+ghost use Rattle.entity_core.specs.Ovn.{ovn_text};
+
+use crate::reply::Answer;
+use entity_core::availability::Availability;
+use entity_core::ovn::{Ovn, ovn_of};
+use entity_core::salt::Salt;
+use entity_core::serial::Serial;
+use entity_core::text::Text;
+use entity_core::uss_id::UssId;
+use space_core::space::Change;
+use std::alloc::{AllocError, Global};
+
+/// The change of a setting and its answer.
+pub fn setting(
+    alloc: Global,
+    salt: &Salt,
+    serial: Serial,
+    uss: &UssId,
+    availability: Availability,
+) -> Result<(Option<Change>, Answer), AllocError>
+    ensures { IfOk result (λ made. (made.0 ≡ Some (Change.Avail uss.now availability (ovn_text salt.now serial))) × (made.1 ≡ Answer.Avail uss.now availability (ovn_text salt.now serial))) }
+{
+    let version = ovn_of(alloc, salt, serial.number())?;
+    let shown = version.clone()?.into_text();
+    let change = Change::Avail(uss.clone()?, availability, version);
+    Ok((
+        Some(change),
+        Answer::Avail(uss.clone()?, availability, shown),
+    ))
+}
+
+/// What is told of a supplier.
+pub fn told(
+    alloc: Global,
+    uss: &UssId,
+    kept: &Option<(Availability, Ovn)>,
+) -> Result<(Option<Change>, Answer), AllocError>
+    ensures { IfOk result (λ made. (made.0 ≡ None) × (made.1 ≡ Answer.Avail uss.now (unwrap_or kept.now (Availability.Unknown, [])).0 (unwrap_or kept.now (Availability.Unknown, [])).1)) }
+{
+    let uss = uss.clone()?;
+    match kept {
+        Some((availability, version)) => {
+            let shown = version.clone()?.into_text();
+            Ok((None, Answer::Avail(uss, *availability, shown)))
+        }
+        None => Ok((
+            None,
+            Answer::Avail(uss, Availability::Unknown, Text::empty(alloc)),
+        )),
+    }
+}

@@ -1,0 +1,198 @@
+//! Entities in the order of their kinds and ids.
+ghost use Rattle.std.specs.Prelude.{◌≡◌, not, [], OnOk, OnErr, IfOk, IfErr, filter, length};
+ghost use Rattle.std.specs.List.Sorted.{IsBinarySearchResult, IsSearchInRange};
+ghost use Rattle.std.specs.Ordering.{eq_by_cmp};
+ghost use Rattle.std.specs.FinMap.{find, get, insert, remove};
+ghost use Rattle.std.specs.FinMap.Entries.{put};
+ghost use Rattle.entity_core.specs.Airspace.{key_cmp, key_of};
+ghost use Rattle.entity_core.specs.Search.{has_kind, is_not, is_sought, meeting_in, all_in};
+ghost use Rattle.space_core.specs.Sorted.{keyed, Hit, Gap};
+ghost use Rattle.space_core.specs.Entities.{pair_of, entity_map, InOrder};
+
+use entity_core::entity::Entity;
+use entity_core::entity_id::EntityId;
+use entity_core::nature::Kind;
+use grid_core::volume::Area;
+use std::alloc::{AllocError, Global};
+use std::cmp::Ordering;
+use std::marker::Model;
+
+/// Entities in their order, each kind and id once. Contracts see their list.
+#[derive(Debug, Drop)]
+pub struct Entities {
+    items: Vec<Entity>,
+}
+
+impl Model for Entities {
+    ghost use Rattle.std.specs.Prelude.{List};
+    ghost use Rattle.entity_core.specs.declared.entity.Entity.{Entity};
+    ghost use Rattle.space_core.specs.Entities.{InOrder};
+
+    ghost Value = { List Entity };
+
+    ghost view = { λ a. a.items.items };
+
+    ghost invariant = { λ a. InOrder a.items.items };
+}
+
+fn searched(items: &[Entity], kind: Kind, id: EntityId) -> Result<usize, usize>
+    ensures bound { IsSearchInRange result (length items.now) }
+    ensures position { IsBinarySearchResult (λ e. key_cmp (key_of e) (kind, id)) items.now result }
+{
+    items.binary_search_by(|entity| entity.order(kind, id))
+}
+
+// Where an entity stands, or would stand.
+fn place_of(items: &[Entity], kind: Kind, id: EntityId) -> Result<usize, usize>
+    ensures hit { InOrder items.now → IfOk result (Hit key_cmp pair_of items.now (kind, id)) }
+    ensures gap { InOrder items.now → IfErr result (Gap key_cmp pair_of items.now (kind, id)) }
+{
+    searched(items, kind, id)
+}
+
+fn found(
+    alloc: Global,
+    items: &[Entity],
+    kind: Kind,
+    id: EntityId,
+) -> Result<Option<Entity>, AllocError>
+    requires { InOrder items.now }
+    ensures { IfOk result (λ found. found ≡ find key_cmp (kind, id) (keyed pair_of items.now)) }
+{
+    match place_of(items, kind, id) {
+        Ok(i) => Ok(Some(items[i].clone(alloc)?)),
+        Err(_) => Ok(None),
+    }
+}
+
+fn is_other(except: Option<EntityId>, kind: Kind, id: EntityId) -> bool
+    ensures { result ≡ is_not except (kind, id) }
+{
+    match except {
+        None => true,
+        Some(other) => !id.is(other),
+    }
+}
+
+fn is_wanted(entity: &Entity, kind: Kind, areas: &[Area], except: Option<EntityId>) -> bool
+    ensures { result ≡ is_sought kind areas.now except (pair_of entity.now) }
+{
+    let own = entity.nature.kind();
+    own.is(kind) && (is_other(except, own, entity.id) && entity.volumes.meet(areas))
+}
+
+fn all_wanted(
+    alloc: Global,
+    items: &[Entity],
+    kind: Kind,
+    areas: &[Area],
+    except: Option<EntityId>,
+) -> Result<Vec<Entity>, AllocError>
+    ensures { IfOk result (λ found. found.items ≡ filter (λ e. is_sought kind areas.now except (pair_of e)) items.now) }
+{
+    let mut wanted = Vec::new(alloc);
+    for entity in items {
+        if is_wanted(entity, kind, areas, except) {
+            wanted.push(entity.clone(alloc)?)?;
+        }
+    }
+    Ok(wanted)
+}
+
+fn all_of(alloc: Global, items: &[Entity], kind: Kind) -> Result<Vec<Entity>, AllocError>
+    ensures { IfOk result (λ found. found.items ≡ filter (λ e. has_kind kind (key_of e)) items.now) }
+{
+    let mut wanted = Vec::new(alloc);
+    for entity in items {
+        if entity.nature.kind().is(kind) {
+            wanted.push(entity.clone(alloc)?)?;
+        }
+    }
+    Ok(wanted)
+}
+
+fn put_in_place(items: &mut Vec<Entity>, entity: Entity) -> Result<(), AllocError>
+    requires { InOrder items.old.items }
+    ensures ok { OnOk result (keyed pair_of items.new.items ≡ put key_cmp (key_of entity) entity (keyed pair_of items.old.items)) }
+    ensures err { OnErr result (items.new.items ≡ items.old.items) }
+{
+    match place_of(items, entity.nature.kind(), entity.id) {
+        Ok(i) => {
+            items[i] = entity;
+            Ok(())
+        }
+        Err(i) => Ok(items.insert(i, entity)?),
+    }
+}
+
+fn remove_from(items: &mut Vec<Entity>, kind: Kind, id: EntityId)
+    requires { InOrder items.old.items }
+    ensures { filter (λ e. not (eq_by_cmp key_cmp (kind, id) (key_of e))) items.old.items ≡ items.new.items }
+{
+    match place_of(items, kind, id) {
+        Ok(i) => {
+            let _gone = items.remove(i);
+        }
+        Err(_) => {}
+    }
+}
+
+impl Entities {
+    /// No entities. It takes no memory.
+    pub fn new(alloc: Global) -> Entities
+        ensures { result ≡ [] }
+    {
+        Entities {
+            items: Vec::new(alloc),
+        }
+    }
+
+    /// A copy of the entity of a kind and an id, if there is one.
+    pub fn entity(
+        &self,
+        alloc: Global,
+        kind: Kind,
+        id: EntityId,
+    ) -> Result<Option<Entity>, AllocError>
+        ensures { IfOk result (λ found. found ≡ get (entity_map self.now) (kind, id)) }
+    {
+        found(alloc, &self.items, kind, id)
+    }
+
+    /// Copies of the entities of a kind, but the one of an id, of which some volume meets some area, by
+    /// rising ids.
+    pub fn meeting(
+        &self,
+        alloc: Global,
+        kind: Kind,
+        areas: &[Area],
+        except: Option<EntityId>,
+    ) -> Result<Vec<Entity>, AllocError>
+        ensures { IfOk result (λ found. found.items ≡ meeting_in (entity_map self.now) kind areas.now except) }
+    {
+        all_wanted(alloc, &self.items, kind, areas, except)
+    }
+
+    /// Copies of the entities of a kind, by rising ids.
+    pub fn all(&self, alloc: Global, kind: Kind) -> Result<Vec<Entity>, AllocError>
+        ensures { IfOk result (λ found. found.items ≡ all_in (entity_map self.now) kind) }
+    {
+        all_of(alloc, &self.items, kind)
+    }
+
+    /// Puts an entity in the place of the one that has its kind and id, or among the others where its
+    /// place is. On an error nothing is changed.
+    pub fn put(&mut self, entity: Entity) -> Result<(), AllocError>
+        ensures ok { OnOk result (entity_map self.new ≡ insert (entity_map self.old) (key_of entity) entity) }
+        ensures err { OnErr result (self.new ≡ self.old) }
+    {
+        put_in_place(&mut self.items, entity)
+    }
+
+    /// Removes the entity of a kind and an id; where there is none, nothing is changed.
+    pub fn remove(&mut self, kind: Kind, id: EntityId)
+        ensures { entity_map self.new ≡ remove (entity_map self.old) (kind, id) }
+    {
+        remove_from(&mut self.items, kind, id)
+    }
+}

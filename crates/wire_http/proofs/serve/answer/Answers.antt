@@ -1,0 +1,10 @@
+use Rattle.wire_http.proofs.Written.{Appends-none}
+use Rattle.wire_http.proofs.serve.answer.Goals as goal
+
+pub returns-in_default-clause-part : goal.returns-in_default-clause-part
+returns-in_default-clause-part g c = record {
+  reply = c.reply_to-reply.result;
+  is_reply = c.reply_to-reply.ensures.reply;
+  size = 0;
+  written = Appends-none _;
+}
