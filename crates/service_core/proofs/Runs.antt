@@ -1,5 +1,5 @@
 -- A run goes on by one call.
-use Rattle.std.specs.Prelude.{◌≡◌, ℕ, true, false, List, [], ◌∷◌, ◌++◌, length, refl, ◌⊎◌, All}
+use Rattle.std.specs.Prelude.{◌≡◌, ℕ, Bool, true, false, List, [], ◌∷◌, ◌++◌, length, refl, ◌⊎◌, All}
 use Rattle.std.proofs.Common.{arith, sym, ap, ◌∙◌, inl, inr, subst, length-append}
 use Rattle.std.proofs.lemmas.Bool.{false≢true}
 use Rattle.std.proofs.lemmas.List.Elements.{All-append, All-nil, All-cons}
@@ -8,9 +8,19 @@ use Rattle.space_core.specs.Space.{IsContent}
 use Rattle.policy_core.specs.declared.call.Call.{Call}
 use Rattle.service_core.specs.declared.reply.Reply.{Reply}
 use Rattle.service_core.specs.declared.reply.Reply.TheVariants.{Done, Denied, Fault, Stopped}
+use Rattle.service_core.specs.declared.service.Service.{Service}
 use Rattle.service_core.specs.Step.{step}
 use Rattle.service_core.specs.Service.{Leaves, is_stopped}
-use Rattle.service_core.specs.Run.{Timed, replies_of, airspace_after, answered_calls, told_replies, MayHaveStepped, has_stopped, StayStopped, Runs}
+use Rattle.service_core.specs.Run.{AskedInOrder, IsReplyTo, Timed, replies_of, airspace_after, answered_calls, told_replies, MayHaveStepped, has_stopped, StayStopped, Runs}
+
+module _ {S : Type 0} (Holds : S → Airspace → Type 0) (IsSound : S → Type 0) (refusals : S → ℕ) (is_broken : S → Bool) where
+  -- one more call that was asked
+  pub asked_more : (old : Service S) (cs : List Timed) (rs : List Reply) (mid new : Service S) (c : Timed) (r : Reply) → AskedInOrder Holds IsSound refusals is_broken old cs rs mid
+      → IsReplyTo Holds IsSound refusals is_broken mid new c.0 c.1 r → AskedInOrder Holds IsSound refusals is_broken old (cs ++ c ∷ []) (rs ++ r ∷ []) new
+  asked_more old [] [] mid new c r same reply = (new, subst (λ (x : Service S). IsReplyTo Holds IsSound refusals is_broken x new c.0 c.1 r) same reply, refl)
+  asked_more old [] (x ∷ rs) mid new c r h reply = absurd h
+  asked_more old (d ∷ cs) [] mid new c r h reply = absurd h
+  asked_more old (d ∷ cs) (x ∷ rs) mid new c r h reply = (h.0, h.1, asked_more h.0 cs rs mid new c r h.2 reply)
 
 -- the reply and an airspace after it
 abbrev Allows : List ℕ → Airspace → ℕ → Call → Reply → Airspace → Type 0

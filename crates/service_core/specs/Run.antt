@@ -1,7 +1,12 @@
 -- What a service may answer to a list of calls.
-use Rattle.std.specs.Prelude.{◌≡◌, ℕ, Bool, true, false, List, [], ◌∷◌, ◌⊎◌, All}
+use Rattle.std.specs.Prelude.{◌≡◌, ℕ, Bool, true, false, List, [], ◌∷◌, ◌⊎◌, All, IfSome, find}
 use Rattle.entity_core.specs.Airspace.{Airspace}
 use Rattle.policy_core.specs.declared.call.Call.{Call}
+use Rattle.policy_core.specs.Missing.{nothing_missing}
+use Rattle.policy_core.specs.Policy.{breaks, early_rules}
+use Rattle.service_core.specs.declared.service.Service.{Service}
+use Rattle.service_core.specs.Held.{space_of, salt_of, is_shut}
+use Rattle.service_core.specs.Service.{Leaves, MayFail, is_stopped}
 use Rattle.service_core.specs.declared.reply.Reply.{Reply}
 use Rattle.service_core.specs.declared.reply.Reply.TheVariants.{Done, Denied, Fault, Stopped}
 use Rattle.space_core.specs.Space.{IsContent}
@@ -10,6 +15,25 @@ use Rattle.service_core.specs.Step.{step}
 -- a call and its moment
 abbrev pub Timed : Type 0
 Timed = ℕ × Call
+
+-- The service was asked once, and this is its reply: the policy's, or a fault where it may come, or `Stopped`.
+pub record IsReplyTo {S : Type 0} (Holds : S → Airspace → Type 0) (IsSound : S → Type 0) (refusals : S → ℕ) (is_broken : S → Bool) (old new : Service S) (moment : ℕ) (call : Call) (reply : Reply) : Type 0 where
+  pub goes : is_shut old ≡ false → IsSound (space_of new) → (a : Airspace) → IsContent Holds (space_of old) a
+      → Leaves Holds (salt_of old) a moment call reply (space_of new)
+  pub early : is_shut old ≡ false → (a : Airspace) (now : ℕ) → IfSome (find (breaks a now call) early_rules) (λ rule. (reply ≡ Denied rule nothing_missing) × (new ≡ old))
+  pub fails : is_shut old ≡ false → IsSound (space_of new) → (a : Airspace) → IsContent Holds (space_of old) a
+      → MayFail a moment call reply (refusals (space_of old)) (refusals (space_of new))
+  pub shuts : is_shut old ≡ false → is_shut new ≡ is_stopped reply
+  pub cause : is_shut old ≡ false → reply ≡ Stopped → is_broken (space_of new) ≡ true
+  pub shut : is_shut old ≡ true → reply ≡ Stopped
+
+-- The service was asked the calls in order, each once, and these are its replies.
+abbrev pub AskedInOrder : {S : Type 0} → (S → Airspace → Type 0) → (S → Type 0) → (S → ℕ) → (S → Bool) → Service S → List Timed → List Reply → Service S → Type 0
+AskedInOrder Holds IsSound refusals is_broken old [] [] new = new ≡ old
+AskedInOrder Holds IsSound refusals is_broken old [] (r ∷ rs) new = ⊥
+AskedInOrder Holds IsSound refusals is_broken old (c ∷ cs) [] new = ⊥
+AskedInOrder {S} Holds IsSound refusals is_broken old (c ∷ cs) (r ∷ rs) new =
+    (mid : Service S) × IsReplyTo Holds IsSound refusals is_broken old mid c.0 c.1 r × AskedInOrder Holds IsSound refusals is_broken mid cs rs new
 
 -- the policy over a list of calls: the replies, and the airspace after them
 abbrev pub replies_of : List ℕ → Airspace → List Timed → List Reply

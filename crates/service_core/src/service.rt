@@ -8,7 +8,7 @@ ghost use Rattle.service_core.specs.contracts.service.Service.{the_row};
 ghost use Rattle.service_core.specs.Looks.{IsReady, Judges, Makes};
 ghost use Rattle.service_core.specs.Service.{Answers, reply_of, is_stopped};
 ghost use Rattle.policy_core.specs.Missing.{nothing_missing};
-ghost use Rattle.service_core.specs.Run.{Runs, StayStopped, has_stopped};
+ghost use Rattle.service_core.specs.Run.{AskedInOrder, Runs, StayStopped, has_stopped};
 ghost use Rattle.service_core.specs.Held.{space_of, salt_of, is_shut, with_space};
 
 use crate::decide::{Verdict, decide};
@@ -176,6 +176,7 @@ impl<S: Space + Drop> Service<S> {
         ensures none_made { OnErr result (self.new ≡ self.old) }
         ensures salt { salt_of self.new ≡ salt_of self.old }
         ensures one_each { IfOk result (λ replies. length replies.items ≡ length calls.now) }
+        ensures in_order { IfOk result (λ replies. AskedInOrder S.holds S.is_sound S.refusals S.is_broken self.old calls.now replies.items self.new) }
         ensures sound { S.is_sound (space_of self.new) → S.is_sound (space_of self.old) }
         ensures shut { IsTrue (is_shut self.old) → (self.new ≡ self.old) × IfOk result (λ replies. All (λ r. r ≡ Reply.Stopped) replies.items) }
         ensures shuts { is_shut self.old ≡ false → IfOk result (λ replies. (is_shut self.new ≡ has_stopped replies.items) × StayStopped replies.items) }

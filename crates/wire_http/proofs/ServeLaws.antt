@@ -27,7 +27,8 @@ use Rattle.wire_http.specs.Route.{path_of}
 use Rattle.wire_http.specs.Table.{named_place}
 use Rattle.wire_http.specs.Rest.{after}
 use Rattle.wire_http.specs.Text.{answer_text}
-use Rattle.wire_http.specs.Reply.{IsReplyTo, Replies, RepliesPart, text_of}
+use Rattle.service_core.specs.Run.{IsReplyTo}
+use Rattle.wire_http.specs.Reply.{Replies, RepliesPart, text_of}
 use Rattle.wire_http.specs.Wire.{Asked, Asks, Answered, Serves, ServesPart, answers}
 use Rattle.wire_http.proofs.NextLaws.{if_some}
 use Rattle.wire_http.proofs.KnownBytes.{Appends_nil}

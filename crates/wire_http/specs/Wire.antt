@@ -9,7 +9,7 @@ use Rattle.service_core.specs.declared.service.Service.{Service}
 use Rattle.service_core.specs.declared.reply.Reply.{Reply}
 use Rattle.service_core.specs.declared.reply.Reply.TheVariants.{Stopped}
 use Rattle.service_core.specs.Held.{space_of, salt_of, is_shut}
-use Rattle.service_core.specs.Run.{Timed, Runs, has_stopped}
+use Rattle.service_core.specs.Run.{AskedInOrder, Timed, Runs, has_stopped}
 use Rattle.wire_http.specs.declared.end.End.{End}
 use Rattle.wire_http.specs.declared.end.End.TheVariants as ends
 use Rattle.wire_http.specs.declared.end.Served.{Served}
@@ -18,7 +18,6 @@ use Rattle.wire_http.specs.Length.{length_of}
 use Rattle.token_conf.specs.TokenFile.{Callers}
 use Rattle.wire_http.specs.Asked.{IsCallOf, fields_of}
 use Rattle.wire_http.specs.Text.{answer_text}
-use Rattle.wire_http.specs.Reply.{IsReplyTo}
 
 -- the rest begins with a whole request: a head, and then as many bytes of a body as its fields tell
 pub record IsRequest (rest : List ℕ) (h : RequestHead) (body : List ℕ) : Type 0 where
@@ -74,20 +73,11 @@ answers [] replies = []
 answers (asked ∷ more) [] = []
 answers (asked ∷ more) (reply ∷ replies) = answer_text asked.head reply ++ answers more replies
 
--- the service was asked the calls in order, each once, and these are its replies
-abbrev pub AskedInOrder : {S : Type 0} → (S → Airspace → Type 0) → (S → Type 0) → (S → ℕ) → (S → Bool) → Service S → List Asked → List Reply → Service S → Type 0
-AskedInOrder Holds IsSound refusals is_broken old [] [] new = new ≡ old
-AskedInOrder Holds IsSound refusals is_broken old [] (reply ∷ replies) new = ⊥
-AskedInOrder Holds IsSound refusals is_broken old (asked ∷ more) [] new = ⊥
-AskedInOrder {S} Holds IsSound refusals is_broken old (asked ∷ more) (reply ∷ replies) new =
-    (mid : Service S) × IsReplyTo Holds IsSound refusals is_broken old mid asked.moment asked.call reply
-    × AskedInOrder Holds IsSound refusals is_broken mid more replies new
-
 -- The service answered the calls in order, each once: as the policy says, or `Stopped` where it was shut. It is shut by a
 -- call that it answered `Stopped`, and only a broken space makes it do so.
 pub record Answered {S : Type 0} (Holds : S → Airspace → Type 0) (IsSound : S → Type 0) (refusals : S → ℕ) (is_broken : S → Bool) (old new : Service S) (all : List Asked) (replies : List Reply) : Type 0 where
   pub one_each : length replies ≡ length all
-  pub in_order : AskedInOrder Holds IsSound refusals is_broken old all replies new
+  pub in_order : AskedInOrder Holds IsSound refusals is_broken old (map timed all) replies new
   pub runs : is_shut old ≡ false → IsSound (space_of new) → (a : Airspace) → IsContent Holds (space_of old) a
       → Runs Holds (salt_of old) a (map timed all) replies (space_of new)
   pub shuts : is_shut old ≡ false → is_shut new ≡ has_stopped replies

@@ -5,7 +5,8 @@ ghost use Rattle.service_core.specs.Held.{space_of, salt_of, is_shut};
 ghost use Rattle.wire_http.specs.Counted.{inner_of, calls_of, failures_of};
 ghost use Rattle.wire_http.specs.Count.{HasRisen, IsGreatest, most_reads};
 ghost use Rattle.wire_http.specs.Fault.{GaveUpAnswering};
-ghost use Rattle.wire_http.specs.Reply.{IsReplyTo, Replies, RepliesPart};
+ghost use Rattle.service_core.specs.Run.{IsReplyTo};
+ghost use Rattle.wire_http.specs.Reply.{Replies, RepliesPart};
 ghost use Rattle.wire_http.specs.Wire.{Serves, ServesPart};
 
 use crate::answer::answer_text;

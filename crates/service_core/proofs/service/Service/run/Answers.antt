@@ -3,8 +3,8 @@ use Rattle.std.proofs.lemmas.List.{take_more}
 use Rattle.service_core.specs.declared.service.Service.{Service}
 use Rattle.service_core.specs.declared.reply.Reply.{Reply}
 use Rattle.service_core.specs.Service.{Leaves}
-use Rattle.service_core.specs.Run.{Timed, Runs, StayStopped, has_stopped}
-use Rattle.service_core.proofs.Runs.{runs_more, runs_stopped, stops_more, stopped_more, is_stopped_true, stay_more, stay_so_far, all_more}
+use Rattle.service_core.specs.Run.{AskedInOrder, Timed, Runs, StayStopped, has_stopped}
+use Rattle.service_core.proofs.Runs.{asked_more, runs_more, runs_stopped, stops_more, stopped_more, is_stopped_true, stay_more, stay_so_far, all_more}
 use Rattle.service_core.proofs.service.Service.run.Goals as goal
 
 pub loop-entry-preserved : goal.loop-entry-preserved
@@ -29,6 +29,14 @@ loop-entry-preserved g c =
     record {
       count = ap length items ∙ omega (arith, length-append rs (r ∷ []), count);
       room = omega (arith, inv.room, c.in-Ok.ensures.capacity);
+      in_order = rw (calls, items) (asked_more sp.holds sp.is_sound sp.refusals sp.is_broken c.args.self.now cs rs c.loop-entry.self c.call-reply.new.self d r inv.in_order (record {
+        goes = λ n s a content. (c.call-reply.ensures.answers n).step s a content;
+        early = c.call-reply.ensures.early;
+        fails = λ n s a content. (c.call-reply.ensures.answers n).fails s a content;
+        shuts = c.call-reply.ensures.shuts;
+        cause = λ n. (c.call-reply.ensures.answers n).cause;
+        shut = λ n. (c.call-reply.ensures.stays_shut n).0;
+      }));
       salt = c.call-reply.ensures.salt ∙ inv.salt;
       sound = λ s. inv.sound (back s);
       runs = λ n s a h. rw (calls, items) (
