@@ -1,7 +1,7 @@
 -- The compact text of a value, by the texts of its members and items.
 use Rattle.std.proofs.Common.{◌≡◌, ℕ, List, [], ◌∷◌, ◌++◌, refl, ap, ◌∙◌, append_assoc, map, codes, false}
 use Rattle.json.specs.Print.{quoted}
-use Rattle.serde_json.specs.Data.{Data, null, boolean, number, string, Items, Members, array, object, member, no_members, item, no_items}
+use Rattle.serde_json.specs.Data.{Items, Members, array, object, member, no_members, item, no_items}
 use Rattle.serde_json.specs.Written.{compact_text, items_text, members_text}
 use Rattle.wire_json.specs.Json.{joined, member_text, object_text, array_text}
 

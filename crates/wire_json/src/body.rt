@@ -113,11 +113,11 @@ pub fn read_body(
 {
     match kind {
         // Bodies of entities are not read yet, and nothing routes to them.
-        OpKind::Query(_) => Err(BodyFault::Malformed),
-        OpKind::Read(_) => Err(BodyFault::Malformed),
-        OpKind::Create(_) => Err(BodyFault::Malformed),
-        OpKind::Update(_) => Err(BodyFault::Malformed),
-        OpKind::Delete(_) => Err(BodyFault::Malformed),
+        OpKind::Query(_)
+        | OpKind::Read(_)
+        | OpKind::Create(_)
+        | OpKind::Update(_)
+        | OpKind::Delete(_) => Err(BodyFault::Malformed),
         OpKind::ReadAvail => Ok(Operation::ReadAvail(supplier_of(alloc, words.first)?)),
         OpKind::SetAvail => {
             let uss = supplier_of(alloc, words.first)?;

@@ -1,5 +1,5 @@
 //! References of entities, as JSON.
-ghost use Rattle.std.specs.Prelude.{◌≡◌, ℕ, List, IfOk, OnOk, option_map};
+ghost use Rattle.std.specs.Prelude.{◌≡◌, IfOk, OnOk};
 ghost use Rattle.serde_json.specs.Data.{string, number, unsigned, put};
 ghost use Rattle.serde_json.specs.View.{view, members_view};
 ghost use Rattle.wire_json.specs.Built.{with_ovn, with_nature, reference_data, references_data};
@@ -11,6 +11,9 @@ use entity_core::ovn::Ovn;
 use policy_core::reference::{Reference, References};
 use serde_json::{Map, Value, put};
 use std::alloc::{AllocError, Global};
+
+/// The subscription that each intent is said to have: the service keeps none (this project's profile).
+const NO_SUBSCRIPTION: &str = "00000000-0000-4000-8000-000000000000";
 
 /// The name under which an answer has the reference of one entity of the kind.
 pub(crate) fn reference_name(kind: Kind) -> &'static str
@@ -38,7 +41,8 @@ fn put_text(
     name: &str,
     text: &str,
 ) -> Result<(), AllocError>
-    ensures { OnOk result (members_view members.new.entries ≡ put name.now (string text.now) (members_view members.old.entries)) }
+    ensures { OnOk result (members_view members.new.entries
+        ≡ put name.now (string text.now) (members_view members.old.entries)) }
 {
     let text = Value::try_from_str(alloc, text)?;
     put(members, alloc, name, text)
@@ -50,7 +54,8 @@ fn put_number(
     name: &str,
     value: u64,
 ) -> Result<(), AllocError>
-    ensures { OnOk result (members_view members.new.entries ≡ put name.now (number (unsigned value)) (members_view members.old.entries)) }
+    ensures { OnOk result (members_view members.new.entries
+        ≡ put name.now (number (unsigned value)) (members_view members.old.entries)) }
 {
     put(members, alloc, name, Value::from(value))
 }
@@ -61,7 +66,8 @@ fn put_ovn(
     alloc: Global,
     ovn: &Option<Ovn>,
 ) -> Result<(), AllocError>
-    ensures { OnOk result (members_view members.new.entries ≡ with_ovn ovn.now (members_view members.old.entries)) }
+    ensures { OnOk result (members_view members.new.entries
+        ≡ with_ovn ovn.now (members_view members.old.entries)) }
 {
     match ovn {
         Some(ovn) => put_text(members, alloc, "ovn", ovn.text()),
@@ -69,24 +75,19 @@ fn put_ovn(
     }
 }
 
-// What references of one kind alone have. Each intent is said to have the same subscription, since the
-// service keeps none (this project's profile).
+// What references of one kind alone have.
 fn put_nature(
     members: &mut Map<String, Value>,
     alloc: Global,
     nature: Nature,
 ) -> Result<(), AllocError>
-    ensures { OnOk result (members_view members.new.entries ≡ with_nature nature (members_view members.old.entries)) }
+    ensures { OnOk result (members_view members.new.entries
+        ≡ with_nature nature (members_view members.old.entries)) }
 {
     match nature {
         Nature::Intent(state) => {
             put_text(members, alloc, "state", state::name_of(state))?;
-            put_text(
-                members,
-                alloc,
-                "subscription_id",
-                "00000000-0000-4000-8000-000000000000",
-            )
+            put_text(members, alloc, "subscription_id", NO_SUBSCRIPTION)
         }
         Nature::Constraint => Ok(()),
     }

@@ -14,13 +14,14 @@ use service_core::reply::{Answer, Reply};
 use std::alloc::Global;
 use std::test::Fail;
 
-/// What a manager sees of an intent.
+/// The text of an intent's reference, as its manager sees it.
 const OWN: &str = "{\"id\":\"00000000-0000-4000-8000-0000000000a1\",\"manager\":\"uss-a\",\
     \"ovn\":\"0123456789abcdef0123456789abcdef0123456789abcdef0123456789abcdef\",\
     \"state\":\"Accepted\",\"subscription_id\":\"00000000-0000-4000-8000-000000000000\",\
     \"time_end\":2000,\"time_start\":900,\"uss_availability\":\"Unknown\",\
     \"uss_base_url\":\"https://a.example\",\"version\":1}";
 
+/// The reference of that text.
 fn own(alloc: Global) -> Result<Reference, Fail> {
     let ovn = "0123456789abcdef0123456789abcdef0123456789abcdef0123456789abcdef";
     Ok(Reference {
@@ -36,7 +37,7 @@ fn own(alloc: Global) -> Result<Reference, Fail> {
     })
 }
 
-/// What others see of an intent in a state.
+/// The text of the reference of an intent in a state, as others see it.
 fn other_text(alloc: Global, state: &str) -> Result<String, Fail> {
     let head =
         "{\"id\":\"f81d4fae-7dec-11d0-a765-00a0c91e6bf6\",\"manager\":\"uss_b.7\",\"state\":\"";
@@ -46,6 +47,7 @@ fn other_text(alloc: Global, state: &str) -> Result<String, Fail> {
     Ok(format!(in alloc; "{head}{state}{tail}")?)
 }
 
+/// The reference of that text.
 fn other(alloc: Global, state: State) -> Result<Reference, Fail> {
     Ok(Reference {
         nature: Nature::Intent(state),
@@ -100,12 +102,25 @@ fn listed(items: Vec<Reference>) -> Reply {
     Reply::Done(Answer::Listed(Kind::Intent, References::from_vec(items)))
 }
 
+fn both(alloc: Global) -> Result<Vec<Reference>, Fail> {
+    let mut items = Vec::new(alloc);
+    items.push(own(alloc)?)?;
+    items.push(other(alloc, State::Activated)?)?;
+    Ok(items)
+}
+
 #[test]
-fn listed_intents(rt: HostRuntime) -> Result<(), Fail> {
+fn none_listed(rt: HostRuntime) -> Result<(), Fail> {
     let alloc = rt.alloc();
     let none = listed(Vec::new(alloc));
     assert!(rt; says(alloc, &none, 200, "{\"operational_intent_references\":[]}")?);
-    let two = listed(vec![in alloc; own(alloc)?, other(alloc, State::Activated)?]?);
+    Ok(())
+}
+
+#[test]
+fn two_listed(rt: HostRuntime) -> Result<(), Fail> {
+    let alloc = rt.alloc();
+    let two = listed(both(alloc)?);
     let text = other_text(alloc, "Activated")?;
     let expected = format!(in alloc; "{{\"operational_intent_references\":[{OWN},{text}]}}")?;
     assert!(rt; says(alloc, &two, 200, expected.as_str())?);
