@@ -1,6 +1,6 @@
-# The built program `dss` and whether it is current; for scripts that have set `top` to the folder of
-# the repository. It stands in .dss/, beside the file `identity`: a line for the kit, one for each
-# folder of sources, and the time of the program.
+# A built program and whether it is current; for scripts that have set `top` to the folder of the
+# repository and `program` to the program's name. It stands in .dss/, beside the file of its identity:
+# a line for the kit, one for each folder of sources, and the time of the program.
 
 shopt -s nullglob
 sources=("$top"/crates/*/src "$top"/crates/*/specs "$top"/crates/*/proofs)
@@ -16,8 +16,8 @@ kit_line() {
         else
             kit=$(rt version)
         fi
-    elif [ -r "$built/identity" ]; then
-        read -r kit <"$built/identity"
+    elif [ -r "$built/$program.identity" ]; then
+        read -r kit <"$built/$program.identity"
     fi
     printf '%s\n' "$kit"
 }
@@ -32,10 +32,11 @@ find_identity() {
 # last change and that of its last move or copy count, and a program that was copied here does not.
 is_current() {
     local newer
-    [ -x "$built/dss" ] && [ -r "$built/identity" ] || return 1
-    [ "$(<"$built/identity")" = "$identity"$'\n'"$(stat -c %.9Y -- "$built/dss")" ] || return 1
+    [ -x "$built/$program" ] && [ -r "$built/$program.identity" ] || return 1
+    [ "$(<"$built/$program.identity")" = "$identity"$'\n'"$(stat -c %.9Y -- "$built/$program")" ] ||
+        return 1
     newer=$(find "$top/crates.txt" "${sources[@]}" \
-        \( -newer "$built/dss" -o -cnewer "$built/dss" \) -print -quit 2>&1) || return 1
+        \( -newer "$built/$program" -o -cnewer "$built/$program" \) -print -quit 2>&1) || return 1
     [ -z "$newer" ]
 }
 
@@ -47,29 +48,41 @@ begin() {
 # Keeps the program that was proved and built since `begin`, under the time of that call: a source
 # that was edited meanwhile counts as newer.
 keep() {
-    cp -- "$top/crates/dss/out/dss" "$built/dss.$$" &&
-        touch -r "$began" "$built/dss.$$" &&
-        printf '%s\n' "$identity" "$(stat -c %.9Y -- "$built/dss.$$")" >"$built/identity.$$" &&
-        mv -f -- "$built/dss.$$" "$built/dss" &&
-        mv -f -- "$built/identity.$$" "$built/identity"
+    cp -- "$top/crates/$program/out/$program" "$built/$program.$$" &&
+        touch -r "$began" "$built/$program.$$" &&
+        printf '%s\n' "$identity" "$(stat -c %.9Y -- "$built/$program.$$")" \
+            >"$built/$program.identity.$$" &&
+        mv -f -- "$built/$program.$$" "$built/$program" &&
+        mv -f -- "$built/$program.identity.$$" "$built/$program.identity"
 }
 
 # Removes what a build that was broken off leaves.
 forget() {
-    rm -f -- "$built/began.$$" "$built/dss.$$" "$built/identity.$$"
+    rm -f -- "$built/began.$$" "$built/$program.$$" "$built/$program.identity.$$"
 }
 
 # Proves and builds the program. All that it says goes to standard error.
 build() {
     if ! command -v rt >/dev/null; then
-        printf 'dss: the command rt is not on PATH; it proves and builds the program\n' >&2
+        printf '%s: the command rt is not on PATH; it proves and builds the program\n' "$program" >&2
         return 1
     fi
-    printf 'dss: proving and building the program\n' >&2
+    printf '%s: proving and building the program\n' "$program" >&2
     trap forget EXIT
     begin &&
-        (unset CDPATH && cd -- "$top/crates/dss" && rt run -- --help </dev/null >/dev/null) &&
+        (unset CDPATH && cd -- "$top/crates/$program" && rt run -- --help </dev/null >/dev/null) &&
         keep || return 1
     forget
     trap - EXIT
+}
+
+# Runs the program on the words given, in place of this script. Where it is not current, it is proved
+# and built first. Nothing unproved is ever run.
+run_program() {
+    find_identity
+    if ! is_current && ! build; then
+        printf '%s: the program was not proved and built, so nothing was run\n' "$program" >&2
+        exit 1
+    fi
+    exec "$built/$program" "$@"
 }

@@ -62,8 +62,11 @@ scopes = []
 ";
 
 pub const A1: &str = "00000000-0000-4000-8000-0000000000a1";
+
 pub const B1: &str = "00000000-0000-4000-8000-0000000000b1";
+
 pub const B2: &str = "00000000-0000-4000-8000-0000000000b2";
+
 pub const C1: &str = "00000000-0000-4000-8000-0000000000c1";
 
 /// The tokens of cells, the altitudes and the times of a volume.
@@ -86,7 +89,7 @@ fn caller(alloc: Global, token: &str) -> Result<Option<Caller>, Fail> {
     }
 }
 
-pub fn volume(alloc: Global, extent: &Extent<'_>) -> Result<Volume, Fail> {
+fn volume(alloc: Global, extent: &Extent<'_>) -> Result<Volume, Fail> {
     let mut cells = Vec::new(alloc);
     for token in extent.0 {
         cells.push(parse_token(token)?)?;
@@ -105,62 +108,67 @@ fn volumes(alloc: Global, extents: &[Extent<'_>]) -> Result<Volumes, Fail> {
     }
 }
 
-pub fn put(
-    alloc: Global,
-    nature: Nature,
-    extents: &[Extent<'_>],
-    known: &[&str],
-    url: &str,
-) -> Result<Put, Fail> {
+/// What a put says.
+#[derive(Clone, Copy)]
+pub struct Said<'a> {
+    pub nature: Nature,
+    pub extents: &'a [Extent<'a>],
+    pub key: &'a [&'a str],
+    pub url: &'a str,
+}
+
+/// What is asked of the service.
+#[derive(Clone, Copy)]
+pub enum Ask<'a> {
+    Create(&'a str, Said<'a>),
+    Update(&'a str, &'a str, Said<'a>),
+    Delete(Kind, &'a str, &'a str),
+    /// The cells of an area, at all altitudes and times.
+    Query(Kind, &'a [&'a str]),
+}
+
+fn put(alloc: Global, said: Said<'_>) -> Result<Put, Fail> {
     let mut key = Vec::new(alloc);
-    for ovn in known {
+    for ovn in said.key {
         key.push(Ovn::read(alloc, ovn)?)?;
     }
     Ok(Put {
-        nature,
-        volumes: volumes(alloc, extents)?,
+        nature: said.nature,
+        volumes: volumes(alloc, said.extents)?,
         key: Key::from_vec(key),
-        url: BaseUrl::read(alloc, url)?,
+        url: BaseUrl::read(alloc, said.url)?,
     })
 }
 
-pub fn create(alloc: Global, token: &str, id: &str, put: Put) -> Result<Call, Fail> {
-    Ok(Call {
-        caller: caller(alloc, token)?,
-        op: Operation::Create(EntityId::read(id)?, put),
-    })
-}
-
-pub fn update(alloc: Global, token: &str, id: &str, ovn: &str, put: Put) -> Result<Call, Fail> {
-    Ok(Call {
-        caller: caller(alloc, token)?,
-        op: Operation::Update(EntityId::read(id)?, Ovn::read(alloc, ovn)?, put),
-    })
-}
-
-pub fn delete(alloc: Global, token: &str, kind: Kind, id: &str, ovn: &str) -> Result<Call, Fail> {
-    Ok(Call {
-        caller: caller(alloc, token)?,
-        op: Operation::Delete(kind, EntityId::read(id)?, Ovn::read(alloc, ovn)?),
-    })
-}
-
-pub fn read(alloc: Global, token: &str, kind: Kind, id: &str) -> Result<Call, Fail> {
-    Ok(Call {
-        caller: caller(alloc, token)?,
-        op: Operation::Read(kind, EntityId::read(id)?),
-    })
-}
-
-/// A query of cells at all altitudes and times.
-pub fn query(alloc: Global, token: &str, kind: Kind, tokens: &[&str]) -> Result<Call, Fail> {
+fn area(alloc: Global, tokens: &[&str]) -> Result<Area, Fail> {
     let mut cells = Vec::new(alloc);
     for token in tokens {
         cells.push(parse_token(token)?)?;
     }
+    Ok(Area::new(cells, (None, None), (None, None))?)
+}
+
+fn operation(alloc: Global, ask: Ask<'_>) -> Result<Operation, Fail> {
+    match ask {
+        Ask::Create(id, said) => Ok(Operation::Create(EntityId::read(id)?, put(alloc, said)?)),
+        Ask::Update(id, ovn, said) => {
+            let id = EntityId::read(id)?;
+            let ovn = Ovn::read(alloc, ovn)?;
+            Ok(Operation::Update(id, ovn, put(alloc, said)?))
+        }
+        Ask::Delete(kind, id, ovn) => {
+            let id = EntityId::read(id)?;
+            Ok(Operation::Delete(kind, id, Ovn::read(alloc, ovn)?))
+        }
+        Ask::Query(kind, tokens) => Ok(Operation::Query(kind, area(alloc, tokens)?)),
+    }
+}
+
+/// The call of a token's holder.
+pub fn call(alloc: Global, token: &str, ask: Ask<'_>) -> Result<Call, Fail> {
     Ok(Call {
         caller: caller(alloc, token)?,
-        op: Operation::Query(kind, Area::new(cells, (None, None), (None, None))?),
+        op: operation(alloc, ask)?,
     })
 }
 
@@ -168,11 +176,13 @@ pub fn query(alloc: Global, token: &str, kind: Kind, tokens: &[&str]) -> Result<
 pub fn answers(
     alloc: Global,
     service: &mut Service<ListSpace>,
-    call: &Call,
+    token: &str,
+    ask: Ask<'_>,
     code: u16,
     body: &str,
 ) -> Result<bool, Fail> {
-    let reply = service.call(alloc, 1000, call);
+    let call = call(alloc, token, ask)?;
+    let reply = service.call(alloc, 1000, &call);
     let text = reply_text(alloc, &reply)?;
     Ok(status(&reply) == code && text.as_slice() == body.as_bytes())
 }

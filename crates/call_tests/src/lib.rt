@@ -6,6 +6,6 @@ mod asked;
 #[cfg(test)]
 mod examples;
 #[cfg(test)]
-mod states;
-#[cfg(test)]
 mod meetings;
+#[cfg(test)]
+mod states;
