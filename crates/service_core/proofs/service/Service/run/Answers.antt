@@ -3,7 +3,7 @@ use Rattle.std.proofs.lemmas.List.{take_more}
 use Rattle.service_core.specs.declared.service.Service.{Service}
 use Rattle.service_core.specs.declared.reply.Reply.{Reply}
 use Rattle.service_core.specs.Service.{Leaves}
-use Rattle.service_core.specs.Run.{AskedInOrder, Timed, Runs, StayStopped, has_stopped}
+use Rattle.service_core.specs.Run.{Timed, Runs, StayStopped, has_stopped}
 use Rattle.service_core.proofs.Runs.{asked_more, runs_more, runs_stopped, stops_more, stopped_more, is_stopped_true, stay_more, stay_so_far, all_more}
 use Rattle.service_core.proofs.service.Service.run.Goals as goal
 
