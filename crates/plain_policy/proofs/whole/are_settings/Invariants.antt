@@ -1,0 +1,12 @@
+use Rattle.std.proofs.Common.{◌≡◌, length}
+use Rattle.std.specs.FinMap.Entries.{is_sorted}
+use Rattle.entity_core.specs.Airspace.{text_cmp}
+use Rattle.space_core.specs.Sorted.{keyed}
+use Rattle.plain_policy.specs.Whole.{pair_of}
+use Rattle.plain_policy.proofs.whole.are_settings.Given as goal
+
+abbrev pub invariant-comparing : goal.invariant-comparing
+invariant-comparing l = is_sorted text_cmp (keyed pair_of l.left) ≡ is_sorted text_cmp (keyed pair_of l.settings)
+
+abbrev pub decreases-comparing : goal.decreases-comparing
+decreases-comparing l = length l.left

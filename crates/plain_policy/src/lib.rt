@@ -1,0 +1,10 @@
+//! The policy as a plain, slow program: scans of whole lists. A test runs it beside the service.
+#![tactic(auto)]
+
+pub mod lacking;
+pub mod meeting;
+pub mod needed;
+pub mod rules;
+#[cfg(test)]
+mod tests;
+pub mod whole;
