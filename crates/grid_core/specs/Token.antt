@@ -1,8 +1,11 @@
 -- Tokens: texts of hexadecimal digits that are the number of a cell.
-use Rattle.std.specs.Prelude.{◌≡◌, ◌≢◌, ℕ, ◌-◌, ◌*◌, ◌^◌, ◌/◌, ◌≤◌, ◌&&◌, ◌||◌, nat_le, Bool, List, length, codes, Result, Ok, Err, IsTrue}
+use Rattle.std.specs.Prelude.{◌≡◌, ◌≢◌, ◌↔◌, ℕ, ◌-◌, ◌*◌, ◌^◌, ◌/◌, ◌%◌, ◌≤◌, ◌&&◌, ◌||◌, nat_le, nat_lt, nat_eq, if◌then◌else◌, Bool, List, length, codes, Result, Ok, Err, Option, Some, None, IsTrue}
 use Rattle.std.specs.List.{list_all}
+use Rattle.std.specs.Char.{digit_value}
+use Rattle.std.specs.Int.{w64, trailing_zeros}
 use Rattle.std.specs.Str.Parse.{AllDigits, digits_value}
 use Rattle.grid_core.specs.Cell.{Cell, IsCell, number_of}
+use Rattle.grid_core.specs.CellNumber.{cell_of}
 use Rattle.grid_core.specs.declared.token.TokenFault.{TokenFault}
 use Rattle.grid_core.specs.declared.token.TokenFault.TheVariants.{Length, Digit, Invalid}
 
@@ -35,6 +38,26 @@ Parses text (Ok c) = IsCell c × IsTokenOf text c
 Parses text (Err Length) = HasTokenLength text → ⊥
 Parses text (Err Digit) = HasTokenLength text × (AllDigits 16 text → ⊥)
 Parses text (Err Invalid) = HasTokenLength text × AllDigits 16 text × ((c : Cell) → IsCell c → number_of c ≢ token_number text)
+
+-- ---- the same, computed
+
+-- 1 to 16 hexadecimal digits
+abbrev pub has_token_form : List ℕ → Bool
+has_token_form text = (nat_le 1 (length text) && nat_le (length text) 16) && list_all (λ b. nat_lt (digit_value b) 16) text
+
+-- the number of a cell: a face up to 5, and the lowest 1 at an even place up to 60
+abbrev pub is_number : ℕ → Bool
+is_number n = nat_le (trailing_zeros w64 n) 60 && (nat_eq (trailing_zeros w64 n % 2) 0 && nat_le (n / 2 ^ 61) 5)
+
+-- the cell that a text reads as, if there is one
+unfoldable pub cell_named : List ℕ → Option Cell
+cell_named text = if has_token_form text && is_number (token_number text) then Some (cell_of (token_number text)) else None
+
+-- a text reads as the cell that it is said to name, and as no other
+abbrev pub NamesCell : Type 0
+NamesCell = (text : List ℕ) (c : Cell) → (cell_named text ≡ Some c) ↔ (IsCell c × IsTokenOf text c)
+
+-- ---- printed tokens
 
 -- '0' to '9' or 'a' to 'f'
 abbrev pub is_lower_digit : ℕ → Bool

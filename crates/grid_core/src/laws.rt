@@ -1,5 +1,6 @@
 //! Laws of cells, each named by a function that does nothing.
 ghost use Rattle.grid_core.specs.Laws.{TouchByInterval, ApartOrNested, FoundByIndex};
+ghost use Rattle.grid_core.specs.Token.{NamesCell};
 
 /// Two cells touch exactly where their intervals `lo..=hi` share a number.
 pub fn touch_by_interval()
@@ -15,4 +16,9 @@ pub fn apart_or_nested()
 /// `c.hi`, or d has the interval of a cell of a level below 13 that holds c.
 pub fn found_by_index()
     ensures { FoundByIndex }
+{}
+
+/// The cell that a text names is the one that it reads as.
+pub fn names_cell()
+    ensures { NamesCell }
 {}

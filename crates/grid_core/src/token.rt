@@ -1,9 +1,9 @@
 //! Tokens: cells as short texts.
-ghost use Rattle.std.specs.Prelude.{◌≡◌, ◌≤◌, ◌<◌, ◌+◌, ◌*◌, ◌/◌, ◌-◌, ◌^◌, IfOk, IsTrue, MatchOption, length, string_bytes};
+ghost use Rattle.std.specs.Prelude.{◌≡◌, ◌≤◌, ◌<◌, ◌+◌, ◌*◌, ◌/◌, ◌-◌, ◌^◌, IfOk, OnErr, Some, None, IsTrue, MatchOption, length, string_bytes};
 ghost use Rattle.std.specs.Str.Parse.{AllDigits, digits_value};
 ghost use Rattle.std.specs.Char.{digit_value};
 ghost use Rattle.grid_core.specs.Cell.{number_of};
-ghost use Rattle.grid_core.specs.Token.{Parses, IsShortest, is_lower_digit, Written};
+ghost use Rattle.grid_core.specs.Token.{Parses, cell_named, IsShortest, is_lower_digit, Written};
 
 use crate::cell::CellId;
 use std::alloc::{AllocError, Global};
@@ -83,7 +83,9 @@ fn padded(value: u64, count: usize) -> u64
 /// zeros fill it up on the right (S2 Geometry; that the zeros may be there is this project's profile).
 /// The faults are tested in the order of their numbers. It takes no memory.
 pub fn parse_token(text: &str) -> Result<CellId, TokenFault>
-    ensures { Parses text.now result }
+    ensures reads { Parses text.now result }
+    ensures named { IfOk result (λ c. cell_named text.now ≡ Some c) }
+    ensures none { OnErr result (cell_named text.now ≡ None) }
 {
     if text.is_empty() || text.len() > 16 {
         return Err(TokenFault::Length);

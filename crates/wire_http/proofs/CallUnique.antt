@@ -1,21 +1,13 @@
 -- A rest has at most one request next, and a request makes at most one call.
-use Rattle.std.proofs.Common.{◌≡◌, ℕ, List, length, take, refl, sym, ap, subst, ◌∙◌, Option, Some, None, Ok, inl, inr}
-use Rattle.std.specs.Prelude.{codes, option_and_then}
+use Rattle.std.proofs.Common.{◌≡◌, ℕ, List, length, take, sym, ap, subst, ◌∙◌, Option, Some, None, Ok, inl, inr}
 use Rattle.matchit.proofs.LookupLemmas.{append-cancel}
 use Rattle.httparse.specs.Grammar.{RequestHead}
-use Rattle.serde_json.specs.Data.{Data, null, boolean, number, string, array, object}
-use Rattle.serde_json.specs.Read.{read}
-use Rattle.serde_json.specs.Find.{get, as_str}
-use Rattle.entity_core.specs.declared.availability.Availability.{Availability}
-use Rattle.entity_core.specs.declared.availability.Availability.TheVariants.{Unknown, Normal, Down}
 use Rattle.policy_core.specs.declared.call.Call.{Call}
 use Rattle.policy_core.specs.declared.call.OpKind.{OpKind}
-use Rattle.policy_core.specs.declared.call.OpKind.TheVariants as kinds
 use Rattle.policy_core.specs.declared.call.Operation.{Operation}
-use Rattle.policy_core.specs.declared.call.Operation.TheVariants.{SetAvail}
 use Rattle.token_conf.specs.TokenFile.{Callers}
-use Rattle.wire_json.specs.Availability.{name_of}
-use Rattle.wire_json.specs.Body.{IsBody, IsSetting, IsOldVersion, Words}
+use Rattle.wire_json.specs.Body.{Words}
+use Rattle.wire_json.proofs.OneBody.{asks_for_one_lem}
 use Rattle.wire_http.specs.declared.route.Place.{Place}
 use Rattle.wire_http.specs.Rest.{after}
 use Rattle.wire_http.specs.Length.{length_of}
@@ -32,54 +24,10 @@ one_request rest h k a b x y =
     let size : length b ≡ length a = cc in
     (head, sym y.follows ∙ ap (λ v. take (length b) (after v rest)) head ∙ ap (λ n. take n (after h rest)) size ∙ x.follows)
 
--- ---- bodies
-
-same_name : (a b : Availability) → name_of a ≡ name_of b → b ≡ a
-same_name Unknown Unknown e = refl
-same_name Unknown Normal e = cc
-same_name Unknown Down e = cc
-same_name Normal Unknown e = cc
-same_name Normal Normal e = refl
-same_name Normal Down e = cc
-same_name Down Unknown e = cc
-same_name Down Normal e = cc
-same_name Down Down e = refl
-
-same_version : (o : Option Data) (v w : List ℕ) → IsOldVersion o v → IsOldVersion o w → w ≡ v
-same_version None v w x y = y ∙ sym x
-same_version (Some null) v w x y = y ∙ sym x
-same_version (Some (string s)) v w x y = y.0 ∙ sym x.0
-same_version (Some (boolean b)) v w x y = absurd x
-same_version (Some (number n)) v w x y = absurd x
-same_version (Some (array ds)) v w x y = absurd x
-same_version (Some (object ms)) v w x y = absurd x
-
-same_setting : (bytes : List ℕ) (a b : Availability) (v w : List ℕ) → IsSetting bytes a v → IsSetting bytes b w → (b ≡ a) × (w ≡ v)
-same_setting bytes a b v w (d, json, name, version) (e, other, named, replaced) =
-    let one : read bytes ≡ Some d = json.1 in
-    let two : read bytes ≡ Some e = other.1 in
-    let same : e ≡ d = cc in
-    let name_at : option_and_then as_str (get (codes "availability") d) ≡ Some (name_of b) = subst (λ (x : Data). option_and_then as_str (get (codes "availability") x) ≡ Some (name_of b)) same named in
-    let names : name_of a ≡ name_of b = cc in (
-      same_name a b names,
-      same_version (get (codes "old_version") d) v w version (subst (λ (x : Data). IsOldVersion (get (codes "old_version") x) w) same replaced),
-    )
-
-same_body : (kind : OpKind) (words : Words) (bytes : List ℕ) (p q : Operation) → IsBody kind words bytes p → IsBody kind words bytes q → q ≡ p
-same_body (kinds.Query kind) words bytes p q x y = absurd x
-same_body (kinds.Read kind) words bytes p q x y = absurd x
-same_body (kinds.Create kind) words bytes p q x y = absurd x
-same_body (kinds.Update kind) words bytes p q x y = absurd x
-same_body (kinds.Delete kind) words bytes p q x y = absurd x
-same_body kinds.ReadAvail words bytes p q x y = y.1 ∙ sym x.1
-same_body kinds.SetAvail words bytes p q (name, (a, v, set, is)) (named, (b, w, other, also)) =
-    let same = same_setting bytes a b v w set other in
-    also ∙ ap (λ c. SetAvail words.first w c) same.0 ∙ ap (λ z. SetAvail words.first z a) same.1 ∙ sym is
-
 -- ---- operations
 
 same_read : (kind : OpKind) (words : Words) (bytes : List ℕ) (p q : Operation) → IsReadAs kind words bytes p → IsReadAs kind words bytes q → q ≡ p
-same_read kind words bytes p q (inl x) (inl y) = same_body kind words bytes p q x y
+same_read kind words bytes p q (inl x) (inl y) = asks_for_one_lem kind words bytes p q x y
 same_read kind words bytes p q (inl x) (inr (none, e)) = absurd (none p x)
 same_read kind words bytes p q (inr (none, e)) (inl y) = absurd (none q y)
 same_read kind words bytes p q (inr (none, e)) (inr (also, f)) = f ∙ sym e

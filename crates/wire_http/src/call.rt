@@ -18,7 +18,8 @@ use policy_core::call::{Call, OpKind, Operation};
 use policy_core::scope::Caller;
 use std::alloc::{AllocError, Global};
 use token_conf::token_table::TokenTable;
-use wire_json::body::{BodyFault, PathWords, read_body};
+use wire_json::body::{PathWords, read_body};
+use wire_json::body_fault::BodyFault;
 
 // What a method asks at a place. Methods have case.
 fn kind_at(place: Place, method: &[u8]) -> Option<OpKind>

@@ -2,6 +2,11 @@ pub mod Json
 pub mod Availability
 pub mod State
 pub mod Reference
+pub mod Member
+pub mod Volume
+pub mod Put
+pub mod Given
 pub mod Body
+pub mod Laws
 pub mod Answer
 pub mod Built

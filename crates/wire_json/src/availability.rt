@@ -1,6 +1,6 @@
 //! Availabilities by name.
 ghost use Rattle.std.specs.Prelude.{◌≡◌, MatchOption};
-ghost use Rattle.wire_json.specs.Availability.{name_of};
+ghost use Rattle.wire_json.specs.Availability.{name_of, availability_named};
 
 use entity_core::availability::Availability;
 
@@ -16,8 +16,10 @@ pub fn name_of(availability: Availability) -> &'static str
 }
 
 /// The availability of that name, with case. No other text is a name.
+#[tactic(auto, unfolding(crate::specs::Availability::availability_named))]
 pub fn named(name: &str) -> Option<Availability>
-    ensures { MatchOption result ((a : Availability) → name_of a ≡ name.now → ⊥) (λ a. name_of a ≡ name.now) }
+    ensures value { result ≡ availability_named name.now }
+    ensures relation { MatchOption result ((a : Availability) → name_of a ≡ name.now → ⊥) (λ a. name_of a ≡ name.now) }
 {
     match name {
         "Unknown" => Some(Availability::Unknown),

@@ -1,28 +1,21 @@
 //! What the words of a path and a body ask for.
-ghost use Rattle.std.specs.Prelude.{◌≡◌, ℕ, List, IfOk, IfErr, string_bytes, option_map, MatchOption, None};
+ghost use Rattle.std.specs.Prelude.{◌≡◌, IfOk, IfErr};
 ghost use Rattle.serde_json.specs.Data.{Data};
 ghost use Rattle.serde_json.specs.View.{view};
-ghost use Rattle.entity_core.specs.IdTexts.{name_fault};
-ghost use Rattle.wire_json.specs.Body.{IsBody, IsJson, IsOldVersion, IsSetting, words_of};
+ghost use Rattle.wire_json.specs.Body.{IsBody, IsJson, Says, words_of, query_of, read_of, create_of, update_of, delete_of, availability_read_of, setting_of};
+ghost use Rattle.wire_json.specs.Given.{Gives};
 
-use crate::availability::named;
-use entity_core::availability::Availability;
-use entity_core::id_fault::IdFault;
-use entity_core::text::Text;
-use entity_core::uss_id::UssId;
+use crate::body_fault::BodyFault;
+use crate::member::member;
+use crate::put::put_of;
+use crate::setting::{availability_of, old_version_of};
+use crate::volume::area_in;
+use crate::words::{entity_named, first_id, is_query, supplier_named, version_named};
+use entity_core::nature::Kind;
 use policy_core::call::{OpKind, Operation};
 use serde_json::Value;
 use serde_json::error::Category;
 use std::alloc::Global;
-
-/// Why a body was not read.
-#[derive(Clone, Copy, Debug, PartialEq, Eq)]
-pub enum BodyFault {
-    /// The words and the body have not the form of the operation.
-    Malformed,
-    /// There was no room for what they say.
-    Memory,
-}
 
 /// The words of a path that its route leaves open.
 #[derive(Clone, Copy, Debug)]
@@ -46,62 +39,101 @@ fn json_of(alloc: Global, body: &[u8]) -> Result<Value, BodyFault>
     }
 }
 
-/// The version that a member says.
-fn old_version_of(found: Option<&Value>) -> Option<&str>
-    ensures { MatchOption result ((v : List ℕ) → IsOldVersion (option_map (λ x. view x.now) found.entry) v → ⊥)
-        (λ s. IsOldVersion (option_map (λ x. view x.now) found.entry) s.now) }
+#[tactic(auto, unfolding(crate::specs::Body::query_of))]
+fn query_of(
+    alloc: Global,
+    kind: Kind,
+    words: &PathWords<'_>,
+    value: &Value,
+) -> Result<Operation, BodyFault>
+    ensures { Gives result (query_of kind (words_of words.now) (view value.now)) }
 {
-    match found {
-        None => Some(""),
-        Some(Value::Null) => Some(""),
-        Some(Value::String(text)) => {
-            if text.len() <= 128 {
-                Some(text.as_str())
-            } else {
-                None
-            }
-        }
-        Some(_) => None,
+    if !is_query(words) {
+        return Err(BodyFault::Malformed);
     }
+    let Some(found) = member(value, "area_of_interest") else {
+        return Err(BodyFault::Malformed);
+    };
+    let area = area_in(alloc, found)?;
+    Ok(Operation::Query(kind, area))
 }
 
-/// What the body of a setting says.
-fn setting_of(alloc: Global, body: &[u8]) -> Result<(Availability, Text), BodyFault>
-    ensures ok { IfOk result (λ r. IsSetting body.now r.0 r.1) }
-    ensures malformed { IfErr result (λ e. e ≡ BodyFault.Malformed → (a : Availability) (v : List ℕ) → IsSetting body.now a v → ⊥) }
+#[tactic(auto, unfolding(crate::specs::Body::read_of))]
+fn read_of(kind: Kind, words: &PathWords<'_>) -> Option<Operation>
+    ensures { result ≡ read_of kind (words_of words.now) }
 {
-    let value = json_of(alloc, body)?;
-    let Some(name) = value.get("availability").and_then(Value::as_str) else {
-        return Err(BodyFault::Malformed);
-    };
-    let Some(availability) = named(name) else {
-        return Err(BodyFault::Malformed);
-    };
-    let Some(version) = old_version_of(value.get("old_version")) else {
-        return Err(BodyFault::Malformed);
-    };
-    match String::from_str(alloc, version) {
-        Ok(version) => Ok((availability, Text::from_string(version))),
-        Err(_) => Err(BodyFault::Memory),
-    }
+    let id = entity_named(words)?;
+    Some(Operation::Read(kind, id))
 }
 
-/// The supplier that a word names.
-fn supplier_of(alloc: Global, word: &str) -> Result<UssId, BodyFault>
-    ensures ok { IfOk result (λ uss. (uss ≡ word.now) × (name_fault word.now ≡ None)) }
-    ensures malformed { IfErr result (λ e. e ≡ BodyFault.Malformed → name_fault word.now ≡ None → ⊥) }
+#[tactic(auto, unfolding(crate::specs::Body::create_of))]
+fn create_of(
+    alloc: Global,
+    kind: Kind,
+    words: &PathWords<'_>,
+    value: &Value,
+) -> Result<Operation, BodyFault>
+    ensures { Gives result (create_of kind (words_of words.now) (view value.now)) }
 {
-    match UssId::read(alloc, word) {
-        Ok(uss) => Ok(uss),
-        Err(IdFault::Memory) => Err(BodyFault::Memory),
-        Err(IdFault::Length) => Err(BodyFault::Malformed),
-        Err(IdFault::Form) => Err(BodyFault::Malformed),
-    }
+    let Some(id) = entity_named(words) else {
+        return Err(BodyFault::Malformed);
+    };
+    let put = put_of(alloc, kind, value)?;
+    Ok(Operation::Create(id, put))
+}
+
+#[tactic(auto, unfolding(crate::specs::Body::update_of))]
+fn update_of(
+    alloc: Global,
+    kind: Kind,
+    words: &PathWords<'_>,
+    value: &Value,
+) -> Result<Operation, BodyFault>
+    ensures { Gives result (update_of kind (words_of words.now) (view value.now)) }
+{
+    let Some(id) = first_id(words) else {
+        return Err(BodyFault::Malformed);
+    };
+    let version = version_named(alloc, words)?;
+    let put = put_of(alloc, kind, value)?;
+    Ok(Operation::Update(id, version, put))
+}
+
+#[tactic(auto, unfolding(crate::specs::Body::delete_of))]
+fn delete_of(alloc: Global, kind: Kind, words: &PathWords<'_>) -> Result<Operation, BodyFault>
+    ensures { Gives result (delete_of kind (words_of words.now)) }
+{
+    let Some(id) = first_id(words) else {
+        return Err(BodyFault::Malformed);
+    };
+    let version = version_named(alloc, words)?;
+    Ok(Operation::Delete(kind, id, version))
+}
+
+#[tactic(auto, unfolding(crate::specs::Body::availability_read_of))]
+fn availability_read_of(alloc: Global, words: &PathWords<'_>) -> Result<Operation, BodyFault>
+    ensures { Gives result (availability_read_of (words_of words.now)) }
+{
+    let uss = supplier_named(alloc, words)?;
+    Ok(Operation::ReadAvail(uss))
+}
+
+#[tactic(auto, unfolding(crate::specs::Body::setting_of))]
+fn setting_of(alloc: Global, words: &PathWords<'_>, value: &Value) -> Result<Operation, BodyFault>
+    ensures { Gives result (setting_of (words_of words.now) (view value.now)) }
+{
+    let uss = supplier_named(alloc, words)?;
+    let Some(availability) = availability_of(value) else {
+        return Err(BodyFault::Malformed);
+    };
+    let version = old_version_of(alloc, value)?;
+    Ok(Operation::SetAvail(uss, version, availability))
 }
 
 /// The operation of a kind that the words of a path and a body ask for (this project's profile).
 ///
-/// `Malformed` comes only where they ask for none. The body of a reading is not looked at.
+/// `Malformed` comes only where they ask for none. The body of a reading and of a deletion is not
+/// looked at.
 pub fn read_body(
     alloc: Global,
     kind: OpKind,
@@ -112,19 +144,12 @@ pub fn read_body(
     ensures malformed { IfErr result (λ e. e ≡ BodyFault.Malformed → (op : Operation) → IsBody kind (words_of words.now) body.now op → ⊥) }
 {
     match kind {
-        // Bodies of entities are not read yet, and nothing routes to them.
-        OpKind::Query(_)
-        | OpKind::Read(_)
-        | OpKind::Create(_)
-        | OpKind::Update(_)
-        | OpKind::Delete(_) => Err(BodyFault::Malformed),
-        OpKind::ReadAvail => Ok(Operation::ReadAvail(supplier_of(alloc, words.first)?)),
-        OpKind::SetAvail => {
-            let uss = supplier_of(alloc, words.first)?;
-            match setting_of(alloc, body) {
-                Ok((availability, old)) => Ok(Operation::SetAvail(uss, old, availability)),
-                Err(fault) => Err(fault),
-            }
-        }
+        OpKind::Query(kind) => query_of(alloc, kind, words, &json_of(alloc, body)?),
+        OpKind::Read(kind) => read_of(kind, words).ok_or(BodyFault::Malformed),
+        OpKind::Create(kind) => create_of(alloc, kind, words, &json_of(alloc, body)?),
+        OpKind::Update(kind) => update_of(alloc, kind, words, &json_of(alloc, body)?),
+        OpKind::Delete(kind) => delete_of(alloc, kind, words),
+        OpKind::ReadAvail => availability_read_of(alloc, words),
+        OpKind::SetAvail => setting_of(alloc, words, &json_of(alloc, body)?),
     }
 }

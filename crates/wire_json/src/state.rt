@@ -1,6 +1,6 @@
 //! States of operational intents by name.
 ghost use Rattle.std.specs.Prelude.{◌≡◌};
-ghost use Rattle.wire_json.specs.State.{name_of};
+ghost use Rattle.wire_json.specs.State.{name_of, state_named};
 
 use entity_core::nature::State;
 
@@ -13,5 +13,19 @@ pub(crate) fn name_of(state: State) -> &'static str
         State::Activated => "Activated",
         State::Nonconforming => "Nonconforming",
         State::Contingent => "Contingent",
+    }
+}
+
+/// The state of that name, with case.
+#[tactic(auto, unfolding(crate::specs::State::state_named))]
+pub(crate) fn named(name: &str) -> Option<State>
+    ensures { result ≡ state_named name.now }
+{
+    match name {
+        "Accepted" => Some(State::Accepted),
+        "Activated" => Some(State::Activated),
+        "Nonconforming" => Some(State::Nonconforming),
+        "Contingent" => Some(State::Contingent),
+        _ => None,
     }
 }

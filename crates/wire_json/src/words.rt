@@ -1,0 +1,91 @@
+//! The words of a path.
+ghost use Rattle.std.specs.Prelude.{◌≡◌, option_map};
+ghost use Rattle.wire_json.specs.Body.{words_of, only_word, is_query, entity_named, version_named, supplier_named};
+ghost use Rattle.wire_json.specs.Given.{Gives};
+ghost use Rattle.entity_core.specs.EntityId.{spelled};
+
+use crate::body::PathWords;
+use crate::body_fault::BodyFault;
+use entity_core::entity_id::EntityId;
+use entity_core::id_fault::IdFault;
+use entity_core::ovn::Ovn;
+use entity_core::uss_id::UssId;
+use std::alloc::Global;
+
+fn only_word<'a>(words: &PathWords<'a>) -> Option<&'a str>
+    ensures { option_map (λ s. s.now) result ≡ only_word (words_of words.now) }
+{
+    match words.second {
+        None => Some(words.first),
+        Some(_) => None,
+    }
+}
+
+/// Whether the words are those of a query.
+pub(crate) fn is_query(words: &PathWords<'_>) -> bool
+    ensures { result ≡ is_query (words_of words.now) }
+{
+    match words.second {
+        None => words.first == "query",
+        Some(_) => false,
+    }
+}
+
+fn id_in(word: &str) -> Option<EntityId>
+    ensures { result ≡ spelled word.now }
+{
+    match EntityId::read(word) {
+        Ok(id) => Some(id),
+        Err(_) => None,
+    }
+}
+
+/// The entity that the first word names.
+pub(crate) fn first_id(words: &PathWords<'_>) -> Option<EntityId>
+    ensures { result ≡ spelled (words_of words.now).first }
+{
+    id_in(words.first)
+}
+
+/// The entity that the only word names.
+#[tactic(auto, unfolding(crate::specs::Body::entity_named))]
+pub(crate) fn entity_named(words: &PathWords<'_>) -> Option<EntityId>
+    ensures { result ≡ entity_named (words_of words.now) }
+{
+    match only_word(words) {
+        Some(word) => id_in(word),
+        None => None,
+    }
+}
+
+/// The version that the second word is.
+#[tactic(auto, unfolding(crate::specs::Body::version_named))]
+pub(crate) fn version_named(alloc: Global, words: &PathWords<'_>) -> Result<Ovn, BodyFault>
+    ensures { Gives result (version_named (words_of words.now)) }
+{
+    let Some(word) = words.second else {
+        return Err(BodyFault::Malformed);
+    };
+    match Ovn::read(alloc, word) {
+        Ok(version) => Ok(version),
+        Err(IdFault::Memory) => Err(BodyFault::Memory),
+        Err(IdFault::Length) => Err(BodyFault::Malformed),
+        Err(IdFault::Form) => Err(BodyFault::Malformed),
+    }
+}
+
+/// The supplier that the only word names.
+#[tactic(auto, unfolding(crate::specs::Body::supplier_named))]
+pub(crate) fn supplier_named(alloc: Global, words: &PathWords<'_>) -> Result<UssId, BodyFault>
+    ensures { Gives result (supplier_named (words_of words.now)) }
+{
+    let Some(word) = only_word(words) else {
+        return Err(BodyFault::Malformed);
+    };
+    match UssId::read(alloc, word) {
+        Ok(uss) => Ok(uss),
+        Err(IdFault::Memory) => Err(BodyFault::Memory),
+        Err(IdFault::Length) => Err(BodyFault::Malformed),
+        Err(IdFault::Form) => Err(BodyFault::Malformed),
+    }
+}
