@@ -1,7 +1,7 @@
 //! The worked examples, each step a stream of its own to one service.
 use crate::devices::{TOKENS, served, service_at};
 use std::test::Fail;
-use wire_http::End;
+use wire_http::{End, WireRule};
 
 #[test]
 fn availability(rt: HostRuntime) -> Result<(), Fail> {
@@ -103,15 +103,32 @@ fn inputs_without_a_request(rt: HostRuntime) -> Result<(), Fail> {
             "PUT /dss/v1/uss_availability/uss-b HTTP/1.1\r\nContent-Length: 2\r\n\r\n{",
             End::Cut,
         ),
-        (
-            "GET /dss/v1/uss_availability/uss-b HTTP/1.1\r\nContent-Length: 4x\r\n\r\n",
-            End::Cut,
-        ),
-        ("GET  /dss HTTP/1.1\r\n\r\n", End::Cut),
     ] {
         let (found, text) = served(&rt, &mut service, input)?;
         assert_eq!(rt; found, end, "at {input}");
         assert!(rt; text.is_empty(), "at {input}");
+    }
+    Ok(())
+}
+
+#[test]
+fn rules_of_the_wire(rt: HostRuntime) -> Result<(), Fail> {
+    let mut service = service_at(&rt, 0)?;
+    for (input, rule, answer) in [
+        (
+            "GET /dss/v1/uss_availability/uss-b HTTP/1.1\r\nContent-Length: 4x\r\n\r\n",
+            WireRule::Length,
+            "HTTP/1.1 400 Bad Request\r\nContent-Type: application/json\r\nContent-Length: 23\r\nConnection: close\r\n\r\n{\"message\":\"H4 LENGTH\"}",
+        ),
+        (
+            "GET  /dss HTTP/1.1\r\n\r\n",
+            WireRule::Head,
+            "HTTP/1.1 400 Bad Request\r\nContent-Type: application/json\r\nContent-Length: 21\r\nConnection: close\r\n\r\n{\"message\":\"H1 HEAD\"}",
+        ),
+    ] {
+        let (found, text) = served(&rt, &mut service, input)?;
+        assert_eq!(rt; found, End::Wire(rule), "at {input}");
+        assert!(rt; text.as_slice() == answer.as_bytes(), "at {input}");
     }
     Ok(())
 }

@@ -16,7 +16,8 @@ use Rattle.service_core.specs.Step.{step}
 abbrev pub Timed : Type 0
 Timed = ℕ × Call
 
--- The service was asked once, and this is its reply: the policy's, or a fault where it may come, or `Stopped`.
+-- The service was asked once, and this is its reply: the policy's, or a fault where it may come, or `Stopped`. Where it
+-- was shut it stays as it was, and it was sound where it is sound after the call.
 pub record IsReplyTo {S : Type 0} (Holds : S → Airspace → Type 0) (IsSound : S → Type 0) (refusals : S → ℕ) (is_broken : S → Bool) (old new : Service S) (moment : ℕ) (call : Call) (reply : Reply) : Type 0 where
   pub goes : is_shut old ≡ false → IsSound (space_of new) → (a : Airspace) → IsContent Holds (space_of old) a
       → Leaves Holds (salt_of old) a moment call reply (space_of new)
@@ -26,6 +27,9 @@ pub record IsReplyTo {S : Type 0} (Holds : S → Airspace → Type 0) (IsSound :
   pub shuts : is_shut old ≡ false → is_shut new ≡ is_stopped reply
   pub cause : is_shut old ≡ false → reply ≡ Stopped → is_broken (space_of new) ≡ true
   pub shut : is_shut old ≡ true → reply ≡ Stopped
+  pub stays_shut : is_shut old ≡ true → new ≡ old
+  pub sound : IsSound (space_of new) → IsSound (space_of old)
+  pub salt : salt_of new ≡ salt_of old
 
 -- The service was asked the calls in order, each once, and these are its replies.
 abbrev pub AskedInOrder : {S : Type 0} → (S → Airspace → Type 0) → (S → Type 0) → (S → ℕ) → (S → Bool) → Service S → List Timed → List Reply → Service S → Type 0

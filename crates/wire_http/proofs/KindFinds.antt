@@ -14,7 +14,7 @@ use Rattle.wire_http.specs.declared.rest.Found.TheVariants as found
 use Rattle.wire_http.proofs.WindowLaws.{knows, knows_end, window_of, has_line-append, Never-append, Exceeds-append, Consumes_next}
 use Rattle.std.proofs.lemmas.Bool.{cases_lt}
 use Rattle.wire_http.specs.Rest.{has_line, has_feed, window, feeds, skip_ends, Decides, EndsAs, IsOpen, HasNoWhole, HasManyLines}
-use Rattle.wire_http.proofs.KindLaws.{many_lines, feeds-append}
+use Rattle.wire_http.proofs.KindLaws.{feeds-append}
 use Rattle.wire_http.proofs.TargetLaws.{whole_line, not_never}
 
 -- no whole head, and it is still open
@@ -33,7 +33,7 @@ full_large x fields rest e le (inl line) = (no_whole x fields rest e (inl line),
 full_large x fields rest e le (inr (line, none, may)) =
     elim (cases_lt (feeds (skip_ends x)) 66) [
       | inl lt ↦ (no_whole x fields rest e (inr (line, none, may)), inl (le, rw e (inr (not_never x line may, λ many. omega (arith, many, lt)))))
-      | inr ge ↦ (no_whole x fields rest e (inr (line, none, may)), inr (rw e (line, ge)))
+      | inr ge ↦ (no_whole x fields rest e (inr (line, none, may)), inr (rw e (line, inr (not_never x line may, ge))))
     ]
 
 pub kind_head : (a b : Option (List ℕ)) (x : List ℕ) (fields : List HeaderSpan) (spans : RequestSpans)
@@ -64,7 +64,7 @@ pub kind_large : (a b : Option (List ℕ)) (x : List ℕ) (fields : List HeaderS
 kind_large a b x fields e le (line, over, none) =
     knows (λ rest. Finds rest x fields found.Large) a b x e (λ rest. (
       λ h w. let many : 64 < length h.fields = none (take (8192 - length x) rest) h w.0 (rw (window_of x rest le) at w.1) in omega (arith, many, w.2),
-      inr (rw (window_of x rest le) (has_line-append x _ line, many_lines _ (Exceeds-append x _ over))),
+      inr (rw (window_of x rest le) (has_line-append x _ line, inl (Exceeds-append x _ over))),
     ))
 
 pub kind_full : (a b : Option (List ℕ)) (x : List ℕ) (fields : List HeaderSpan)
@@ -109,7 +109,7 @@ ended x fields found.Part lt part (some, few) =
 ended x fields found.Large lt (inl line) (some, many) = absurd (omega (arith, many, line_feeds x line))
 ended x fields found.Large lt (inr (line, none, may)) (some, many) =
     let w : window x ≡ x = take_all 8192 x (omega arith) in
-    (no_whole x fields x w (inr (line, none, may)), inr (rw w (line, many)))
+    (no_whole x fields x w (inr (line, none, may)), inr (rw w (line, inr (not_never x line may, many))))
 ended x fields found.Bad lt part e = absurd e
 ended x fields (found.Head spans) lt part e = absurd e
 

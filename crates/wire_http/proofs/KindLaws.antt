@@ -11,53 +11,7 @@ use Rattle.httparse.proofs.PieceLemmas.{Stops_token}
 use Rattle.httparse.proofs.GrammarLemmas.{request_unique, print_request-append}
 use Rattle.wire_http.specs.Rest.{has_line}
 use Rattle.wire_http.specs.Rest.{IsWhole, window}
-use Rattle.wire_http.specs.Rest.{Kind, nothing, cut, bad, large, whole, IsKind, AreSame, IsOpen, HasManyLines, feeds, skip_ends}
-
-never_whole : (rest : List ℕ) (h : RequestHead) → NeverHasRequest (window rest) → IsWhole rest h → ⊥
-never_whole rest h never (r, reads, few) = never [] h r (rw (append-nil (window rest)) reads)
-
-open_line : (bytes : List ℕ) → IsOpen bytes → has_line bytes ≡ true → NeverHasRequest bytes → ⊥
-open_line bytes (inl e) l n = let z : true ≡ false = sym l ∙ e in cc
-open_line bytes (inr (a, b)) l n = a n
-
-open_many : (bytes : List ℕ) → IsOpen bytes → has_line bytes ≡ true → HasManyLines bytes → ⊥
-open_many bytes (inl e) l n = let z : true ≡ false = sym l ∙ e in cc
-open_many bytes (inr (a, b)) l n = b n
-
-empty_line : (rest : List ℕ) → rest ≡ [] → has_line (window rest) ≡ true → ⊥
-empty_line rest e l = let z : false ≡ true = sym (ap (λ v. has_line (window v)) e) ∙ l in cc
-
-pub one_kind : (rest : List ℕ) (j k : Kind) → IsKind rest j → IsKind rest k → AreSame j k
-one_kind rest nothing nothing x y = refl
-one_kind rest nothing cut x y = absurd (let e = ap length x in omega (arith, y.1, e))
-one_kind rest nothing bad x y = absurd (empty_line rest x y.0)
-one_kind rest nothing large x (n, inl y) = absurd (let e = ap length x in omega (arith, y.0, e))
-one_kind rest nothing large x (n, inr y) = absurd (empty_line rest x y.0)
-one_kind rest nothing (whole h) x y = absurd (empty_line rest x y.0)
-one_kind rest cut nothing x y = absurd (let e = ap length y in omega (arith, x.1, e))
-one_kind rest cut cut x y = refl
-one_kind rest cut bad x y = absurd (open_line (window rest) x.3 y.0 y.1)
-one_kind rest cut large x (n, inl y) = absurd (omega (arith, x.2, y.0))
-one_kind rest cut large x (n, inr y) = absurd (open_many (window rest) x.3 y.0 y.1)
-one_kind rest cut (whole h) x y = absurd (x.0 h y.1)
-one_kind rest bad nothing x y = absurd (empty_line rest y x.0)
-one_kind rest bad cut x y = absurd (open_line (window rest) y.3 x.0 x.1)
-one_kind rest bad bad x y = tt
-one_kind rest bad large x y = tt
-one_kind rest bad (whole h) x y = absurd (never_whole rest h x.1 y.1)
-one_kind rest large nothing (n, inl x) y = absurd (let e = ap length y in omega (arith, x.0, e))
-one_kind rest large nothing (n, inr x) y = absurd (empty_line rest y x.0)
-one_kind rest large cut (n, inl x) y = absurd (omega (arith, y.2, x.0))
-one_kind rest large cut (n, inr x) y = absurd (open_many (window rest) y.3 x.0 x.1)
-one_kind rest large bad x y = tt
-one_kind rest large large x y = tt
-one_kind rest large (whole h) x y = absurd (x.0 h y.1)
-one_kind rest (whole h) nothing x y = absurd (empty_line rest y x.0)
-one_kind rest (whole h) cut x y = absurd (y.0 h x.1)
-one_kind rest (whole h) bad x y = absurd (never_whole rest h y.1 x.1)
-one_kind rest (whole h) large x y = absurd (y.0 h x.1)
-one_kind rest (whole h) (whole k) (l, (a, b, few)) (m, (c, d, some)) =
-    ap whole (sym (request_unique (window rest) h k a c b d).0)
+use Rattle.wire_http.specs.Rest.{Kind, nothing, cut, bad, large, whole, IsKind, AreSame, IsOpen, HasManyLines, HasManyFields, feeds, skip_ends}
 
 -- ---- lines
 
@@ -121,3 +75,59 @@ many_lines bytes (front, rest, e, h, reads, over) =
     let ends = feeds-append (print_section h.fields h.last) [] in
     let fields = feeds-append (flat_map print_field h.fields) (print_end h.last) in
     rw e (omega (arith, skip_more front rest, skip_last front, count, lines, ends, fields, feeds-fields h.fields, feeds-end h.last, feeds-end h.line_end, over))
+
+-- ---- kinds
+
+never_whole : (rest : List ℕ) (h : RequestHead) → NeverHasRequest (window rest) → IsWhole rest h → ⊥
+never_whole rest h never (r, reads, few) = never [] h r (rw (append-nil (window rest)) reads)
+
+open_line : (bytes : List ℕ) → IsOpen bytes → has_line bytes ≡ true → NeverHasRequest bytes → ⊥
+open_line bytes (inl e) l n = let z : true ≡ false = sym l ∙ e in cc
+open_line bytes (inr (a, b)) l n = a n
+
+open_many : (bytes : List ℕ) → IsOpen bytes → has_line bytes ≡ true → HasManyFields bytes → ⊥
+open_many bytes (inl e) l n = let z : true ≡ false = sym l ∙ e in cc
+open_many bytes (inr (a, b)) l (inl over) = b (many_lines bytes over)
+open_many bytes (inr (a, b)) l (inr (may, many)) = b many
+
+-- where no head can come, too many lines are too many fields
+many_fields : (bytes : List ℕ) → NeverHasRequest bytes → HasManyFields bytes → RequestExceeds 64 bytes
+many_fields bytes never (inl over) = over
+many_fields bytes never (inr (may, many)) = absurd (may never)
+
+empty_line : (rest : List ℕ) → rest ≡ [] → has_line (window rest) ≡ true → ⊥
+empty_line rest e l = let z : false ≡ true = sym (ap (λ v. has_line (window v)) e) ∙ l in cc
+
+pub one_kind : (rest : List ℕ) (j k : Kind) → IsKind rest j → IsKind rest k → AreSame rest j k
+one_kind rest nothing nothing x y = refl
+one_kind rest nothing cut x y = absurd (let e = ap length x in omega (arith, y.1, e))
+one_kind rest nothing bad x y = absurd (empty_line rest x y.0)
+one_kind rest nothing large x (n, inl y) = absurd (let e = ap length x in omega (arith, y.0, e))
+one_kind rest nothing large x (n, inr y) = absurd (empty_line rest x y.0)
+one_kind rest nothing (whole h) x y = absurd (empty_line rest x y.0)
+one_kind rest cut nothing x y = absurd (let e = ap length y in omega (arith, x.1, e))
+one_kind rest cut cut x y = refl
+one_kind rest cut bad x y = absurd (open_line (window rest) x.3 y.0 y.1)
+one_kind rest cut large x (n, inl y) = absurd (omega (arith, x.2, y.0))
+one_kind rest cut large x (n, inr y) = absurd (open_many (window rest) x.3 y.0 y.1)
+one_kind rest cut (whole h) x y = absurd (x.0 h y.1)
+one_kind rest bad nothing x y = absurd (empty_line rest y x.0)
+one_kind rest bad cut x y = absurd (open_line (window rest) y.3 x.0 x.1)
+one_kind rest bad bad x y = tt
+one_kind rest bad large x (n, inl y) = absurd (open_line (window rest) y.1 x.0 x.1)
+one_kind rest bad large x (n, inr y) = many_fields (window rest) x.1 y.1
+one_kind rest bad (whole h) x y = absurd (never_whole rest h x.1 y.1)
+one_kind rest large nothing (n, inl x) y = absurd (let e = ap length y in omega (arith, x.0, e))
+one_kind rest large nothing (n, inr x) y = absurd (empty_line rest y x.0)
+one_kind rest large cut (n, inl x) y = absurd (omega (arith, y.2, x.0))
+one_kind rest large cut (n, inr x) y = absurd (open_many (window rest) y.3 x.0 x.1)
+one_kind rest large bad (n, inl x) y = absurd (open_line (window rest) x.1 y.0 y.1)
+one_kind rest large bad (n, inr x) y = many_fields (window rest) y.1 x.1
+one_kind rest large large x y = tt
+one_kind rest large (whole h) x y = absurd (x.0 h y.1)
+one_kind rest (whole h) nothing x y = absurd (empty_line rest y x.0)
+one_kind rest (whole h) cut x y = absurd (y.0 h x.1)
+one_kind rest (whole h) bad x y = absurd (never_whole rest h y.1 x.1)
+one_kind rest (whole h) large x y = absurd (y.0 h x.1)
+one_kind rest (whole h) (whole k) (l, (a, b, few)) (m, (c, d, some)) =
+    ap whole (sym (request_unique (window rest) h k a c b d).0)

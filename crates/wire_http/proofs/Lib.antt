@@ -8,8 +8,10 @@ pub mod KnownBytes
 pub mod LengthLaws
 pub mod NextLaws
 pub mod RouteLaws
-pub mod ServeLaws
+pub mod StopLaws
+pub mod StreamLaws
 pub mod StreamUnique
 pub mod TargetLaws
+pub mod TurnLaws
 pub mod WindowLaws
 pub mod Written

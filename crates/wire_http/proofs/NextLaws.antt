@@ -1,5 +1,7 @@
 -- From what was found at the front of the rest to the next request.
-use Rattle.std.proofs.Common.{◌≡◌, ℕ, ◌+◌, ◌-◌, ◌<◌, ◌≤◌, List, [], ◌∷◌, ◌++◌, length, take, drop, map, All, refl, sym, ap, subst, ◌∙◌, Option, Some, None, IfSome, Ok, Err, arith}
+use Rattle.std.proofs.Common.{◌≡◌, ℕ, ◌+◌, ◌-◌, ◌<◌, ◌≤◌, List, [], ◌∷◌, ◌++◌, length, take, drop, map, All, refl, sym, ap, subst, ◌∙◌, Option, Some, None, IfSome, Ok, Err, inl, inr, true, false, cond, arith}
+use Rattle.std.specs.Prelude.{nat_le, codes}
+use Rattle.std.specs.Str.Parse.{digits_value}
 use Rattle.std.specs.Io.KnownBytes.{Consumes, IsAtEnd}
 use Rattle.std.proofs.lemmas.List.{length-append, length-drop, length-take, drop-append-le, take-append-le}
 use Rattle.std.proofs.lemmas.List.Elements.{All-head, All-tail}
@@ -10,14 +12,16 @@ use Rattle.httparse.specs.Grammar.{RequestHead, print_request}
 use Rattle.httparse.specs.Spans.{IsRequestWithin, IsHeaderWithin, IsWithin, header_bytes, span_bytes}
 use Rattle.wire_http.specs.declared.end.End.TheVariants as ends
 use Rattle.wire_http.specs.declared.end.WireRule.{WireRule}
+use Rattle.wire_http.specs.declared.end.WireRule.TheVariants as rules
 use Rattle.wire_http.specs.declared.rest.Found.{Found}
 use Rattle.wire_http.specs.declared.rest.Found.TheVariants as found
 use Rattle.wire_http.specs.declared.request.Next.TheVariants.{Request, Stop}
-use Rattle.wire_http.specs.Rest.{Kind, IsKind, nothing, cut, bad, large, whole, after}
+use Rattle.wire_http.specs.Rest.{IsKind, whole, after}
 use Rattle.wire_http.specs.Found.{Finds, Covers}
-use Rattle.wire_http.specs.Length.{length_of}
+use Rattle.wire_http.specs.Fields.{Fields, values_of}
+use Rattle.wire_http.specs.Length.{length_of, refuse_coded, told_by, is_number}
 use Rattle.wire_http.specs.Asked.{fields_of}
-use Rattle.wire_http.specs.Wire.{HasNoRequest, end_of}
+use Rattle.wire_http.specs.Stop.{Breaks, HasRefused}
 use Rattle.wire_http.specs.Next.{IsNext, body_at}
 use Rattle.wire_http.proofs.KindLaws.{one_kind}
 use Rattle.wire_http.proofs.WindowLaws.{knows, knows_end}
@@ -28,42 +32,44 @@ pub if_some : (o : Option (List ℕ)) (P Q : List ℕ → Type 0) → IfSome o P
 if_some None P Q h f = tt
 if_some (Some x) P Q h f = f x h
 
-some_rest : (rest : List ℕ) (j : Kind) → IsKind rest j → (j ≡ nothing → ⊥) → ends.Cut ≡ end_of rest
-some_rest [] j x n = absurd (n (one_kind [] nothing j refl x))
-some_rest (b ∷ rest) j x n = refl
-
-stops_cut : (rest : List ℕ) → IsKind rest cut → HasNoRequest rest × (ends.Cut ≡ end_of rest)
-stops_cut rest x = (λ h body r. let e = one_kind rest cut (whole h) x r.head in cc, some_rest rest cut x (λ e. cc))
-
-stops_bad : (rest : List ℕ) → IsKind rest bad → HasNoRequest rest × (ends.Cut ≡ end_of rest)
-stops_bad rest x = (λ h body r. one_kind rest bad (whole h) x r.head, some_rest rest bad x (λ e. cc))
-
-stops_large : (rest : List ℕ) → IsKind rest large → HasNoRequest rest × (ends.Cut ≡ end_of rest)
-stops_large rest x = (λ h body r. one_kind rest large (whole h) x r.head, some_rest rest large x (λ e. cc))
-
 module _ (o : Option (List ℕ)) (f : Found) (buffer : List ℕ) (fields : List HeaderSpan) where
   pub after_part : f ≡ found.Part → IfSome o (λ rest. Finds rest buffer fields f) → IfSome o (λ rest. IsNext rest buffer fields (Stop ends.Cut))
   after_part e h =
       if_some o (λ rest. Finds rest buffer fields found.Part) (λ rest. IsNext rest buffer fields (Stop ends.Cut))
-      (subst (λ (v : Found). IfSome o (λ rest. Finds rest buffer fields v)) e h) stops_cut
-
-  pub after_bad : f ≡ found.Bad → IfSome o (λ rest. Finds rest buffer fields f) → IfSome o (λ rest. IsNext rest buffer fields (Stop ends.Cut))
-  after_bad e h =
-      if_some o (λ rest. Finds rest buffer fields found.Bad) (λ rest. IsNext rest buffer fields (Stop ends.Cut))
-      (subst (λ (v : Found). IfSome o (λ rest. Finds rest buffer fields v)) e h) stops_bad
-
-  pub after_large : f ≡ found.Large → IfSome o (λ rest. Finds rest buffer fields f) → IfSome o (λ rest. IsNext rest buffer fields (Stop ends.Cut))
-  after_large e h =
-      if_some o (λ rest. Finds rest buffer fields found.Large) (λ rest. IsNext rest buffer fields (Stop ends.Cut))
-      (subst (λ (v : Found). IfSome o (λ rest. Finds rest buffer fields v)) e h) stops_large
+      (subst (λ (v : Found). IfSome o (λ rest. Finds rest buffer fields v)) e h) (λ rest x. inl x)
 
 -- ---- a head, and its body
 
 pub same_head : (rest : List ℕ) (h k : RequestHead) → IsKind rest (whole h) → IsKind rest (whole k) → k ≡ h
 same_head rest h k x y = let e : whole k ≡ whole h = one_kind rest (whole h) (whole k) x y in cc
 
-whole_some : (rest : List ℕ) (h : RequestHead) → IsKind rest (whole h) → ends.Cut ≡ end_of rest
-whole_some rest h x = some_rest rest (whole h) x (λ e. cc)
+-- the fields of a head break none but the last three rules
+not_told : (a b : List (List ℕ)) (e : WireRule) → (rules.Transfer ≡ e → ⊥) → (rules.Length ≡ e → ⊥) → (rules.BodySize ≡ e → ⊥)
+    → refuse_coded a (told_by b) ≡ Err e → ⊥
+not_told (a ∷ more) b e transfer length size h = transfer cc
+not_told [] [] e transfer length size h = cc
+not_told [] (a ∷ b ∷ more) e transfer length size h = length cc
+not_told [] (text ∷ []) e transfer length size h =
+    elim (is_number text) as (λ v. cond v (cond (nat_le (digits_value 10 text) 1048576) (Ok (digits_value 10 text)) (Err rules.BodySize)) (Err rules.Length) ≡ Err e → ⊥) [
+      | true ↦ elim (nat_le (digits_value 10 text) 1048576) as (λ v. cond v (Ok (digits_value 10 text)) (Err rules.BodySize) ≡ Err e → ⊥) [
+        | true ↦ λ k. cc
+        | false ↦ λ k. size cc
+      ]
+      | false ↦ λ k. length cc
+    ] h
+
+not_head : (fields : Fields) → length_of fields ≡ Err rules.Head → ⊥
+not_head fields h = not_told (values_of (codes "transfer-encoding") fields) (values_of (codes "content-length") fields) rules.Head (λ e. cc) (λ e. cc) (λ e. cc) h
+
+not_size : (fields : Fields) → length_of fields ≡ Err rules.HeadSize → ⊥
+not_size fields h = not_told (values_of (codes "transfer-encoding") fields) (values_of (codes "content-length") fields) rules.HeadSize (λ e. cc) (λ e. cc) (λ e. cc) h
+
+breaks_told : (rest : List ℕ) (e : WireRule) → HasRefused rest e → Breaks rest e
+breaks_told rest rules.Head (h, x, told) = absurd (not_head (fields_of h) told)
+breaks_told rest rules.HeadSize (h, x, told) = absurd (not_size (fields_of h) told)
+breaks_told rest rules.Transfer r = r
+breaks_told rest rules.Length r = r
+breaks_told rest rules.BodySize r = r
 
 -- the length that the spans tell is the length that the head tells
 told_by_head : (buffer : List ℕ) (fields : List HeaderSpan) (spans : RequestSpans) (h : RequestHead) → Covers buffer fields spans h
@@ -72,37 +78,24 @@ told_by_head buffer fields spans h c = ap length_of c.fields
 
 pub refused : (a : Option (List ℕ)) (buffer new : List ℕ) (fields : List HeaderSpan) (spans : RequestSpans) (e : WireRule)
     → length_of (map (header_bytes buffer) (take spans.headers fields)) ≡ Err e
-    → IfSome a (λ rest. (h : RequestHead) → IsKind rest (whole h) → Covers buffer fields spans h → IsNext rest new fields (Stop ends.Cut))
+    → IfSome a (λ rest. (h : RequestHead) → IsKind rest (whole h) → Covers buffer fields spans h → IsNext rest new fields (Stop (ends.Wire e)))
 refused None buffer new fields spans e told = tt
-refused (Some rest) buffer new fields spans e told = λ h x c. (
-  λ k body r.
-      let same = same_head rest h k x r.head in
-      let one : length_of (fields_of h) ≡ Ok (length body) = ap (λ v. length_of (fields_of v)) (sym same) ∙ r.told in
-      let two : length_of (fields_of h) ≡ Err e = sym (told_by_head buffer fields spans h c) ∙ told in
-      cc,
-  whole_some rest h x,
-)
+refused (Some rest) buffer new fields spans e told = λ h x c. breaks_told rest e (h, x, sym (told_by_head buffer fields spans h c) ∙ told)
 
 head_fits : (rest : List ℕ) (h : RequestHead) → IsKind rest (whole h) → length (print_request h) ≤ length rest
 head_fits rest h (line, (more, reads, few)) = omega (arith, length-take 8192 rest, ap length reads.1, length-append (print_request h) more)
-
-short_body : (rest : List ℕ) (h : RequestHead) (body : List ℕ) → take (length body) (after h rest) ≡ body → length body ≤ length (after h rest)
-short_body rest h body e = let n = ap length e in omega (arith, n, length-take (length body) (after h rest))
 
 pub ended : (a b : Option (List ℕ)) (buffer new : List ℕ) (fields : List HeaderSpan) (spans : RequestSpans) (size : ℕ)
     → Consumes a b new → IsAtEnd b → length new < spans.len + size
     → length_of (map (header_bytes buffer) (take spans.headers fields)) ≡ Ok size
     → IfSome a (λ rest. (h : RequestHead) → IsKind rest (whole h) → Covers buffer fields spans h → IsNext rest new fields (Stop ends.Cut))
 ended a b buffer new fields spans size p z short told =
-    knows_end (λ rest. (h : RequestHead) → IsKind rest (whole h) → Covers buffer fields spans h → IsNext rest new fields (Stop ends.Cut)) a b new p z (λ h x c. (
-      λ k body r.
-          let same = same_head new h k x r.head in
-          let one : length_of (fields_of h) ≡ Ok (length body) = ap (λ v. length_of (fields_of v)) (sym same) ∙ r.told in
-          let two : length_of (fields_of h) ≡ Ok size = sym (told_by_head buffer fields spans h c) ∙ told in
-          let n : length body ≡ size = cc in
-          let there : length body ≤ length (after h new) = short_body new h body (subst (λ (v : RequestHead). take (length body) (after v new) ≡ body) same r.follows) in
-          omega (arith, n, there, short, c.len, head_fits new h x, length-drop (length (print_request h)) new),
-      whole_some new h x,
+    knows_end (λ rest. (h : RequestHead) → IsKind rest (whole h) → Covers buffer fields spans h → IsNext rest new fields (Stop ends.Cut)) a b new p z (λ h x c. inr (
+      h,
+      size,
+      x,
+      sym (told_by_head buffer fields spans h c) ∙ told,
+      omega (arith, short, c.len, head_fits new h x, length-drop (length (print_request h)) new),
     ))
 
 -- ---- a buffer that has grown
@@ -131,7 +124,7 @@ covers_more x y fields spans h w c = record {
   fields = headers_more x y spans.len (take spans.headers fields) w.section.headers_fit w.section.len_fits ∙ c.fields;
 }
 
-body_size : (new : List ℕ) (len size : ℕ) → len + size ≤ length new → length (body_at new len size) ≡ size
+pub body_size : (new : List ℕ) (len size : ℕ) → len + size ≤ length new → length (body_at new len size) ≡ size
 body_size new len size fits = omega (arith, length-take size (drop len new), length-drop len new, fits)
 
 body_more : (new tail : List ℕ) (len size : ℕ) → len + size ≤ length new → take size (drop len (new ++ tail)) ≡ body_at new len size

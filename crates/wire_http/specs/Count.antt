@@ -40,3 +40,7 @@ Spends left left' calls calls' = (left' ≤ left) × ((calls' + left' ≡ calls 
 -- how many reads a stream may take
 abbrev pub most_reads : ℕ
 most_reads = 1000000
+
+-- how many requests a stream may have
+abbrev pub most_requests : ℕ
+most_requests = 100

@@ -18,26 +18,34 @@ name_of Clock = codes "Clock"
 name_of Memory = codes "Memory"
 name_of Turns = codes "Turns"
 
--- why reading gave up: the reader's count of failures has risen, or no turn is left, or memory was refused
+-- an answer was not written: a write failed, or memory was refused
+abbrev pub IsOfAnswering : StreamFault → Type 0
+IsOfAnswering Write = Unit {0}
+IsOfAnswering Memory = Unit {0}
+IsOfAnswering Read = ⊥
+IsOfAnswering Clock = ⊥
+IsOfAnswering Turns = ⊥
+
+-- why reading gave up: the reader's count of failures has risen, or it stands and no turn is left or memory was refused
 abbrev pub GaveUpReading : StreamFault → ℕ → ℕ → ℕ → Type 0
 GaveUpReading Read failures failures' left = HasRisen failures failures'
-GaveUpReading Turns failures failures' left = left ≡ 0
-GaveUpReading Memory failures failures' left = Unit {0}
+GaveUpReading Turns failures failures' left = (left ≡ 0) × (failures' ≡ failures)
+GaveUpReading Memory failures failures' left = failures' ≡ failures
 GaveUpReading Write failures failures' left = ⊥
 GaveUpReading Clock failures failures' left = ⊥
 
--- why asking gave up: the clock's count of failures has risen, or memory was refused
+-- why asking gave up: the clock's count of failures has risen, or it stands and memory was refused
 abbrev pub GaveUpAsking : StreamFault → ℕ → ℕ → Type 0
 GaveUpAsking Clock failures failures' = HasRisen failures failures'
-GaveUpAsking Memory failures failures' = Unit {0}
+GaveUpAsking Memory failures failures' = failures' ≡ failures
 GaveUpAsking Read failures failures' = ⊥
 GaveUpAsking Write failures failures' = ⊥
 GaveUpAsking Turns failures failures' = ⊥
 
--- why answering gave up: the writer's count of failures has risen, or memory was refused
+-- why answering gave up: the writer's count of failures has risen, or it stands and memory was refused
 abbrev pub GaveUpAnswering : StreamFault → ℕ → ℕ → Type 0
 GaveUpAnswering Write failures failures' = HasRisen failures failures'
-GaveUpAnswering Memory failures failures' = Unit {0}
+GaveUpAnswering Memory failures failures' = failures' ≡ failures
 GaveUpAnswering Read failures failures' = ⊥
 GaveUpAnswering Clock failures failures' = ⊥
 GaveUpAnswering Turns failures failures' = ⊥

@@ -1,6 +1,7 @@
 pub mod Asked
 pub mod Bearer
 pub mod Body
+pub mod Close
 pub mod Count
 pub mod Counted
 pub mod End
@@ -14,6 +15,8 @@ pub mod Received
 pub mod Reply
 pub mod Rest
 pub mod Route
+pub mod Stop
 pub mod Table
 pub mod Text
+pub mod Turn
 pub mod Wire

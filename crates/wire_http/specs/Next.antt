@@ -1,25 +1,29 @@
 -- What the unread input gives next.
-use Rattle.std.specs.Prelude.{◌≡◌, ◌≤◌, ◌+◌, ℕ, List, length, take, drop, IsUtf8}
+use Rattle.std.specs.Prelude.{◌≤◌, ◌+◌, ℕ, List, length, take, drop, IsUtf8}
 use Rattle.httparse.specs.declared.spans.HeaderSpan.{HeaderSpan}
 use Rattle.httparse.specs.Grammar.{RequestHead}
 use Rattle.httparse.specs.Spans.{span_bytes, IsRequestWithin}
 use Rattle.wire_http.specs.declared.request.Next.{Next}
 use Rattle.wire_http.specs.declared.request.Next.TheVariants.{Request, Stop}
 use Rattle.wire_http.specs.Found.{Covers}
-use Rattle.wire_http.specs.Wire.{IsRequest, HasNoRequest, end_of}
+use Rattle.wire_http.specs.Stop.{StopsAs}
+use Rattle.wire_http.specs.Wire.{IsRequest}
 
 -- the body stands after the head
 abbrev pub body_at : List ℕ → ℕ → ℕ → List ℕ
 body_at buffer start size = take size (drop start buffer)
 
--- the rest has this request next, whose parts the spans cover, or none
+-- the rest has this request next, whose parts the spans cover, or it stops the stream so
 abbrev pub IsNext : List ℕ → List ℕ → List HeaderSpan → Next → Type 0
 IsNext rest buffer fields (Request spans size) =
     (h : RequestHead) × IsRequest rest h (body_at buffer spans.len size) × Covers buffer fields spans h
-IsNext rest buffer fields (Stop end) = HasNoRequest rest × (end ≡ end_of rest)
+IsNext rest buffer fields (Stop end) = StopsAs rest end
 
--- the request lies in the buffer
+-- the request lies in the buffer, and at most 8,192 bytes stand after it
 abbrev pub NextFits : List ℕ → List HeaderSpan → Next → Type 0
 NextFits buffer fields (Request spans size) =
-    IsRequestWithin buffer fields spans × IsUtf8 (span_bytes buffer spans.path) × (spans.len + size ≤ length buffer)
+    IsRequestWithin buffer fields spans
+    × IsUtf8 (span_bytes buffer spans.path)
+    × (spans.len + size ≤ length buffer)
+    × (length buffer ≤ spans.len + size + 8192)
 NextFits buffer fields (Stop end) = Unit {0}

@@ -11,18 +11,18 @@ use Rattle.wire_http.specs.declared.route.Place.{Place}
 use Rattle.wire_http.specs.Text.{message, reply_field}
 
 -- the text of a reply at a place
-abbrev pub text_of : Option Place → Reply → List ℕ
-text_of place reply = message (status_of reply) (reply_field place reply) (reply_text reply)
+abbrev pub text_of : Option Place → Bool → Reply → List ℕ
+text_of place closing reply = message (status_of reply) (reply_field place reply) closing (reply_text reply)
 
 -- a reply was made, and its text was written
-pub record Replies {S : Type 0} (Holds : S → Airspace → Type 0) (IsSound : S → Type 0) (refusals : S → ℕ) (is_broken : S → Bool) (old new : Service S) (moment : ℕ) (call : Call) (place : Option Place) (before text : Option (List ℕ)) : Type 0 where
+pub record Replies {S : Type 0} (Holds : S → Airspace → Type 0) (IsSound : S → Type 0) (refusals : S → ℕ) (is_broken : S → Bool) (old new : Service S) (moment : ℕ) (call : Call) (place : Option Place) (closing : Bool) (before text : Option (List ℕ)) : Type 0 where
   pub reply : Reply
   pub is_reply : IsReplyTo Holds IsSound refusals is_broken old new moment call reply
-  pub written : Appends before text (text_of place reply)
+  pub written : Appends before text (text_of place closing reply)
 
 -- a reply was made, and the first bytes of its text were written
-pub record RepliesPart {S : Type 0} (Holds : S → Airspace → Type 0) (IsSound : S → Type 0) (refusals : S → ℕ) (is_broken : S → Bool) (old new : Service S) (moment : ℕ) (call : Call) (place : Option Place) (before text : Option (List ℕ)) : Type 0 where
+pub record RepliesPart {S : Type 0} (Holds : S → Airspace → Type 0) (IsSound : S → Type 0) (refusals : S → ℕ) (is_broken : S → Bool) (old new : Service S) (moment : ℕ) (call : Call) (place : Option Place) (closing : Bool) (before text : Option (List ℕ)) : Type 0 where
   pub reply : Reply
   pub is_reply : IsReplyTo Holds IsSound refusals is_broken old new moment call reply
   pub size : ℕ
-  pub written : Appends before text (take size (text_of place reply))
+  pub written : Appends before text (take size (text_of place closing reply))

@@ -46,6 +46,10 @@ feeds bytes = count_by (λ b. b == 10) bytes
 abbrev pub HasManyLines : List ℕ → Type 0
 HasManyLines bytes = 66 ≤ feeds (skip_ends bytes)
 
+-- the head that stands there has more fields than that, or one that can still come has: its lines are too many
+abbrev pub HasManyFields : List ℕ → Type 0
+HasManyFields bytes = RequestExceeds 64 bytes ⊎ ((NeverHasRequest bytes → ⊥) × HasManyLines bytes)
+
 -- the bytes can still begin a head, or no request line has ended
 abbrev pub IsOpen : List ℕ → Type 0
 IsOpen bytes = (has_line bytes ≡ false) ⊎ ((NeverHasRequest bytes → ⊥) × (HasManyLines bytes → ⊥))
@@ -61,24 +65,24 @@ IsKind rest (whole h) = (has_line (window rest) ≡ true) × IsWhole rest h
 IsKind rest bad = (has_line (window rest) ≡ true) × NeverHasRequest (window rest)
 IsKind rest large =
     HasNoWhole rest
-    × (((8192 ≤ length rest) × IsOpen (window rest)) ⊎ ((has_line (window rest) ≡ true) × HasManyLines (window rest)))
+    × (((8192 ≤ length rest) × IsOpen (window rest)) ⊎ ((has_line (window rest) ≡ true) × HasManyFields (window rest)))
 IsKind rest cut = HasNoWhole rest × (0 < length rest) × (length rest < 8192) × IsOpen (window rest)
 
--- two kinds are one, but for a broken head that also has too many lines
-abbrev pub AreSame : Kind → Kind → Type 0
-AreSame bad large = Unit {0}
-AreSame large bad = Unit {0}
-AreSame nothing k = k ≡ nothing
-AreSame cut k = k ≡ cut
-AreSame (whole h) k = k ≡ whole h
-AreSame bad bad = Unit {0}
-AreSame bad nothing = ⊥
-AreSame bad cut = ⊥
-AreSame bad (whole h) = ⊥
-AreSame large large = Unit {0}
-AreSame large nothing = ⊥
-AreSame large cut = ⊥
-AreSame large (whole h) = ⊥
+-- two kinds of a rest are one, but where it breaks the grammar and also has too many fields
+abbrev pub AreSame : List ℕ → Kind → Kind → Type 0
+AreSame rest bad large = RequestExceeds 64 (window rest)
+AreSame rest large bad = RequestExceeds 64 (window rest)
+AreSame rest nothing k = k ≡ nothing
+AreSame rest cut k = k ≡ cut
+AreSame rest (whole h) k = k ≡ whole h
+AreSame rest bad bad = Unit {0}
+AreSame rest bad nothing = ⊥
+AreSame rest bad cut = ⊥
+AreSame rest bad (whole h) = ⊥
+AreSame rest large large = Unit {0}
+AreSame rest large nothing = ⊥
+AreSame rest large cut = ⊥
+AreSame rest large (whole h) = ⊥
 
 -- what the bytes so far say, with room for 64 fields
 abbrev pub Decides : List ℕ → List HeaderSpan → Verdict → Type 0

@@ -1,5 +1,5 @@
 -- The text of an answer (RFC 9112, section 2.1; this project's profile).
-use Rattle.std.specs.Prelude.{◌==◌, ℕ, List, [], ◌++◌, length, codes, if◌then◌else◌, Option, Some, None}
+use Rattle.std.specs.Prelude.{◌==◌, ℕ, Bool, true, List, [], ◌∷◌, ◌++◌, length, codes, if◌then◌else◌, Option, Some, None}
 use Rattle.std.specs.Fmt.{decimal}
 use Rattle.httparse.specs.Grammar.{RequestHead}
 use Rattle.policy_core.specs.declared.rule.Rule.{Rule}
@@ -9,6 +9,10 @@ use Rattle.service_core.specs.declared.reply.Reply.TheVariants.{Denied}
 use Rattle.wire_json.specs.Answer.{reply_text, status_of}
 use Rattle.wire_http.specs.declared.route.Place.{Place}
 use Rattle.wire_http.specs.declared.route.Place.TheVariants.{Availability}
+use Rattle.wire_http.specs.declared.end.End.{End}
+use Rattle.wire_http.specs.declared.end.End.TheVariants as ends
+use Rattle.wire_http.specs.declared.end.WireRule.{WireRule}
+use Rattle.wire_http.specs.End as rule
 use Rattle.wire_http.specs.Route.{path_of}
 use Rattle.wire_http.specs.Table.{named_place}
 
@@ -54,20 +58,39 @@ status_line status = line (codes "HTTP/1.1 " ++ decimal status ++ codes " " ++ r
 unfoldable pub length_line : ℕ → List ℕ
 length_line size = line (codes "Content-Length: " ++ decimal size)
 
+-- the field of an answer after which the connection closes
+unfoldable pub close_field : Bool → List ℕ
+close_field closing = if closing then line (codes "Connection: close") else []
+
 -- a status line, fields, and an empty line
-unfoldable pub front_of : ℕ → List ℕ → ℕ → List ℕ
-front_of status field size =
+unfoldable pub front_of : ℕ → List ℕ → Bool → ℕ → List ℕ
+front_of status field closing size =
     status_line status
     ++ line (codes "Content-Type: application/json")
     ++ length_line size
     ++ field
-    ++ line (codes "Connection: close")
+    ++ close_field closing
     ++ line []
 
 -- and then the body
-abbrev pub message : ℕ → List ℕ → List ℕ → List ℕ
-message status field body = front_of status field (length body) ++ body
+abbrev pub message : ℕ → List ℕ → Bool → List ℕ → List ℕ
+message status field closing body = front_of status field closing (length body) ++ body
 
 -- the answer to a request with that head
-abbrev pub answer_text : RequestHead → Reply → List ℕ
-answer_text h reply = message (status_of reply) (reply_field (named_place (path_of h.target)) reply) (reply_text reply)
+abbrev pub answer_text : RequestHead → Bool → Reply → List ℕ
+answer_text h closing reply = message (status_of reply) (reply_field (named_place (path_of h.target)) reply) closing (reply_text reply)
+
+-- the body that tells a rule of the wire: its number and its name
+unfoldable pub rule_body : WireRule → List ℕ
+rule_body r = codes "{\"message\":\"H" ++ decimal (rule.number_of r) ++ codes " " ++ rule.name_of r ++ codes "\"}"
+
+-- the answer where a rule of the wire is broken
+abbrev pub rule_text : WireRule → List ℕ
+rule_text r = message (rule.status_of r) [] true (rule_body r)
+
+-- the texts that follow the answers: that of the rule where one ended the stream
+abbrev pub end_texts : End → List (List ℕ)
+end_texts (ends.Wire r) = rule_text r ∷ []
+end_texts ends.End = []
+end_texts ends.Cut = []
+end_texts ends.Close = []

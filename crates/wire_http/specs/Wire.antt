@@ -1,5 +1,6 @@
 -- Which calls the bytes of a stream spell, and what is written for them.
-use Rattle.std.specs.Prelude.{◌≡◌, ◌≤◌, ◌-◌, ◌⊎◌, ℕ, zero, suc, Bool, true, false, List, [], ◌∷◌, ◌++◌, length, take, drop, map, Option, Ok, All}
+use Rattle.std.specs.Prelude.{◌≡◌, ◌≤◌, ◌-◌, ◌⊎◌, ◌==◌, ℕ, zero, suc, Bool, true, false, if◌then◌else◌, List, [], ◌∷◌, ◌++◌, length, take, drop, map, Option, Ok, All}
+use Rattle.std.specs.List.{concat}
 use Rattle.std.specs.Io.KnownBytes.{Appends}
 use Rattle.httparse.specs.Grammar.{RequestHead}
 use Rattle.entity_core.specs.Airspace.{Airspace}
@@ -10,6 +11,10 @@ use Rattle.service_core.specs.declared.reply.Reply.{Reply}
 use Rattle.service_core.specs.declared.reply.Reply.TheVariants.{Stopped}
 use Rattle.service_core.specs.Held.{space_of, salt_of, is_shut}
 use Rattle.service_core.specs.Run.{AskedInOrder, Timed, Runs, has_stopped}
+use Rattle.wire_http.specs.declared.fault.StreamFault.{StreamFault}
+use Rattle.wire_http.specs.declared.fault.StreamFault.TheVariants as faults
+use Rattle.wire_http.specs.declared.end.WireRule.{WireRule}
+use Rattle.wire_http.specs.Fault.{IsOfAnswering}
 use Rattle.wire_http.specs.declared.end.End.{End}
 use Rattle.wire_http.specs.declared.end.End.TheVariants as ends
 use Rattle.wire_http.specs.declared.end.Served.{Served}
@@ -17,7 +22,9 @@ use Rattle.wire_http.specs.Rest.{IsKind, whole, after}
 use Rattle.wire_http.specs.Length.{length_of}
 use Rattle.token_conf.specs.TokenFile.{Callers}
 use Rattle.wire_http.specs.Asked.{IsCallOf, fields_of}
-use Rattle.wire_http.specs.Text.{answer_text}
+use Rattle.wire_http.specs.Text.{answer_text, rule_text, end_texts}
+use Rattle.wire_http.specs.Close.{closes_by}
+use Rattle.wire_http.specs.Stop.{Breaks, StopsAs}
 
 -- the rest begins with a whole request: a head, and then as many bytes of a body as its fields tell
 pub record IsRequest (rest : List ℕ) (h : RequestHead) (body : List ℕ) : Type 0 where
@@ -25,20 +32,20 @@ pub record IsRequest (rest : List ℕ) (h : RequestHead) (body : List ℕ) : Typ
   pub told : length_of (fields_of h) ≡ Ok (length body)
   pub follows : take (length body) (after h rest) ≡ body
 
--- the rest has no whole request that breaks no rule of the wire
-abbrev pub HasNoRequest : List ℕ → Type 0
-HasNoRequest rest = (h : RequestHead) (body : List ℕ) → IsRequest rest h body → ⊥
+-- the connection closes after a request with that head
+abbrev pub closes : RequestHead → Bool
+closes h = closes_by h.minor (fields_of h)
 
--- how a stream ends where the rest has no request
-abbrev pub end_of : List ℕ → End
-end_of [] = ends.End
-end_of (b ∷ rest) = ends.Cut
+-- how many requests may follow one with that head, where n could: none where it closes
+abbrev pub left_after : ℕ → RequestHead → ℕ
+left_after n h = if closes h then 0 else n
 
--- a request that was asked: its head, its moment and its call
+-- a request that was asked: its head, its moment and its call, and whether the connection closes after it
 pub record Asked : Type 0 where
   pub head : RequestHead
   pub moment : ℕ
   pub call : Call
+  pub closing : Bool
 
 abbrev pub timed : Asked → Timed
 timed asked = (asked.moment, asked.call)
@@ -52,26 +59,51 @@ module _ {M : Type 0} (Gives : M → ℕ → M → Type 0) (callers : Callers) w
     pub moment : Gives clock asked.moment clock'
     pub next_is : next ≡ drop (length body) (after asked.head rest)
 
-  -- at most bound requests of the rest, one after the other, and how the stream ends
-  abbrev pub Requests : ℕ → List ℕ → M → List Asked → M → End → Type 0
-  Requests zero rest clock all clock' end = (all ≡ []) × (clock' ≡ clock) × (end ≡ ends.Close)
-  Requests (suc bound) rest clock all clock' end =
-      (HasNoRequest rest × (all ≡ []) × (clock' ≡ clock) × (end ≡ end_of rest))
-      ⊎ ((asked : Asked) × (next : List ℕ) × (later : M) × (more : List Asked)
-      × Asks rest clock asked next later × (all ≡ asked ∷ more) × Requests bound next later more clock' end)
+  -- Of at most so many requests of the rest these are the first, one after the other. They lead to where so many may
+  -- still come, to that rest and that clock.
+  abbrev pub Leads : ℕ → List ℕ → M → List Asked → ℕ → List ℕ → M → Type 0
+  Leads bound rest clock [] n left later = (n ≡ bound) × (left ≡ rest) × (later ≡ clock)
+  Leads zero rest clock (asked ∷ more) n left later = ⊥
+  Leads (suc bound) rest clock (asked ∷ more) n left later =
+      (next : List ℕ) × (mid : M) × Asks rest clock asked next mid
+      × (asked.closing ≡ (left_after bound asked.head == 0))
+      × Leads (left_after bound asked.head) next mid more n left later
 
-  -- the first of them
-  abbrev pub Begins : ℕ → List ℕ → M → List Asked → Type 0
-  Begins bound rest clock [] = Unit {0}
-  Begins zero rest clock (asked ∷ more) = ⊥
-  Begins (suc bound) rest clock (asked ∷ more) =
-      (next : List ℕ) × (later : M) × Asks rest clock asked next later × Begins bound next later more
+  -- Where the clock stands after a fault: it gave no moment but those of the requests that were asked, or for want of
+  -- memory one more, for a request that had come whole. Of a clock that failed nothing is said.
+  abbrev pub ClockAfter : StreamFault → List ℕ → M → M → Type 0
+  ClockAfter faults.Memory left later clock' =
+      (clock' ≡ later) ⊎ ((h : RequestHead) × (body : List ℕ) × (moment : ℕ) × IsRequest left h body × Gives later moment clock')
+  ClockAfter faults.Clock left later clock' = Unit {0}
+  ClockAfter faults.Read left later clock' = clock' ≡ later
+  ClockAfter faults.Write left later clock' = clock' ≡ later
+  ClockAfter faults.Turns left later clock' = clock' ≡ later
 
--- the answers, one after the other
-abbrev pub answers : List Asked → List Reply → List ℕ
+-- how the stream ends where so many requests may still come: where none may, the connection closes
+abbrev pub Finishes : ℕ → List ℕ → End → Type 0
+Finishes zero left end = end ≡ ends.Close
+Finishes (suc n) left end = StopsAs left end
+
+-- the texts of the answers, one after the other
+abbrev pub answers : List Asked → List Reply → List (List ℕ)
 answers [] replies = []
 answers (asked ∷ more) [] = []
-answers (asked ∷ more) (reply ∷ replies) = answer_text asked.head reply ++ answers more replies
+answers (asked ∷ more) (reply ∷ replies) = answer_text asked.head asked.closing reply ∷ answers more replies
+
+-- what may follow the answers before a fault: nothing, or the text of the rule that the rest breaks
+abbrev pub MayFollow : ℕ → List ℕ → List (List ℕ) → Type 0
+MayFollow zero left texts = texts ≡ []
+MayFollow (suc n) left texts = (texts ≡ []) ⊎ ((rule : WireRule) × Breaks left rule × (texts ≡ rule_text rule ∷ []))
+
+-- the first bytes of the texts, of which all but the last are whole
+pub record IsFront (texts : List (List ℕ)) (bytes : List ℕ) : Type 0 where
+  pub size : ℕ
+  pub bytes_are : bytes ≡ take size (concat texts)
+  pub others_whole : length (concat (take (length texts - 1) texts)) ≤ size
+
+-- only where an answer was not written may the last text not be whole
+abbrev pub MayBePart : StreamFault → List (List ℕ) → List ℕ → Type 0
+MayBePart fault texts bytes = IsOfAnswering fault ⊎ (bytes ≡ concat texts)
 
 -- The service answered the calls in order, each once: as the policy says, or `Stopped` where it was shut. It is shut by a
 -- call that it answered `Stopped`, and only a broken space makes it do so.
@@ -84,25 +116,36 @@ pub record Answered {S : Type 0} (Holds : S → Airspace → Type 0) (IsSound : 
   pub cause : is_shut old ≡ false → has_stopped replies ≡ true → is_broken (space_of new) ≡ true
   pub shut : is_shut old ≡ true → All (λ r. r ≡ Stopped) replies
 
--- What was served of an input: the calls of its requests were answered, and the answers were written.
+-- What was served of an input: the calls of its requests were answered, and the answers were written, and then the text
+-- of the rule of the wire where one ended the stream.
 pub record Serves
     {S M : Type 0} (Holds : S → Airspace → Type 0) (IsSound : S → Type 0) (refusals : S → ℕ) (is_broken : S → Bool) (Gives : M → ℕ → M → Type 0) (callers : Callers) (bound : ℕ) (input : List ℕ)
     (old new : Service S) (clock clock' : M) (before text : Option (List ℕ)) (served : Served) : Type 0 where
   pub all : List Asked
   pub replies : List Reply
-  pub requests : Requests Gives callers bound input clock all clock' served.end
+  pub n : ℕ
+  pub left : List ℕ
+  pub leads : Leads Gives callers bound input clock all n left clock'
+  pub finishes : Finishes n left served.end
   pub answered : Answered Holds IsSound refusals is_broken old new all replies
   pub count : served.count ≡ length all
-  pub written : Appends before text (answers all replies)
+  pub written : Appends before text (concat (answers all replies ++ end_texts served.end))
 
--- What was served before a fault: the first requests, whose answers were written but for a part of the last one.
+-- What was served before a fault: the first requests, whose answers were written, but for a part of the last text.
 pub record ServesPart
     {S M : Type 0} (Holds : S → Airspace → Type 0) (IsSound : S → Type 0) (refusals : S → ℕ) (is_broken : S → Bool) (Gives : M → ℕ → M → Type 0) (callers : Callers) (bound : ℕ) (input : List ℕ)
-    (old new : Service S) (clock : M) (before text : Option (List ℕ)) : Type 0 where
+    (old new : Service S) (clock clock' : M) (before text : Option (List ℕ)) (fault : StreamFault) : Type 0 where
   pub all : List Asked
   pub replies : List Reply
-  pub begins : Begins Gives callers bound input clock all
+  pub n : ℕ
+  pub left : List ℕ
+  pub later : M
+  pub leads : Leads Gives callers bound input clock all n left later
+  pub clock_is : ClockAfter Gives callers fault left later clock'
   pub answered : Answered Holds IsSound refusals is_broken old new all replies
-  pub size : ℕ
-  pub written : Appends before text (take size (answers all replies))
-  pub others_whole : length (answers (take (length all - 1) all) replies) ≤ size
+  pub tail : List (List ℕ)
+  pub follows : MayFollow n left tail
+  pub bytes : List ℕ
+  pub front : IsFront (answers all replies ++ tail) bytes
+  pub whole : MayBePart fault (answers all replies ++ tail) bytes
+  pub written : Appends before text bytes

@@ -1,9 +1,10 @@
 //! The text of an answer (RFC 9112, section 2.1; this project's profile).
 ghost use Rattle.std.specs.Prelude.{◌≡◌, IfOk};
 ghost use Rattle.std.specs.String.{string_bytes};
-ghost use Rattle.wire_json.specs.Answer.{reply_text, status_of};
-ghost use Rattle.wire_http.specs.Text.{reason_of, rule_field, reply_field, status_line, length_line, front_of, message};
+ghost use Rattle.wire_http.specs.Reply.{text_of};
+ghost use Rattle.wire_http.specs.Text.{reason_of, rule_field, reply_field, status_line, length_line, close_field, front_of, rule_body, rule_text};
 
+use crate::end::WireRule;
 use crate::route::Place;
 use policy_core::rule::Rule;
 use service_core::reply::Reply;
@@ -76,16 +77,30 @@ fn length_line(alloc: Global, length: usize) -> Result<String, AllocError>
     format!(in alloc; "Content-Length: {length}\r\n")
 }
 
+// The line of the field that tells that the connection closes.
+#[tactic(auto, unfolding(crate::specs::Text::close_field))]
+fn close_field(closing: bool) -> &'static str
+    ensures { result.now ≡ close_field closing }
+{
+    if closing { "Connection: close\r\n" } else { "" }
+}
+
 // What stands before the body.
 #[tactic(auto, unfolding(crate::specs::Text::front_of))]
-fn front_of(alloc: Global, status: u16, field: &str, length: usize) -> Result<String, AllocError>
-    ensures { IfOk result (λ front. string_bytes front ≡ front_of status field.now length) }
+fn front_of(
+    alloc: Global,
+    status: u16,
+    field: &str,
+    closing: bool,
+    length: usize,
+) -> Result<String, AllocError>
+    ensures { IfOk result (λ front. string_bytes front ≡ front_of status field.now closing length) }
 {
     let mut front = status_line(alloc, status)?;
     front.push_str("Content-Type: application/json\r\n")?;
     front.push_str(length_line(alloc, length)?.as_str())?;
     front.push_str(field)?;
-    front.push_str("Connection: close\r\n")?;
+    front.push_str(close_field(closing))?;
     front.push_str("\r\n")?;
     Ok(front)
 }
@@ -94,14 +109,42 @@ fn front_of(alloc: Global, status: u16, field: &str, length: usize) -> Result<St
 pub(crate) fn answer_text(
     alloc: Global,
     place: Option<Place>,
+    closing: bool,
     reply: &Reply,
 ) -> Result<Vec<u8>, AllocError>
-    ensures { IfOk result (λ text. text.items
-        ≡ message (status_of reply.now) (reply_field place reply.now) (reply_text reply.now)) }
+    ensures { IfOk result (λ text. text.items ≡ text_of place closing reply.now) }
 {
     let body = reply_text(alloc, reply)?;
-    let front = front_of(alloc, status(reply), reply_field(place, reply), body.len())?;
+    let front = front_of(
+        alloc,
+        status(reply),
+        reply_field(place, reply),
+        closing,
+        body.len(),
+    )?;
     let mut text = front.into_bytes();
     text.extend_from_slice(body.as_slice())?;
     Ok(text)
+}
+
+// The body that tells a rule of the wire.
+#[tactic(auto, unfolding(crate::specs::Text::rule_body))]
+fn rule_body(alloc: Global, rule: WireRule) -> Result<String, AllocError>
+    ensures { IfOk result (λ body. string_bytes body ≡ rule_body rule) }
+{
+    let number = rule.number();
+    let mut body = format!(in alloc; "{{\"message\":\"H{number} ")?;
+    body.push_str(rule.name())?;
+    body.push_str("\"}")?;
+    Ok(body)
+}
+
+/// The answer where a rule of the wire is broken.
+pub(crate) fn rule_text(alloc: Global, rule: WireRule) -> Result<Vec<u8>, AllocError>
+    ensures { IfOk result (λ text. text.items ≡ rule_text rule) }
+{
+    let body = rule_body(alloc, rule)?;
+    let mut text = front_of(alloc, rule.status(), "", true, body.len())?;
+    text.push_str(body.as_str())?;
+    Ok(text.into_bytes())
 }

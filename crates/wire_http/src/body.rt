@@ -1,5 +1,5 @@
 //! The body of a request.
-ghost use Rattle.std.specs.Prelude.{◌≡◌, ◌<◌, ◌≤◌, length, true, false, OnOk, IfOk, IfErr};
+ghost use Rattle.std.specs.Prelude.{◌≡◌, ◌<◌, ◌≤◌, max, length, drop, true, false, OnOk, IfOk, IfErr};
 ghost use Rattle.std.specs.Io.KnownBytes.{Consumes, IsAtEnd, prepend_known};
 ghost use Rattle.wire_http.specs.Counted.{inner_of, calls_of, failures_of};
 ghost use Rattle.wire_http.specs.Count.{Spends};
@@ -22,6 +22,7 @@ pub(crate) fn fill<R: Read>(
         (prepend_known buffer.old.items (R.remaining (inner_of reader.old)))
         (R.remaining (inner_of reader.new)) buffer.new.items) }
     ensures begins { OnOk result (Begins buffer.old.items buffer.new.items) }
+    ensures short { OnOk result (length buffer.new.items ≤ max (length buffer.old.items) count) }
     ensures whole { IfOk result (λ whole. whole ≡ true → count ≤ length buffer.new.items) }
     ensures ended { IfOk result (λ whole. whole ≡ false
         → (length buffer.new.items < count) × IsAtEnd (R.remaining (inner_of reader.new))) }
@@ -37,4 +38,12 @@ pub(crate) fn fill<R: Read>(
         }
     }
     Ok(true)
+}
+
+/// Takes the first bytes off the buffer. It takes no memory.
+pub(crate) fn shift(buffer: &mut Vec<u8>, count: usize)
+    requires { count ≤ length buffer.old.items }
+    ensures { buffer.new.items ≡ drop count buffer.old.items }
+{
+    buffer.drain(..count);
 }

@@ -1,14 +1,16 @@
 //! The call that a request makes.
-ghost use Rattle.std.specs.Prelude.{◌≡◌, length, map, All, IfOk, IfErr, OnOk};
+ghost use Rattle.std.specs.Prelude.{◌≡◌, ℕ, length, map, take, if◌then◌else◌, All, Err, IfOk, IfErr, OnOk};
 ghost use Rattle.httparse.specs.Spans.{IsHeaderWithin, header_bytes};
 ghost use Rattle.token_conf.specs.TokenFile.{callers_of};
 ghost use Rattle.wire_json.specs.Body.{words_of};
 ghost use Rattle.wire_http.specs.Fault.{GaveUpAsking};
 ghost use Rattle.wire_http.specs.Received.{IsReceived, IsMadeBy};
+ghost use Rattle.wire_http.specs.Close.{closes_by};
 ghost use Rattle.wire_http.specs.Table.{table};
 ghost use Rattle.wire_http.specs.Asked.{caller_of, kind_at, words_at, IsReadAs, IsAsked};
 
 use crate::bearer::token_of;
+use crate::close::closes;
 use crate::fault::StreamFault;
 use crate::moments::Moments;
 use crate::route::{Place, Route, find_route, named_place, path_of};
@@ -155,6 +157,26 @@ fn call_of(
     Ok((named_place(router, path), Call { caller, op }))
 }
 
+/// How many requests may follow this one, where so many could: none where the connection closes.
+pub(crate) fn left_after(received: Received<'_>, count: u32) -> u32
+    requires { IsReceived received }
+    ensures { result ≡ (if closes_by received.entry.spans.version
+        (map (header_bytes received.entry.buffer.now) (take received.entry.spans.headers received.entry.fields.now))
+        then 0 else count) }
+{
+    let Received {
+        buffer,
+        fields,
+        spans,
+        size: _,
+    } = received;
+    if closes(buffer, spans.version, &fields[..spans.headers]) {
+        0
+    } else {
+        count
+    }
+}
+
 /// The call that a request makes, at the next moment.
 pub(crate) fn ask<M: Moments>(
     alloc: Global,
@@ -169,6 +191,8 @@ pub(crate) fn ask<M: Moments>(
         IsMadeBy (callers_of tokens.now) received.entry p.place p.call) }
     ensures moment { IfOk result (λ p. M.gives moments.old p.moment moments.new) }
     ensures good { OnOk result (M.failures moments.new ≡ M.failures moments.old) }
+    ensures taken { result ≡ Err StreamFault.Memory
+        → (moment : ℕ) × M.gives moments.old moment moments.new }
     ensures err { IfErr result (λ e.
         GaveUpAsking e (M.failures moments.old) (M.failures moments.new)) }
 {

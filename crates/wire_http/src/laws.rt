@@ -4,18 +4,19 @@ ghost use Rattle.httparse.specs.Grammar.{RequestHead};
 ghost use Rattle.policy_core.specs.declared.call.Call.{Call};
 ghost use Rattle.token_conf.specs.TokenFile.{Callers};
 ghost use Rattle.wire_http.specs.Asked.{IsCallOf};
-ghost use Rattle.wire_http.specs.declared.end.End.{End};
-ghost use Rattle.wire_http.specs.Wire.{Asked, IsRequest, Requests};
+ghost use Rattle.wire_http.specs.Stop.{AreSameEnds};
+ghost use Rattle.wire_http.specs.Wire.{Asked, Finishes, IsRequest, Leads};
 ghost use Rattle.wire_http.specs.Rest.{Kind, IsKind, AreSame};
 ghost use Rattle.wire_http.specs.Route.{IsRoute, HasNoRoute, path_of};
+ghost use Rattle.wire_http.specs.declared.end.End.{End};
 ghost use Rattle.wire_http.specs.declared.route.Place.TheVariants.{Availability};
 
 use crate::moments::Moments;
 
-/// A rest is of one kind, but for a head that breaks the grammar and has too many lines: there both
+/// A rest is of one kind, but where it breaks the grammar and also has too many fields: there both
 /// answers are right.
 pub fn one_kind()
-    ensures { (rest : List ℕ) (j k : Kind) → IsKind rest j → IsKind rest k → AreSame j k }
+    ensures { (rest : List ℕ) (j k : Kind) → IsKind rest j → IsKind rest k → AreSame rest j k }
 {}
 
 /// A rest has at most one request next.
@@ -31,14 +32,15 @@ pub fn one_call()
 {}
 
 /// Where a clock gives one moment at a time, the bytes of a stream spell one list of calls, and one
-/// end.
+/// end, but where what is left of them breaks the grammar and also has too many fields: there both
+/// rules are right.
 pub fn one_stream<M: Moments>()
     ensures { ((c : M) (m n : ℕ) (d e : M) → M.gives c m d → M.gives c n e → (n ≡ m) × (e ≡ d))
         → (callers : Callers) (bound : ℕ) (rest : List ℕ) (clock : M)
-        → (all others : List Asked) (d e : M) (end other : End)
-        → Requests M.gives callers bound rest clock all d end
-        → Requests M.gives callers bound rest clock others e other
-        → (others ≡ all) × (other ≡ end) }
+        → (all others : List Asked) (n m : ℕ) (left last : List ℕ) (d e : M) (end other : End)
+        → Leads M.gives callers bound rest clock all n left d → Finishes n left end
+        → Leads M.gives callers bound rest clock others m last e → Finishes m last other
+        → (others ≡ all) × (last ≡ left) × (e ≡ d) × AreSameEnds left end other }
 {}
 
 /// What some paths lead to.

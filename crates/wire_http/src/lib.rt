@@ -5,6 +5,7 @@ mod answer;
 mod bearer;
 mod body;
 mod call;
+mod close;
 mod counted;
 mod end;
 mod fault;

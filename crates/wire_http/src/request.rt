@@ -12,7 +12,7 @@ ghost use Rattle.wire_http.specs.Next.{IsNext, NextFits};
 
 use crate::body::fill;
 use crate::counted::Counted;
-use crate::end::End;
+use crate::end::{End, WireRule};
 use crate::fault::StreamFault;
 use crate::length::length_of;
 use crate::rest::{FIELD_LIMIT, Found, HEAD_LIMIT, find_head};
@@ -24,7 +24,7 @@ use std::io::Read;
 pub(crate) enum Next {
     /// A whole request: where the parts of its head are, and how many bytes its body has.
     Request(RequestSpans, usize),
-    /// No whole request that breaks no rule: the stream ends so.
+    /// No whole request, or one that breaks a rule of the wire: the stream ends so.
     Stop(End),
 }
 
@@ -52,8 +52,9 @@ fn take_body<R: Read>(
     ensures err { IfErr result (λ e.
         GaveUpReading e (failures_of reader.old) (failures_of reader.new) turns.new) }
 {
-    let Ok(size) = length_of(buffer.as_slice(), &fields[..spans.headers]) else {
-        return Ok(Next::Stop(End::Cut));
+    let size = match length_of(buffer.as_slice(), &fields[..spans.headers]) {
+        Ok(size) => size,
+        Err(rule) => return Ok(Next::Stop(End::Wire(rule))),
     };
     if fill(reader, turns, buffer, spans.len + size)? {
         Ok(Next::Request(spans, size))
@@ -89,7 +90,7 @@ pub(crate) fn next_request<R: Read>(
         Found::Head(spans) => take_body(reader, turns, buffer, fields, spans),
         Found::Nothing => Ok(Next::Stop(End::End)),
         Found::Part => Ok(Next::Stop(End::Cut)),
-        Found::Bad => Ok(Next::Stop(End::Cut)),
-        Found::Large => Ok(Next::Stop(End::Cut)),
+        Found::Bad => Ok(Next::Stop(End::Wire(WireRule::Head))),
+        Found::Large => Ok(Next::Stop(End::Wire(WireRule::HeadSize))),
     }
 }

@@ -1,24 +1,32 @@
 //! The service over a stream.
-ghost use Rattle.std.specs.Prelude.{◌≡◌, ◌≤◌, ◌+◌, ◌⊎◌, true, Err, OnErr, OnOk, IfErr, IfOk, IfSome};
+ghost use Rattle.std.specs.Prelude.{◌≡◌, ◌<◌, ◌≤◌, ◌+◌, ◌-◌, ◌⊎◌, ℕ, true, length, take, Err, OnErr, OnOk, IfErr, IfOk, IfSome};
+ghost use Rattle.std.specs.List.{concat};
+ghost use Rattle.std.specs.Io.KnownBytes.{Appends, prepend_known};
 ghost use Rattle.token_conf.specs.TokenFile.{callers_of};
 ghost use Rattle.service_core.specs.Held.{space_of, salt_of, is_shut};
 ghost use Rattle.wire_http.specs.Counted.{inner_of, calls_of, failures_of};
-ghost use Rattle.wire_http.specs.Count.{HasRisen, IsGreatest, most_reads};
+ghost use Rattle.wire_http.specs.Count.{HasRisen, IsGreatest, Spends, most_reads, most_requests};
 ghost use Rattle.wire_http.specs.Fault.{GaveUpAnswering};
 ghost use Rattle.service_core.specs.Run.{IsReplyTo};
 ghost use Rattle.wire_http.specs.Reply.{Replies, RepliesPart};
+ghost use Rattle.wire_http.specs.Table.{table};
+ghost use Rattle.wire_http.specs.Text.{end_texts};
+ghost use Rattle.wire_http.specs.Turn.{IsTurn, IsTurnPart, MayGoOn};
 ghost use Rattle.wire_http.specs.Wire.{Serves, ServesPart};
 
-use crate::answer::answer_text;
-use crate::call::{Pending, Received, ask};
+use crate::answer::{answer_text, rule_text};
+use crate::body::shift;
+use crate::call::{Pending, Received, ask, left_after};
 use crate::counted::Counted;
 use crate::end::{End, Served};
 use crate::fault::StreamFault;
 use crate::moments::Moments;
 use crate::request::{Next, next_request};
-use crate::route::router;
+use crate::rest::HEAD_LIMIT;
+use crate::route::{Place, router};
 use crate::write::write_whole;
 use httparse::spans::EMPTY_HEADER_SPAN;
+use matchit::Router;
 use service_core::reply::Reply;
 use service_core::service::Service;
 use space_core::space::Space;
@@ -28,6 +36,9 @@ use token_conf::token_table::TokenTable;
 
 // The most reads of a stream.
 const TURNS: u32 = 1_000_000;
+
+// The most requests of a stream.
+const REQUESTS: u32 = 100;
 
 // The reply to a call, asked for once.
 fn reply_to<S: Space + Drop>(alloc: Global, service: &mut Service<S>, pending: &Pending) -> Reply
@@ -45,12 +56,13 @@ fn answer<S: Space + Drop, W: Write>(
     service: &mut Service<S>,
     writer: &mut Counted<W>,
     pending: &Pending,
+    closing: bool,
 ) -> Result<(), StreamFault>
     ensures replies { OnOk result (Replies S.holds S.is_sound S.refusals S.is_broken service.old service.new
-        pending.now.moment pending.now.call pending.now.place
+        pending.now.moment pending.now.call pending.now.place closing
         (W.contents (inner_of writer.old)) (W.contents (inner_of writer.new))) }
     ensures part { OnErr result (RepliesPart S.holds S.is_sound S.refusals S.is_broken service.old service.new
-        pending.now.moment pending.now.call pending.now.place
+        pending.now.moment pending.now.call pending.now.place closing
         (W.contents (inner_of writer.old)) (W.contents (inner_of writer.new))) }
     ensures good { OnOk result (failures_of writer.new ≡ failures_of writer.old) }
     ensures err { IfErr result (λ e.
@@ -60,7 +72,7 @@ fn answer<S: Space + Drop, W: Write>(
     ensures sound { S.is_sound (space_of service.new) → S.is_sound (space_of service.old) }
 {
     let reply = reply_to(alloc, service, pending);
-    let Ok(text) = answer_text(alloc, pending.place, &reply) else {
+    let Ok(text) = answer_text(alloc, pending.place, closing, &reply) else {
         return Err(StreamFault::Memory);
     };
     match write_whole(writer, text.as_slice()) {
@@ -69,11 +81,113 @@ fn answer<S: Space + Drop, W: Write>(
     }
 }
 
+// Writes what follows the answers where a stream ends: the text of a rule of the wire.
+fn end_with<W: Write>(alloc: Global, writer: &mut Counted<W>, end: End) -> Result<(), StreamFault>
+    ensures whole { OnOk result (Appends (W.contents (inner_of writer.old))
+        (W.contents (inner_of writer.new)) (concat (end_texts end))) }
+    ensures part { OnErr result ((size : ℕ) × Appends (W.contents (inner_of writer.old))
+        (W.contents (inner_of writer.new)) (take size (concat (end_texts end)))) }
+    ensures good { OnOk result (failures_of writer.new ≡ failures_of writer.old) }
+    ensures err { IfErr result (λ e.
+        GaveUpAnswering e (failures_of writer.old) (failures_of writer.new)) }
+{
+    let End::Wire(rule) = end else {
+        return Ok(());
+    };
+    let Ok(refusal) = rule_text(alloc, rule) else {
+        return Err(StreamFault::Memory);
+    };
+    match write_whole(writer, refusal.as_slice()) {
+        Ok(()) => Ok(()),
+        Err(_) => Err(StreamFault::Write),
+    }
+}
+
+// What one turn of a stream gives.
+#[derive(Clone, Copy)]
+enum Turn {
+    // A request was answered, and at most so many may follow it.
+    Answered(u32),
+    // The stream ended so.
+    Ended(End),
+}
+
+// Serves the next request of a stream that may have so many, or ends it. The buffer holds the bytes
+// that were read before and belong to no earlier request.
+fn serve_one<S: Space + Drop, M: Moments, R: Read, W: Write>(
+    alloc: Global,
+    router: &Router<Place>,
+    service: &mut Service<S>,
+    tokens: &TokenTable,
+    moments: &mut M,
+    reader: &mut Counted<R>,
+    writer: &mut Counted<W>,
+    turns: &mut u32,
+    buffer: &mut Vec<u8>,
+    count: u32,
+) -> Result<Turn, StreamFault>
+    requires router { router.now ≡ table }
+    requires some { 0 < count }
+    requires short { length buffer.old.items ≤ HEAD_LIMIT }
+    ensures turn { IfOk result (λ turn.
+        IfSome (prepend_known buffer.old.items (R.remaining (inner_of reader.old))) (λ rest.
+        IsTurn S.holds S.is_sound S.refusals S.is_broken M.gives (callers_of tokens.now) (count - 1) rest
+        service.old service.new moments.old moments.new
+        (W.contents (inner_of writer.old)) (W.contents (inner_of writer.new))
+        (prepend_known buffer.new.items (R.remaining (inner_of reader.new))) turn)) }
+    ensures part { IfErr result (λ fault.
+        IfSome (prepend_known buffer.old.items (R.remaining (inner_of reader.old))) (λ rest.
+        IsTurnPart S.holds S.is_sound S.refusals S.is_broken M.gives (callers_of tokens.now) (count - 1) rest
+        service.old service.new moments.old moments.new
+        (W.contents (inner_of writer.old)) (W.contents (inner_of writer.new)) fault)) }
+    ensures goes_on { IfOk result (MayGoOn count buffer.new.items) }
+
+    ensures read { result ≡ Err StreamFault.Read
+        → HasRisen (failures_of reader.old) (failures_of reader.new) }
+    ensures write { result ≡ Err StreamFault.Write
+        → HasRisen (failures_of writer.old) (failures_of writer.new) }
+    ensures clock { result ≡ Err StreamFault.Clock
+        → HasRisen (M.failures moments.old) (M.failures moments.new) }
+    ensures turns { Spends turns.old turns.new (calls_of reader.old) (calls_of reader.new) }
+    ensures no_turns { result ≡ Err StreamFault.Turns → turns.new ≡ 0 }
+    ensures good_reader { (result ≡ Err StreamFault.Read)
+        ⊎ (failures_of reader.new ≡ failures_of reader.old) }
+    ensures good_writer { (result ≡ Err StreamFault.Write)
+        ⊎ (failures_of writer.new ≡ failures_of writer.old) }
+    ensures good_clock { (result ≡ Err StreamFault.Clock)
+        ⊎ (M.failures moments.new ≡ M.failures moments.old) }
+
+    ensures salt { salt_of service.new ≡ salt_of service.old }
+    ensures shut { is_shut service.old ≡ true → service.new ≡ service.old }
+    ensures sound { S.is_sound (space_of service.new) → S.is_sound (space_of service.old) }
+{
+    let mut fields = [EMPTY_HEADER_SPAN; 64];
+    let (spans, size) = match next_request(reader, turns, buffer, &mut fields)? {
+        Next::Request(spans, size) => (spans, size),
+        Next::Stop(end) => {
+            end_with(alloc, writer, end)?;
+            return Ok(Turn::Ended(end));
+        }
+    };
+    let received = Received {
+        buffer: buffer.as_slice(),
+        fields: &fields,
+        spans,
+        size,
+    };
+    let left = left_after(received, count - 1);
+    let pending = ask(alloc, router, tokens, moments, received)?;
+    answer(alloc, service, writer, &pending, left == 0)?;
+    shift(buffer, spans.len + size);
+    Ok(Turn::Answered(left))
+}
+
 /// Serves the requests of a stream: reads them from the reader, asks the service each of them once,
 /// at the next moment, and writes the answers.
 ///
-/// For now a stream has at most one request, and its connection closes after it. A request that
-/// breaks a rule of the wire gets no answer.
+/// A stream has at most 100 requests. Its connection closes after the last of them, and after one of
+/// version 1.0 or with the word `close` in a field Connection. A request that breaks a rule of the
+/// wire is told so, and ends the stream.
 ///
 /// After a fault the first bytes of the answers were written. At most one call was made whose
 /// answer was not wholly written, and it stands as it was done. Nothing more is to be written on
@@ -89,13 +203,13 @@ pub fn serve_stream<S: Space + Drop, M: Moments, R: Read, W: Write>(
     // Of a reader whose bytes are known, whatever the pieces were in which they came: what the
     // input spells was asked and answered.
     ensures serves { IfOk result (λ served. IfSome (R.remaining (inner_of reader.old)) (λ input.
-        Serves S.holds S.is_sound S.refusals S.is_broken M.gives (callers_of tokens.now) 1 input
+        Serves S.holds S.is_sound S.refusals S.is_broken M.gives (callers_of tokens.now) most_requests input
         service.old service.new moments.old moments.new
         (W.contents (inner_of writer.old)) (W.contents (inner_of writer.new)) served)) }
-    ensures part { OnErr result (IfSome (R.remaining (inner_of reader.old)) (λ input.
-        ServesPart S.holds S.is_sound S.refusals S.is_broken M.gives (callers_of tokens.now) 1 input
-        service.old service.new moments.old
-        (W.contents (inner_of writer.old)) (W.contents (inner_of writer.new)))) }
+    ensures part { IfErr result (λ fault. IfSome (R.remaining (inner_of reader.old)) (λ input.
+        ServesPart S.holds S.is_sound S.refusals S.is_broken M.gives (callers_of tokens.now) most_requests input
+        service.old service.new moments.old moments.new
+        (W.contents (inner_of writer.old)) (W.contents (inner_of writer.new)) fault)) }
 
     // What is told to have failed did so in this call, or its count stands at its greatest value.
     ensures read { result ≡ Err StreamFault.Read
@@ -104,6 +218,13 @@ pub fn serve_stream<S: Space + Drop, M: Moments, R: Read, W: Write>(
         → HasRisen (failures_of writer.old) (failures_of writer.new) }
     ensures clock { result ≡ Err StreamFault.Clock
         → HasRisen (M.failures moments.old) (M.failures moments.new) }
+    // And no other count of failures has risen: what failed is told.
+    ensures told_reader { (result ≡ Err StreamFault.Read)
+        ⊎ (failures_of reader.new ≡ failures_of reader.old) }
+    ensures told_writer { (result ≡ Err StreamFault.Write)
+        ⊎ (failures_of writer.new ≡ failures_of writer.old) }
+    ensures told_clock { (result ≡ Err StreamFault.Clock)
+        ⊎ (M.failures moments.new ≡ M.failures moments.old) }
     ensures turns { result ≡ Err StreamFault.Turns
         → (calls_of reader.new ≡ calls_of reader.old + most_reads) ⊎ IsGreatest (calls_of reader.new) }
     ensures reads { (calls_of reader.new ≤ calls_of reader.old + most_reads)
@@ -119,21 +240,30 @@ pub fn serve_stream<S: Space + Drop, M: Moments, R: Read, W: Write>(
     };
     let mut turns = TURNS;
     let mut buffer = Vec::new(alloc);
-    let mut fields = [EMPTY_HEADER_SPAN; 64];
-    let (spans, size) = match next_request(reader, &mut turns, &mut buffer, &mut fields)? {
-        Next::Request(spans, size) => (spans, size),
-        Next::Stop(end) => return Ok(Served { count: 0, end }),
-    };
-    let received = Received {
-        buffer: buffer.as_slice(),
-        fields: &fields,
-        spans,
-        size,
-    };
-    let pending = ask(alloc, &router, tokens, moments, received)?;
-    answer(alloc, service, writer, &pending)?;
+    let mut left = REQUESTS;
+    let mut count = 0;
+    'serving: while left > 0 {
+        match serve_one(
+            alloc,
+            &router,
+            service,
+            tokens,
+            moments,
+            reader,
+            writer,
+            &mut turns,
+            &mut buffer,
+            left,
+        )? {
+            Turn::Answered(then) => {
+                count += 1;
+                left = then;
+            }
+            Turn::Ended(end) => return Ok(Served { count, end }),
+        }
+    }
     Ok(Served {
-        count: 1,
+        count,
         end: End::Close,
     })
 }

@@ -1,4 +1,4 @@
-use Rattle.std.proofs.Common.{◌++◌, rules, append_assoc, ap, ◌∙◌}
+use Rattle.std.proofs.Common.{◌++◌, rules, arith, append_assoc, ap, ◌∙◌, length, length-append}
 use Rattle.wire_http.proofs.CountLaws.{Spends_more}
 use Rattle.wire_http.proofs.WindowLaws.{Consumes_next}
 use Rattle.wire_http.proofs.body.fill.Goals as goal
@@ -16,6 +16,7 @@ filling-preserved g c =
     record {
       kept = Consumes_next _ _ _ c.filling.buffer.items came.0 c.read_more.new.buffer.items c.filling.invariant.kept came.3 came.1;
       begins = (begun.0 ++ came.0, came.1 ∙ ap (λ v. v ++ came.0) begun.1 ∙ append_assoc c.args.buffer.now.items begun.0 came.0);
+      short = omega (arith, came.2, length-append c.filling.buffer.items came.0, ap length came.1, c.filling.invariant.short);
       turns = Spends_more _ _ _ _ _ _ c.filling.invariant.turns c.in_ok-read_more.ensures.turns;
       good = search rules;
     }

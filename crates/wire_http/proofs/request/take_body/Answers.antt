@@ -2,9 +2,9 @@ use Rattle.std.proofs.Common.{sym}
 use Rattle.wire_http.proofs.NextLaws.{refused, ended, taken}
 use Rattle.wire_http.proofs.request.take_body.Goals as goal
 
-pub returns-in_default-clause-next : goal.returns-in_default-clause-next
-returns-in_default-clause-next g c =
-    refused _ c.args.buffer.now.items c.args.buffer.now.items c.args.fields.now c.args.spans c.in_default.field-0 (sym (rw c.as_slice.ensures.value at c.in_default.ensures))
+pub returns-in-Err-clause-next : goal.returns-in-Err-clause-next
+returns-in-Err-clause-next g c =
+    refused _ c.args.buffer.now.items c.args.buffer.now.items c.args.fields.now c.args.spans c.in-Err.rule (sym (rw c.as_slice.ensures.value at c.in-Err.ensures))
 
 pub returns-then-branch-clause-next : goal.returns-then-branch-clause-next
 returns-then-branch-clause-next g c =

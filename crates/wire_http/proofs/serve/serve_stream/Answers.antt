@@ -1,33 +1,77 @@
+use Rattle.std.proofs.Common.{◌≡◌, ◌∙◌, ◌-◌, suc, ap, arith, rules}
+use Rattle.std.proofs.lemmas.Result.{err_from_is_err_and}
+use Rattle.service_core.specs.declared.service.Service.{Service}
+use Rattle.service_core.specs.Held.{is_shut}
 use Rattle.token_conf.specs.TokenFile.{callers_of}
-use Rattle.wire_http.proofs.ServeLaws.{on_err, none_served, stop_served, one_served, one_part}
+use Rattle.wire_http.specs.Count.{most_requests}
+use Rattle.wire_http.proofs.CountLaws.{Spends_more}
+use Rattle.wire_http.proofs.StreamLaws.{none_served, goes_init, goes_more, goes_stop, goes_close, goes_part}
+use Rattle.wire_http.proofs.TurnLaws.{go_on_at, ok_told}
 use Rattle.wire_http.proofs.serve.serve_stream.Goals as goal
 
 pub returns-in_default-clause-part : goal.returns-in_default-clause-part
-returns-in_default-clause-part g c = none_served g.S.Space.holds g.S.Space.is_sound g.S.Space.refusals g.S.Space.is_broken g.M.Moments.gives (callers_of c.args.tokens.now) _ c.args.service.now c.args.moments.now _
+returns-in_default-clause-part g c =
+    none_served g.S.Space.holds g.S.Space.is_sound g.S.Space.refusals g.S.Space.is_broken g.M.Moments.gives (callers_of c.args.tokens.now)
+    _ most_requests c.args.service.now c.args.moments.now _ _
 
-pub returns-in_err-spans-clause-part : goal.returns-in_err-spans-clause-part
-returns-in_err-spans-clause-part g c = on_err _ _ (none_served g.S.Space.holds g.S.Space.is_sound g.S.Space.refusals g.S.Space.is_broken g.M.Moments.gives (callers_of c.args.tokens.now) _ c.args.service.now c.args.moments.now _)
+pub serving-init : goal.serving-init
+serving-init g c = record {
+  goes = goes_init g.S.Space.holds g.S.Space.is_sound g.S.Space.refusals g.S.Space.is_broken g.M.Moments.gives (callers_of c.args.tokens.now)
+      _ c.new-buffer.result.items most_requests c.args.service.now c.args.moments.now _ c.new-buffer.ensures.items;
+  short = search rules;
+  bounded = search rules;
+  turns = search rules;
+  good_reader = search rules;
+  good_writer = search rules;
+  good_clock = search rules;
+  salt = search rules;
+  shut = search rules;
+  sound = search rules;
+}
 
-pub returns-in-Stop-clause-serves : goal.returns-in-Stop-clause-serves
-returns-in-Stop-clause-serves g c =
-    stop_served g.S.Space.holds g.S.Space.is_sound g.S.Space.refusals g.S.Space.is_broken g.M.Moments.gives (callers_of c.args.tokens.now) _ c.new-buffer.result.items c.next_request.new.buffer.items c.next_request.new.fields
-    c.in_ok-spans.field-0 c.in-Stop.end c.args.service.now c.args.moments.now _ c.new-buffer.ensures.items c.in-Stop.is c.in_ok-spans.ensures.next
+pub returns-in_err-then-clause-part : goal.returns-in_err-then-clause-part
+returns-in_err-then-clause-part g c =
+    let p = err_from_is_err_and c.from_residual.result c.from_residual.ensures.1 in
+    let inv = c.serving.invariant in
+    let some : c.serving.left ≡ suc (c.serving.left - 1) = omega (arith, c.serving-test.true) in
+    rw (p.1, p.2) (
+    goes_part g.S.Space.holds g.S.Space.is_sound g.S.Space.refusals g.S.Space.is_broken g.M.Moments.gives (callers_of c.args.tokens.now)
+    _ _ most_requests c.args.service.now c.serving.service c.serve_one.new.service c.args.moments.now c.serving.moments c.serve_one.new.moments
+    _ _ _ c.serving.left (c.serving.left - 1) c.serving.count _
+    inv.goes some c.in_err-then.ensures.part inv.salt inv.shut)
 
-pub returns-in_err-pending-clause-part : goal.returns-in_err-pending-clause-part
-returns-in_err-pending-clause-part g c = on_err _ _ (none_served g.S.Space.holds g.S.Space.is_sound g.S.Space.refusals g.S.Space.is_broken g.M.Moments.gives (callers_of c.args.tokens.now) _ c.args.service.now c.args.moments.now _)
+pub serving-preserved : goal.serving-preserved
+serving-preserved g c =
+    let inv = c.serving.invariant in
+    let some : c.serving.left ≡ suc (c.serving.left - 1) = omega (arith, c.serving-test.true) in
+    let on = go_on_at c.serving.left c.serve_one.new.buffer.items c.in_ok-then.field-0 c.in-Answered.then c.in-Answered.is c.in_ok-then.ensures.goes_on in
+    record {
+      goes = goes_more g.S.Space.holds g.S.Space.is_sound g.S.Space.refusals g.S.Space.is_broken g.M.Moments.gives (callers_of c.args.tokens.now)
+          _ _ _ most_requests c.args.service.now c.serving.service c.serve_one.new.service c.args.moments.now c.serving.moments c.serve_one.new.moments
+          _ _ _ c.serving.left (c.serving.left - 1) c.serving.count c.in-Answered.then c.in_ok-then.field-0
+          inv.goes some c.in-Answered.is c.in_ok-then.ensures.turn inv.salt inv.shut;
+      short = on.1;
+      bounded = omega (arith, inv.bounded, on.0);
+      turns = Spends_more _ _ _ _ _ _ inv.turns c.serve_one.ensures.turns;
+      good_reader = ok_told c.in_ok-then.field-0 _ _ c.in_ok-then.ensures.good_reader ∙ inv.good_reader;
+      good_writer = ok_told c.in_ok-then.field-0 _ _ c.in_ok-then.ensures.good_writer ∙ inv.good_writer;
+      good_clock = ok_told c.in_ok-then.field-0 _ _ c.in_ok-then.ensures.good_clock ∙ inv.good_clock;
+      salt = c.serve_one.ensures.salt ∙ inv.salt;
+      shut = λ n. c.serve_one.ensures.shut (ap (λ (s : Service g.row.S.Denot). is_shut s) (inv.shut n) ∙ n) ∙ inv.shut n;
+      sound = λ s. inv.sound (c.serve_one.ensures.sound s);
+    }
 
-pub returns-in_err-answer-clause-part : goal.returns-in_err-answer-clause-part
-returns-in_err-answer-clause-part g c = on_err _ _ (
-    one_part g.S.Space.holds g.S.Space.is_sound g.S.Space.refusals g.S.Space.is_broken g.M.Moments.gives (callers_of c.args.tokens.now) _ c.new-buffer.result.items c.next_request.new.buffer.items c.as_slice.result.now c.next_request.new.fields
-    c.in_ok-spans.field-0 c.in-Request.spans c.in-Request.size c.in_ok-pending.pending.place c.in_ok-pending.pending.moment c.in_ok-pending.pending.call
-    c.args.service.now c.answer.new.service c.args.moments.now c.ask.new.moments _ _
-    c.new-buffer.ensures.items c.in-Request.is c.as_slice.ensures.value c.in_ok-spans.ensures.next
-    c.in_ok-pending.ensures.made c.in_ok-pending.ensures.moment c.in_err-answer.ensures.part)
+pub returns-in-Ended-clause-serves : goal.returns-in-Ended-clause-serves
+returns-in-Ended-clause-serves g c =
+    let inv = c.serving.invariant in
+    let some : c.serving.left ≡ suc (c.serving.left - 1) = omega (arith, c.serving-test.true) in
+    goes_stop g.S.Space.holds g.S.Space.is_sound g.S.Space.refusals g.S.Space.is_broken g.M.Moments.gives (callers_of c.args.tokens.now)
+    _ _ _ most_requests c.args.service.now c.serving.service c.serve_one.new.service c.args.moments.now c.serving.moments c.serve_one.new.moments
+    _ _ _ c.serving.left (c.serving.left - 1) c.serving.count c.in-Ended.end c.in_ok-then.field-0
+    inv.goes some c.in-Ended.is c.in_ok-then.ensures.turn
 
 pub returns-clause-serves : goal.returns-clause-serves
 returns-clause-serves g c =
-    one_served g.S.Space.holds g.S.Space.is_sound g.S.Space.refusals g.S.Space.is_broken g.M.Moments.gives (callers_of c.args.tokens.now) _ c.new-buffer.result.items c.next_request.new.buffer.items c.as_slice.result.now c.next_request.new.fields
-    c.in_ok-spans.field-0 c.in-Request.spans c.in-Request.size c.in_ok-pending.pending.place c.in_ok-pending.pending.moment c.in_ok-pending.pending.call
-    c.args.service.now c.answer.new.service c.args.moments.now c.ask.new.moments _ _
-    c.new-buffer.ensures.items c.in-Request.is c.as_slice.ensures.value c.in_ok-spans.ensures.next
-    c.in_ok-pending.ensures.made c.in_ok-pending.ensures.moment c.in_ok-answer.ensures.replies
+    goes_close g.S.Space.holds g.S.Space.is_sound g.S.Space.refusals g.S.Space.is_broken g.M.Moments.gives (callers_of c.args.tokens.now)
+    _ _ most_requests c.args.service.now c.serving.service c.args.moments.now c.serving.moments _ _ c.serving.left c.serving.count
+    c.serving.invariant.goes (omega (arith, c.serving-test.false))

@@ -36,6 +36,9 @@ loop-entry-preserved g c =
         shuts = c.call-reply.ensures.shuts;
         cause = λ n. (c.call-reply.ensures.answers n).cause;
         shut = λ n. (c.call-reply.ensures.stays_shut n).0;
+        stays_shut = λ n. (c.call-reply.ensures.stays_shut n).1;
+        sound = back;
+        salt = c.call-reply.ensures.salt;
       }));
       salt = c.call-reply.ensures.salt ∙ inv.salt;
       sound = λ s. inv.sound (back s);
