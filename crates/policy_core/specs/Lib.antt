@@ -5,3 +5,4 @@ pub mod Standing
 pub mod Policy
 pub mod View
 pub mod Missing
+pub mod Blind

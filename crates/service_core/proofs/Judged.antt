@@ -44,7 +44,7 @@ find_later p (y ∷ xs) ys h =
     ] h
 
 -- what all members of a list have, the found one has
-find_has : {X : Type 0} (Q : X → Type 0) (p : X → Bool) (xs : List X) (x : X) → AllByRecursion Q xs → find p xs ≡ Some x → Q x
+pub find_has : {X : Type 0} (Q : X → Type 0) (p : X → Bool) (xs : List X) (x : X) → AllByRecursion Q xs → find p xs ≡ Some x → Q x
 find_has Q p [] x all h = cc
 find_has {X} Q p (y ∷ xs) x all h =
     elim (p y) as (λ b. cond b (Some y) (find p xs) ≡ Some x → Q x) [

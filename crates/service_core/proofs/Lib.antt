@@ -3,3 +3,9 @@ pub mod Outcome
 pub mod Runs
 pub mod Judged
 pub mod Steps
+pub mod Alike
+pub mod Blinds
+pub mod Kept
+pub mod Awares
+pub mod Stales
+pub mod Meetings

@@ -3,3 +3,6 @@ pub mod Looks
 pub mod Service
 pub mod Held
 pub mod Run
+pub mod Blind
+pub mod Aware
+pub mod Stale

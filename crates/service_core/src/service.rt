@@ -1,7 +1,9 @@
 //! A service over a space.
 ghost use Rattle.std.specs.Prelude.{◌≡◌, ℕ, Some, None, find, IfSome, IfOk, OnErr, IsTrue, true, false, length, All};
 ghost use Rattle.std.specs.Borrow.{Lends, sem};
-ghost use Rattle.entity_core.specs.Airspace.{Airspace};
+ghost use Rattle.entity_core.specs.Airspace.{Airspace, empty_at};
+ghost use Rattle.entity_core.specs.declared.entity.Entity.{Entity};
+ghost use Rattle.entity_core.specs.declared.nature.Kind.{Kind};
 ghost use Rattle.policy_core.specs.Policy.{breaks, early_rules, first_broken};
 ghost use Rattle.space_core.specs.Space.{IsContent};
 ghost use Rattle.service_core.specs.contracts.service.Service.{the_row};
@@ -9,6 +11,8 @@ ghost use Rattle.service_core.specs.Looks.{IsReady, Judges, Makes};
 ghost use Rattle.service_core.specs.Service.{Answers, reply_of, is_stopped};
 ghost use Rattle.policy_core.specs.Missing.{nothing_missing};
 ghost use Rattle.service_core.specs.Run.{AskedInOrder, Runs, StayStopped, has_stopped};
+ghost use Rattle.service_core.specs.Aware.{Aware};
+ghost use Rattle.service_core.specs.Stale.{AllNumbered, IsStale, FailsOrIsRefused};
 ghost use Rattle.service_core.specs.Held.{space_of, salt_of, is_shut, with_space};
 
 use crate::decide::{Verdict, decide};
@@ -149,12 +153,17 @@ impl<S: Space + Drop> Service<S> {
     /// was changed. `Stopped` comes for the call in which the space answered `Broken`, and for each
     /// call after it. A call that breaks one of P1 to P6 is denied without memory, and the space is not
     /// asked.
+    ///
+    /// A put that needs to know an entity, and whose key has version numbers of other serials alone,
+    /// is not done: it is denied by one of P1 to P14, and where it is P14, the entity is listed.
     pub fn call(&mut self, alloc: Global, now: u64, call: &Call) -> Reply
         ensures salt { salt_of self.new ≡ salt_of self.old }
         ensures stays_shut { IsTrue (is_shut self.old) → (result ≡ Reply.Stopped) × (self.new ≡ self.old) }
         ensures shuts { is_shut self.old ≡ false → is_shut self.new ≡ is_stopped result }
         ensures early { is_shut self.old ≡ false → (a : Airspace) (t : ℕ) → IfSome (find (breaks a t call.now) early_rules) (λ p. (result ≡ Reply.Denied p nothing_missing) × (self.new ≡ self.old)) }
         ensures answers { is_shut self.old ≡ false → Answers S.holds S.is_sound S.refusals S.is_broken (salt_of self.old) now call.now (space_of self.old) (space_of self.new) result }
+        ensures stale { is_shut self.old ≡ false → S.is_sound (space_of self.new) → (a : Airspace) → IsContent S.holds (space_of self.old) a
+            → (kind : Kind) (y : Entity) → IsStale (salt_of self.old) kind a call.now y → FailsOrIsRefused kind a call.now y result }
     {
         if self.stopped {
             return Reply::Stopped;
@@ -172,6 +181,10 @@ impl<S: Space + Drop> Service<S> {
 
     /// Answers calls in order, each at its moment. The room for the replies is taken first, so that
     /// after an error no call was made.
+    ///
+    /// Where the space was empty and nothing stopped: of two entities that meet in the end, where the
+    /// later one is an intent that is planned or flown as planned, the last put of the later one had
+    /// the version number of the other in its key.
     pub fn run(&mut self, alloc: Global, calls: &[(u64, Call)]) -> Result<Vec<Reply>, AllocError>
         ensures none_made { OnErr result (self.new ≡ self.old) }
         ensures salt { salt_of self.new ≡ salt_of self.old }
@@ -183,6 +196,10 @@ impl<S: Space + Drop> Service<S> {
         ensures runs { is_shut self.old ≡ false → S.is_sound (space_of self.new) → IfOk result (λ replies. (a : Airspace) → IsContent S.holds (space_of self.old) a
             → Runs S.holds (salt_of self.old) a calls.now replies.items (space_of self.new)) }
         ensures cause { is_shut self.old ≡ false → IfOk result (λ replies. has_stopped replies.items ≡ true → S.is_broken (space_of self.new) ≡ true) }
+        ensures aware { is_shut self.old ≡ false → S.is_sound (space_of self.new) → IfOk result (λ replies. has_stopped replies.items ≡ false → (n : ℕ) → IsContent S.holds (space_of self.old) (empty_at n)
+            → (a : Airspace) → S.holds (space_of self.new) a → Aware calls.now replies.items a) }
+        ensures numbered { is_shut self.old ≡ false → S.is_sound (space_of self.new) → IfOk result (λ replies. has_stopped replies.items ≡ false → (n : ℕ) → IsContent S.holds (space_of self.old) (empty_at n)
+            → (a : Airspace) → S.holds (space_of self.new) a → AllNumbered (salt_of self.old) a) }
     {
         let mut replies = Vec::with_capacity(alloc, calls.len())?;
         for entry in calls {

@@ -6,6 +6,7 @@ use Rattle.service_core.specs.declared.reply.Reply.TheVariants.{Denied}
 use Rattle.policy_core.specs.declared.rule.Rule.{Rule}
 use Rattle.service_core.proofs.Outcome.{early_answers}
 use Rattle.service_core.proofs.Judged.{first_early, told_early, some_of_none}
+use Rattle.service_core.proofs.Stales.{stale_reply}
 use Rattle.service_core.proofs.Steps.{has_caller}
 use Rattle.service_core.proofs.service.Service.call.Goals as goal
 
@@ -30,3 +31,11 @@ answered-reply-requires-clause-early g c a = sym (c.early.ensures a c.args.now) 
 pub returns-clause-early : goal.returns-clause-early
 returns-clause-early g c n a t =
     some_of_none (find (breaks a t c.args.call.now) early_rules) _ (sym c.in_default.is ∙ c.early.ensures a t)
+
+pub returns-in-Some-clause-stale : goal.returns-in-Some-clause-stale
+returns-in-Some-clause-stale g c n s a content kind y is =
+    stale_reply g.S.Space.holds c.args.self.now.salt a c.args.now c.args.call.now kind y (Denied c.in-Some.broken c.nothing.result) c.args.self.now.space is ((returns-in-Some-clause-answers g c n).step s a content)
+
+pub returns-clause-stale : goal.returns-clause-stale
+returns-clause-stale g c n s a content kind y is =
+    stale_reply g.S.Space.holds c.args.self.now.salt a c.args.now c.args.call.now kind y c.answered-reply.result c.answered-reply.new.space is (c.answered-reply.ensures.step s a content)

@@ -1,9 +1,11 @@
 use Rattle.std.proofs.Common.{arith, ◌≡◌, ◌∙◌, sym, ap, subst, ℕ, ◌+◌, true, false, List, [], ◌∷◌, ◌++◌, take, length, length-take, length-append, refl}
-use Rattle.std.proofs.lemmas.List.{take_more}
+use Rattle.std.proofs.lemmas.List.{take_more, take_all}
+use Rattle.entity_core.specs.Airspace.{empty_at}
 use Rattle.service_core.specs.declared.service.Service.{Service}
 use Rattle.service_core.specs.declared.reply.Reply.{Reply}
 use Rattle.service_core.specs.Service.{Leaves}
 use Rattle.service_core.specs.Run.{Timed, Runs, StayStopped, has_stopped}
+use Rattle.service_core.proofs.Awares.{held_aware, held_numbered}
 use Rattle.service_core.proofs.Runs.{asked_more, runs_more, runs_stopped, stops_more, stopped_more, is_stopped_true, stay_more, stay_so_far, all_more}
 use Rattle.service_core.proofs.service.Service.run.Goals as goal
 
@@ -67,3 +69,15 @@ loop-entry-preserved g c =
         | false ↦ λ h k. (c.call-reply.ensures.answers (inv.stops n ∙ h)).cause (is_stopped_true r (sym (stops_more rs r h) ∙ k))
       ] refl);
     }
+
+pub returns-clause-aware : goal.returns-clause-aware
+returns-clause-aware g c n s stops serial content a held =
+    let all : take c.loop-entry.entry-index c.args.calls.now ≡ c.args.calls.now = take_all c.loop-entry.entry-index c.args.calls.now (omega arith) in
+    held_aware g.S.Space.holds c.args.self.now.salt serial c.args.calls.now c.loop-entry.replies.items c.loop-entry.self.space
+    (subst (λ (cs : List Timed). Runs g.S.Space.holds c.args.self.now.salt (empty_at serial) cs c.loop-entry.replies.items c.loop-entry.self.space) all (c.loop-entry.invariant.runs n s (empty_at serial) content)) stops a held
+
+pub returns-clause-numbered : goal.returns-clause-numbered
+returns-clause-numbered g c n s stops serial content a held =
+    let all : take c.loop-entry.entry-index c.args.calls.now ≡ c.args.calls.now = take_all c.loop-entry.entry-index c.args.calls.now (omega arith) in
+    held_numbered g.S.Space.holds c.args.self.now.salt serial c.args.calls.now c.loop-entry.replies.items c.loop-entry.self.space
+    (subst (λ (cs : List Timed). Runs g.S.Space.holds c.args.self.now.salt (empty_at serial) cs c.loop-entry.replies.items c.loop-entry.self.space) all (c.loop-entry.invariant.runs n s (empty_at serial) content)) stops a held
