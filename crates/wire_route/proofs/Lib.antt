@@ -1,0 +1,3 @@
+mod Paths
+mod Seeks
+mod Tables
