@@ -15,9 +15,9 @@ mod length;
 mod moments;
 mod request;
 mod rest;
-mod route;
 mod serve;
 mod source;
+mod target;
 mod write;
 
 pub use counted::Counted;

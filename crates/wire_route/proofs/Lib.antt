@@ -1,3 +1,3 @@
-mod Paths
+pub mod Paths
 mod Seeks
 mod Tables
