@@ -25,6 +25,3 @@ pub use end::{End, Served, WireRule};
 pub use fault::StreamFault;
 pub use moments::{ClockFault, Fixed, Listed, Moments};
 pub use serve::serve_stream;
-
-#[cfg(test)]
-mod tests;
