@@ -297,12 +297,12 @@ def paths():
     return found
 
 
-CHECKS = [
-    ("connections in pieces", in_pieces),
-    ("devices that fail", failing_devices),
-    ("a put that is cut", truncated),
-    ("turns that end", turns_end),
-    ("the greatest body", greatest_body),
-    ("hostile heads", hostile),
-    ("paths and methods", paths),
-]
+CASES = {
+    "connections-in-pieces": in_pieces,
+    "devices-that-fail": failing_devices,
+    "put-that-is-cut": truncated,
+    "turns-that-end": turns_end,
+    "greatest-body": greatest_body,
+    "hostile-heads": hostile,
+    "paths-and-methods": paths,
+}

@@ -1,90 +1,111 @@
-//! Measures how many calls a second a service over a list of entities answers.
+//! Answers the calls of its input and prints of each that is to be timed the status, the length of the
+//! body and, where there is an argument, how many nanoseconds the service took for it.
 //!
-//! With no argument it asks small airspaces a few calls and prints how many of them were answered as
-//! they should be: the same text at each run. With sizes, or the word `full`, it takes times.
+//! A line of the input is a call: `timed` or `untimed`, what is asked, the words of its path (the second
+//! is `-` where there is none) and its body.
 #![tactic(auto)]
 
-mod ask;
-mod column;
-mod kept;
-mod place;
-mod scene;
-mod table;
-mod tally;
-mod work;
-
-use anyhow::{Context, Result, ensure};
-use column::Column;
-use scene::Scene;
+use entity_core::nature::Kind;
+use entity_core::salt::Salt;
+use entity_core::uss_id::UssId;
+use policy_core::call::{Call, OpKind};
+use policy_core::scope::{Caller, Scope, ScopeSet};
+use service_core::service::Service;
+use space_core::list::ListSpace;
+use std::alloc::Global;
 use std::env;
-use std::time::Clock;
-use table::print_table;
-use work::Work;
+use std::process::ExitCode;
+use std::time::{Clock, Instant};
+use wire_json::answer::{reply_text, status};
+use wire_json::body::{PathWords, read_body};
 
-/// How many calls of each kind are made in one round at full size, and how many rounds: the fastest
-/// counts, since others may use the machine meanwhile.
-const CALLS: u64 = 2_000;
+/// The moment of each call, in seconds since 1970.
+const NOW: u64 = 1_000;
 
-const ROUNDS: u64 = 5;
-
-// Prints how many calls were answered as they should be, with no times.
-fn show_counts(rt: &(impl Print + AllocGlobal + Clock)) -> Result<()> {
-    for size in [10u64, 50] {
-        let mut scene = Scene::filled(rt, size)?;
-        let column = Column::measure(rt, &mut scene, size, 12)?;
-        for work in Work::ALL {
-            let (name, tally) = (work.name(), column.of(work));
-            let (calls, right) = (tally.calls(), tally.right());
-            println!(rt; "{size} kept, {name}: {calls} calls, {right} answered as they should be")?;
-        }
+fn kind_of(word: &str) -> Option<OpKind> {
+    match word {
+        "create" => Some(OpKind::Create(Kind::Intent)),
+        "update" => Some(OpKind::Update(Kind::Intent)),
+        "delete" => Some(OpKind::Delete(Kind::Intent)),
+        "query" => Some(OpKind::Query(Kind::Intent)),
+        _ => None,
     }
-    Ok(())
 }
 
-fn fastest_column(rt: &(impl AllocGlobal + Clock), size: u64) -> Result<Column> {
-    let mut scene = Scene::filled(rt, size)?;
-    let mut fastest = Column::measure(rt, &mut scene, size, CALLS)?;
-    ensure!(
-        fastest.is_right(),
-        "a call was not answered as it should be"
-    );
-    for _ in 1..ROUNDS {
-        let column = Column::measure(rt, &mut scene, size, CALLS)?;
-        ensure!(column.is_right(), "a call was not answered as it should be");
-        fastest = fastest.faster(&column);
-    }
-    Ok(fastest)
+// The one supplier that calls.
+fn caller(alloc: Global) -> Option<Caller> {
+    let uss = UssId::read(alloc, "uss-a").ok()?;
+    Some(Caller {
+        uss,
+        scopes: ScopeSet::empty().with(Scope::StrategicCoordination),
+    })
 }
 
-fn show_times(rt: &(impl Print + AllocGlobal + Clock), sizes: &[u64]) -> Result<()> {
-    let mut columns = Vec::new(rt.alloc());
-    for size in sizes {
-        columns.push(fastest_column(rt, *size)?)?;
-    }
-    print_table(rt, columns.as_slice())
+fn call_of(alloc: Global, kind: OpKind, words: &PathWords<'_>, body: &str) -> Option<Call> {
+    let op = read_body(alloc, kind, words, body.as_bytes()).ok()?;
+    Some(Call {
+        caller: caller(alloc),
+        op,
+    })
 }
 
-fn size_of(word: &str) -> Result<u64> {
-    let size = word.parse::<u64>().context("a size")?;
-    ensure!(
-        size % 10 == 0 && 10 <= size && size <= 100_000,
-        "a size is a multiple of 10 up to 100000"
-    );
-    Ok(size)
+// Makes a call. Its status, the length of its body and the time that it took.
+fn answer(
+    rt: &(impl AllocGlobal + Clock),
+    service: &mut Service<ListSpace>,
+    call: &Call,
+) -> Option<(u16, usize, u64)> {
+    let start = Instant::now(rt).ok()?;
+    let reply = service.call(rt.alloc(), NOW, call);
+    let taken = start.elapsed(rt).ok()?;
+    let nanos = u64::try_from(taken.as_nanos()).unwrap_or(u64::MAX);
+    let length = reply_text(rt.alloc(), &reply).ok()?.len();
+    Some((status(&reply), length, nanos))
 }
 
-fn main(rt: HostRuntime) -> Result<()> {
-    let mut sizes = Vec::new(rt.alloc());
-    for word in env::args(&rt)?.skip(1) {
-        if word.as_str() == "full" {
-            sizes.extend_from_slice(&[100, 1_000, 10_000])?;
-        } else {
-            sizes.push(size_of(word.as_str())?)?;
-        }
+// Answers the call of a line.
+fn answer_line(
+    rt: &(impl Print + AllocGlobal + Clock),
+    service: &mut Service<ListSpace>,
+    line: &str,
+    shows_times: bool,
+) -> Option<()> {
+    let (mark, rest) = line.split_once(' ')?;
+    let (asked, rest) = rest.split_once(' ')?;
+    let (first, rest) = rest.split_once(' ')?;
+    let (second, body) = rest.split_once(' ')?;
+    let words = PathWords {
+        first,
+        second: (second != "-").then_some(second),
+    };
+    let call = call_of(rt.alloc(), kind_of(asked)?, &words, body)?;
+    let (status, length, nanos) = answer(rt, service, &call)?;
+    if mark != "timed" {
+        return Some(());
     }
-    if sizes.is_empty() {
-        show_counts(&rt)
-    } else {
-        show_times(&rt, sizes.as_slice())
+    if shows_times {
+        return println!(rt; "{status} {length} {nanos}").ok();
+    }
+    println!(rt; "{status} {length}").ok()
+}
+
+fn answer_all(rt: &(impl Print + AllocGlobal + Clock + Input), shows_times: bool) -> Option<()> {
+    let salt = Salt::read(rt.alloc(), "bench").ok()?;
+    let mut service = Service::new(ListSpace::new(rt.alloc()), salt);
+    for line in rt.lines(rt.alloc()) {
+        let text = line.ok()?;
+        answer_line(rt, &mut service, text.as_str(), shows_times)?;
+    }
+    Some(())
+}
+
+fn main(rt: HostRuntime) -> ExitCode {
+    let shows_times = match env::args(&rt) {
+        Ok(words) => words.len() > 1,
+        Err(_) => return ExitCode::FAILURE,
+    };
+    match answer_all(&rt, shows_times) {
+        Some(()) => ExitCode::SUCCESS,
+        None => ExitCode::FAILURE,
     }
 }

@@ -1,11 +1,9 @@
-//! Tests of the policy as calls to a service: worked examples, changes of state, limits.
+//! Tests of calls to a service, of bodies and of replies where no stream reaches them.
 #![tactic(auto)]
 
 #[cfg(test)]
-mod asked;
+mod bodies;
 #[cfg(test)]
-mod examples;
+mod calls;
 #[cfg(test)]
-mod meetings;
-#[cfg(test)]
-mod states;
+mod replies;

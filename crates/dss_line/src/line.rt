@@ -152,6 +152,3 @@ pub fn parse<'a>(alloc: Global, words: &'a [&'a str]) -> Result<Line<'a>, LineFa
         )?)),
     }
 }
-
-#[cfg(test)]
-mod tests;

@@ -7,7 +7,6 @@ use space_core::list::ListSpace;
 use std::alloc::Global;
 use std::io;
 use std::io::{ErrorKind, Read, Write};
-use std::test::Fail;
 use token_conf::token_table::TokenTable;
 use wire_http::{Counted, End, Fixed, StreamFault, serve_stream};
 
@@ -40,13 +39,13 @@ pub const PUT_ANSWER: &str =
     "HTTP/1.1 200 OK\r\nContent-Type: application/json\r\nContent-Length: 125\r\nConnection: close\r\n\r\n{\"status\":{\"availability\":\"Down\",\"uss\":\"uss-b\"},\"version\":\"0c8bab20c7aa631feb6e9d12df89abda74886cd1be999754333b0cbdafd072d7\"}";
 
 /// The greatest serial that a test begins at.
-pub const LAST_START: u64 = 9_223_372_036_854_775_806;
+const LAST_START: u64 = 9_223_372_036_854_775_806;
 
 /// A service over an empty airspace at a serial, with the salt of the worked examples.
-pub fn service_at(rt: &impl AllocGlobal, serial: u64) -> Result<Service<ListSpace>, Fail> {
-    let salt = Salt::read(rt.alloc(), "demo")?;
-    let space = ListSpace::at_serial(rt.alloc(), serial.min(LAST_START));
-    Ok(Service::new(space, salt))
+pub fn service_at(alloc: Global, serial: u64) -> Option<Service<ListSpace>> {
+    let salt = Salt::read(alloc, "demo").ok()?;
+    let space = ListSpace::at_serial(alloc, serial.min(LAST_START));
+    Some(Service::new(space, salt))
 }
 
 /// A reader that gives at most so many bytes a call, and whose call of one place fails.
@@ -94,54 +93,44 @@ impl Write for Writer {
 /// What became of a stream: how it ended, and what was written.
 pub type Outcome = (Result<End, StreamFault>, Vec<u8>);
 
-/// Serves an input with devices that move so many bytes a call and make so many calls.
+/// How many bytes a call of a device moves, and how many calls each makes before it fails.
+#[derive(Clone, Copy, Debug)]
+pub struct Devices {
+    pub piece: usize,
+    pub reads: u64,
+    pub writes: u64,
+}
+
+impl Devices {
+    /// Devices that do not fail, and move an input in one piece.
+    pub fn ample() -> Devices {
+        Devices {
+            piece: 65_536,
+            reads: 100_000,
+            writes: 100_000,
+        }
+    }
+}
+
+/// Serves an input, or nothing where there is no memory for the token table.
 pub fn served_by(
     alloc: Global,
     service: &mut Service<ListSpace>,
-    tokens: &TokenTable,
     input: &str,
-    piece: usize,
-    reads: u64,
-    writes: u64,
-) -> Outcome {
+    devices: Devices,
+) -> Option<Outcome> {
+    let tokens = TokenTable::read(alloc, TOKENS).ok()?;
     let mut reader = Counted::new(Reader {
         bytes: input.as_bytes(),
-        piece,
-        left: reads,
+        piece: devices.piece,
+        left: devices.reads,
     });
     let mut writer = Counted::new(Writer {
         taken: Vec::new(alloc),
-        piece,
-        left: writes,
+        piece: devices.piece,
+        left: devices.writes,
     });
     let mut clock = Fixed::new(1000);
-    let end = match serve_stream(alloc, service, tokens, &mut clock, &mut reader, &mut writer) {
-        Ok(served) => Ok(served.end),
-        Err(fault) => Err(fault),
-    };
-    (end, writer.into_inner().taken)
-}
-
-/// The token table of these tests.
-pub fn token_table(alloc: Global) -> Result<TokenTable, Fail> {
-    Ok(TokenTable::read(alloc, TOKENS)?)
-}
-
-/// Serves an input in one piece.
-pub fn served(
-    rt: &impl AllocGlobal,
-    service: &mut Service<ListSpace>,
-    input: &str,
-) -> Result<(End, Vec<u8>), Fail> {
-    let tokens = token_table(rt.alloc())?;
-    let (end, text) = served_by(
-        rt.alloc(),
-        service,
-        &tokens,
-        input,
-        65_536,
-        100_000,
-        100_000,
-    );
-    Ok((end?, text))
+    let served = serve_stream(alloc, service, &tokens, &mut clock, &mut reader, &mut writer);
+    Some((served.map(|it| it.end), writer.into_inner().taken))
 }

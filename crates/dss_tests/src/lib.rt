@@ -1,17 +1,13 @@
-//! Tests that cross crates: the worked examples, and devices that fail.
+//! Tests of the stream and of command lines where a device fails or a serial is the greatest.
 #![tactic(auto)]
 
 #[cfg(test)]
-mod calls;
+mod clocks;
 #[cfg(test)]
 mod commands;
 #[cfg(test)]
 mod devices;
 #[cfg(test)]
-mod entities;
-#[cfg(test)]
-mod examples;
-#[cfg(test)]
 mod failures;
 #[cfg(test)]
-mod versions;
+mod limits;

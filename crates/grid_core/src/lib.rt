@@ -4,8 +4,6 @@
 pub mod cell;
 pub mod laws;
 pub mod range;
-#[cfg(test)]
-mod tests;
 pub mod token;
 pub mod volume;
 pub mod volume_fault;

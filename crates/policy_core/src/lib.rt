@@ -11,5 +11,3 @@ pub mod reference;
 pub mod rule;
 pub mod scope;
 pub mod standing;
-#[cfg(test)]
-mod tests;

@@ -101,6 +101,3 @@ impl TokenTable {
         &self.salt
     }
 }
-
-#[cfg(test)]
-mod tests;

@@ -5,15 +5,11 @@ pub mod answer;
 pub mod availability;
 pub mod body;
 pub mod body_fault;
-#[cfg(test)]
-mod body_tests;
 pub mod laws;
 mod member;
 mod put;
 mod reference;
 mod setting;
 mod state;
-#[cfg(test)]
-mod tests;
 mod volume;
 mod words;

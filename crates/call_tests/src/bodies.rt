@@ -1,0 +1,21 @@
+//! Bodies and words that no route gives.
+use entity_core::nature::Kind;
+use policy_core::call::OpKind;
+use wire_json::body::{PathWords, read_body};
+use wire_json::body_fault::BodyFault;
+
+#[test]
+fn words_of_no_route(rt: HostRuntime) {
+    let body = "{\"area_of_interest\":{\"cells\":[\"89c3\"]}}";
+    let setting = "{\"availability\":\"Down\"}";
+    for (kind, first, second, body) in [
+        (OpKind::Query(Kind::Intent), "Query", None, body),
+        (OpKind::SetAvail, "uss-b", Some("x"), setting),
+        (OpKind::ReadAvail, "uss-b", Some("x"), ""),
+        (OpKind::Read(Kind::Constraint), "00000000-0000-4000-8000-0000000000a1", Some("0123456789abcdef"), ""),
+    ] {
+        let words = PathWords { first, second };
+        let read = read_body(rt.alloc(), kind, &words, body.as_bytes());
+        assert!(rt; matches!(read, Err(BodyFault::Malformed)), "at {first}");
+    }
+}

@@ -1,0 +1,45 @@
+//! The texts of replies that no stream over a list space gives.
+use entity_core::availability::Availability;
+use entity_core::base_url::BaseUrl;
+use entity_core::entity_id::EntityId;
+use entity_core::nature::{Nature, State};
+use entity_core::uss_id::UssId;
+use entity_core::version::Version;
+use policy_core::reference::Reference;
+use service_core::reply::{Answer, Reply};
+use std::alloc::Global;
+use wire_json::answer::{reply_text, status};
+
+// What others see of an intent that ends at the greatest number.
+fn endless(alloc: Global) -> Option<Reply> {
+    Some(Reply::Done(Answer::Found(Reference {
+        nature: Nature::Intent(State::Activated),
+        id: EntityId::read("F81D4FAE-7DEC-11D0-A765-00A0C91E6BF6").ok()?,
+        manager: UssId::read(alloc, "uss_b.7").ok()?,
+        availability: Availability::Down,
+        version: Version::first(),
+        ovn: None,
+        time_start: 0,
+        time_end: u64::MAX,
+        url: BaseUrl::read(alloc, "https://b.example/\"x\"\\y").ok()?,
+    })))
+}
+
+const ENDLESS: &str = "{\"operational_intent_reference\":\
+    {\"id\":\"f81d4fae-7dec-11d0-a765-00a0c91e6bf6\",\"manager\":\"uss_b.7\",\"state\":\"Activated\",\
+    \"subscription_id\":\"00000000-0000-4000-8000-000000000000\",\
+    \"time_end\":18446744073709551615,\"time_start\":0,\"uss_availability\":\"Down\",\
+    \"uss_base_url\":\"https://b.example/\\\"x\\\"\\\\y\",\"version\":1}}";
+
+#[test]
+fn texts_of_replies(rt: HostRuntime) {
+    for (reply, code, text) in [
+        (Some(Reply::Stopped), 503, "{\"message\":\"stopped\"}"),
+        (endless(rt.alloc()), 200, ENDLESS),
+    ] {
+        let reply = reply.expect(&rt, "a reply");
+        assert_eq!(rt; status(&reply), code);
+        let found = reply_text(rt.alloc(), &reply).expect(&rt, "a text");
+        assert!(rt; found.as_slice() == text.as_bytes(), "at {text}");
+    }
+}

@@ -1,0 +1,54 @@
+//! The order of faults, and their numbers and names.
+use grid_core::cell::CellId;
+use grid_core::token::{TokenFault, parse_token};
+use grid_core::volume::{Area, Volume};
+use grid_core::volume_fault::VolumeFault;
+use std::alloc::Global;
+use token_conf::conf_fault::ConfFault;
+
+// So many times the same cell.
+fn cells(alloc: Global, count: u32) -> Option<Vec<CellId>> {
+    let cell = parse_token("89c25904").ok()?;
+    let mut cells = Vec::new(alloc);
+    for _ in 0..count {
+        cells.push(cell).ok()?;
+    }
+    Some(cells)
+}
+
+#[test]
+fn the_first_fault_of_an_extent(rt: HostRuntime) {
+    for (count, altitude, time, wanted) in [
+        (0, (8, 7), (8, 7), Some(VolumeFault::Empty)),
+        (513, (8, 7), (8, 7), Some(VolumeFault::TooMany)),
+        (1, (8, 7), (8, 7), Some(VolumeFault::Altitude)),
+        (1, (7, 7), (8, 7), Some(VolumeFault::Time)),
+        (512, (7, 7), (7, 7), None),
+    ] {
+        let given = cells(rt.alloc(), count).expect(&rt, "cells");
+        let bounds = ((Some(altitude.0), Some(altitude.1)), (Some(time.0), Some(time.1)));
+        let area = Area::new(given, bounds.0, bounds.1);
+        assert!(rt; area.err() == wanted, "of {count} cells");
+        let given = cells(rt.alloc(), count).expect(&rt, "cells");
+        let volume = Volume::new(given, altitude, time);
+        assert!(rt; volume.err() == wanted, "of {count} cells");
+    }
+}
+
+#[test]
+fn faults_by_number(rt: HostRuntime) {
+    for (fault, number, name) in [
+        (VolumeFault::Empty, 1, "Empty"),
+        (VolumeFault::TooMany, 2, "TooMany"),
+        (VolumeFault::Altitude, 3, "Altitude"),
+        (VolumeFault::Time, 4, "Time"),
+    ] {
+        assert_eq!(rt; fault.number(), number);
+        assert_eq!(rt; fault.name(), name);
+    }
+    assert_eq!(rt; TokenFault::Length.number(), 1);
+    assert_eq!(rt; TokenFault::Length.name(), "Length");
+    assert_eq!(rt; ConfFault::Memory.number(), 7);
+    assert_eq!(rt; ConfFault::Memory.name(), "Memory");
+    assert!(rt; CellId::from_raw(0).is_none());
+}

@@ -1,0 +1,111 @@
+//! What a key lacks, beside the plain search that defines it.
+use entity_core::base_url::BaseUrl;
+use entity_core::entity::Entity;
+use entity_core::entity_id::EntityId;
+use entity_core::nature::Nature;
+use entity_core::ovn::Ovn;
+use entity_core::serial::Serial;
+use entity_core::uss_id::UssId;
+use entity_core::version::Version;
+use entity_core::volumes::Volumes;
+use grid_core::token::parse_token;
+use grid_core::volume::Volume;
+use policy_core::key_index::KeyIndex;
+use policy_core::missing::missing;
+use std::alloc::Global;
+
+// A version number: that of 1 begins those of 10 and of 100.
+fn ovn(alloc: Global, number: u64) -> Option<Ovn> {
+    let text = format!(in alloc; "0123456789abcdef{number}").ok()?;
+    Ovn::read(alloc, text.as_str()).ok()
+}
+
+// So many version numbers of those below one, in no order, and again from the first when all are used.
+fn key(alloc: Global, count: u64, below: u32) -> Option<Vec<Ovn>> {
+    let mut key = Vec::new(alloc);
+    let mut number = 0u32;
+    for _ in 0..count {
+        key.push(ovn(alloc, u64::from(number))?).ok()?;
+        number = number.wrapping_add(14).checked_rem(below).unwrap_or(0);
+    }
+    Some(key)
+}
+
+// One volume of one cell.
+fn volumes(alloc: Global) -> Option<Volumes> {
+    let mut cells = Vec::new(alloc);
+    cells.push(parse_token("89c25904").ok()?).ok()?;
+    let mut items = Vec::new(alloc);
+    items.push(Volume::new(cells, (0, 1000), (900, 1500)).ok()?).ok()?;
+    Volumes::from_vec(items)
+}
+
+fn entity(alloc: Global, ovn: Ovn) -> Option<Entity> {
+    Some(Entity {
+        nature: Nature::Constraint,
+        id: EntityId::read("00000000-0000-4000-8000-0000000000a1").ok()?,
+        manager: UssId::read(alloc, "uss-a").ok()?,
+        version: Version::first(),
+        serial: Serial::after(0)?,
+        ovn,
+        volumes: volumes(alloc)?,
+        url: BaseUrl::read(alloc, "https://a.example").ok()?,
+    })
+}
+
+// Entities with the version numbers from that of 0 on.
+fn entities(alloc: Global, count: u64) -> Option<Vec<Entity>> {
+    let mut entities = Vec::new(alloc);
+    for number in 0..count {
+        entities.push(entity(alloc, ovn(alloc, number)?)?).ok()?;
+    }
+    Some(entities)
+}
+
+// What `missing` gives, as it is defined: each version number is sought in the whole key.
+fn plain_missing(alloc: Global, key: &[Ovn], needed: &[Entity]) -> Option<Vec<usize>> {
+    let mut places = Vec::new(alloc);
+    for (place, entity) in needed.iter().enumerate() {
+        let sought = entity.ovn.text();
+        if !key.iter().any(|own| own.text() == sought) {
+            places.push(place).ok()?;
+        }
+    }
+    Some(places)
+}
+
+#[test]
+fn missing_is_as_the_plain_search_says(rt: HostRuntime) {
+    let alloc = rt.alloc();
+    let needed = entities(alloc, 401).expect(&rt, "entities");
+    for (count, below, lacking) in [
+        (0, 401, 401),
+        (1, 401, 400),
+        (200, 401, 201),
+        // 50 version numbers, each of them eight times
+        (400, 100, 351),
+        (401, 401, 0),
+        (4096, 4999, 58),
+    ] {
+        let key = key(alloc, count, below).expect(&rt, "a key");
+        let quick = missing(alloc, key.as_slice(), needed.as_slice()).expect(&rt, "places");
+        let plain = plain_missing(alloc, key.as_slice(), needed.as_slice()).expect(&rt, "places");
+        assert_eq!(rt; quick.len(), lacking, "of a key of {count}");
+        assert!(rt; quick.as_slice() == plain.as_slice(), "of a key of {count}");
+    }
+}
+
+#[test]
+fn an_index_has_whole_version_numbers(rt: HostRuntime) {
+    let alloc = rt.alloc();
+    let mut key = Vec::new(alloc);
+    for number in [10, 200, 10] {
+        let own = ovn(alloc, number).expect(&rt, "a version number");
+        assert!(rt; key.push(own).is_ok());
+    }
+    let index = KeyIndex::of(alloc, key.as_slice()).expect(&rt, "an index");
+    for (number, has) in [(10, true), (200, true), (1, false), (100, false), (20, false)] {
+        let sought = ovn(alloc, number).expect(&rt, "a version number");
+        assert!(rt; index.has(&sought) == has, "of {number}");
+    }
+}

@@ -1,0 +1,12 @@
+//! Tests of the crates of cells, entities and rules of what bytes do not show: faults by their numbers,
+//! limits that no stream reaches, keys of some thousands, and digests of another program.
+#![tactic(auto)]
+
+#[cfg(test)]
+mod entities;
+#[cfg(test)]
+mod faults;
+#[cfg(test)]
+mod keys;
+#[cfg(test)]
+mod versions;

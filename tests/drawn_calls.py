@@ -1,0 +1,259 @@
+"""Calls that look drawn at random, the same in each run, over what the plain policy keeps. Something is
+often wrong with one, so that each rule is broken some times."""
+import json
+
+import plain_policy
+import wire
+from plain_policy import CONSTRAINT, INTENT, MAY_BECOME, PATHS, STATES
+
+NOW = 5_000
+SUPPLIERS = ("uss-a", "uss-b", "uss-c", "uss-v")
+TOKENS = tuple(wire.TOKENS)
+# Tokens whose scopes open the changes of a kind, and those that open its readings.
+HANDLERS = {INTENT: ("tok-a", "tok-as", "tok-b", "tok-bm", "tok-bc"), CONSTRAINT: ("tok-c", "tok-d")}
+VIEWERS = {INTENT: HANDLERS[INTENT], CONSTRAINT: ("tok-bc", "tok-c", "tok-d")}
+# One more supplier of constraints, beside those of the worked examples.
+MORE = {"tok-d": ("uss-d", {wire.MANAGEMENT, wire.STRATEGIC})}
+ALL_TOKENS = {**wire.TOKENS, **MORE}
+
+WORKS = (
+    ["create"] * 8 + ["update"] * 12 + ["query"] * 4 + ["read"] * 4 + ["delete"] * 5 + ["set"] * 3 + ["told"] * 2
+    + ["route"] * 1 + ["method"] * 1
+)
+# What is wrong, so often.
+FLAWS = {
+    "create": ["id"] * 5 + ["key"] * 4 + ["time"] * 2 + ["state"] * 3 + ["form", "scope", "cover"] + [None] * 13,
+    "update": ["id", "manager", "manager", "ovn", "ovn", "both"] + ["state"] * 6 + ["key"] * 5 + ["time"] * 2
+    + ["form", "scope", "cover"] + [None] * 11,
+    "query": ["form", "scope", "cover"] + [None] * 9,
+    "read": ["id", "id", "form", "scope", "nobody"] + [None] * 7,
+    "delete": ["id", "manager", "ovn", "both", "form", "scope"] + [None] * 10,
+    "set": ["ovn", "form", "scope"] + [None] * 6,
+    "told": ["form", "scope", "nobody"] + [None] * 6,
+    "route": [None],
+    "method": [None],
+}
+
+
+class Draw:
+    """A linear congruential generator."""
+
+    def __init__(self, seed):
+        self.state = seed
+
+    def below(self, count):
+        self.state = (self.state * 6_364_136_223_846_793_005 + 1_442_695_040_888_963_407) % 2**64
+        return (self.state >> 33) % count
+
+    def of(self, items):
+        return items[self.below(len(items))]
+
+    def one_in(self, count):
+        return self.below(count) == 0
+
+
+class Drawn:
+    """Draws calls over an airspace."""
+
+    def __init__(self, draw, airspace):
+        self.draw, self.airspace = draw, airspace
+
+    def call(self):
+        """A method, a target, the value of the Authorization field or None, and a body or None."""
+        work = self.draw.of(WORKS)
+        flaw = self.draw.of(FLAWS[work])
+        if work == "route":
+            paths = ("/dss/v1/nothing", f"{wire.INTENTS}/query/x", f"{wire.INTENTS}/", "/dss/v1/uss_availability/a/b")
+            return self.of_method("GET", self.draw.of(paths), self.draw.of(TOKENS), None)
+        if work == "method":
+            calls = (
+                ("GET", f"{wire.INTENTS}/query"),
+                ("DELETE", f"{wire.AVAILABILITY}/uss-a"),
+                ("put", self.path(INTENT, 1)),
+            )
+            return self.of_method(*self.draw.of(calls), self.draw.of(TOKENS), None)
+        if work in ("set", "told"):
+            method, target, token, body = self.availability(work, flaw)
+        else:
+            kind = CONSTRAINT if self.draw.one_in(4) else INTENT
+            method, target, token, body = getattr(self, work)(kind, flaw)
+        if flaw == "scope":
+            token = self.draw.of(TOKENS)
+        if flaw == "nobody":
+            token = self.draw.of((None, "", "tok", "tok-asx"))
+        return self.of_method(method, target, token, body)
+
+    def of_method(self, method, target, token, body):
+        schemes = ("Bearer ", "Bearer ", "Bearer ", "bearer  ", "BEARER ")
+        authorization = None if token is None else self.draw.of(schemes) + token
+        return method, target, authorization, body
+
+    # ---- ids and versions
+
+    def path(self, kind, number, *words):
+        digits = f"00000000-0000-4000-8000-0000000000a{number}"
+        return "/".join([PATHS[kind], digits.upper() if self.draw.one_in(8) else digits, *words])
+
+    def kept(self, kind):
+        return [it for (_, it) in sorted(self.airspace.entities.items()) if it.kind == kind]
+
+    def target(self, kind, flaw):
+        """An entity that is there, or where there is none or the id is to be wrong, a number of one that is not."""
+        kept = self.kept(kind)
+        return self.draw.of(kept) if kept and flaw != "id" else None
+
+    def free(self, kind):
+        taken = {it.id[-1] for it in self.kept(kind)}
+        return [it for it in "0123456" if it not in taken]
+
+    def old_ovn(self):
+        return wire.ovn(self.draw.below(self.airspace.serial + 1))
+
+    def ovn(self, entity, flaw):
+        return self.old_ovn() if entity is None or flaw in ("ovn", "both") else wire.ovn(entity.serial)
+
+    def manager(self, entity, kind, flaw):
+        """A token of the entity's manager, or of another."""
+        of_manager = [it for it in HANDLERS[kind] if entity and ALL_TOKENS[it][0] == entity.manager]
+        if flaw in ("manager", "both") or not of_manager:
+            others = [it for it in HANDLERS[kind] if it not in of_manager]
+            return self.draw.of(others)
+        return self.draw.of(of_manager)
+
+    # ---- entities
+
+    def create(self, kind, flaw):
+        free = self.free(kind)
+        kept = self.kept(kind)
+        is_new = free and (flaw != "id" or not kept)
+        number = self.draw.of(free) if is_new else self.draw.of(kept).id[-1]
+        token = self.draw.of(HANDLERS[kind])
+        put = self.put(kind, flaw, token, None)
+        return "PUT", self.path(kind, number), token, self.body(put, flaw)
+
+    def update(self, kind, flaw):
+        entity = self.target(kind, flaw)
+        number = entity.id[-1] if entity else self.draw.of(self.free(kind) or "7")
+        token = self.manager(entity, kind, flaw)
+        put = self.put(kind, flaw, token, entity)
+        return "PUT", self.path(kind, number, self.ovn(entity, flaw)), token, self.body(put, flaw)
+
+    def delete(self, kind, flaw):
+        entity = self.target(kind, flaw)
+        number = entity.id[-1] if entity else self.draw.of(self.free(kind) or "7")
+        word = "short" if flaw == "form" else self.ovn(entity, flaw)
+        return "DELETE", self.path(kind, number, word), self.manager(entity, kind, flaw), None
+
+    def read(self, kind, flaw):
+        entity = self.target(kind, flaw)
+        number = entity.id[-1] if entity else self.draw.of(self.free(kind) or "7")
+        target = self.path(kind, number) + "0" * (flaw == "form") + "?more" * self.draw.one_in(8)
+        # the body of a reading is not looked at
+        body = b"[" if self.draw.one_in(6) else None
+        return "GET", target, self.draw.of(VIEWERS[kind]), body
+
+    def query(self, kind, flaw):
+        area = {"cells": self.cells(flaw)}
+        for name, value in self.bounds():
+            if self.draw.one_in(2):
+                area[name] = None if self.draw.one_in(6) else value
+        body = self.body({"area_of_interest": area}, flaw)
+        return "POST", f"{PATHS[kind]}/query", self.draw.of(VIEWERS[kind]), body
+
+    def availability(self, work, flaw):
+        uss = self.draw.of(SUPPLIERS)
+        target = f"{wire.AVAILABILITY}/{'u+' if flaw == 'form' and work == 'told' else ''}{uss}"
+        if work == "told":
+            return "GET", target, self.draw.of(("tok-a", "tok-bm", "tok-v")), None
+        old = self.airspace.settings.get(uss, ("", ""))[1]
+        put = {"availability": self.draw.of(plain_policy.AVAILABILITIES)}
+        put["old_version"] = self.old_ovn() if flaw == "ovn" else old
+        if not put["old_version"] and self.draw.one_in(3):
+            del put["old_version"]
+        return "PUT", target, "tok-v", self.body(put, flaw)
+
+    # ---- what bodies are made of
+
+    def put(self, kind, flaw, token, entity):
+        volumes = [self.volume(flaw) for _ in range(1 + self.draw.below(3))]
+        urls = ("https://a.example", "u", 'https://b.example/"x"\\y')
+        put = {"extents": volumes, "uss_base_url": self.draw.of(urls)}
+        if kind == INTENT:
+            put["state"] = self.state(flaw, token, entity)
+            put["key"] = self.key(flaw)
+            if not put["key"] and self.draw.one_in(3):
+                put["key"] = None
+        return put
+
+    def state(self, flaw, token, entity):
+        states = MAY_BECOME[entity.put.state] if entity and entity.kind == INTENT else STATES
+        scopes = ALL_TOKENS[token][1]
+        roles = [it for it in states if (wire.STRATEGIC if it in STATES[:2] else wire.MONITORING) in scopes]
+        return self.draw.of(STATES) if flaw == "state" or not roles else self.draw.of(roles)
+
+    def key(self, flaw):
+        """All present version numbers, or where the key is to be wrong some of them, old ones among them."""
+        key = []
+        for entity in self.airspace.entities.values():
+            choice = self.draw.below(3) if flaw == "key" else 0
+            key += [wire.ovn(entity.serial)] if choice == 0 else [self.old_ovn()] if choice == 1 else []
+        return key
+
+    def volume(self, flaw):
+        return {"cells": self.cells(flaw), **dict(self.bounds(flaw))}
+
+    def bounds(self, flaw=None):
+        low, high = self.draw.of(((0, 500), (500, 1_000), (501, 2_000), (-100_000, 0), (501, 1_000_000)))
+        start = NOW - self.draw.below(300)
+        end = NOW - self.draw.below(2) if flaw == "time" else NOW + self.draw.below(900) + 1
+        return (
+            ("altitude_lower", low),
+            ("altitude_upper", high),
+            ("time_start", min(start, end)),
+            ("time_end", end),
+        )
+
+    def cells(self, flaw):
+        cells = []
+        for _ in range(1 + self.draw.below(3)):
+            cells.append(self.cell(self.draw.below(6) if flaw == "cover" else 7 + self.draw.below(24)))
+        return cells + [""] * (flaw == "form" and self.draw.one_in(3))
+
+    def cell(self, level):
+        """The token of a cell of that level. Its digits differ from those of others near level 13 alone, so that
+        two cells often touch and often do not."""
+        bits = format(int(self.draw.one_in(5)), "03b")
+        for at in range(1, level + 1):
+            bits += "11" if 11 <= at <= 15 and self.draw.one_in(4) else "00"
+        token = format(int((bits + "1").ljust(64, "0"), 2), "016x").rstrip("0")
+        return token.upper() if self.draw.one_in(8) else token
+
+    def body(self, members, flaw):
+        if flaw != "form":
+            members = {**members, "more": [1e3]} if self.draw.one_in(6) else members
+            return json.dumps(members, indent=1 if self.draw.one_in(6) else None).encode()
+        whole = json.dumps(members).encode()
+        name = self.draw.of(sorted(members))
+        broken = (
+            b"",
+            whole[:-1],
+            whole + b"}",
+            b"[" + whole + b"]",
+            json.dumps({**members, name: 7}).encode(),
+            json.dumps({it: members[it] for it in members if it != name}).encode(),
+            whole.replace(b'": 5', b'": 5.'),
+        )
+        return self.draw.of(broken)
+
+
+def stream(seed, count=wire.MOST_REQUESTS):
+    """The requests of a stream, and the outcomes that the plain policy gives them."""
+    draw = Draw(seed)
+    airspace = plain_policy.Airspace(NOW, ALL_TOKENS)
+    drawn = Drawn(draw, airspace)
+    requests, outcomes = [], []
+    for _ in range(count):
+        call = drawn.call()
+        requests.append(wire.request(*call))
+        outcomes.append(airspace.ask(*call))
+    return requests, outcomes

@@ -1,0 +1,43 @@
+"""The built program, and how it is run."""
+import os
+import pathlib
+import subprocess
+import tempfile
+
+import wire
+
+TOP = pathlib.Path(__file__).resolve().parent.parent
+CASES = TOP / "tests" / "cases"
+DSS = str(TOP / "dss")
+BUILT = str(TOP / ".dss" / "dss")
+SECONDS = 60
+
+
+def run(words, given=b"", folder=TOP, more=None, program=None):
+    """The status, standard output and standard error of a command, with more in its environment. The program
+    is the first word, if no other file is given."""
+    environment = {**os.environ, **(more or {})}
+    done = subprocess.run(
+        words, executable=program, input=given, capture_output=True, cwd=folder, timeout=SECONDS, env=environment
+    )
+    return done.returncode, done.stdout, done.stderr
+
+
+def content(file, missing=b""):
+    return file.read_bytes() if file.is_file() else missing
+
+
+def serve(requests, now, tokens=None, more=None):
+    """What comes of a stream, with the text of a token file."""
+    with tempfile.TemporaryDirectory() as room:
+        file = pathlib.Path(room, "tokens.toml")
+        file.write_bytes((wire.token_file() if tokens is None else tokens).encode())
+        return run([BUILT, "run", "--tokens", str(file), "--now", str(now), "-"], requests, more=more)
+
+
+def first_difference(wanted, got):
+    """Where two lists of answers differ first, in words, or None."""
+    for at, (want, have) in enumerate(zip(wanted, got)):
+        if want != have:
+            return f"answer {at + 1}\n    wanted {want!r}\n    got    {have!r}"
+    return None if len(wanted) == len(got) else f"wanted {len(wanted)} answers, got {len(got)}"

@@ -1,0 +1,102 @@
+"""Streams whose answers come from outside: worked examples, drawn calls beside the plain policy, and bodies,
+words and token files with what is wanted of each."""
+import collections
+import json
+
+import bodies
+import drawn_calls
+import wire
+from plain_policy import RULES
+from program import BUILT, TOP, first_difference, run, serve
+
+CLOSE = b"Connection: close\r\n"
+SEEDS = range(1, 31)
+LEAST = 10
+
+
+def served(name, requests, wanted, now, tokens=None):
+    """How what is written of requests, one after the other in a stream, differs from the answers wanted."""
+    status, output, error = serve(b"".join(requests), now, tokens)
+    why = first_difference(wanted, wire.answers_of(output))
+    if why is None and (status, output, error) != (0, b"".join(wanted), b""):
+        why = f"status {status}, {len(output)} bytes, {error!r}"
+    return [f"{name}: {why}"] if why else []
+
+
+def kept_open(texts):
+    """The texts without the lines by which a connection closes, but for the last."""
+    return [text.replace(CLOSE, b"") for text in texts[:-1]] + texts[-1:]
+
+
+def worked_examples():
+    """The steps of an example follow one another on a connection, so that what they keep lasts; those that tell
+    of ends of streams are a stream each."""
+    found = []
+    for example in json.loads((TOP / "tests" / "worked_examples.json").read_text()):
+        requests = [step["request"].encode("latin-1") for step in example["steps"]]
+        answers = [step["answer"].encode("latin-1") for step in example["steps"]]
+        if example["in_one_stream"]:
+            found += served(example["name"], kept_open(requests), kept_open(answers), example["now"])
+            continue
+        for request, answer in zip(requests, answers):
+            got = serve(request, example["now"])
+            if got != (0, answer, b""):
+                found += [f"{example['name']}: wanted {answer!r}, got {got!r}"]
+    return found
+
+
+def drawn():
+    """Streams of drawn calls are answered as the plain policy says, and each rule and each work comes."""
+    found, counts, works = [], collections.Counter(), set()
+    for seed in SEEDS:
+        requests, outcomes = drawn_calls.stream(seed)
+        wanted = [it.text(closes=at == wire.MOST_REQUESTS) for at, it in enumerate(outcomes, 1)]
+        found += served(f"seed {seed}", requests, wanted, drawn_calls.NOW, wire.token_file(drawn_calls.ALL_TOKENS))
+        counts.update(it.why for it in outcomes)
+        works |= {it.why for it in outcomes if it.why not in RULES}
+    print(f"drawn calls: {counts.total()}, of which are " + ", ".join(f"P{it} {counts[it]}" for it in RULES))
+    rare = [it for it in [*RULES, *works] if counts[it] < LEAST]
+    return found + ([f"under {LEAST} of {rare}"] if rare or len(works) != 12 else [])
+
+
+def said():
+    """Each body and word of the table of bodies is answered as the table says."""
+    found = []
+    for scene in bodies.scenes():
+        wanted = [wire.answer(*it) for it in scene.wanted]
+        found += served(scene.name, scene.requests, wanted, bodies.NOW, scene.tokens)
+    return found
+
+
+def token_files():
+    """Each token file of the table is read, or its fault is told."""
+    found = []
+    for text, fault in bodies.TOKEN_FILES:
+        got = serve(b"", bodies.NOW, text)
+        wanted = (1, b"", f"dss: tokens: fault {fault}\n".encode()) if fault else (0, b"", b"")
+        if got != wanted:
+            found += [f"{text!r}: wanted {wanted!r}, got {got!r}"]
+    return found
+
+
+def command_lines():
+    """Each command line of the table ends with its status. What a refused one says is not fixed, but is not nothing."""
+    found = []
+    for words, status, part in bodies.COMMAND_LINES:
+        got, output, error = run(["dss", *words], program=BUILT)
+        says = (error if status else output).decode()
+        silent = output if status else error
+        if got != status or silent or part not in says:
+            found += [f"{words}: wanted {status} and {part!r}, got {got}, {output!r}, {error!r}"]
+    return found
+
+
+def cells():
+    """Each token of the table is printed as a cell, or its fault is told."""
+    found = []
+    for token, status, text in bodies.CELLS:
+        wanted = (status, b"" if status else text.encode(), text.encode() if status else b"")
+        got = run([BUILT, "cell", token])
+        if got != wanted:
+            found += [f"{token!r}: wanted {wanted!r}, got {got!r}"]
+    return found

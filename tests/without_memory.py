@@ -1,0 +1,101 @@
+"""Runs of the built program in which one growth of memory is refused, each in turn."""
+import collections
+import json
+import pathlib
+import tempfile
+
+import plain_policy
+import wire
+from program import BUILT, CASES, TOP, content, run
+
+MOST_GROWTHS = 20_000
+FAULT = (500, '{"message":"fault"}')
+NOW = 1000
+
+
+def each_refused(command, given=b""):
+    """Runs a command with each growth of its memory refused in turn. Yields the number of the growth,
+    what came, and whether there was such a growth, which is so for all but the last."""
+    with tempfile.TemporaryDirectory() as room:
+        library, mark = f"{room}/refuse_memory.so", pathlib.Path(room, "refused")
+        built = run(["cc", "-shared", "-fPIC", "-O1", "-o", library, str(TOP / "tests" / "refuse_memory.c")])
+        if built[0]:
+            raise OSError(f"cc: {built[2]!r}")
+        for at in range(1, MOST_GROWTHS):
+            mark.unlink(missing_ok=True)
+            got = run(command, given, more={"LD_PRELOAD": library, "REFUSE_AT": str(at), "REFUSED": str(mark)})
+            yield at, got, mark.exists()
+            if not mark.exists():
+                return
+    raise ValueError(f"over {MOST_GROWTHS} growths of memory")
+
+
+def case(name):
+    """Refuses each growth of memory of a case in turn: its answer comes, or a fault, and never another one."""
+    folder = CASES / name
+    given = content(folder / "stdin")
+    words = content(folder / "args").decode().splitlines()
+    allowed = [(0, content(folder / "stdout"), b""), (1, b"", b"dss: memory\n")]
+    # a request may be answered with a fault
+    allowed += [(0, wire.answer(*FAULT, closes=True), b"")] if given else []
+    for at, got, is_refused in each_refused([BUILT, *words], given):
+        if not is_refused:
+            print(f"{name}: {at - 1} growths of memory refused in turn")
+            return [] if at > 10 and got == allowed[0] else [f"with {at - 1} growths: {got!r}"]
+        if got not in allowed:
+            return [f"growth {at} refused: {got!r}"]
+
+
+def eight_calls():
+    """Calls that create, lack a key, update, query, delete and set, each of them with an effect or a denial."""
+    volume = {"cells": ["89c25904"], "altitude_lower": 0, "altitude_upper": 1200, "time_start": 1000, "time_end": 4600}
+    put = {"extents": [volume], "uss_base_url": "https://uss.example"}
+
+    def intent(*serials):
+        return json.dumps({**put, "state": "Accepted", "key": [wire.ovn(it) for it in serials]}).encode()
+
+    a1, b1, c1 = (f"00000000-0000-4000-8000-0000000000{it}" for it in ("a1", "b1", "c1"))
+    area = json.dumps({"area_of_interest": {"cells": volume["cells"]}}).encode()
+    return [
+        ("PUT", f"{wire.INTENTS}/{a1}", "Bearer tok-a", intent()),
+        ("PUT", f"{wire.CONSTRAINTS}/{c1}", "Bearer tok-c", json.dumps(put).encode()),
+        ("PUT", f"{wire.INTENTS}/{b1}", "Bearer tok-bc", intent()),
+        ("PUT", f"{wire.INTENTS}/{b1}", "Bearer tok-bc", intent(1, 2)),
+        ("PUT", f"{wire.INTENTS}/{a1}/{wire.ovn(1)}", "Bearer tok-a", intent(3)),
+        ("POST", f"{wire.INTENTS}/query", "Bearer tok-a", area),
+        ("DELETE", f"{wire.INTENTS}/{a1}/{wire.ovn(4)}", "Bearer tok-a", None),
+        ("PUT", f"{wire.AVAILABILITY}/uss-b", "Bearer tok-v", b'{"availability":"Down"}'),
+    ]
+
+
+def answers(calls, faulted=None):
+    """The answers of the plain policy, in which one of the calls may be a fault, which changes nothing."""
+    airspace = plain_policy.Airspace(NOW)
+    return [
+        wire.answer(*FAULT) if at == faulted else airspace.ask(*call).text() for at, call in enumerate(calls)
+    ]
+
+
+def stream():
+    """Refuses each growth of memory of a stream of calls in turn. Each answer is that of the plain policy, or a
+    fault that changed nothing, or the stream ends with 'dss: memory' after some of them."""
+    calls = eight_calls()
+    fault = wire.answer(*FAULT)
+    faults, ends, others = collections.Counter(), collections.Counter(), 0
+    command = [BUILT, "run", "--tokens", str(TOP / "examples" / "tokens.toml"), "--now", str(NOW), "-"]
+    for at, got, is_refused in each_refused(command, b"".join(wire.request(*it) for it in calls)):
+        status, output, error = got
+        found = wire.answers_of(output)
+        faulted = found.index(fault) if fault in found else None
+        wanted = b"".join(answers(calls, faulted))
+        if (status, output, error) == (0, wanted, b"") and (is_refused or faulted is None):
+            others += is_refused and faulted is None
+            faults[faulted] += faulted is not None
+        elif is_refused and (status, error) == (1, b"dss: memory\n") and wanted.startswith(output):
+            ends[len(found)] += 1
+        else:
+            return [f"growth {at}, refused: {is_refused}: {got!r}"]
+    each = [faults[it] for it in range(len(calls))]
+    print(f"eight calls: {at - 1} growths of memory refused in turn: faults {each}, ends of the stream after so "
+          f"many answers {[ends[it] for it in range(len(calls))]}, without a trace {others}")
+    return [] if all(each) else ["not each of the calls was answered with a fault"]
