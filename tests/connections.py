@@ -13,6 +13,7 @@ import wire
 from program import BUILT, TOP, run
 
 NOW = 1000
+CLOSE = b"Connection: close\r\n"
 ID_A, ID_B = ("00000000-0000-4000-8000-0000000000" + end for end in ("a1", "b1"))
 READING = '{"status":{"availability":"Unknown","uss":"uss-b"},"version":""}'
 READS, WRITES, TURNS = (f"dss: stream: fault {it}\n".encode() for it in ("1 Read", "2 Write", "5 Turns"))
@@ -34,11 +35,11 @@ class Room:
     def __exit__(self, *_):
         self.folder.cleanup()
 
-    def serve(self, stream, **devices):
+    def serve(self, stream, now=NOW, **devices):
         """The status, output and error of a stream over devices set so."""
         more = {name: str(value) for name, value in devices.items()}
         more |= {"LD_PRELOAD": self.library} if devices else {}
-        return run([BUILT, "run", "--tokens", str(self.tokens), "--now", str(NOW), "-"], stream, more=more)
+        return run([BUILT, "run", "--tokens", str(self.tokens), "--now", str(now), "-"], stream, more=more)
 
 
 def ask(method, target, token, body=None, fields=(), closes=False):
@@ -102,17 +103,29 @@ def joined(steps):
     return b"".join(request for request, _ in steps), b"".join(answer for _, answer in steps)
 
 
+def examples():
+    """The streams of the worked examples, each with its name, its moment and its answers."""
+    for example in json.loads((TOP / "tests" / "worked_examples.json").read_text()):
+        steps = [(step["request"].encode("latin-1"), step["answer"].encode("latin-1")) for step in example["steps"]]
+        if example["in_one_stream"]:
+            kept = [(request.replace(CLOSE, b""), answer.replace(CLOSE, b"")) for request, answer in steps[:-1]]
+            yield example["name"], example["now"], *joined(kept + steps[-1:])
+        else:
+            for request, answer in steps:
+                yield example["name"], example["now"], request, answer
+
+
 def in_pieces():
     """However few bytes a read gives and a write takes, and wherever the first read ends, the answers are the same."""
     found = []
+    streams = [("a meeting", NOW, *joined(MEETING)), ("two readings", NOW, *joined(TWO_READINGS)), *examples()]
     with Room() as room:
-        for name, steps in ("a meeting", MEETING), ("two readings", TWO_READINGS):
-            stream, wanted = joined(steps)
-            ways = [{}, {"READ_BYTES": 1}, {"READ_BYTES": 7}, {"WRITE_BYTES": 1}, {"READ_BYTES": 1, "WRITE_BYTES": 1}]
-            if len(stream) < 500:
+        for name, now, stream, wanted in streams:
+            ways = [{}, {"READ_BYTES": 1}, {"WRITE_BYTES": 7}]
+            if len(stream) < 200:
                 ways += [{"READ_FIRST": at} for at in range(1, len(stream))]
             for devices in ways:
-                got = room.serve(stream, **devices)
+                got = room.serve(stream, now, **devices)
                 found += [f"{name}, {devices}: {got!r}"] if got != (0, wanted, b"") else []
     return found
 

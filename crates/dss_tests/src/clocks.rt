@@ -10,12 +10,14 @@ const TWO: &str =
 const ONE_AND_A_FAULT: &str =
     "GET /dss/v1/uss_availability/uss-b HTTP/1.1\r\n\r\nGET / HTTP/2\r\n";
 
-// How a stream over a clock of one moment ends, and how many answers were written.
-fn served(alloc: Global, input: &str) -> Option<(Result<End, StreamFault>, u64)> {
+// How a stream over a clock of so many moments ends, and how many answers were written.
+fn served(alloc: Global, input: &str, count: u64) -> Option<(Result<End, StreamFault>, u64)> {
     let tokens = TokenTable::read(alloc, TOKENS).ok()?;
     let mut service = service_at(alloc, 0)?;
     let mut moments = Vec::new(alloc);
-    moments.push(7).ok()?;
+    for _ in 0..count {
+        moments.push(7).ok()?;
+    }
     let mut clock = Listed::new(moments);
     let mut reader = Counted::new(input.as_bytes());
     let mut writer = Counted::new(Vec::new(alloc));
@@ -25,13 +27,15 @@ fn served(alloc: Global, input: &str) -> Option<(Result<End, StreamFault>, u64)>
 
 #[test]
 fn a_clock_fails(rt: HostRuntime) {
-    let outcome = served(rt.alloc(), TWO).expect(&rt, "a service");
-    assert!(rt; outcome == (Err(StreamFault::Clock), 1));
+    for count in 0..2u64 {
+        let outcome = served(rt.alloc(), TWO, count).expect(&rt, "a service");
+        assert!(rt; outcome == (Err(StreamFault::Clock), count));
+    }
 }
 
 #[test]
 fn a_rule_of_the_wire_takes_no_moment(rt: HostRuntime) {
-    let outcome = served(rt.alloc(), ONE_AND_A_FAULT).expect(&rt, "a service");
+    let outcome = served(rt.alloc(), ONE_AND_A_FAULT, 1).expect(&rt, "a service");
     assert!(rt; outcome == (Ok(End::Wire(WireRule::Head)), 2));
 }
 
