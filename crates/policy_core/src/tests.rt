@@ -1,4 +1,4 @@
-//! What a key lacks, beside the plain search that defines it.
+//! What is missing from a key, beside the plain search that defines it.
 use crate::key_index::KeyIndex;
 use crate::missing::missing;
 use entity_core::base_url::BaseUrl;
@@ -76,7 +76,7 @@ fn plain_missing(alloc: Global, key: &[Ovn], needed: &[Entity]) -> Result<Vec<us
 fn missing_is_as_the_plain_search_says(rt: HostRuntime) -> Result<(), Fail> {
     let alloc = rt.alloc();
     let needed = entities(alloc, 401)?;
-    for (count, below, lacking) in [
+    for (count, below, missed) in [
         (0, 401, 401),
         (1, 401, 400),
         (200, 401, 201),
@@ -88,7 +88,7 @@ fn missing_is_as_the_plain_search_says(rt: HostRuntime) -> Result<(), Fail> {
         let key = key(alloc, count, below)?;
         let quick = missing(alloc, key.as_slice(), needed.as_slice())?;
         let plain = plain_missing(alloc, key.as_slice(), needed.as_slice())?;
-        assert_eq!(rt; quick.len(), lacking, "of a key of {count}");
+        assert_eq!(rt; quick.len(), missed, "of a key of {count}");
         assert!(rt; quick.as_slice() == plain.as_slice(), "of a key of {count}");
     }
     Ok(())

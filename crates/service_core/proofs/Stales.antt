@@ -1,7 +1,6 @@
--- A put whose key has old version numbers alone is refused.
+-- A put whose key has old OVNs alone is refused.
 use Rattle.std.specs.Prelude.{◌≡◌, ℕ, zero, suc, ◌≤◌, ◌&&◌, ◌||◌, not, Bool, true, false, List, [], ◌∷◌, ◌++◌, map, filter, Option, Some, None, cond, find, refl, Contains, ◌⊎◌}
 use Rattle.std.proofs.Common.{arith, sym, ap, ◌∙◌, subst, inl, inr}
-use Rattle.std.proofs.lemmas.Option.{same_Some}
 use Rattle.std.specs.Cmp.Lexicographic.{same_text as one_text}
 use Rattle.std.specs.List.{AllByRecursion}
 use Rattle.std.specs.FinMap.{entries}
@@ -14,7 +13,6 @@ use Rattle.entity_core.specs.declared.entity.Entity.{Entity}
 use Rattle.entity_core.specs.declared.nature.Kind.{Kind}
 use Rattle.entity_core.specs.declared.nature.Kind.TheVariants as kinds
 use Rattle.policy_core.specs.declared.scope.Caller.{Caller}
-use Rattle.policy_core.specs.declared.scope.Scope.TheVariants.{ConstraintProcessing}
 use Rattle.policy_core.specs.declared.call.Call.{Call}
 use Rattle.policy_core.specs.declared.call.Put.{Put}
 use Rattle.policy_core.specs.declared.call.Operation.{Operation}
@@ -22,17 +20,15 @@ use Rattle.policy_core.specs.declared.call.Operation.TheVariants.{NoRoute, NoMet
 use Rattle.policy_core.specs.declared.rule.Rule.{Rule}
 use Rattle.policy_core.specs.declared.rule.Rule.TheVariants.{Key, Limit}
 use Rattle.policy_core.specs.declared.reference.Reference.{Reference}
-use Rattle.policy_core.specs.Blind.{key_shown}
-use Rattle.policy_core.specs.Missing.{in_key, is_lacking, lacking, needs_key, needed_intents, needed_constraints, is_none_of, is_nothing, missing_put, missing_by}
+use Rattle.policy_core.specs.Missing.{in_key, is_asked, is_missing_from, key_shown, left_out, missing_from, needed, needed_put, is_none_of, is_nothing, missing_put, missing_by}
 use Rattle.policy_core.specs.Policy.{breaks, early_rules, standing_rules, last_rules, first_broken}
 use Rattle.policy_core.specs.Rule.{number_of}
-use Rattle.policy_core.specs.Scope.{has_scope}
 use Rattle.policy_core.specs.View.{view_of}
 use Rattle.policy_core.proofs.Veils.{or_else, find-append}
 use Rattle.service_core.specs.declared.reply.Reply.{Reply}
 use Rattle.service_core.specs.declared.reply.Reply.TheVariants.{Done, Denied, Fault, Stopped}
 use Rattle.service_core.specs.Service.{Leaves}
-use Rattle.service_core.specs.Stale.{IsNumbered, AllNumbered, DifferUpTo, IsOfAnother, needed_put, needed_for, listed, IsRefusedFor, FailsOrIsRefused, IsStale}
+use Rattle.service_core.specs.Stale.{IsNumbered, AllNumbered, DifferUpTo, IsOfAnother, listed, IsListed, IsRefusedFor, FailsOrIsRefused, IsStale}
 use Rattle.service_core.specs.Step.{step, step_by}
 use Rattle.service_core.proofs.Judged.{find_has}
 
@@ -95,11 +91,8 @@ all_asked P false xs all = tt
 
 needed_numbered : (salt : List ℕ) (kind : Kind) (a : Airspace) (caller : Option Caller) (id : ℕ) (put : Put) → AllNumbered salt a → AllByRecursion (IsNumbered salt a.serial) (needed_put kind a caller id put)
 unfolding meeting_in
-needed_numbered salt kinds.Intent a caller id put n =
-    all_asked (IsNumbered salt a.serial) (needs_key put.nature) _ (all_sought (IsNumbered salt a.serial) (is_sought kinds.Intent (map region_of put.volumes) (Some id)) (entries a.entities) n)
-needed_numbered salt kinds.Constraint a None id put n = tt
-needed_numbered salt kinds.Constraint a (Some caller) id put n =
-    all_asked (IsNumbered salt a.serial) (needs_key put.nature && has_scope caller.scopes ConstraintProcessing) _ (all_sought (IsNumbered salt a.serial) (is_sought kinds.Constraint (map region_of put.volumes) None) (entries a.entities) n)
+needed_numbered salt kind a caller id put n =
+    all_asked (IsNumbered salt a.serial) (is_asked kind caller put.nature) _ (all_sought (IsNumbered salt a.serial) (is_sought kind (map region_of put.volumes) (left_out kind id)) (entries a.entities) n)
 
 not_known : (salt : List ℕ) (a : Airspace) (y : Entity) (key : List (List ℕ)) → DifferUpTo salt a.serial → IsNumbered salt a.serial y → AllByRecursion (IsOfAnother salt a y) key → in_key key y.ovn ≡ false
 not_known salt a y [] differ n old = refl
@@ -108,15 +101,15 @@ not_known salt a y (k ∷ ks) differ n old =
     elim (same_text y.ovn k) as (λ b. same_text y.ovn k ≡ b → b || in_key ks y.ovn ≡ false) [
       | true ↦ λ t.
           let texts : ovn_text salt old.0.serial ≡ ovn_text salt y.serial = sym old.0.text ∙ (sym (one_text y.ovn k (sym t)) ∙ n.ovn) in
-          absurd (old.0.other (differ old.0.serial y.serial old.0.within n.within texts))
+          absurd (old.0.other (differ old.0.serial y.serial old.0.positive old.0.within n.positive n.within texts))
       | false ↦ λ t. rest
     ] refl
 
 -- ---- it is told
 
-told_lacking : (v : Entity → Reference) (key : List (List ℕ)) (xs : List Entity) (y : Entity) → Contains xs y → in_key key y.ovn ≡ false → Contains (lacking key xs) y
-unfolding lacking
-told_lacking v key xs y h k = passing (is_lacking key) xs y h (ap not k)
+told_missing_from : (key : List (List ℕ)) (xs : List Entity) (y : Entity) → Contains xs y → in_key key y.ovn ≡ false → Contains (missing_from key xs) y
+unfolding missing_from
+told_missing_from key xs y h k = passing (is_missing_from key) xs y h (ap not k)
 
 neither : (a b : Bool) → a ≡ false → a && b ≡ false
 neither true b h = cc
@@ -126,31 +119,33 @@ nor : (a b : Bool) → b ≡ false → a && b ≡ false
 nor true b h = h
 nor false b h = refl
 
-put_lacks : (kind : Kind) (a : Airspace) (caller : Caller) (id : ℕ) (put : Put) (y : Entity) → Contains (needed_put kind a (Some caller) id put) y → in_key put.key y.ovn ≡ false
+put_misses : (kind : Kind) (a : Airspace) (caller : Caller) (id : ℕ) (put : Put) (y : Entity) → Contains (needed_put kind a (Some caller) id put) y → in_key put.key y.ovn ≡ false
     → (is_nothing (missing_put a caller id put) ≡ false) × Contains (listed kind (missing_put a caller id put)) (view_of a caller.uss y)
-put_lacks kinds.Intent a caller id put y h k =
+put_misses kinds.Intent a caller id put y h k =
     let v : Entity → Reference = view_of a caller.uss in
-    let c = told_lacking v put.key (needed_intents a id put) y h k in
-    (neither (is_none_of (missing_put a caller id put).intents) (is_none_of (missing_put a caller id put).constraints) (some_told v (lacking put.key (needed_intents a id put)) y c), mapped v (lacking put.key (needed_intents a id put)) y c)
-put_lacks kinds.Constraint a caller id put y h k =
+    let es : List Entity = needed_put kinds.Intent a (Some caller) id put in
+    let c = told_missing_from put.key es y h k in
+    (neither (is_none_of (missing_put a caller id put).intents) (is_none_of (missing_put a caller id put).constraints) (some_told v (missing_from put.key es) y c), mapped v (missing_from put.key es) y c)
+put_misses kinds.Constraint a caller id put y h k =
     let v : Entity → Reference = view_of a caller.uss in
-    let c = told_lacking v put.key (needed_constraints a caller put) y h k in
-    (nor (is_none_of (missing_put a caller id put).intents) (is_none_of (missing_put a caller id put).constraints) (some_told v (lacking put.key (needed_constraints a caller put)) y c), mapped v (lacking put.key (needed_constraints a caller put)) y c)
+    let es : List Entity = needed_put kinds.Constraint a (Some caller) id put in
+    let c = told_missing_from put.key es y h k in
+    (nor (is_none_of (missing_put a caller id put).intents) (is_none_of (missing_put a caller id put).constraints) (some_told v (missing_from put.key es) y c), mapped v (missing_from put.key es) y c)
 
-call_lacks : (salt : List ℕ) (kind : Kind) (a : Airspace) (caller : Caller) (op : Operation) (y : Entity) → AllNumbered salt a → DifferUpTo salt a.serial → Contains (needed_for kind a (Some caller) op) y → AllByRecursion (IsOfAnother salt a y) (key_shown op)
+call_misses : (salt : List ℕ) (kind : Kind) (a : Airspace) (caller : Caller) (op : Operation) (y : Entity) → AllNumbered salt a → DifferUpTo salt a.serial → Contains (needed kind a (Some caller) op) y → AllByRecursion (IsOfAnother salt a y) (key_shown op)
     → (is_nothing (missing_by a caller op) ≡ false) × Contains (listed kind (missing_by a caller op)) (view_of a caller.uss y)
-call_lacks salt kind a caller NoRoute y n differ h old = absurd (no_member y h)
-call_lacks salt kind a caller NoMethod y n differ h old = absurd (no_member y h)
-call_lacks salt kind a caller (Malformed k) y n differ h old = absurd (no_member y h)
-call_lacks salt kind a caller (Query k area) y n differ h old = absurd (no_member y h)
-call_lacks salt kind a caller (Read k id) y n differ h old = absurd (no_member y h)
-call_lacks salt kind a caller (Create id put) y n differ h old =
-    put_lacks kind a caller id put y h (not_known salt a y put.key differ (all_contained (IsNumbered salt a.serial) (needed_put kind a (Some caller) id put) y (needed_numbered salt kind a (Some caller) id put n) h) old)
-call_lacks salt kind a caller (Update id ovn put) y n differ h old =
-    put_lacks kind a caller id put y h (not_known salt a y put.key differ (all_contained (IsNumbered salt a.serial) (needed_put kind a (Some caller) id put) y (needed_numbered salt kind a (Some caller) id put n) h) old)
-call_lacks salt kind a caller (Delete k id ovn) y n differ h old = absurd (no_member y h)
-call_lacks salt kind a caller (ReadAvail uss) y n differ h old = absurd (no_member y h)
-call_lacks salt kind a caller (SetAvail uss o availability) y n differ h old = absurd (no_member y h)
+call_misses salt kind a caller NoRoute y n differ h old = absurd (no_member y h)
+call_misses salt kind a caller NoMethod y n differ h old = absurd (no_member y h)
+call_misses salt kind a caller (Malformed k) y n differ h old = absurd (no_member y h)
+call_misses salt kind a caller (Query k area) y n differ h old = absurd (no_member y h)
+call_misses salt kind a caller (Read k id) y n differ h old = absurd (no_member y h)
+call_misses salt kind a caller (Create id put) y n differ h old =
+    put_misses kind a caller id put y h (not_known salt a y put.key differ (all_contained (IsNumbered salt a.serial) (needed_put kind a (Some caller) id put) y (needed_numbered salt kind a (Some caller) id put n) h) old)
+call_misses salt kind a caller (Update id ovn put) y n differ h old =
+    put_misses kind a caller id put y h (not_known salt a y put.key differ (all_contained (IsNumbered salt a.serial) (needed_put kind a (Some caller) id put) y (needed_numbered salt kind a (Some caller) id put n) h) old)
+call_misses salt kind a caller (Delete k id ovn) y n differ h old = absurd (no_member y h)
+call_misses salt kind a caller (ReadAvail uss) y n differ h old = absurd (no_member y h)
+call_misses salt kind a caller (SetAvail uss o availability) y n differ h old = absurd (no_member y h)
 
 -- ---- it is refused
 
@@ -171,7 +166,7 @@ refused_by salt kind a t caller op y some told =
           let low : number_of p ≤ 13 = earlier_rule a t c p h in
           (omega (arith, low), λ is. let same : number_of p ≡ 14 = ap number_of is in absurd (omega (arith, low, same)))
       | None ↦ λ h. subst (λ (b : Bool). IsRefusedFor kind a c y (step_by salt a c (cond (not b) (Some Key) (cond (breaks a t c Limit) (Some Limit) None))).1) (sym some)
-          (omega arith, λ is who of. subst (λ (u : Caller). Contains (listed kind (missing_by a caller op)) (view_of a u.uss y)) (same_Some caller who of) told)
+          (omega arith, λ is. told)
     ] refl)
 
 -- without a caller P1, P2 or P3 is broken
@@ -191,7 +186,7 @@ refused_none salt kind a t (SetAvail uss old availability) y = (omega arith, λ 
 stale_by : (salt : List ℕ) (kind : Kind) (a : Airspace) (t : ℕ) (caller : Option Caller) (op : Operation) (y : Entity) → IsStale salt kind a (record { caller = caller; op = op }) y → IsRefusedFor kind a (record { caller = caller; op = op }) y (step salt a t (record { caller = caller; op = op })).1
 stale_by salt kind a t None op y s = refused_none salt kind a t op y
 stale_by salt kind a t (Some caller) op y s =
-    let l = call_lacks salt kind a caller op y s.numbered s.differ s.needed s.old in
+    let l = call_misses salt kind a caller op y s.numbered s.differ s.needs s.old in
     refused_by salt kind a t caller op y l.0 l.1
 
 pub stale_step : (salt : List ℕ) (a : Airspace) (t : ℕ) (c : Call) (kind : Kind) (y : Entity) → IsStale salt kind a c y → IsRefusedFor kind a c y (step salt a t c).1
