@@ -1,3 +1,3 @@
 pub mod Scans
 pub mod Looks
-pub mod Lacks
+pub mod Missed

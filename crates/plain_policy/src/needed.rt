@@ -1,4 +1,4 @@
-//! What a put needs to know, and what its key lacks.
+//! What a put needs to know, and what is missing from its key.
 ghost use Rattle.std.specs.Prelude.{◌≡◌, not};
 ghost use Rattle.std.specs.List.{list_any};
 ghost use Rattle.entity_core.specs.Search.{is_not};
@@ -49,7 +49,7 @@ fn is_in_key(key: &[Ovn], ovn: &Ovn) -> bool
     key.iter().any(|known| ovn.text() == known.text())
 }
 
-/// Whether an entity of the kind is needed by a put, and its version number is not in the key. That of
+/// Whether an entity of the kind is needed by a put, and its OVN is not in the key. That of
 /// the id is not needed. It takes no memory.
 pub fn is_missing(entity: &Entity, kind: Kind, except: Option<EntityId>, put: &Put) -> bool
     ensures { result ≡ is_missing kind except put.now entity.now }
@@ -57,7 +57,7 @@ pub fn is_missing(entity: &Entity, kind: Kind, except: Option<EntityId>, put: &P
     is_needed(entity, kind, except, put) && !is_in_key(put.key.items(), &entity.ovn)
 }
 
-fn lacks_one_of(entities: &[Entity], kind: Kind, except: Option<EntityId>, put: &Put) -> bool
+fn is_one_missing(entities: &[Entity], kind: Kind, except: Option<EntityId>, put: &Put) -> bool
     ensures { result ≡ list_any (λ e. is_missing kind except put.now e) entities.now }
 {
     entities
@@ -65,15 +65,15 @@ fn lacks_one_of(entities: &[Entity], kind: Kind, except: Option<EntityId>, put: 
         .any(|entity| is_missing(entity, kind, except, put))
 }
 
-/// Whether the key of a put under an id lacks something. It takes no memory.
-pub fn lacks_something(whole: &Whole, caller: &Caller, id: EntityId, put: &Put) -> bool
+/// Whether something is missing from the key of a put under an id. It takes no memory.
+pub fn is_something_missing(whole: &Whole, caller: &Caller, id: EntityId, put: &Put) -> bool
     ensures { result ≡ not (is_nothing (missing_put (airspace_of whole.now) caller.now id put.now)) }
 {
     let entities = whole.entities();
     if !needs_key(put.nature) {
         return false;
     }
-    lacks_one_of(entities, Kind::Intent, Some(id), put)
+    is_one_missing(entities, Kind::Intent, Some(id), put)
         || (caller.scopes.has(Scope::ConstraintProcessing)
-            && lacks_one_of(entities, Kind::Constraint, None, put))
+            && is_one_missing(entities, Kind::Constraint, None, put))
 }

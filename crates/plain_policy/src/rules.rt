@@ -7,7 +7,7 @@ ghost use Rattle.policy_core.specs.Scope.{is_open, may_change, may_see};
 ghost use Rattle.policy_core.specs.Standing.{found_of, kept_of};
 ghost use Rattle.plain_policy.specs.Whole.{airspace_of, pair_of};
 
-use crate::needed::lacks_something;
+use crate::needed::is_something_missing;
 use crate::whole::{Setting, Whole};
 use entity_core::entity::Entity;
 use entity_core::nature::{Kind, Nature, State};
@@ -304,6 +304,7 @@ fn is_ended(now: u64, op: &Operation) -> bool
 
 // ---- P14 and P15
 
+#[tactic(auto, unfolding(policy_core::specs::Missing::missing_from))]
 fn is_missing_something(whole: &Whole, call: &Call) -> bool
     ensures { result ≡ not (is_nothing (missing_for (airspace_of whole.now) call.now.caller call.now.op)) }
 {
@@ -311,8 +312,8 @@ fn is_missing_something(whole: &Whole, call: &Call) -> bool
         return false;
     };
     match &call.op {
-        Operation::Create(id, put) => lacks_something(whole, caller, *id, put),
-        Operation::Update(id, _, put) => lacks_something(whole, caller, *id, put),
+        Operation::Create(id, put) => is_something_missing(whole, caller, *id, put),
+        Operation::Update(id, _, put) => is_something_missing(whole, caller, *id, put),
         _ => false,
     }
 }

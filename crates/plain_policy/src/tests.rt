@@ -4,7 +4,7 @@ mod draw;
 mod drawn;
 mod effect;
 
-use crate::lacking::missing;
+use crate::missing::missing;
 use crate::rules::first_broken;
 use crate::tests::count::Counts;
 use crate::tests::draw::Draw;
@@ -79,7 +79,7 @@ fn expected(
     now: u64,
     call: &Call,
 ) -> Result<Outcome, Fail> {
-    let lacks = missing(alloc, whole, call)?;
+    let missing = missing(alloc, whole, call)?;
     let broken = first_broken(whole, now, call);
     let Some(rule) = broken else {
         let (answer, after) = effect(alloc, salt, whole, call)?;
@@ -90,7 +90,7 @@ fn expected(
         });
     };
     let told = match rule {
-        Rule::Key => lacks,
+        Rule::Key => missing,
         _ => Missing::nothing(alloc),
     };
     Ok(Outcome {

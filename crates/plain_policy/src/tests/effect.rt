@@ -1,5 +1,5 @@
 //! What a call that breaks no rule does, by plain operations on lists.
-use crate::lacking::shown;
+use crate::missing::shown;
 use crate::whole::{Setting, Whole};
 use entity_core::availability::Availability;
 use entity_core::entity::Entity;

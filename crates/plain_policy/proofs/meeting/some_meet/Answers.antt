@@ -1,6 +1,6 @@
 use Rattle.std.proofs.Common.{List, map, ap, ◌∙◌}
 use Rattle.grid_core.specs.Extent.{Extent, any_meet, region_of}
-use Rattle.plain_policy.proofs.Lacks.{any_meet_is}
+use Rattle.plain_policy.proofs.Missed.{any_meet_is}
 use Rattle.plain_policy.proofs.meeting.some_meet.Goals as goal
 
 pub returns : goal.returns

@@ -1,8 +1,6 @@
 //! What is missing, as the caller may see it.
-ghost use Rattle.std.specs.Prelude.{◌≡◌, ◌&&◌, IfOk, filter, map};
-ghost use Rattle.policy_core.specs.Missing.{lacking, missing_for, missing_put, needed_constraints, needed_intents, needs_key};
-ghost use Rattle.policy_core.specs.Scope.{has_scope};
-ghost use Rattle.policy_core.specs.declared.scope.Scope.TheVariants.{ConstraintProcessing};
+ghost use Rattle.std.specs.Prelude.{◌≡◌, IfOk, Some, filter, map};
+ghost use Rattle.policy_core.specs.Missing.{is_asked, left_out, missing_for, missing_from, missing_put, needed_put};
 ghost use Rattle.policy_core.specs.View.{view_of};
 ghost use Rattle.plain_policy.specs.Needed.{is_missing};
 ghost use Rattle.plain_policy.specs.Whole.{airspace_of};
@@ -26,15 +24,28 @@ pub fn shown(whole: &Whole, uss: &UssId, entity: &Entity) -> Result<Reference, A
     view(uss, entity, whole.availability(&entity.manager))
 }
 
-// Whether constraints are asked of the key of a put of that nature, too.
-fn asks_for_constraints(caller: &Caller, nature: Nature) -> bool
-    ensures { result ≡ (needs_key nature && has_scope caller.now.scopes ConstraintProcessing) }
+// Whether entities of a kind are asked of the key of a put of that nature.
+fn is_asked(kind: Kind, caller: &Caller, nature: Nature) -> bool
+    ensures { result ≡ is_asked kind (Some caller.now) nature }
 {
-    needs_key(nature) && caller.scopes.has(Scope::ConstraintProcessing)
+    match kind {
+        Kind::Intent => needs_key(nature),
+        Kind::Constraint => needs_key(nature) && caller.scopes.has(Scope::ConstraintProcessing),
+    }
 }
 
-// The references of the entities of a kind that the key of a put lacks.
-fn lacking(
+// The id that is not needed.
+fn left_out(kind: Kind, id: EntityId) -> Option<EntityId>
+    ensures { result ≡ left_out kind id }
+{
+    match kind {
+        Kind::Intent => Some(id),
+        Kind::Constraint => None,
+    }
+}
+
+// The references of the entities of a kind that are missing from the key of a put.
+fn missing_among(
     alloc: Global,
     whole: &Whole,
     entities: &[Entity],
@@ -54,40 +65,26 @@ fn lacking(
     Ok(references)
 }
 
-fn missing_intents(
-    alloc: Global,
-    whole: &Whole,
-    uss: &UssId,
-    id: EntityId,
-    put: &Put,
-) -> Result<References, AllocError>
-    ensures { IfOk result (λ references. references ≡ map (view_of (airspace_of whole.now) uss.now) (lacking put.now.key (needed_intents (airspace_of whole.now) id put.now))) }
-{
-    if !needs_key(put.nature) {
-        return Ok(References::new(alloc));
-    }
-    let all = whole.entities();
-    let references = lacking(alloc, whole, all, uss, Kind::Intent, Some(id), put)?;
-    Ok(References::from_vec(references))
-}
-
-fn missing_constraints(
+fn missing_of(
     alloc: Global,
     whole: &Whole,
     caller: &Caller,
+    kind: Kind,
+    id: EntityId,
     put: &Put,
 ) -> Result<References, AllocError>
-    ensures { IfOk result (λ references. references ≡ map (view_of (airspace_of whole.now) caller.now.uss) (lacking put.now.key (needed_constraints (airspace_of whole.now) caller.now put.now))) }
+    ensures { IfOk result (λ references. references ≡ map (view_of (airspace_of whole.now) caller.now.uss) (missing_from put.now.key (needed_put kind (airspace_of whole.now) (Some caller.now) id put.now))) }
 {
-    if !asks_for_constraints(caller, put.nature) {
+    if !is_asked(kind, caller, put.nature) {
         return Ok(References::new(alloc));
     }
-    let (all, uss) = (whole.entities(), &caller.uss);
-    let references = lacking(alloc, whole, all, uss, Kind::Constraint, None, put)?;
+    let all = whole.entities();
+    let except = left_out(kind, id);
+    let references = missing_among(alloc, whole, all, &caller.uss, kind, except, put)?;
     Ok(References::from_vec(references))
 }
 
-fn missing_of(
+fn missing_put(
     alloc: Global,
     whole: &Whole,
     caller: &Caller,
@@ -97,12 +94,13 @@ fn missing_of(
     ensures { IfOk result (λ missing. missing ≡ missing_put (airspace_of whole.now) caller.now id put.now) }
 {
     Ok(Missing {
-        intents: missing_intents(alloc, whole, &caller.uss, id, put)?,
-        constraints: missing_constraints(alloc, whole, caller, put)?,
+        intents: missing_of(alloc, whole, caller, Kind::Intent, id, put)?,
+        constraints: missing_of(alloc, whole, caller, Kind::Constraint, id, put)?,
     })
 }
 
-/// What the key of a call lacks.
+/// What is missing from the key of a call.
+#[tactic(auto, unfolding(policy_core::specs::Missing::missing_from))]
 pub fn missing(alloc: Global, whole: &Whole, call: &Call) -> Result<Missing, AllocError>
     ensures { IfOk result (λ missing. missing ≡ missing_for (airspace_of whole.now) call.now.caller call.now.op) }
 {
@@ -110,8 +108,8 @@ pub fn missing(alloc: Global, whole: &Whole, call: &Call) -> Result<Missing, All
         return Ok(Missing::nothing(alloc));
     };
     match &call.op {
-        Operation::Create(id, put) => missing_of(alloc, whole, caller, *id, put),
-        Operation::Update(id, _, put) => missing_of(alloc, whole, caller, *id, put),
+        Operation::Create(id, put) => missing_put(alloc, whole, caller, *id, put),
+        Operation::Update(id, _, put) => missing_put(alloc, whole, caller, *id, put),
         _ => Ok(Missing::nothing(alloc)),
     }
 }
