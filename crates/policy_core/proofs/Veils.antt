@@ -18,24 +18,11 @@ use Rattle.policy_core.specs.declared.rule.Rule.TheVariants.{Manager, Version}
 use Rattle.policy_core.specs.Policy.{breaks, breaks_found, early_rules, standing_rules}
 use Rattle.policy_core.specs.Standing.{found_of, kept_of}
 use Rattle.policy_core.specs.Blind.{veiled, veiled_entry, IsLike, is_uss}
+use Rattle.policy_core.proofs.Finds.{or_else, find-append}
 
 -- a supplier by its text
 pub one_uss : (m : List ℕ) (caller : Caller) → is_uss m (Some caller) ≡ true → caller.uss ≡ m
 one_uss m caller h = one_text caller.uss m (sym h)
-
--- ---- the first of two lists
-
-abbrev pub or_else : {X : Type 0} → Option X → Option X → Option X
-or_else (Some x) o = Some x
-or_else None o = o
-
-pub find-append : {X : Type 0} (p : X → Bool) (xs ys : List X) → find p (xs ++ ys) ≡ or_else (find p xs) (find p ys)
-find-append p [] ys = refl
-find-append p (x ∷ xs) ys =
-    elim (p x) as (λ b. cond b (Some x) (find p (xs ++ ys)) ≡ or_else (cond b (Some x) (find p xs)) (find p ys)) [
-      | true ↦ refl
-      | false ↦ find-append p xs ys
-    ]
 
 -- ---- what is found
 

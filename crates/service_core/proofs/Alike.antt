@@ -28,8 +28,9 @@ use Rattle.policy_core.specs.Missing.{in_key, is_asked, is_missing_from, left_ou
 use Rattle.policy_core.specs.Policy.{breaks, breaks_limit, early_rules, standing_rules, last_rules, first_broken}
 use Rattle.policy_core.specs.Standing.{found_of}
 use Rattle.policy_core.specs.View.{view_of, view_with}
-use Rattle.policy_core.proofs.Veils.{one_uss, or_else, find-append, get_like, found_like, rules_like}
-use Rattle.space_core.proofs.Keys.{key_total, key_exact}
+use Rattle.policy_core.proofs.Finds.{or_else, find-append}
+use Rattle.policy_core.proofs.Veils.{one_uss, get_like, found_like, rules_like}
+use Rattle.entity_core.proofs.Keys.{key_total, key_exact}
 use Rattle.space_core.proofs.Maps.{entries-remove}
 use Rattle.service_core.specs.declared.reply.Answer.TheVariants.{Created, Changed, Listed, Avail}
 use Rattle.service_core.specs.declared.reply.Answer.TheVariants as answers

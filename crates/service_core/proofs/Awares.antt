@@ -1,107 +1,34 @@
 -- After a run, each later put knew the earlier ones that it meets.
 use Rattle.std.specs.Prelude.{◌≡◌, ℕ, ◌+◌, ◌≤◌, ◌&&◌, not, nat_eq, Bool, true, false, List, [], ◌∷◌, ◌++◌, map, filter, Option, Some, None, cond, refl}
 use Rattle.std.proofs.Common.{arith, sym, ap, ◌∙◌, subst, inl, inr}
-use Rattle.std.proofs.lemmas.Option.{same_Some}
 use Rattle.std.proofs.lemmas.List.{nil_from_length}
-use Rattle.std.specs.Cmp.{unsigned_tied}
 use Rattle.std.specs.Ordering.{eq_by_cmp}
 use Rattle.std.specs.List.{AllByRecursion}
-use Rattle.std.specs.FinMap as maps
 use Rattle.std.specs.FinMap.{get, entries, empty, get-entries, get-empty, len-entries, len-empty, entries-insert}
 use Rattle.grid_core.specs.Extent.{Region, region_of, any_meet}
 use Rattle.entity_core.specs.Airspace.{Airspace, EntityKey, key_cmp, key_of, with_availability, with_entity, without_entity, empty_at, Stated}
 use Rattle.entity_core.specs.Entity.{kind_of}
 use Rattle.entity_core.specs.Ovn.{ovn_text}
-use Rattle.entity_core.specs.Search.{meeting_in, is_sought}
 use Rattle.entity_core.specs.declared.entity.Entity.{Entity}
 use Rattle.entity_core.specs.declared.nature.Kind.{Kind}
-use Rattle.entity_core.specs.declared.nature.Kind.TheVariants as kinds
-use Rattle.entity_core.specs.declared.nature.Nature.{Nature}
-use Rattle.entity_core.specs.declared.nature.Nature.TheVariants.{Intent, Constraint}
 use Rattle.policy_core.specs.declared.scope.Caller.{Caller}
-use Rattle.policy_core.specs.declared.scope.Scope.TheVariants.{ConstraintProcessing}
 use Rattle.policy_core.specs.declared.call.Call.{Call}
 use Rattle.policy_core.specs.declared.call.Put.{Put}
 use Rattle.policy_core.specs.declared.call.Operation.{Operation}
 use Rattle.policy_core.specs.declared.call.Operation.TheVariants.{NoRoute, NoMethod, Malformed, Query, Read, Create, Update, Delete, ReadAvail, SetAvail}
-use Rattle.policy_core.specs.declared.rule.Rule.TheVariants.{Key, Limit}
-use Rattle.policy_core.specs.declared.reference.Reference.{Reference}
-use Rattle.policy_core.specs.Scope.{has_scope}
-use Rattle.policy_core.specs.Missing.{in_key, is_missing_from, key_shown, missing_from, needs_key, is_none_of, is_nothing, missing_put, missing_for}
-use Rattle.policy_core.specs.Policy.{breaks, early_rules, standing_rules, last_rules, first_broken}
-use Rattle.policy_core.specs.View.{view_of}
-use Rattle.space_core.proofs.Keys.{key_total, key_exact}
+use Rattle.policy_core.specs.Known.{is_told_of, put_of}
+use Rattle.policy_core.specs.Missing.{in_key, key_shown, needs_key}
+use Rattle.policy_core.specs.Policy.{first_broken}
+use Rattle.policy_core.proofs.Puts.{puts_know}
+use Rattle.entity_core.proofs.Keys.{key_total, key_exact, one_key}
 use Rattle.space_core.proofs.Maps.{entries-remove}
 use Rattle.service_core.specs.declared.reply.Reply.{Reply}
 use Rattle.service_core.specs.declared.reply.Reply.TheVariants.{Done, Denied, Fault, Stopped}
-use Rattle.service_core.specs.Aware.{MadeCall, is_done, left_by, put_in, last_writer, later_or, is_told_of, is_owed, Knew, KnewOthers, AllKeyed, SerialsDiffer, Aware}
+use Rattle.service_core.specs.Aware.{MadeCall, is_done, left_by, put_in, last_writer, later_or, is_owed, Knew, KnewOthers, AllKeyed, SerialsDiffer, Aware}
 use Rattle.service_core.specs.Run.{Timed, Runs, replies_of, airspace_after, answered_calls, told_replies, has_stopped}
 use Rattle.service_core.specs.Stale.{IsNumbered, AllNumbered}
 use Rattle.service_core.specs.Step.{step, step_by, effect, created, updated, update_effect, delete_effect, read_effect}
-use Rattle.service_core.proofs.Judged.{find_rest}
-use Rattle.service_core.proofs.Kept.{one_key, got, stayed, all_found, all_put, all_where, all_turned}
-
--- ---- a put of whose key nothing is missing
-
-both_true : (a b : Bool) → a && b ≡ true → (a ≡ true) × (b ≡ true)
-both_true true b h = (refl, h)
-both_true false b h = cc
-
--- where nothing that is sought is missing, the key has the OVN of each
-none_missing : (v : Entity → Reference) (key : List (List ℕ)) (test : EntityKey × Entity → Bool) (es : List (EntityKey × Entity)) (q : EntityKey) (y : Entity)
-    → is_none_of (map v (filter (is_missing_from key) (map (λ e. e.1) (filter test es)))) ≡ true → maps.find key_cmp q es ≡ Some y → test (q, y) ≡ true → in_key key y.ovn ≡ true
-none_missing v key test [] q y n f s = cc
-none_missing v key test (e ∷ es) q y n f s =
-    let rest : List (EntityKey × Entity) = filter test es in
-    let others : List Entity = filter (is_missing_from key) (map (λ x. x.1) rest) in
-    elim (eq_by_cmp key_cmp q e.0) as (λ b. eq_by_cmp key_cmp q e.0 ≡ b → cond b (Some e.1) (maps.find key_cmp q es) ≡ Some y → in_key key y.ovn ≡ true) [
-      | true ↦ λ t g.
-          let same : e.1 ≡ y = same_Some e.1 y g in
-          let key_is : e.0 ≡ q = sym (one_key q e.0 t) in
-          let here : test (e.0, e.1) ≡ true = (λ i. test (key_is i, same i)) ∙ s in
-          elim (in_key key e.1.ovn) as (λ b. in_key key e.1.ovn ≡ b → is_none_of (map v (cond (not b) (e.1 ∷ others) others)) ≡ true → in_key key y.ovn ≡ true) [
-            | true ↦ λ k z. ap (λ (x : Entity). in_key key x.ovn) (sym same) ∙ k
-            | false ↦ λ k z. cc
-          ] refl (subst (λ (b : Bool). is_none_of (map v (filter (is_missing_from key) (map (λ x. x.1) (cond b (e ∷ rest) rest)))) ≡ true) here n)
-      | false ↦ λ t g. none_missing v key test es q y (
-          elim (test e) as (λ b. is_none_of (map v (filter (is_missing_from key) (map (λ x. x.1) (cond b (e ∷ rest) rest)))) ≡ true → is_none_of (map v others) ≡ true) [
-            | true ↦ elim (in_key key e.1.ovn) as (λ b. is_none_of (map v (cond (not b) (e.1 ∷ others) others)) ≡ true → is_none_of (map v others) ≡ true) [
-              | true ↦ λ z. z
-              | false ↦ λ z. cc
-            ]
-            | false ↦ λ z. z
-          ] n) g s
-    ] refl f
-
-none_met : (a : Airspace) (v : Entity → Reference) (key : List (List ℕ)) (test : EntityKey × Entity → Bool) (q : EntityKey) (y : Entity)
-    → is_none_of (map v (filter (is_missing_from key) (map (λ e. e.1) (filter test (entries a.entities))))) ≡ true → get a.entities q ≡ Some y → test (q, y) ≡ true → in_key key y.ovn ≡ true
-none_met a v key test q y n f s = none_missing v key test (entries a.entities) q y n (sym (get-entries a.entities q) ∙ f) s
-
-other_id : (n id : ℕ) → eq_by_cmp key_cmp (kinds.Intent, n) (kinds.Intent, id) ≡ false → not (nat_eq n id) ≡ true
-other_id n id h = ap not (sym (unsigned_tied n id) ∙ h)
-
--- of two intents with one kind and different keys, the ids differ
-other_intent : (n id : ℕ) (nature : Nature) → needs_key nature ≡ true → eq_by_cmp key_cmp (kinds.Intent, n) (kind_of nature, id) ≡ false → not (nat_eq n id) ≡ true
-other_intent n id (Intent state) needs h = other_id n id h
-other_intent n id Constraint needs h = cc
-
--- where nothing is missing, the key of a put has the OVN of each other entity that it is to know
-put_knows : (a : Airspace) (caller : Caller) (id : ℕ) (put : Put) (y : Entity) → is_nothing (missing_put a caller id put) ≡ true → get a.entities (key_of y) ≡ Some y
-    → eq_by_cmp key_cmp (key_of y) (kind_of put.nature, id) ≡ false → needs_key put.nature ≡ true → any_meet y.volumes (map region_of put.volumes) ≡ true → is_told_of (Some caller) y.nature ≡ true
-    → in_key put.key y.ovn ≡ true
-unfolding missing_from meeting_in
-put_knows a caller id put y none found other needs meet owed =
-    let areas : List Region = map region_of put.volumes in
-    let parts = both_true (is_none_of (missing_put a caller id put).intents) (is_none_of (missing_put a caller id put).constraints) none in
-    elim (y.nature) as (λ n. y.nature ≡ n → is_told_of (Some caller) n ≡ true → get a.entities (kind_of n, y.id) ≡ Some y → eq_by_cmp key_cmp (kind_of n, y.id) (kind_of put.nature, id) ≡ false → in_key put.key y.ovn ≡ true) [
-      | Intent state ↦ λ is o f e.
-          let none_of = subst (λ (b : Bool). is_none_of (map (view_of a caller.uss) (filter (is_missing_from put.key) (cond b (map (λ x. x.1) (filter (is_sought kinds.Intent areas (Some id)) (entries a.entities))) []))) ≡ true) needs parts.0 in
-          none_met a (view_of a caller.uss) put.key (is_sought kinds.Intent areas (Some id)) (kinds.Intent, y.id) y none_of f (λ i. other_intent y.id id put.nature needs e i && meet i)
-      | Constraint ↦ λ is o f e.
-          let asked : needs_key put.nature && has_scope caller.scopes ConstraintProcessing ≡ true = λ i. needs i && o i in
-          let none_of = subst (λ (b : Bool). is_none_of (map (view_of a caller.uss) (filter (is_missing_from put.key) (cond b (map (λ x. x.1) (filter (is_sought kinds.Constraint areas None) (entries a.entities))) []))) ≡ true) asked parts.1 in
-          none_met a (view_of a caller.uss) put.key (is_sought kinds.Constraint areas None) (kinds.Constraint, y.id) y none_of f meet
-    ] refl owed found other
+use Rattle.service_core.proofs.Kept.{got, stayed, all_found, all_put, all_where, all_turned}
 
 -- ---- what holds all along
 
@@ -199,18 +126,23 @@ kept_stated salt last a uss stated s = record {
 abbrev pub last_with : (EntityKey → Option MadeCall) → Airspace → Call → Reply → EntityKey → Option MadeCall
 last_with last a c r = λ k. later_or (put_in k a c r) (last k)
 
-kept_create : (salt : List ℕ) (last : EntityKey → Option MadeCall) (a : Airspace) (caller : Caller) (id : ℕ) (put : Put) → Kept salt last a → is_nothing (missing_put a caller id put) ≡ true
-    → Kept salt (last_with last a (record { caller = Some caller; op = Create id put }) (effect salt a (Some caller) (Create id put)).1) (effect salt a (Some caller) (Create id put)).0
-kept_create salt last a caller id put s none =
-    kept_with salt last a (record { caller = Some caller; op = Create id put }) (created salt (a.serial + 1) caller.uss id put) s refl refl
-    (λ y found other needs meet owed. put_knows a caller id put y none found other needs meet owed)
+-- the key of an operation has the OVN of each other entity that a put of it is to know
+abbrev Knows : Airspace → Option Caller → Operation → Type 0
+Knows a caller op = (id : ℕ) (put : Put) (y : Entity) → put_of op ≡ Some (id, put) → needs_key put.nature ≡ true → get a.entities (key_of y) ≡ Some y → eq_by_cmp key_cmp (key_of y) (kind_of put.nature, id) ≡ false
+    → any_meet y.volumes (map region_of put.volumes) ≡ true → is_told_of caller y.nature ≡ true → in_key put.key y.ovn ≡ true
 
-kept_update : (salt : List ℕ) (last : EntityKey → Option MadeCall) (a : Airspace) (caller : Caller) (id : ℕ) (ovn : List ℕ) (put : Put) (o : Option Entity) → Kept salt last a → is_nothing (missing_put a caller id put) ≡ true
+kept_create : (salt : List ℕ) (last : EntityKey → Option MadeCall) (a : Airspace) (caller : Caller) (id : ℕ) (put : Put) → Kept salt last a → Knows a (Some caller) (Create id put)
+    → Kept salt (last_with last a (record { caller = Some caller; op = Create id put }) (effect salt a (Some caller) (Create id put)).1) (effect salt a (Some caller) (Create id put)).0
+kept_create salt last a caller id put s knows =
+    kept_with salt last a (record { caller = Some caller; op = Create id put }) (created salt (a.serial + 1) caller.uss id put) s refl refl
+    (λ y found other needs meet owed. knows id put y refl needs found other meet owed)
+
+kept_update : (salt : List ℕ) (last : EntityKey → Option MadeCall) (a : Airspace) (caller : Caller) (id : ℕ) (ovn : List ℕ) (put : Put) (o : Option Entity) → Kept salt last a → Knows a (Some caller) (Update id ovn put)
     → Kept salt (last_with last a (record { caller = Some caller; op = Update id ovn put }) (update_effect salt a caller.uss id put o).1) (update_effect salt a caller.uss id put o).0
-kept_update salt last a caller id ovn put None s none = s
-kept_update salt last a caller id ovn put (Some e) s none =
+kept_update salt last a caller id ovn put None s knows = s
+kept_update salt last a caller id ovn put (Some e) s knows =
     kept_with salt last a (record { caller = Some caller; op = Update id ovn put }) (updated salt (a.serial + 1) id put e) s refl refl
-    (λ y found other needs meet owed. put_knows a caller id put y none found other needs meet owed)
+    (λ y found other needs meet owed. knows id put y refl needs found other meet owed)
 
 kept_delete : (salt : List ℕ) (last : EntityKey → Option MadeCall) (a : Airspace) (caller : Caller) (kind : Kind) (id : ℕ) (ovn : List ℕ) (o : Option Entity) → Kept salt last a
     → Kept salt (last_with last a (record { caller = Some caller; op = Delete kind id ovn }) (delete_effect a caller.uss (kind, id) o).1) (delete_effect a caller.uss (kind, id) o).0
@@ -222,40 +154,26 @@ kept_read : (salt : List ℕ) (last : EntityKey → Option MadeCall) (a : Airspa
 kept_read salt last a caller kind id None s = s
 kept_read salt last a caller kind id (Some e) s = s
 
--- the effect of a call of whose key nothing is missing
-kept_effect : (salt : List ℕ) (last : EntityKey → Option MadeCall) (a : Airspace) (caller : Option Caller) (op : Operation) → Kept salt last a → is_nothing (missing_for a caller op) ≡ true
+-- the effect of a call
+kept_effect : (salt : List ℕ) (last : EntityKey → Option MadeCall) (a : Airspace) (caller : Option Caller) (op : Operation) → Kept salt last a → Knows a caller op
     → Kept salt (last_with last a (record { caller = caller; op = op }) (effect salt a caller op).1) (effect salt a caller op).0
-kept_effect salt last a None op s none = s
-kept_effect salt last a (Some caller) NoRoute s none = s
-kept_effect salt last a (Some caller) NoMethod s none = s
-kept_effect salt last a (Some caller) (Malformed kind) s none = s
-kept_effect salt last a (Some caller) (Query kind area) s none = s
-kept_effect salt last a (Some caller) (Read kind id) s none = kept_read salt last a caller kind id (get a.entities (kind, id)) s
-kept_effect salt last a (Some caller) (Create id put) s none = kept_create salt last a caller id put s none
-kept_effect salt last a (Some caller) (Update id ovn put) s none = kept_update salt last a caller id ovn put (get a.entities (kind_of put.nature, id)) s none
-kept_effect salt last a (Some caller) (Delete kind id ovn) s none = kept_delete salt last a caller kind id ovn (get a.entities (kind, id)) s
-kept_effect salt last a (Some caller) (ReadAvail uss) s none = s
-kept_effect salt last a (Some caller) (SetAvail uss old availability) s none = kept_stated salt last a uss (availability, ovn_text salt (a.serial + 1)) s
-
-no_key : (k l : Bool) → cond k (Some Key) (cond l (Some Limit) None) ≡ None → not k ≡ true
-no_key true l h = cc
-no_key false l h = refl
-
-not_not : (b : Bool) → not (not b) ≡ true → b ≡ true
-not_not true h = refl
-not_not false h = h
-
--- where no rule is broken, nothing is missing
-misses_nothing : (a : Airspace) (t : ℕ) (c : Call) → first_broken a t c ≡ None → is_nothing (missing_for a c.caller c.op) ≡ true
-unfolding first_broken
-misses_nothing a t c h =
-    not_not (is_nothing (missing_for a c.caller c.op)) (no_key (breaks a t c Key) (breaks a t c Limit) (find_rest (breaks a t c) standing_rules last_rules (find_rest (breaks a t c) early_rules (standing_rules ++ last_rules) h)))
+kept_effect salt last a None op s knows = s
+kept_effect salt last a (Some caller) NoRoute s knows = s
+kept_effect salt last a (Some caller) NoMethod s knows = s
+kept_effect salt last a (Some caller) (Malformed kind) s knows = s
+kept_effect salt last a (Some caller) (Query kind area) s knows = s
+kept_effect salt last a (Some caller) (Read kind id) s knows = kept_read salt last a caller kind id (get a.entities (kind, id)) s
+kept_effect salt last a (Some caller) (Create id put) s knows = kept_create salt last a caller id put s knows
+kept_effect salt last a (Some caller) (Update id ovn put) s knows = kept_update salt last a caller id ovn put (get a.entities (kind_of put.nature, id)) s knows
+kept_effect salt last a (Some caller) (Delete kind id ovn) s knows = kept_delete salt last a caller kind id ovn (get a.entities (kind, id)) s
+kept_effect salt last a (Some caller) (ReadAvail uss) s knows = s
+kept_effect salt last a (Some caller) (SetAvail uss old availability) s knows = kept_stated salt last a uss (availability, ovn_text salt (a.serial + 1)) s
 
 pub kept_step : (salt : List ℕ) (last : EntityKey → Option MadeCall) (a : Airspace) (t : ℕ) (c : Call) → Kept salt last a → Kept salt (last_with last a c (step salt a t c).1) (step salt a t c).0
 unfolding step
 kept_step salt last a t c s =
     elim (first_broken a t c) as (λ r. first_broken a t c ≡ r → Kept salt (last_with last a c (step_by salt a c r).1) (step_by salt a c r).0) [
-      | None ↦ λ h. kept_effect salt last a c.caller c.op s (misses_nothing a t c h)
+      | None ↦ λ h. kept_effect salt last a c.caller c.op s (λ id put y is. puts_know a t c.caller c.op id put y is h)
       | Some p ↦ λ h. s
     ] refl
 

@@ -18,7 +18,8 @@ use Rattle.policy_core.specs.declared.rule.Rule.TheVariants.{Found, Fresh, Manag
 use Rattle.policy_core.specs.Blind.{veiled, veiled_entry, IsLike, is_by, known, named}
 use Rattle.policy_core.specs.Policy.{breaks, early_rules, standing_rules, last_rules, first_broken, is_unfound, is_taken, is_foreign, is_stale, is_outside_role, is_wrong_change, is_ended, has_another_version}
 use Rattle.policy_core.specs.Standing.{found_of, kept_of}
-use Rattle.policy_core.proofs.Veils.{or_else, find-append, found_like}
+use Rattle.policy_core.proofs.Finds.{or_else, find-append}
+use Rattle.policy_core.proofs.Veils.{found_like}
 use Rattle.service_core.specs.Blind.{AllMadeAlike, replies_to}
 use Rattle.service_core.specs.Run.{Timed, replies_of, airspace_after}
 use Rattle.service_core.specs.Step.{step}

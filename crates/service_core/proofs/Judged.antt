@@ -23,6 +23,7 @@ use Rattle.policy_core.specs.Missing.{is_nothing, missing_from, missing_by, miss
 use Rattle.policy_core.specs.Policy.{breaks, breaks_found, breaks_limit, early_rules, standing_rules, last_rules, first_broken}
 use Rattle.policy_core.specs.Standing.{found_of}
 use Rattle.policy_core.specs.View.{view_of}
+use Rattle.policy_core.proofs.Finds.{find_has, find_rest}
 use Rattle.service_core.specs.declared.look.Grounds.{Grounds}
 use Rattle.service_core.specs.Step.{told_missing}
 use Rattle.service_core.specs.Looks.{IsGround, IsFirst, IsReady}
@@ -41,23 +42,6 @@ find_later p (y ∷ xs) ys h =
     elim (p y) as (λ b. cond b (Some y) (find p xs) ≡ None → cond b (Some y) (find p (xs ++ ys)) ≡ find p ys) [
       | true ↦ λ e. cc
       | false ↦ λ e. find_later p xs ys e
-    ] h
-
--- what all members of a list have, the found one has
-pub find_has : {X : Type 0} (Q : X → Type 0) (p : X → Bool) (xs : List X) (x : X) → AllByRecursion Q xs → find p xs ≡ Some x → Q x
-find_has Q p [] x all h = cc
-find_has {X} Q p (y ∷ xs) x all h =
-    elim (p y) as (λ b. cond b (Some y) (find p xs) ≡ Some x → Q x) [
-      | true ↦ λ e. subst Q (same_Some y x e) all.0
-      | false ↦ λ e. find_has Q p xs x all.1 e
-    ] h
-
-pub find_rest : {X : Type 0} (p : X → Bool) (xs ys : List X) → find p (xs ++ ys) ≡ None → find p ys ≡ None
-find_rest p [] ys h = h
-find_rest p (y ∷ xs) ys h =
-    elim (p y) as (λ b. cond b (Some y) (find p (xs ++ ys)) ≡ None → find p ys ≡ None) [
-      | true ↦ λ e. cc
-      | false ↦ λ e. find_rest p xs ys e
     ] h
 
 find_none : {X : Type 0} (p : X → Bool) (xs ys : List X) → find p (xs ++ ys) ≡ None → find p xs ≡ None

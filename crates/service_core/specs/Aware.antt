@@ -6,15 +6,11 @@ use Rattle.grid_core.specs.Extent.{Extent, region_of, any_meet}
 use Rattle.entity_core.specs.Airspace.{Airspace, EntityKey, key_cmp, key_of}
 use Rattle.entity_core.specs.Entity.{kind_of}
 use Rattle.entity_core.specs.declared.entity.Entity.{Entity}
-use Rattle.entity_core.specs.declared.nature.Nature.{Nature}
-use Rattle.entity_core.specs.declared.nature.Nature.TheVariants.{Intent, Constraint}
-use Rattle.policy_core.specs.declared.scope.Caller.{Caller}
-use Rattle.policy_core.specs.declared.scope.Scope.TheVariants.{ConstraintProcessing}
 use Rattle.policy_core.specs.declared.call.Call.{Call}
 use Rattle.policy_core.specs.declared.call.Operation.{Operation}
 use Rattle.policy_core.specs.declared.call.Operation.TheVariants.{Create, Update}
+use Rattle.policy_core.specs.Known.{is_told_of}
 use Rattle.policy_core.specs.Missing.{in_key, key_shown, needs_key}
-use Rattle.policy_core.specs.Scope.{has_scope}
 use Rattle.service_core.specs.declared.reply.Reply.{Reply}
 use Rattle.service_core.specs.declared.reply.Reply.TheVariants.{Done, Denied, Fault, Stopped}
 use Rattle.service_core.specs.Run.{Timed}
@@ -60,12 +56,6 @@ last_writer salt k a (c ∷ cs) [] = None
 last_writer salt k a (c ∷ cs) (r ∷ rs) = later_or (last_writer salt k (left_by salt a c r) cs rs) (put_in k a c.1 r)
 
 -- ---- what it knew
-
--- whether a caller is to know of such an entity: of each intent, and of constraints if it processes them
-abbrev pub is_told_of : Option Caller → Nature → Bool
-is_told_of caller (Intent state) = true
-is_told_of (Some caller) Constraint = has_scope caller.scopes ConstraintProcessing
-is_told_of None Constraint = false
 
 -- whether a call was to know of an entity, where it was made
 abbrev pub is_owed : MadeCall → Entity → Bool

@@ -1,20 +1,16 @@
 -- A key of old OVNs is not enough.
-use Rattle.std.specs.Prelude.{◌≡◌, ◌≢◌, ℕ, ◌≤◌, List, [], Option, Some, None, Contains}
+use Rattle.std.specs.Prelude.{◌≡◌, ◌≢◌, ℕ, ◌≤◌, List, Contains}
 use Rattle.std.specs.List.{AllByRecursion}
 use Rattle.std.specs.FinMap.{entries}
 use Rattle.entity_core.specs.Airspace.{Airspace}
 use Rattle.entity_core.specs.Ovn.{ovn_text}
 use Rattle.entity_core.specs.declared.entity.Entity.{Entity}
 use Rattle.entity_core.specs.declared.nature.Kind.{Kind}
-use Rattle.entity_core.specs.declared.nature.Kind.TheVariants.{Intent, Constraint}
-use Rattle.policy_core.specs.declared.scope.Caller.{Caller}
 use Rattle.policy_core.specs.declared.call.Call.{Call}
 use Rattle.policy_core.specs.declared.rule.Rule.TheVariants.{Key}
-use Rattle.policy_core.specs.declared.reference.Missing.{Missing}
-use Rattle.policy_core.specs.declared.reference.Reference.{Reference}
+use Rattle.policy_core.specs.Known.{IsListed}
 use Rattle.policy_core.specs.Missing.{key_shown, needed}
 use Rattle.policy_core.specs.Rule.{number_of}
-use Rattle.policy_core.specs.View.{view_of}
 use Rattle.service_core.specs.declared.reply.Reply.{Reply}
 use Rattle.service_core.specs.declared.reply.Reply.TheVariants.{Done, Denied, Fault, Stopped}
 use Rattle.service_core.specs.Step.{step}
@@ -46,15 +42,6 @@ pub record IsOfAnother (salt : List ℕ) (a : Airspace) (y : Entity) (ovn : List
   pub text : ovn ≡ ovn_text salt serial
 
 -- ---- the reply
-
-abbrev pub listed : Kind → Missing → List Reference
-listed Intent m = m.intents
-listed Constraint m = m.constraints
-
--- an entity is in the list of its kind, as the caller sees it
-abbrev pub IsListed : Kind → Airspace → Option Caller → Entity → Missing → Type 0
-IsListed kind a (Some caller) y m = Contains (listed kind m) (view_of a caller.uss y)
-IsListed kind a None y m = ⊥
 
 -- A denial by one of P1 to P14; one by P14 lists the entity.
 abbrev pub IsRefusedFor : Kind → Airspace → Call → Entity → Reply → Type 0
