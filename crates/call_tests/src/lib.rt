@@ -8,4 +8,8 @@ mod examples;
 #[cfg(test)]
 mod meetings;
 #[cfg(test)]
+mod old_ovn;
+#[cfg(test)]
 mod states;
+#[cfg(test)]
+mod told;
