@@ -25,7 +25,7 @@ use Rattle.policy_core.specs.declared.call.Operation.TheVariants.{NoRoute, NoMet
 use Rattle.policy_core.specs.declared.rule.Rule.{Rule}
 use Rattle.policy_core.specs.declared.rule.Rule.TheVariants.{Route, Method, Token, Key, Limit}
 use Rattle.policy_core.specs.declared.reference.Reference.{Reference}
-use Rattle.policy_core.specs.Known.{put_of, is_told_of, listed, IsListed, IsAsked}
+use Rattle.policy_core.specs.Known.{put_of, is_told_of, listed, IsAsked}
 use Rattle.policy_core.specs.Missing.{in_key, is_missing_from, key_shown, missing_from, needed, needed_put, needs_key, is_none_of, is_nothing, missing_put, missing_by, missing_for}
 use Rattle.policy_core.specs.Policy.{breaks, early_rules, standing_rules, last_rules, first_broken}
 use Rattle.policy_core.specs.Rule.{number_of}

@@ -1,11 +1,11 @@
 -- After a run, each later put knew the earlier ones that it meets.
-use Rattle.std.specs.Prelude.{◌≡◌, ℕ, ◌+◌, ◌≤◌, ◌&&◌, not, nat_eq, Bool, true, false, List, [], ◌∷◌, ◌++◌, map, filter, Option, Some, None, cond, refl}
+use Rattle.std.specs.Prelude.{◌≡◌, ℕ, ◌+◌, ◌≤◌, not, Bool, true, false, List, [], ◌∷◌, map, Option, Some, None, cond, refl}
 use Rattle.std.proofs.Common.{arith, sym, ap, ◌∙◌, subst, inl, inr}
 use Rattle.std.proofs.lemmas.List.{nil_from_length}
 use Rattle.std.specs.Ordering.{eq_by_cmp}
 use Rattle.std.specs.List.{AllByRecursion}
 use Rattle.std.specs.FinMap.{get, entries, empty, get-entries, get-empty, len-entries, len-empty, entries-insert}
-use Rattle.grid_core.specs.Extent.{Region, region_of, any_meet}
+use Rattle.grid_core.specs.Extent.{region_of, any_meet}
 use Rattle.entity_core.specs.Airspace.{Airspace, EntityKey, key_cmp, key_of, with_availability, with_entity, without_entity, empty_at, Stated}
 use Rattle.entity_core.specs.Entity.{kind_of}
 use Rattle.entity_core.specs.Ovn.{ovn_text}
@@ -24,7 +24,7 @@ use Rattle.entity_core.proofs.Keys.{key_total, key_exact, one_key}
 use Rattle.space_core.proofs.Maps.{entries-remove}
 use Rattle.service_core.specs.declared.reply.Reply.{Reply}
 use Rattle.service_core.specs.declared.reply.Reply.TheVariants.{Done, Denied, Fault, Stopped}
-use Rattle.service_core.specs.Aware.{MadeCall, is_done, left_by, put_in, last_writer, later_or, is_owed, Knew, KnewOthers, AllKeyed, SerialsDiffer, Aware}
+use Rattle.service_core.specs.Aware.{MadeCall, is_done, left_by, put_in, last_writer, later_or, Knew, KnewOthers, AllKeyed, SerialsDiffer, Aware}
 use Rattle.service_core.specs.Run.{Timed, Runs, replies_of, airspace_after, answered_calls, told_replies, has_stopped}
 use Rattle.service_core.specs.Stale.{IsNumbered, AllNumbered}
 use Rattle.service_core.specs.Step.{step, step_by, effect, created, updated, update_effect, delete_effect, read_effect}

@@ -1,5 +1,5 @@
 -- A put whose key has old OVNs alone is refused.
-use Rattle.std.specs.Prelude.{◌≡◌, ℕ, ◌||◌, Bool, true, false, List, [], ◌∷◌, map, filter, Option, Some, None, cond, refl, Contains}
+use Rattle.std.specs.Prelude.{◌≡◌, ℕ, ◌||◌, Bool, true, false, List, [], ◌∷◌, map, filter, Option, cond, refl, Contains}
 use Rattle.std.proofs.Common.{sym, ap, ◌∙◌, subst, inl, inr}
 use Rattle.std.specs.Cmp.Lexicographic.{same_text as one_text}
 use Rattle.std.specs.List.{AllByRecursion}
