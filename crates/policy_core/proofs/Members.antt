@@ -9,7 +9,7 @@ contained x xs y (suc k, lt, is) = inr (k, omega (arith, lt), is)
 pub no_member : {X : Type 0} (y : X) → Contains [] y → ⊥
 no_member y (k, lt, is) = absurd (omega (arith, lt))
 
-later : {X : Type 0} (x : X) (xs : List X) (y : X) → Contains xs y → Contains (x ∷ xs) y
+pub later : {X : Type 0} (x : X) (xs : List X) (y : X) → Contains xs y → Contains (x ∷ xs) y
 later x xs y (k, lt, is) = (suc k, omega (arith, lt), is)
 
 pub passing : {X : Type 0} (p : X → Bool) (xs : List X) (y : X) → Contains xs y → p y ≡ true → Contains (filter p xs) y

@@ -1,18 +1,21 @@
 -- What puts know, and what they are told.
-use Rattle.std.specs.Prelude.{◌≡◌, ℕ, ◌≤◌, ◌&&◌, not, nat_eq, Bool, true, false, List, [], ◌∷◌, ◌++◌, map, filter, Option, Some, None, cond, find, refl, Contains}
+use Rattle.std.specs.Prelude.{◌≡◌, ℕ, ◌≤◌, ◌&&◌, ◌||◌, not, nat_eq, Bool, true, false, List, [], ◌∷◌, ◌++◌, map, filter, Option, Some, None, cond, find, refl, Contains}
 use Rattle.std.proofs.Common.{arith, sym, ap, ◌∙◌, subst}
 use Rattle.std.proofs.lemmas.Option.{same_Some}
 use Rattle.std.specs.Cmp.{unsigned_tied}
+use Rattle.std.specs.Cmp.Lexicographic.{same_text as one_text}
 use Rattle.std.specs.Ordering.{eq_by_cmp}
 use Rattle.std.specs.FinMap as maps
 use Rattle.std.specs.FinMap.{get, entries, get-entries}
 use Rattle.grid_core.specs.Extent.{Region, region_of, any_meet}
+use Rattle.entity_core.specs.IdTexts.{same_text}
 use Rattle.entity_core.specs.Airspace.{Airspace, EntityKey, key_cmp, key_of}
 use Rattle.entity_core.specs.Entity.{kind_of}
 use Rattle.entity_core.specs.Search.{meeting_in, is_sought}
 use Rattle.entity_core.specs.declared.entity.Entity.{Entity}
 use Rattle.entity_core.specs.declared.nature.Kind.{Kind}
 use Rattle.entity_core.specs.declared.nature.Kind.TheVariants as kinds
+use Rattle.entity_core.specs.declared.nature.State.TheVariants.{Accepted, Activated, Nonconforming, Contingent}
 use Rattle.entity_core.specs.declared.nature.Nature.{Nature}
 use Rattle.entity_core.specs.declared.nature.Nature.TheVariants.{Intent, Constraint}
 use Rattle.entity_core.proofs.Keys.{one_key}
@@ -25,14 +28,14 @@ use Rattle.policy_core.specs.declared.call.Operation.TheVariants.{NoRoute, NoMet
 use Rattle.policy_core.specs.declared.rule.Rule.{Rule}
 use Rattle.policy_core.specs.declared.rule.Rule.TheVariants.{Route, Method, Token, Key, Limit}
 use Rattle.policy_core.specs.declared.reference.Reference.{Reference}
-use Rattle.policy_core.specs.Known.{put_of, is_told_of, listed, IsAsked}
+use Rattle.policy_core.specs.Known.{put_of, is_declared, is_told_of, listed, IsAsked}
 use Rattle.policy_core.specs.Missing.{in_key, is_missing_from, key_shown, missing_from, needed, needed_put, needs_key, is_none_of, is_nothing, missing_put, missing_by, missing_for}
 use Rattle.policy_core.specs.Policy.{breaks, early_rules, standing_rules, last_rules, first_broken}
 use Rattle.policy_core.specs.Rule.{number_of}
 use Rattle.policy_core.specs.Scope.{has_scope}
 use Rattle.policy_core.specs.View.{view_of}
 use Rattle.policy_core.proofs.Finds.{or_else, find-append, find_has, find_rest}
-use Rattle.policy_core.proofs.Members.{no_member, passing, mapped}
+use Rattle.policy_core.proofs.Members.{no_member, later, passing, mapped}
 
 -- ---- without a caller
 
@@ -126,15 +129,31 @@ unfolding first_broken
 misses_nothing a t c h =
     not_not (is_nothing (missing_for a c.caller c.op)) (no_key (breaks a t c Key) (breaks a t c Limit) (find_rest (breaks a t c) standing_rules last_rules (find_rest (breaks a t c) early_rules (standing_rules ++ last_rules) h)))
 
-put_knows_of : (a : Airspace) (caller : Caller) (i : ℕ) (p : Put) (id : ℕ) (put : Put) (y : Entity) → ◌≡◌ {A = ℕ × Put} (i, p) (id, put) → is_nothing (missing_put a caller i p) ≡ true → needs_key put.nature ≡ true
+-- what is in a key is a member of it
+in_list : (key : List (List ℕ)) (ovn : List ℕ) → in_key key ovn ≡ true → Contains key ovn
+in_list [] ovn h = cc
+in_list (k ∷ ks) ovn h =
+    elim (same_text ovn k) as (λ b. same_text ovn k ≡ b → b || in_key ks ovn ≡ true → Contains (k ∷ ks) ovn) [
+      | true ↦ λ t g. (0, omega arith, sym (one_text ovn k (sym t)))
+      | false ↦ λ t g. later k ks ovn (in_list ks ovn g)
+    ] refl h
+
+declared_needs : (nature : Nature) → is_declared nature ≡ true → needs_key nature ≡ true
+declared_needs (Intent Accepted) h = refl
+declared_needs (Intent Activated) h = refl
+declared_needs (Intent Nonconforming) h = cc
+declared_needs (Intent Contingent) h = cc
+declared_needs Constraint h = cc
+
+put_knows_of : (a : Airspace) (caller : Caller) (i : ℕ) (p : Put) (id : ℕ) (put : Put) (y : Entity) → ◌≡◌ {A = ℕ × Put} (i, p) (id, put) → is_nothing (missing_put a caller i p) ≡ true → is_declared put.nature ≡ true
     → get a.entities (key_of y) ≡ Some y → eq_by_cmp key_cmp (key_of y) (kind_of put.nature, id) ≡ false → any_meet y.volumes (map region_of put.volumes) ≡ true → is_told_of (Some caller) y.nature ≡ true
-    → in_key put.key y.ovn ≡ true
-put_knows_of a caller i p id put y same none needs found other meet owed =
-    put_knows a caller id put y (subst (λ (q : ℕ × Put). is_nothing (missing_put a caller q.0 q.1) ≡ true) same none) found other needs meet owed
+    → Contains put.key y.ovn
+put_knows_of a caller i p id put y same none declared found other meet owed =
+    in_list put.key y.ovn (put_knows a caller id put y (subst (λ (q : ℕ × Put). is_nothing (missing_put a caller q.0 q.1) ≡ true) same none) found other (declared_needs put.nature declared) meet owed)
 
 pub puts_know : (a : Airspace) (t : ℕ) (caller : Option Caller) (op : Operation) (id : ℕ) (put : Put) (y : Entity) → put_of op ≡ Some (id, put) → first_broken a t (record { caller = caller; op = op }) ≡ None
-    → needs_key put.nature ≡ true → get a.entities (key_of y) ≡ Some y → eq_by_cmp key_cmp (key_of y) (kind_of put.nature, id) ≡ false → any_meet y.volumes (map region_of put.volumes) ≡ true
-    → is_told_of caller y.nature ≡ true → in_key put.key y.ovn ≡ true
+    → is_declared put.nature ≡ true → get a.entities (key_of y) ≡ Some y → eq_by_cmp key_cmp (key_of y) (kind_of put.nature, id) ≡ false → any_meet y.volumes (map region_of put.volumes) ≡ true
+    → is_told_of caller y.nature ≡ true → Contains put.key y.ovn
 puts_know a t None op id put y is h = let some = none_asks a t op in let bad : None ≡ Some some.0 = sym h ∙ some.1 in cc
 puts_know a t (Some caller) NoRoute id put y is h = cc
 puts_know a t (Some caller) NoMethod id put y is h = cc

@@ -8,6 +8,7 @@ use Rattle.entity_core.specs.Entity.{kind_of}
 use Rattle.entity_core.specs.declared.entity.Entity.{Entity}
 use Rattle.entity_core.specs.declared.nature.Kind.{Kind}
 use Rattle.entity_core.specs.declared.nature.Kind.TheVariants as kinds
+use Rattle.entity_core.specs.declared.nature.State.TheVariants.{Accepted, Activated}
 use Rattle.entity_core.specs.declared.nature.Nature.{Nature}
 use Rattle.entity_core.specs.declared.nature.Nature.TheVariants.{Intent, Constraint}
 use Rattle.policy_core.specs.declared.scope.Caller.{Caller}
@@ -20,7 +21,7 @@ use Rattle.policy_core.specs.declared.reference.Missing.{Missing}
 use Rattle.policy_core.specs.declared.reference.Reference.{Reference}
 use Rattle.policy_core.specs.declared.rule.Rule.{Rule}
 use Rattle.policy_core.specs.declared.rule.Rule.TheVariants.{Key}
-use Rattle.policy_core.specs.Missing.{in_key, key_shown, missing_for, needed, needs_key}
+use Rattle.policy_core.specs.Missing.{in_key, key_shown, missing_for, needed}
 use Rattle.policy_core.specs.Policy.{first_broken}
 use Rattle.policy_core.specs.Rule.{number_of}
 use Rattle.policy_core.specs.Scope.{has_scope}
@@ -34,6 +35,12 @@ put_of (Create id put) = Some (id, put)
 put_of (Update id ovn put) = Some (id, put)
 put_of op = None
 
+-- an intent that is planned or flown as planned
+abbrev pub is_declared : Nature → Bool
+is_declared (Intent Accepted) = true
+is_declared (Intent Activated) = true
+is_declared nature = false
+
 -- whether a caller is to know of such an entity: of each intent, and of constraints if it processes them
 abbrev pub is_told_of : Option Caller → Nature → Bool
 is_told_of caller (Intent state) = true
@@ -43,9 +50,9 @@ is_told_of None Constraint = false
 -- Where the put of an intent that is planned or flown as planned breaks no rule, its key has the present OVN
 -- of each other entity that it meets and that its caller is to know of.
 abbrev pub PutsKnow : Type 0
-PutsKnow = (a : Airspace) (now : ℕ) (c : Call) (id : ℕ) (put : Put) (y : Entity) → put_of c.op ≡ Some (id, put) → first_broken a now c ≡ None → needs_key put.nature ≡ true
+PutsKnow = (a : Airspace) (now : ℕ) (c : Call) (id : ℕ) (put : Put) (y : Entity) → put_of c.op ≡ Some (id, put) → first_broken a now c ≡ None → is_declared put.nature ≡ true
     → get a.entities (key_of y) ≡ Some y → eq_by_cmp key_cmp (key_of y) (kind_of put.nature, id) ≡ false → any_meet y.volumes (map region_of put.volumes) ≡ true → is_told_of c.caller y.nature ≡ true
-    → in_key put.key y.ovn ≡ true
+    → Contains put.key y.ovn
 
 -- ---- what a put is told
 

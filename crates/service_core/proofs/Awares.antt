@@ -1,5 +1,5 @@
 -- After a run, each later put knew the earlier ones that it meets.
-use Rattle.std.specs.Prelude.{◌≡◌, ℕ, ◌+◌, ◌≤◌, not, Bool, true, false, List, [], ◌∷◌, map, Option, Some, None, cond, refl}
+use Rattle.std.specs.Prelude.{◌≡◌, ℕ, ◌+◌, ◌≤◌, not, Bool, true, false, List, [], ◌∷◌, map, Option, Some, None, cond, refl, Contains}
 use Rattle.std.proofs.Common.{arith, sym, ap, ◌∙◌, subst, inl, inr}
 use Rattle.std.proofs.lemmas.List.{nil_from_length}
 use Rattle.std.specs.Ordering.{eq_by_cmp}
@@ -16,8 +16,8 @@ use Rattle.policy_core.specs.declared.call.Call.{Call}
 use Rattle.policy_core.specs.declared.call.Put.{Put}
 use Rattle.policy_core.specs.declared.call.Operation.{Operation}
 use Rattle.policy_core.specs.declared.call.Operation.TheVariants.{NoRoute, NoMethod, Malformed, Query, Read, Create, Update, Delete, ReadAvail, SetAvail}
-use Rattle.policy_core.specs.Known.{is_told_of, put_of}
-use Rattle.policy_core.specs.Missing.{in_key, key_shown, needs_key}
+use Rattle.policy_core.specs.Known.{is_declared, is_told_of, put_of}
+use Rattle.policy_core.specs.Missing.{key_shown}
 use Rattle.policy_core.specs.Policy.{first_broken}
 use Rattle.policy_core.proofs.Puts.{puts_know}
 use Rattle.entity_core.proofs.Keys.{key_total, key_exact, one_key}
@@ -48,7 +48,7 @@ raised salt serial x n = record { positive = n.positive; within = let w = n.with
 
 -- with an entity that knew the others
 kept_with : (salt : List ℕ) (last : EntityKey → Option MadeCall) (a : Airspace) (c : Call) (e : Entity) → Kept salt last a → e.serial ≡ a.serial + 1 → e.ovn ≡ ovn_text salt e.serial
-    → ((y : Entity) → get a.entities (key_of y) ≡ Some y → eq_by_cmp key_cmp (key_of y) (key_of e) ≡ false → needs_key e.nature ≡ true → any_meet y.volumes (map region_of e.volumes) ≡ true → is_told_of c.caller y.nature ≡ true → in_key (key_shown c.op) y.ovn ≡ true)
+    → ((y : Entity) → get a.entities (key_of y) ≡ Some y → eq_by_cmp key_cmp (key_of y) (key_of e) ≡ false → is_declared e.nature ≡ true → any_meet y.volumes (map region_of e.volumes) ≡ true → is_told_of c.caller y.nature ≡ true → Contains (key_shown c.op) y.ovn)
     → Kept salt (λ k. later_or (cond (eq_by_cmp key_cmp k (key_of e)) (Some (record { before = a; call = c })) None) (last k)) (with_entity a e)
 kept_with salt last a c e s new text knows =
     record {
@@ -87,7 +87,7 @@ kept_with salt last a c e s new text knows =
                 made = record { before = a; call = c };
                 last = ap (λ (b : Bool). later_or (cond b (Some (record { before = a; call = c })) None) (last k)) p.0;
                 stood = ap (get a.entities) at ∙ q.1;
-                knew = knows y (ap (get a.entities) at ∙ q.1) (ap (λ (z : EntityKey). eq_by_cmp key_cmp z (key_of e)) at ∙ q.0) (ap (λ (z : Entity). needs_key z.nature) p.1 ∙ needs) (ap (λ (z : Entity). any_meet y.volumes (map region_of z.volumes)) p.1 ∙ meet);
+                knew = knows y (ap (get a.entities) at ∙ q.1) (ap (λ (z : EntityKey). eq_by_cmp key_cmp z (key_of e)) at ∙ q.0) (ap (λ (z : Entity). is_declared z.nature) p.1 ∙ needs) (ap (λ (z : Entity). any_meet y.volumes (map region_of z.volumes)) p.1 ∙ meet);
               }
         ]
         | inr p ↦ elim (got a.entities (key_of e) e l y hy) [
@@ -128,8 +128,8 @@ last_with last a c r = λ k. later_or (put_in k a c r) (last k)
 
 -- the key of an operation has the OVN of each other entity that a put of it is to know
 abbrev Knows : Airspace → Option Caller → Operation → Type 0
-Knows a caller op = (id : ℕ) (put : Put) (y : Entity) → put_of op ≡ Some (id, put) → needs_key put.nature ≡ true → get a.entities (key_of y) ≡ Some y → eq_by_cmp key_cmp (key_of y) (kind_of put.nature, id) ≡ false
-    → any_meet y.volumes (map region_of put.volumes) ≡ true → is_told_of caller y.nature ≡ true → in_key put.key y.ovn ≡ true
+Knows a caller op = (id : ℕ) (put : Put) (y : Entity) → put_of op ≡ Some (id, put) → is_declared put.nature ≡ true → get a.entities (key_of y) ≡ Some y → eq_by_cmp key_cmp (key_of y) (kind_of put.nature, id) ≡ false
+    → any_meet y.volumes (map region_of put.volumes) ≡ true → is_told_of caller y.nature ≡ true → Contains put.key y.ovn
 
 kept_create : (salt : List ℕ) (last : EntityKey → Option MadeCall) (a : Airspace) (caller : Caller) (id : ℕ) (put : Put) → Kept salt last a → Knows a (Some caller) (Create id put)
     → Kept salt (last_with last a (record { caller = Some caller; op = Create id put }) (effect salt a (Some caller) (Create id put)).1) (effect salt a (Some caller) (Create id put)).0

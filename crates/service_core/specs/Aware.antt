@@ -1,5 +1,5 @@
 -- What suppliers knew when they put what is kept.
-use Rattle.std.specs.Prelude.{◌≡◌, ℕ, ◌<◌, ◌&&◌, Bool, true, false, List, [], ◌∷◌, map, Option, Some, None, if◌then◌else◌}
+use Rattle.std.specs.Prelude.{◌≡◌, ℕ, ◌<◌, ◌&&◌, Bool, true, false, List, [], ◌∷◌, map, Option, Some, None, if◌then◌else◌, Contains}
 use Rattle.std.specs.Ordering.{eq_by_cmp}
 use Rattle.std.specs.FinMap.{get}
 use Rattle.grid_core.specs.Extent.{Extent, region_of, any_meet}
@@ -9,8 +9,8 @@ use Rattle.entity_core.specs.declared.entity.Entity.{Entity}
 use Rattle.policy_core.specs.declared.call.Call.{Call}
 use Rattle.policy_core.specs.declared.call.Operation.{Operation}
 use Rattle.policy_core.specs.declared.call.Operation.TheVariants.{Create, Update}
-use Rattle.policy_core.specs.Known.{is_told_of}
-use Rattle.policy_core.specs.Missing.{in_key, key_shown, needs_key}
+use Rattle.policy_core.specs.Known.{is_declared, is_told_of}
+use Rattle.policy_core.specs.Missing.{key_shown}
 use Rattle.service_core.specs.declared.reply.Reply.{Reply}
 use Rattle.service_core.specs.declared.reply.Reply.TheVariants.{Done, Denied, Fault, Stopped}
 use Rattle.service_core.specs.Run.{Timed}
@@ -67,12 +67,12 @@ pub record Knew (put : Option MadeCall) (y : Entity) : Type 0 where
   pub made : MadeCall
   pub last : put ≡ Some made
   pub stood : get made.before.entities (key_of y) ≡ Some y
-  pub knew : is_owed made y ≡ true → in_key (key_shown made.call.op) y.ovn ≡ true
+  pub knew : is_owed made y ≡ true → Contains (key_shown made.call.op) y.ovn
 
 -- Of two entities that meet, where the one with the greater serial is an intent that is planned or
 -- flown as planned: the last put of that one knew the other.
 abbrev pub KnewOthers : (EntityKey → Option MadeCall) → Airspace → Type 0
-KnewOthers last a = (k l : EntityKey) (x y : Entity) → get a.entities k ≡ Some x → get a.entities l ≡ Some y → y.serial < x.serial → needs_key x.nature ≡ true
+KnewOthers last a = (k l : EntityKey) (x y : Entity) → get a.entities k ≡ Some x → get a.entities l ≡ Some y → y.serial < x.serial → is_declared x.nature ≡ true
     → any_meet y.volumes (map region_of x.volumes) ≡ true → Knew (last k) y
 
 -- Which of two is met by the other makes no difference.
