@@ -67,6 +67,6 @@ pub record IsStale (salt : List ℕ) (kind : Kind) (a : Airspace) (c : Call) (y 
   pub needs : Contains (needed kind a c.caller c.op) y
   pub old : AllByRecursion (IsOfAnother salt a y) (key_shown c.op)
 
--- It is refused for that entity, if no earlier rule is broken.
+-- The policy refuses it for that entity, or for an earlier rule that it breaks.
 abbrev pub StaleIsRefused : Type 0
 StaleIsRefused = (salt : List ℕ) (a : Airspace) (now : ℕ) (c : Call) (kind : Kind) (y : Entity) → IsStale salt kind a c y → IsRefusedFor kind a c y (step salt a now c).1
