@@ -1,4 +1,4 @@
-use Rattle.std.proofs.Common.{◌≡◌, ◌∙◌, ℕ, Bool, true, false, List, sym, subst, refl}
+use Rattle.std.proofs.Common.{◌≡◌, ◌∙◌, ℕ, true, false, List, sym, subst, refl}
 use Rattle.entity_core.specs.Airspace.{Airspace, empty_at}
 use Rattle.space_core.specs.List.{content_of}
 use Rattle.space_core.specs.Space.{IsContent}
