@@ -1,8 +1,8 @@
 //! Answers the calls of its input and prints of each that is to be timed the status, the length of the
 //! body and, where there is an argument, how many nanoseconds the service took for it.
 //!
-//! A line of the input is a call: `timed` or `untimed`, what is asked, the words of its path (the second
-//! is `-` where there is none) and its body.
+//! A line of the input is a call: `timed` or `untimed`, what is asked (`create`, `update`, `delete` or
+//! `query`, of an intent), the words of its path (the second is `-` where there is none) and its body.
 #![tactic(auto)]
 
 use entity_core::nature::Kind;
@@ -22,12 +22,13 @@ use wire_json::body::{PathWords, read_body};
 /// The moment of each call, in seconds since 1970.
 const NOW: u64 = 1_000;
 
+// The operation on intents that begins with a letter.
 fn kind_of(word: &str) -> Option<OpKind> {
-    match word {
-        "create" => Some(OpKind::Create(Kind::Intent)),
-        "update" => Some(OpKind::Update(Kind::Intent)),
-        "delete" => Some(OpKind::Delete(Kind::Intent)),
-        "query" => Some(OpKind::Query(Kind::Intent)),
+    match word.as_bytes().first() {
+        Some(b'c') => Some(OpKind::Create(Kind::Intent)),
+        Some(b'u') => Some(OpKind::Update(Kind::Intent)),
+        Some(b'd') => Some(OpKind::Delete(Kind::Intent)),
+        Some(b'q') => Some(OpKind::Query(Kind::Intent)),
         _ => None,
     }
 }
@@ -76,11 +77,11 @@ fn answer_line(
     let (second, body) = rest.split_once(' ')?;
     let words = PathWords {
         first,
-        second: (second != "-").then_some(second),
+        second: (second.len() > 1).then_some(second),
     };
     let call = call_of(rt.alloc(), kind_of(asked)?, &words, body)?;
     let (status, length, nanos) = answer(rt, service, &call)?;
-    if mark != "timed" {
+    if mark.as_bytes().first() != Some(&b't') {
         return Some(());
     }
     if shows_times {

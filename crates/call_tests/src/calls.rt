@@ -110,7 +110,9 @@ fn a_run_answers_each_call(rt: HostRuntime) {
     let salt = Salt::read(rt.alloc(), "demo").ok().expect(&rt, "a salt");
     let mut service = Service::new(ListSpace::new(rt.alloc()), salt);
     let calls = three(rt.alloc()).expect(&rt, "calls");
-    let replies = service.run(rt.alloc(), calls.as_slice()).expect(&rt, "replies");
+    let replies = service
+        .run(rt.alloc(), calls.as_slice())
+        .expect(&rt, "replies");
     assert_eq!(rt; replies.len(), 3);
     assert!(rt; matches!(&replies[1], Reply::Denied(Rule::Version, _)));
     assert!(rt; tells_down(&replies[2]));

@@ -32,7 +32,10 @@ fn each_read_fails(rt: HostRuntime) {
             let (end, text) = outcome.expect(&rt, "a token table");
             let is_whole = end == Ok(End::Close);
             let wanted = if is_whole { answer } else { "" };
-            assert!(rt; is_whole || end == Err(StreamFault::Read), "after {reads} reads");
+            assert!(rt;
+                is_whole || end == Err(StreamFault::Read),
+                "after {reads} reads"
+            );
             assert!(rt; text.as_slice() == wanted.as_bytes(), "after {reads} reads");
             whole = whole.saturating_add(u64::from(is_whole));
         }
@@ -55,9 +58,15 @@ fn each_write_fails(rt: HostRuntime) {
             let (end, text) = outcome.expect(&rt, "a token table");
             let is_whole = end == Ok(End::Close);
             let begins = answer.as_bytes().starts_with(text.as_slice());
-            assert!(rt; is_whole || end == Err(StreamFault::Write), "after {writes} writes");
+            assert!(rt;
+                is_whole || end == Err(StreamFault::Write),
+                "after {writes} writes"
+            );
             assert!(rt; begins, "after {writes} writes");
-            assert!(rt; is_whole == (text.len() == answer.len()), "after {writes} writes");
+            assert!(rt;
+                is_whole == (text.len() == answer.len()),
+                "after {writes} writes"
+            );
             whole = whole.saturating_add(u64::from(is_whole));
         }
         assert!(rt; whole > 0, "at {request}");

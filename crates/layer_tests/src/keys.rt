@@ -36,7 +36,9 @@ fn volumes(alloc: Global) -> Option<Volumes> {
     let mut cells = Vec::new(alloc);
     cells.push(parse_token("89c25904").ok()?).ok()?;
     let mut items = Vec::new(alloc);
-    items.push(Volume::new(cells, (0, 1000), (900, 1500)).ok()?).ok()?;
+    items
+        .push(Volume::new(cells, (0, 1000), (900, 1500)).ok()?)
+        .ok()?;
     Volumes::from_vec(items)
 }
 
@@ -90,7 +92,10 @@ fn missing_is_as_the_plain_search_says(rt: HostRuntime) {
         let mut places = quick.iter();
         for (place, entity) in needed.iter().enumerate() {
             if !is_known(key.as_slice(), entity.ovn.text()) {
-                assert!(rt; places.next() == Some(&place), "place {place} of a key of {count}");
+                assert!(rt;
+                    places.next() == Some(&place),
+                    "place {place} of a key of {count}"
+                );
             }
         }
     }
@@ -105,7 +110,13 @@ fn an_index_has_whole_version_numbers(rt: HostRuntime) {
         assert!(rt; key.push(own).is_ok());
     }
     let index = KeyIndex::of(alloc, key.as_slice()).expect(&rt, "an index");
-    for (number, has) in [(10, true), (200, true), (1, false), (100, false), (20, false)] {
+    for (number, has) in [
+        (10, true),
+        (200, true),
+        (1, false),
+        (100, false),
+        (20, false),
+    ] {
         let sought = ovn(alloc, number).expect(&rt, "a version number");
         assert!(rt; index.has(&sought) == has, "of {number}");
     }
