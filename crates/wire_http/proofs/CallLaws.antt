@@ -7,11 +7,10 @@ use Rattle.httparse.specs.Spans.{header_bytes, span_bytes}
 use Rattle.policy_core.specs.declared.scope.Caller.{Caller}
 use Rattle.policy_core.specs.declared.call.Operation.{Operation}
 use Rattle.token_conf.specs.TokenFile.{Callers}
-use Rattle.wire_http.specs.declared.route.Place.{Place}
+use Rattle.wire_route.specs.declared.place.Place.{Place}
 use Rattle.wire_http.specs.Found.{Covers}
 use Rattle.wire_http.specs.Next.{body_at}
-use Rattle.wire_http.specs.Route.{path_of}
-use Rattle.wire_http.specs.Table.{named_place}
+use Rattle.wire_http.specs.Target.{path_of}
 use Rattle.wire_http.specs.Asked.{IsCallOf, IsAsked, caller_of}
 
 body_is : (buffer : List ℕ) (len size : ℕ) → take (len + size - len) (drop len buffer) ≡ body_at buffer len size
@@ -20,17 +19,15 @@ body_is buffer len size = let e : len + size - len ≡ size = omega arith in ap 
 pub call_made : (callers : Callers) (buffer : List ℕ) (fields : List HeaderSpan) (spans : RequestSpans) (size : ℕ) (h : RequestHead)
     (op : Operation) (caller : Option Caller) (place : Option Place) (path method : List ℕ)
     → path ≡ path_of (span_bytes buffer spans.path) → method ≡ span_bytes buffer spans.method
-    → IsAsked path method (take (spans.len + size - spans.len) (drop spans.len buffer)) op
-    → caller ≡ caller_of callers (map (header_bytes buffer) (take spans.headers fields)) → place ≡ named_place path
+    → IsAsked path method (take (spans.len + size - spans.len) (drop spans.len buffer)) place op
+    → caller ≡ caller_of callers (map (header_bytes buffer) (take spans.headers fields))
     → Covers buffer fields spans h
-    → IsCallOf callers h (body_at buffer spans.len size) (record { caller = caller; op = op }) × (place ≡ named_place (path_of h.target))
-call_made callers buffer fields spans size h op caller place path method p m asked c n cover =
-    let at_path : path ≡ path_of h.target = p ∙ ap path_of cover.path in (
-      record {
-        caller = c ∙ ap (caller_of callers) cover.fields;
-        op = subst (λ v. IsAsked (path_of h.target) h.method v op) (body_is buffer spans.len size)
-            (subst (λ v. IsAsked (path_of h.target) v (take (spans.len + size - spans.len) (drop spans.len buffer)) op) (m ∙ cover.method)
-            (subst (λ v. IsAsked v method (take (spans.len + size - spans.len) (drop spans.len buffer)) op) at_path asked));
-      },
-      n ∙ ap named_place at_path,
-    )
+    → IsCallOf callers h (body_at buffer spans.len size) place (record { caller = caller; op = op })
+call_made callers buffer fields spans size h op caller place path method p m asked c cover =
+    let at_path : path ≡ path_of h.target = p ∙ ap path_of cover.path in
+    record {
+      caller = c ∙ ap (caller_of callers) cover.fields;
+      op = subst (λ v. IsAsked (path_of h.target) h.method v place op) (body_is buffer spans.len size)
+          (subst (λ v. IsAsked (path_of h.target) v (take (spans.len + size - spans.len) (drop spans.len buffer)) place op) (m ∙ cover.method)
+          (subst (λ v. IsAsked v method (take (spans.len + size - spans.len) (drop spans.len buffer)) place op) at_path asked));
+    }

@@ -1,6 +1,5 @@
 -- A rest has at most one request next, and a request makes at most one call.
-use Rattle.std.proofs.Common.{◌≡◌, ℕ, List, length, take, sym, ap, subst, ◌∙◌, Option, Some, None, Ok, inl, inr}
-use Rattle.matchit.proofs.LookupLemmas.{append-cancel}
+use Rattle.std.proofs.Common.{◌≡◌, ℕ, List, length, take, sym, ap, subst, ◌∙◌, refl, Option, Some, None, Ok, inl, inr}
 use Rattle.httparse.specs.Grammar.{RequestHead}
 use Rattle.policy_core.specs.declared.call.Call.{Call}
 use Rattle.policy_core.specs.declared.call.OpKind.{OpKind}
@@ -8,11 +7,13 @@ use Rattle.policy_core.specs.declared.call.Operation.{Operation}
 use Rattle.token_conf.specs.TokenFile.{Callers}
 use Rattle.wire_json.specs.Body.{Words}
 use Rattle.wire_json.proofs.OneBody.{asks_for_one_lem}
-use Rattle.wire_http.specs.declared.route.Place.{Place}
+use Rattle.wire_route.specs.declared.place.Place.{Place}
+use Rattle.wire_route.specs.Place.{kind_at}
+use Rattle.wire_route.proofs.Paths.{one_route}
 use Rattle.wire_http.specs.Rest.{after}
 use Rattle.wire_http.specs.Length.{length_of}
-use Rattle.wire_http.specs.Route.{IsRoute, prefix_of, path_of}
-use Rattle.wire_http.specs.Asked.{IsCallOf, IsAsked, IsAskedAs, IsReadAs, kind_at, words_at, fields_of}
+use Rattle.wire_http.specs.Target.{path_of}
+use Rattle.wire_http.specs.Asked.{IsCallOf, IsAsked, IsAskedAs, IsReadAs, fields_of}
 use Rattle.wire_http.specs.Wire.{IsRequest}
 use Rattle.wire_http.proofs.NextLaws.{same_head}
 
@@ -36,26 +37,19 @@ same_asked_as : (kind : Option OpKind) (words : Words) (bytes : List ℕ) (p q :
 same_asked_as None words bytes p q x y = y ∙ sym x
 same_asked_as (Some kind) words bytes p q x y = same_read kind words bytes p q x y
 
-same_place : (path : List ℕ) (a b : Place) (v w : List ℕ) → IsRoute path a v → IsRoute path b w → b ≡ a
-same_place path a b v w (x, _) (y, _) = let e : Some b ≡ Some a = sym y ∙ x in cc
+same_asked : (path method body : List ℕ) (a b : Option Place) (p q : Operation) → IsAsked path method body a p → IsAsked path method body b q → (b ≡ a) × (q ≡ p)
+same_asked path method body None None p q (none, e) (also, f) = (refl, f ∙ sym e)
+same_asked path method body None (Some b) p q (none, e) (w, y, asked) = absurd (none b w y)
+same_asked path method body (Some a) None p q (v, x, asks) (none, f) = absurd (none a v x)
+same_asked path method body (Some a) (Some b) p q (v, x, asks) (w, y, asked) =
+    let route : (b ≡ a) × (w ≡ v) = one_route path a b v w x y in
+    let at_place : IsAskedAs (kind_at a method) w body q = subst (λ (c : Place). IsAskedAs (kind_at c method) w body q) route.0 asked in
+    let at_words : IsAskedAs (kind_at a method) v body q = subst (λ (z : Words). IsAskedAs (kind_at a method) z body q) route.1 at_place in
+    (ap (λ c. Some c) route.0, same_asked_as (kind_at a method) v body p q asks at_words)
 
-same_word : (path : List ℕ) (a : Place) (v w : List ℕ) → IsRoute path a v → IsRoute path a w → w ≡ v
-same_word path a v w (_, x) (_, y) = append-cancel (prefix_of a) w v (sym y.splits ∙ x.splits)
-
-same_asked : (path method body : List ℕ) (p q : Operation) → IsAsked path method body p → IsAsked path method body q → q ≡ p
-same_asked path method body p q (inl (none, e)) (inl (also, f)) = f ∙ sym e
-same_asked path method body p q (inl (none, e)) (inr (b, w, y, asked)) = absurd (none b w y)
-same_asked path method body p q (inr (a, v, x, asks)) (inl (none, f)) = absurd (none a v x)
-same_asked path method body p q (inr (a, v, x, asks)) (inr (b, w, y, asked)) =
-    let place : b ≡ a = same_place path a b v w x y in
-    let at : IsRoute path a w = subst (λ (c : Place). IsRoute path c w) place y in
-    let word : w ≡ v = same_word path a v w x at in
-    let asked_at : IsAskedAs (kind_at a method) (words_at a w) body q = subst (λ (c : Place). IsAskedAs (kind_at c method) (words_at c w) body q) place asked in
-    same_asked_as (kind_at a method) (words_at a v) body p q asks (subst (λ (z : List ℕ). IsAskedAs (kind_at a method) (words_at a z) body q) word asked_at)
-
-pub one_call : (callers : Callers) (h : RequestHead) (body : List ℕ) (c d : Call) → IsCallOf callers h body c → IsCallOf callers h body d → d ≡ c
-one_call callers h body c d x y =
+pub one_call : (callers : Callers) (h : RequestHead) (body : List ℕ) (a b : Option Place) (c d : Call) → IsCallOf callers h body a c → IsCallOf callers h body b d → (b ≡ a) × (d ≡ c)
+one_call callers h body a b c d x y =
     let caller : d.caller ≡ c.caller = y.caller ∙ sym x.caller in
-    let op : d.op ≡ c.op = same_asked (path_of h.target) h.method body c.op d.op x.op y.op in
+    let asked = same_asked (path_of h.target) h.method body a b c.op d.op x.op y.op in
     let at_caller : record { caller = d.caller; op = d.op } ≡ record { caller = c.caller; op = d.op } = ap (λ v. let r : Call = record { caller = v; op = d.op } in r) caller in
-    at_caller ∙ ap (λ v. let r : Call = record { caller = c.caller; op = v } in r) op
+    (asked.0, at_caller ∙ ap (λ v. let r : Call = record { caller = c.caller; op = v } in r) asked.1)

@@ -7,7 +7,6 @@ pub mod KindLaws
 pub mod KnownBytes
 pub mod LengthLaws
 pub mod NextLaws
-pub mod RouteLaws
 pub mod StopLaws
 pub mod StreamLaws
 pub mod StreamUnique

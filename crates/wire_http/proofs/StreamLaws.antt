@@ -38,11 +38,11 @@ length_more xs ys x y h = omega (arith, h, length-append xs (x ∷ []), length-a
 -- ---- the texts
 
 answers_more : (all : List Asked) (replies : List Reply) (a : Asked) (r : Reply) → length replies ≡ length all
-    → answers (all ++ a ∷ []) (replies ++ r ∷ []) ≡ answers all replies ++ answer_text a.head a.closing r ∷ []
+    → answers (all ++ a ∷ []) (replies ++ r ∷ []) ≡ answers all replies ++ answer_text a.place a.closing r ∷ []
 answers_more [] [] a r e = refl
 answers_more [] (y ∷ replies) a r e = absurd (omega (arith, e))
 answers_more (x ∷ all) [] a r e = absurd (omega (arith, e))
-answers_more (x ∷ all) (y ∷ replies) a r e = ap (λ v. answer_text x.head x.closing y ∷ v) (answers_more all replies a r (omega (arith, e)))
+answers_more (x ∷ all) (y ∷ replies) a r e = ap (λ v. answer_text x.place x.closing y ∷ v) (answers_more all replies a r (omega (arith, e)))
 
 concat_one : (t : List ℕ) → concat (t ∷ []) ≡ t
 concat_one t = append-nil t
@@ -224,7 +224,7 @@ module _ {S M : Type 0} (Holds : S → Airspace → Type 0) (IsSound : S → Typ
         answered = answered_more old now new g.all g.replies asked reply g.answered took.is_reply salt stays;
         count_is = omega (arith, g.count_is, length-append g.all (asked ∷ []));
         written = subst (λ (v : List ℕ). Appends w0 w2 v)
-            (sym (concat_more (answers g.all g.replies) (answer_text asked.head asked.closing reply)) ∙ ap concat (sym (answers_more g.all g.replies asked reply g.answered.one_each)))
+            (sym (concat_more (answers g.all g.replies) (answer_text asked.place asked.closing reply)) ∙ ap concat (sym (answers_more g.all g.replies asked reply g.answered.one_each)))
             (Appends_more w0 w1 w2 _ _ g.written turn.5);
         unread_is = turn.4;
       }
@@ -278,7 +278,7 @@ module _ {S M : Type 0} (Holds : S → Airspace → Type 0) (IsSound : S → Typ
       elim (at_rest u g.left (λ rest. IsTurnPart Holds IsSound refusals is_broken Gives callers k rest now new later mid w1 w2 fault) g.unread_is h) [
         | inl (asked, reply, m, next, size, answering, took, wrote) ↦
             let closing : asked.closing ≡ (left_after k asked.head == 0) = took.closing ∙ ap (λ v. v == 0) took.n_is in
-            let texts : answers (g.all ++ asked ∷ []) (g.replies ++ reply ∷ []) ≡ answers g.all g.replies ++ answer_text asked.head asked.closing reply ∷ [] =
+            let texts : answers (g.all ++ asked ∷ []) (g.replies ++ reply ∷ []) ≡ answers g.all g.replies ++ answer_text asked.place asked.closing reply ∷ [] =
             answers_more g.all g.replies asked reply g.answered.one_each in
             record {
               all = g.all ++ asked ∷ [];
@@ -291,10 +291,10 @@ module _ {S M : Type 0} (Holds : S → Airspace → Type 0) (IsSound : S → Typ
               answered = answered_more old now new g.all g.replies asked reply g.answered took.is_reply salt stays;
               tail = [];
               follows = none_follows (left_after k asked.head) next;
-              bytes = concat (answers g.all g.replies) ++ take size (answer_text asked.head asked.closing reply);
-              front = subst (λ (v : List (List ℕ)). IsFront v (concat (answers g.all g.replies) ++ take size (answer_text asked.head asked.closing reply)))
+              bytes = concat (answers g.all g.replies) ++ take size (answer_text asked.place asked.closing reply);
+              front = subst (λ (v : List (List ℕ)). IsFront v (concat (answers g.all g.replies) ++ take size (answer_text asked.place asked.closing reply)))
                   (sym texts ∙ sym (append-nil (answers (g.all ++ asked ∷ []) (g.replies ++ reply ∷ []))))
-                  (front_more (answers g.all g.replies) (answer_text asked.head asked.closing reply) size);
+                  (front_more (answers g.all g.replies) (answer_text asked.place asked.closing reply) size);
               whole = inl answering;
               written = Appends_more w0 w1 w2 _ _ g.written wrote;
             }

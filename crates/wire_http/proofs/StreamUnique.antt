@@ -14,6 +14,7 @@ use Rattle.wire_http.proofs.StopLaws.{one_finish, no_stop}
 -- the parts of what was asked are the same
 pub record AreSame {M : Type 0} (a b : Asked) (next after : List ℕ) (later following : M) : Type 0 where
   pub head : b.head ≡ a.head
+  pub place : b.place ≡ a.place
   pub moment : b.moment ≡ a.moment
   pub call : b.call ≡ a.call
   pub next_is : after ≡ next
@@ -26,26 +27,23 @@ pub record AreOne {M : Type 0} (all others : List Asked) (left last : List ℕ) 
   pub clock : following ≡ later
   pub ends : AreSameEnds left end other
 
-same_asked : (a b : Asked) → b.head ≡ a.head → b.moment ≡ a.moment → b.call ≡ a.call → b.closing ≡ a.closing → b ≡ a
-same_asked a b p q r t =
-    let w : b ≡ record b { head = a.head } = ap (λ v. let s : Asked = record b { head = v } in s) p in
-    let x : record b { head = a.head } ≡ record a { call = b.call; closing = b.closing } = ap (λ v. let s : Asked = record { head = a.head; moment = v; call = b.call; closing = b.closing } in s) q in
-    let y : record a { call = b.call; closing = b.closing } ≡ record a { closing = b.closing } = ap (λ v. let s : Asked = record a { call = v; closing = b.closing } in s) r in
-    let z : record a { closing = b.closing } ≡ a = ap (λ v. let s : Asked = record a { closing = v } in s) t in
-    w ∙ x ∙ y ∙ z
+same_asked : (a b : Asked) → b.head ≡ a.head → b.place ≡ a.place → b.moment ≡ a.moment → b.call ≡ a.call → b.closing ≡ a.closing → b ≡ a
+same_asked a b h p m c t = λ i. let s : Asked = record { head = h i; place = p i; moment = m i; call = c i; closing = t i } in s
 
 module _ {M : Type 0} (Gives : M → ℕ → M → Type 0) (callers : Callers) (one : (c : M) (m n : ℕ) (d e : M) → Gives c m d → Gives c n e → (n ≡ m) × (e ≡ d)) where
   same_asks : (rest : List ℕ) (clock : M) (a b : Asked) (next more : List ℕ) (later following : M)
       → Asks Gives callers rest clock a next later → Asks Gives callers rest clock b more following → AreSame a b next more later following
   same_asks rest clock a b next more later following x y =
       let request : (b.head ≡ a.head) × (y.body ≡ x.body) = one_request rest a.head b.head x.body y.body x.request y.request in
-      let at_head : IsCallOf callers a.head y.body b.call = subst (λ (h : RequestHead). IsCallOf callers h y.body b.call) request.0 y.call in
-      let at_body : IsCallOf callers a.head x.body b.call = subst (λ (v : List ℕ). IsCallOf callers a.head v b.call) request.1 at_head in
+      let at_head : IsCallOf callers a.head y.body b.place b.call = subst (λ (h : RequestHead). IsCallOf callers h y.body b.place b.call) request.0 y.call in
+      let at_body : IsCallOf callers a.head x.body b.place b.call = subst (λ (v : List ℕ). IsCallOf callers a.head v b.place b.call) request.1 at_head in
+      let call : (b.place ≡ a.place) × (b.call ≡ a.call) = one_call callers a.head x.body a.place b.place a.call b.call x.call at_body in
       let moment : (b.moment ≡ a.moment) × (following ≡ later) = one clock a.moment b.moment later following x.moment y.moment in
       record {
         head = request.0;
         moment = moment.0;
-        call = one_call callers a.head x.body a.call b.call x.call at_body;
+        place = call.0;
+        call = call.1;
         next_is =
             y.next_is ∙ ap (λ v. drop (length v) (after b.head rest)) request.1
             ∙ ap (λ h. drop (length x.body) (after h rest)) request.0 ∙ sym x.next_is;
@@ -82,7 +80,7 @@ module _ {M : Type 0} (Gives : M → ℕ → M → Type 0) (callers : Callers) (
       let at_head : Leads Gives callers (left_after bound x.head) next mid others m last e = subst (λ (v : RequestHead). Leads Gives callers (left_after bound v) next mid others m last e) same.head at_clock in
       let rest_one = one_stream (left_after bound x.head) next mid all others n m left last d e end other h f at_head g in
       record {
-        asked = ap (λ v. v ∷ others) (same_asked x y same.head same.moment same.call shut) ∙ ap (λ v. x ∷ v) rest_one.asked;
+        asked = ap (λ v. v ∷ others) (same_asked x y same.head same.place same.moment same.call shut) ∙ ap (λ v. x ∷ v) rest_one.asked;
         left_is = rest_one.left_is;
         clock = rest_one.clock;
         ends = rest_one.ends;

@@ -18,7 +18,7 @@ use Rattle.wire_http.specs.declared.end.End.{End}
 use Rattle.wire_http.specs.declared.end.End.TheVariants as ends
 use Rattle.wire_http.specs.declared.fault.StreamFault.{StreamFault}
 use Rattle.wire_http.specs.declared.fault.StreamFault.TheVariants as faults
-use Rattle.wire_http.specs.declared.route.Place.{Place}
+use Rattle.wire_route.specs.declared.place.Place.{Place}
 use Rattle.wire_http.specs.declared.request.Next.{Next}
 use Rattle.wire_http.specs.declared.request.Next.TheVariants.{Request, Stop}
 use Rattle.wire_http.specs.declared.serve.Turn.{Turn}
@@ -28,11 +28,9 @@ use Rattle.wire_http.specs.Close.{closes_by}
 use Rattle.wire_http.specs.Fault.{GaveUpAnswering, GaveUpAsking, IsOfAnswering}
 use Rattle.wire_http.specs.Found.{Covers}
 use Rattle.wire_http.specs.Next.{IsNext, NextFits, body_at}
-use Rattle.wire_http.specs.Reply.{Replies, RepliesPart, text_of}
+use Rattle.wire_http.specs.Reply.{Replies, RepliesPart}
 use Rattle.wire_http.specs.Rest.{after}
-use Rattle.wire_http.specs.Route.{path_of}
 use Rattle.wire_http.specs.Stop.{StopsAs}
-use Rattle.wire_http.specs.Table.{named_place}
 use Rattle.wire_http.specs.Text.{answer_text, end_texts}
 use Rattle.wire_http.specs.Turn.{Took, IsTurn, IsTurnPart, MayGoOn}
 use Rattle.wire_http.specs.Wire.{ClockAfter, IsRequest, MayFollow, left_after}
@@ -138,7 +136,7 @@ module _ {S M : Type 0} (Holds : S → Airspace → Type 0) (IsSound : S → Typ
   -- the call that the head makes
   abbrev Makes : List ℕ → List HeaderSpan → RequestSpans → ℕ → Option Place → Call → Type 0
   Makes bytes fields spans size place call =
-      (h : RequestHead) → Covers bytes fields spans h → IsCallOf callers h (body_at bytes spans.len size) call × (place ≡ named_place (path_of h.target))
+      (h : RequestHead) → Covers bytes fields spans h → IsCallOf callers h (body_at bytes spans.len size) place call
 
   -- how many may follow
   abbrev Leaves : List ℕ → List HeaderSpan → RequestSpans → ℕ → Type 0
@@ -149,17 +147,13 @@ module _ {S M : Type 0} (Holds : S → Airspace → Type 0) (IsSound : S → Typ
       e ∙ ap (λ v. cond (closes_by v (map (header_bytes bytes) (take spans.headers fields))) 0 k) c.version
       ∙ ap (λ v. cond (closes_by h.minor v) 0 k) c.fields
 
-  text_is : (place : Option Place) (h : RequestHead) (closing : Bool) (reply : Reply) → place ≡ named_place (path_of h.target)
-      → text_of place closing reply ≡ answer_text h closing reply
-  text_is place h closing reply e = ap (λ p. text_of p closing reply) e
-
   took : (rest buffer bytes next : List ℕ) (fields : List HeaderSpan) (spans : RequestSpans) (size : ℕ) (place : Option Place) (moment : ℕ) (call : Call) (n : ℕ)
       (old new : Service S) (clock later : M) (before text : Option (List ℕ)) (reply : Reply)
       → bytes ≡ buffer → (x : IsNext rest buffer fields (Request spans size)) → Makes bytes fields spans size place call → Leaves bytes fields spans n
       → Gives clock moment later → IsReplyTo Holds IsSound refusals is_broken old new moment call reply
       → next ≡ drop (length (body_at buffer spans.len size)) (after x.0 rest)
       → Took Holds IsSound refusals is_broken Gives callers k rest old new clock later before text
-      (record { head = x.0; moment = moment; call = call; closing = n == 0 }) reply n next
+      (record { head = x.0; place = place; moment = moment; call = call; closing = n == 0 }) reply n next
   took rest buffer bytes next fields spans size place moment call n old new clock later before text reply g x made leaves gives is_reply after_it =
       let made_at : Makes buffer fields spans size place call = subst (λ (v : List ℕ). Makes v fields spans size place call) g made in
       let leaves_at : Leaves buffer fields spans n = subst (λ (v : List ℕ). Leaves v fields spans n) g leaves in
@@ -167,7 +161,7 @@ module _ {S M : Type 0} (Holds : S → Airspace → Type 0) (IsSound : S → Typ
         asks = record {
           body = body_at buffer spans.len size;
           request = x.1;
-          call = (made_at x.0 x.2).0;
+          call = made_at x.0 x.2;
           moment = gives;
           next_is = after_it;
         };
@@ -175,10 +169,6 @@ module _ {S M : Type 0} (Holds : S → Airspace → Type 0) (IsSound : S → Typ
         closing = refl;
         is_reply = is_reply;
       }
-
-  place_at : (rest buffer bytes : List ℕ) (fields : List HeaderSpan) (spans : RequestSpans) (size : ℕ) (place : Option Place) (call : Call)
-      → bytes ≡ buffer → (x : IsNext rest buffer fields (Request spans size)) → Makes bytes fields spans size place call → place ≡ named_place (path_of x.0.target)
-  place_at rest buffer bytes fields spans size place call g x made = (subst (λ (v : List ℕ). Makes v fields spans size place call) g made x.0 x.2).1
 
   pub turn_answered : (u b : Option (List ℕ)) (buffer bytes left : List ℕ) (fields : List HeaderSpan) (m : Next) (spans : RequestSpans) (size : ℕ) (place : Option Place) (moment : ℕ) (call : Call) (n : ℕ)
       (old new : Service S) (clock later : M) (before text : Option (List ℕ))
@@ -192,12 +182,12 @@ module _ {S M : Type 0} (Holds : S → Airspace → Type 0) (IsSound : S → Typ
   turn_answered (Some rest) (Some t) buffer bytes left fields m spans size place moment call n old new clock later before text e g p h fits d made leaves gives r =
       let x : IsNext rest buffer fields (Request spans size) = subst (λ (v : Next). IsNext rest buffer fields v) e h in
       let next : left ++ t ≡ drop (length (body_at buffer spans.len size)) (after x.0 rest) = unread_next t buffer rest left x.0 spans.len size p x.2.len fits d in (
-        record { head = x.0; moment = moment; call = call; closing = n == 0 },
+        record { head = x.0; place = place; moment = moment; call = call; closing = n == 0 },
         r.reply,
         left ++ t,
         took rest buffer bytes (left ++ t) fields spans size place moment call n old new clock later before text r.reply g x made leaves gives r.is_reply next,
         refl,
-        subst (λ (v : List ℕ). Appends before text v) (text_is place x.0 (n == 0) r.reply (place_at rest buffer bytes fields spans size place call g x made)) r.written,
+        r.written,
       )
 
   pub part_answered : (u : Option (List ℕ)) (buffer bytes : List ℕ) (fields : List HeaderSpan) (m : Next) (spans : RequestSpans) (size : ℕ) (place : Option Place) (moment : ℕ) (call : Call) (n : ℕ)
@@ -210,14 +200,14 @@ module _ {S M : Type 0} (Holds : S → Airspace → Type 0) (IsSound : S → Typ
       if_some u (λ rest. IsNext rest buffer fields (Request spans size)) (λ rest. IsTurnPart Holds IsSound refusals is_broken Gives callers k rest old new clock later before text fault)
       (known_next u buffer fields m (Request spans size) e h)
       (λ rest x. inl (
-        record { head = x.0; moment = moment; call = call; closing = n == 0 },
+        record { head = x.0; place = place; moment = moment; call = call; closing = n == 0 },
         r.reply,
         n,
         drop (length (body_at buffer spans.len size)) (after x.0 rest),
         r.size,
         of_answering fault f f' gave,
         took rest buffer bytes (drop (length (body_at buffer spans.len size)) (after x.0 rest)) fields spans size place moment call n old new clock later before text r.reply g x made leaves gives r.is_reply refl,
-        subst (λ (v : List ℕ). Appends before text (take r.size v)) (text_is place x.0 (n == 0) r.reply (place_at rest buffer bytes fields spans size place call g x made)) r.written,
+        r.written,
       ))
 
 -- ---- what stands after a request

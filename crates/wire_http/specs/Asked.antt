@@ -12,11 +12,12 @@ use Rattle.policy_core.specs.declared.call.Operation.TheVariants.{NoRoute, NoMet
 use Rattle.policy_core.specs.declared.call.Call.{Call}
 use Rattle.token_conf.specs.TokenFile.{Callers}
 use Rattle.wire_json.specs.Body.{IsBody, Words}
-use Rattle.wire_http.specs.declared.route.Place.{Place}
-use Rattle.wire_http.specs.declared.route.Place.TheVariants.{Availability}
+use Rattle.wire_route.specs.declared.place.Place.{Place}
+use Rattle.wire_route.specs.Place.{kind_at}
+use Rattle.wire_route.specs.Route.{IsRoute, HasNoRoute}
 use Rattle.wire_http.specs.Fields.{Fields}
 use Rattle.wire_http.specs.Bearer.{token_of}
-use Rattle.wire_http.specs.Route.{path_of, IsRoute, HasNoRoute}
+use Rattle.wire_http.specs.Target.{path_of}
 
 -- the names and the values of a head's fields
 abbrev pub fields_of : RequestHead → Fields
@@ -25,16 +26,6 @@ fields_of h = map name_and_value h.fields
 -- the caller of the token that the fields bear
 abbrev pub caller_of : Callers → Fields → Option Caller
 caller_of callers fields = option_and_then (get callers) (token_of fields)
-
--- what a method asks at a place; methods have case
-abbrev pub kind_at : Place → List ℕ → Option OpKind
-kind_at Availability method =
-    if bytes_eq method (codes "GET") then Some kinds.ReadAvail
-    else (if bytes_eq method (codes "PUT") then Some kinds.SetAvail else None)
-
--- the word of a place's path
-abbrev pub words_at : Place → List ℕ → Words
-words_at Availability word = record { first = word; second = None }
 
 -- the operation of the kind, or malformed exactly where the words and the body ask for none
 abbrev pub IsReadAs : OpKind → Words → List ℕ → Operation → Type 0
@@ -47,13 +38,12 @@ abbrev pub IsAskedAs : Option OpKind → Words → List ℕ → Operation → Ty
 IsAskedAs None words body op = op ≡ NoMethod
 IsAskedAs (Some kind) words body op = IsReadAs kind words body op
 
--- the operation that a path, a method and a body ask for
-abbrev pub IsAsked : List ℕ → List ℕ → List ℕ → Operation → Type 0
-IsAsked path method body op =
-    (HasNoRoute path × (op ≡ NoRoute))
-    ⊎ ((place : Place) × (word : List ℕ) × IsRoute path place word × IsAskedAs (kind_at place method) (words_at place word) body op)
+-- the place that a path leads to, if there is one, and the operation that path, method and body ask for
+abbrev pub IsAsked : List ℕ → List ℕ → List ℕ → Option Place → Operation → Type 0
+IsAsked path method body None op = HasNoRoute path × (op ≡ NoRoute)
+IsAsked path method body (Some place) op = (words : Words) × IsRoute path place words × IsAskedAs (kind_at place method) words body op
 
--- the call that a request makes
-pub record IsCallOf (callers : Callers) (h : RequestHead) (body : List ℕ) (call : Call) : Type 0 where
+-- the call that a request makes, at the place of its path
+pub record IsCallOf (callers : Callers) (h : RequestHead) (body : List ℕ) (place : Option Place) (call : Call) : Type 0 where
   pub caller : call.caller ≡ caller_of callers (fields_of h)
-  pub op : IsAsked (path_of h.target) h.method body call.op
+  pub op : IsAsked (path_of h.target) h.method body place call.op

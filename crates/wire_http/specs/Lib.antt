@@ -14,9 +14,8 @@ pub mod Next
 pub mod Received
 pub mod Reply
 pub mod Rest
-pub mod Route
 pub mod Stop
-pub mod Table
+pub mod Target
 pub mod Text
 pub mod Turn
 pub mod Wire

@@ -5,12 +5,10 @@ use Rattle.httparse.specs.Spans.{IsRequestWithin, span_bytes}
 use Rattle.policy_core.specs.declared.call.Call.{Call}
 use Rattle.token_conf.specs.TokenFile.{Callers}
 use Rattle.wire_http.specs.declared.call.Received.{Received}
-use Rattle.wire_http.specs.declared.route.Place.{Place}
+use Rattle.wire_route.specs.declared.place.Place.{Place}
 use Rattle.wire_http.specs.Found.{Covers}
 use Rattle.wire_http.specs.Next.{body_at}
 use Rattle.wire_http.specs.Asked.{IsCallOf}
-use Rattle.wire_http.specs.Route.{path_of}
-use Rattle.wire_http.specs.Table.{named_place}
 
 -- the request lies in the bytes, and its target is text
 abbrev pub IsReceived : Received → Type 0
@@ -23,4 +21,4 @@ IsReceived r =
 abbrev pub IsMadeBy : Callers → Received → Option Place → Call → Type 0
 IsMadeBy callers r place call =
     (h : RequestHead) → Covers r.buffer.now r.fields.now r.spans h
-    → IsCallOf callers h (body_at r.buffer.now r.spans.len r.size) call × (place ≡ named_place (path_of h.target))
+    → IsCallOf callers h (body_at r.buffer.now r.spans.len r.size) place call

@@ -1,20 +1,17 @@
 -- The text of an answer (RFC 9112, section 2.1; this project's profile).
 use Rattle.std.specs.Prelude.{◌==◌, ℕ, Bool, true, List, [], ◌∷◌, ◌++◌, length, codes, if◌then◌else◌, Option, Some, None}
 use Rattle.std.specs.Fmt.{decimal}
-use Rattle.httparse.specs.Grammar.{RequestHead}
 use Rattle.policy_core.specs.declared.rule.Rule.{Rule}
 use Rattle.policy_core.specs.declared.rule.Rule.TheVariants.{Method, Token}
 use Rattle.service_core.specs.declared.reply.Reply.{Reply}
 use Rattle.service_core.specs.declared.reply.Reply.TheVariants.{Denied}
 use Rattle.wire_json.specs.Answer.{reply_text, status_of}
-use Rattle.wire_http.specs.declared.route.Place.{Place}
-use Rattle.wire_http.specs.declared.route.Place.TheVariants.{Availability}
+use Rattle.wire_route.specs.declared.place.Place.{Place}
+use Rattle.wire_route.specs.Place.{allow_of}
 use Rattle.wire_http.specs.declared.end.End.{End}
 use Rattle.wire_http.specs.declared.end.End.TheVariants as ends
 use Rattle.wire_http.specs.declared.end.WireRule.{WireRule}
 use Rattle.wire_http.specs.End as rule
-use Rattle.wire_http.specs.Route.{path_of}
-use Rattle.wire_http.specs.Table.{named_place}
 
 -- a line with its end
 abbrev pub line : List ℕ → List ℕ
@@ -37,14 +34,14 @@ reason_of status =
     else (if status == 501 then codes "Not Implemented"
     else (if status == 503 then codes "Service Unavailable" else []))))))))))))
 
--- the methods that a place takes
-abbrev pub methods_of : Option Place → List ℕ
-methods_of (Some Availability) = codes "GET, PUT"
-methods_of None = []
+-- the methods that the place takes
+abbrev pub methods_text : Option Place → List ℕ
+methods_text (Some place) = allow_of place
+methods_text None = []
 
 -- the field that a denial adds: the methods for one that the place does not take, the scheme for a missing token
 abbrev pub rule_field : Option Place → Rule → List ℕ
-rule_field place Method = line (codes "Allow: " ++ methods_of place)
+rule_field place Method = line (codes "Allow: " ++ methods_text place)
 rule_field place Token = line (codes "WWW-Authenticate: Bearer")
 rule_field place _ = []
 
@@ -76,9 +73,9 @@ front_of status field closing size =
 abbrev pub message : ℕ → List ℕ → Bool → List ℕ → List ℕ
 message status field closing body = front_of status field closing (length body) ++ body
 
--- the answer to a request with that head
-abbrev pub answer_text : RequestHead → Bool → Reply → List ℕ
-answer_text h closing reply = message (status_of reply) (reply_field (named_place (path_of h.target)) reply) closing (reply_text reply)
+-- the answer to a request whose path leads to that place
+abbrev pub answer_text : Option Place → Bool → Reply → List ℕ
+answer_text place closing reply = message (status_of reply) (reply_field place reply) closing (reply_text reply)
 
 -- the body that tells a rule of the wire: its number and its name
 unfoldable pub rule_body : WireRule → List ℕ

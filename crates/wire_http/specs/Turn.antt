@@ -32,14 +32,14 @@ module _ {S M : Type 0} (Holds : S → Airspace → Type 0) (IsSound : S → Typ
   abbrev pub IsTurn : Option (List ℕ) → Turn → Type 0
   IsTurn unread (Answered n) =
       (asked : Asked) × (reply : Reply) × (next : List ℕ)
-      × Took asked reply n next × (unread ≡ Some next) × Appends before text (answer_text asked.head asked.closing reply)
+      × Took asked reply n next × (unread ≡ Some next) × Appends before text (answer_text asked.place asked.closing reply)
   IsTurn unread (Ended end) = StopsAs rest end × (new ≡ old) × (clock' ≡ clock) × Appends before text (concat (end_texts end))
 
   -- the turn was given up: after the call of a request, or without one
   abbrev pub IsTurnPart : StreamFault → Type 0
   IsTurnPart fault =
       ((asked : Asked) × (reply : Reply) × (n : ℕ) × (next : List ℕ) × (size : ℕ)
-      × IsOfAnswering fault × Took asked reply n next × Appends before text (take size (answer_text asked.head asked.closing reply)))
+      × IsOfAnswering fault × Took asked reply n next × Appends before text (take size (answer_text asked.place asked.closing reply)))
       ⊎ ((tail : List (List ℕ)) × (size : ℕ)
       × (IsOfAnswering fault ⊎ (tail ≡ [])) × (new ≡ old) × ClockAfter Gives callers fault rest clock clock'
       × MayFollow (suc bound) rest tail × Appends before text (take size (concat tail)))

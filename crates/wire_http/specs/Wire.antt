@@ -18,6 +18,7 @@ use Rattle.wire_http.specs.Fault.{IsOfAnswering}
 use Rattle.wire_http.specs.declared.end.End.{End}
 use Rattle.wire_http.specs.declared.end.End.TheVariants as ends
 use Rattle.wire_http.specs.declared.end.Served.{Served}
+use Rattle.wire_route.specs.declared.place.Place.{Place}
 use Rattle.wire_http.specs.Rest.{IsKind, whole, after}
 use Rattle.wire_http.specs.Length.{length_of}
 use Rattle.token_conf.specs.TokenFile.{Callers}
@@ -40,9 +41,10 @@ closes h = closes_by h.minor (fields_of h)
 abbrev pub left_after : ℕ → RequestHead → ℕ
 left_after n h = if closes h then 0 else n
 
--- a request that was asked: its head, its moment and its call, and whether the connection closes after it
+-- a request that was asked: its head, the place of its path, its moment and its call, and whether the connection closes after it
 pub record Asked : Type 0 where
   pub head : RequestHead
+  pub place : Option Place
   pub moment : ℕ
   pub call : Call
   pub closing : Bool
@@ -55,7 +57,7 @@ module _ {M : Type 0} (Gives : M → ℕ → M → Type 0) (callers : Callers) w
   pub record Asks (rest : List ℕ) (clock : M) (asked : Asked) (next : List ℕ) (clock' : M) : Type 0 where
     pub body : List ℕ
     pub request : IsRequest rest asked.head body
-    pub call : IsCallOf callers asked.head body asked.call
+    pub call : IsCallOf callers asked.head body asked.place asked.call
     pub moment : Gives clock asked.moment clock'
     pub next_is : next ≡ drop (length body) (after asked.head rest)
 
@@ -88,7 +90,7 @@ Finishes (suc n) left end = StopsAs left end
 abbrev pub answers : List Asked → List Reply → List (List ℕ)
 answers [] replies = []
 answers (asked ∷ more) [] = []
-answers (asked ∷ more) (reply ∷ replies) = answer_text asked.head asked.closing reply ∷ answers more replies
+answers (asked ∷ more) (reply ∷ replies) = answer_text asked.place asked.closing reply ∷ answers more replies
 
 -- what may follow the answers before a fault: nothing, or the text of the rule that the rest breaks
 abbrev pub MayFollow : ℕ → List ℕ → List (List ℕ) → Type 0

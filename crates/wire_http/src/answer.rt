@@ -1,15 +1,14 @@
 //! The text of an answer (RFC 9112, section 2.1; this project's profile).
 ghost use Rattle.std.specs.Prelude.{◌≡◌, IfOk};
 ghost use Rattle.std.specs.String.{string_bytes};
-ghost use Rattle.wire_http.specs.Reply.{text_of};
-ghost use Rattle.wire_http.specs.Text.{reason_of, rule_field, reply_field, status_line, length_line, close_field, front_of, rule_body, rule_text};
+ghost use Rattle.wire_http.specs.Text.{answer_text, reason_of, rule_field, reply_field, status_line, length_line, close_field, front_of, rule_body, rule_text};
 
 use crate::end::WireRule;
-use crate::route::Place;
 use policy_core::rule::Rule;
 use service_core::reply::Reply;
 use std::alloc::{AllocError, Global};
 use wire_json::answer::{reply_text, status};
+use wire_route::place::Place;
 
 // The reason phrase of a status.
 #[tactic(auto, unfolding(crate::specs::Text::reason_of))]
@@ -34,27 +33,38 @@ fn reason_of(status: u16) -> &'static str
     }
 }
 
+// The line of the field that tells which methods the place takes.
+fn allow_field(alloc: Global, place: Option<Place>) -> Result<String, AllocError>
+    ensures { IfOk result (λ field. string_bytes field ≡ rule_field place Rule.Method) }
+{
+    let methods = match place {
+        Some(place) => place.allow(),
+        None => "",
+    };
+    let mut field = String::from_str(alloc, "Allow: ")?;
+    field.push_str(methods)?;
+    field.push_str("\r\n")?;
+    Ok(field)
+}
+
 // The line of the field that a denial adds.
-fn rule_field(place: Option<Place>, rule: Rule) -> &'static str
-    ensures { result.now ≡ rule_field place rule }
+fn rule_field(alloc: Global, place: Option<Place>, rule: Rule) -> Result<String, AllocError>
+    ensures { IfOk result (λ field. string_bytes field ≡ rule_field place rule) }
 {
     match rule {
-        Rule::Method => match place {
-            Some(Place::Availability) => "Allow: GET, PUT\r\n",
-            None => "Allow: \r\n",
-        },
-        Rule::Token => "WWW-Authenticate: Bearer\r\n",
-        _ => "",
+        Rule::Method => allow_field(alloc, place),
+        Rule::Token => String::from_str(alloc, "WWW-Authenticate: Bearer\r\n"),
+        _ => Ok(String::new(alloc)),
     }
 }
 
 // The line of the field that a reply adds.
-fn reply_field(place: Option<Place>, reply: &Reply) -> &'static str
-    ensures { result.now ≡ reply_field place reply.now }
+fn reply_field(alloc: Global, place: Option<Place>, reply: &Reply) -> Result<String, AllocError>
+    ensures { IfOk result (λ field. string_bytes field ≡ reply_field place reply.now) }
 {
     match reply {
-        Reply::Denied(rule, _) => rule_field(place, *rule),
-        _ => "",
+        Reply::Denied(rule, _) => rule_field(alloc, place, *rule),
+        _ => Ok(String::new(alloc)),
     }
 }
 
@@ -112,16 +122,11 @@ pub(crate) fn answer_text(
     closing: bool,
     reply: &Reply,
 ) -> Result<Vec<u8>, AllocError>
-    ensures { IfOk result (λ text. text.items ≡ text_of place closing reply.now) }
+    ensures { IfOk result (λ text. text.items ≡ answer_text place closing reply.now) }
 {
     let body = reply_text(alloc, reply)?;
-    let front = front_of(
-        alloc,
-        status(reply),
-        reply_field(place, reply),
-        closing,
-        body.len(),
-    )?;
+    let field = reply_field(alloc, place, reply)?;
+    let front = front_of(alloc, status(reply), field.as_str(), closing, body.len())?;
     let mut text = front.into_bytes();
     text.extend_from_slice(body.as_slice())?;
     Ok(text)

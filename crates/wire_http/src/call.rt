@@ -6,51 +6,22 @@ ghost use Rattle.wire_json.specs.Body.{words_of};
 ghost use Rattle.wire_http.specs.Fault.{GaveUpAsking};
 ghost use Rattle.wire_http.specs.Received.{IsReceived, IsMadeBy};
 ghost use Rattle.wire_http.specs.Close.{closes_by};
-ghost use Rattle.wire_http.specs.Table.{table};
-ghost use Rattle.wire_http.specs.Asked.{caller_of, kind_at, words_at, IsReadAs, IsAsked};
+ghost use Rattle.wire_http.specs.Asked.{caller_of, IsReadAs, IsAsked};
 
 use crate::bearer::token_of;
 use crate::close::closes;
 use crate::fault::StreamFault;
 use crate::moments::Moments;
-use crate::route::{Place, Route, find_route, named_place, path_of};
+use crate::target::path_of;
 use httparse::spans::{HeaderSpan, RequestSpans};
-use matchit::Router;
 use policy_core::call::{Call, OpKind, Operation};
 use policy_core::scope::Caller;
 use std::alloc::{AllocError, Global};
 use token_conf::token_table::TokenTable;
 use wire_json::body::{PathWords, read_body};
 use wire_json::body_fault::BodyFault;
-
-// What a method asks at a place. Methods have case.
-fn kind_at(place: Place, method: &[u8]) -> Option<OpKind>
-    ensures { result ≡ kind_at place method.now }
-{
-    match place {
-        Place::Availability => {
-            if method == b"GET".as_slice() {
-                Some(OpKind::ReadAvail)
-            } else if method == b"PUT".as_slice() {
-                Some(OpKind::SetAvail)
-            } else {
-                None
-            }
-        }
-    }
-}
-
-// The word that a route leaves open.
-fn words_at<'p>(route: Route<'p>) -> PathWords<'p>
-    ensures { words_of result ≡ words_at route.entry.place route.entry.word.now }
-{
-    match route.place {
-        Place::Availability => PathWords {
-            first: route.word,
-            second: None,
-        },
-    }
-}
+use wire_route::place::Place;
+use wire_route::routes::{Route, Routes};
 
 // The operation of a kind, or malformed where the words and the body ask for none.
 fn read_as(
@@ -68,25 +39,24 @@ fn read_as(
     }
 }
 
-// The operation that a path, a method and a body ask for.
+// The place of a path, and the operation that path, method and body ask for.
 fn operation_of(
     alloc: Global,
-    router: &Router<Place>,
+    routes: &Routes,
     path: &str,
     method: &[u8],
     body: &[u8],
-) -> Result<Operation, AllocError>
-    requires { router.now ≡ table }
-    ensures { IfOk result (IsAsked path.now method.now body.now) }
+) -> Result<(Option<Place>, Operation), AllocError>
+    ensures { IfOk result (λ asked. IsAsked path.now method.now body.now asked.0 asked.1) }
 {
-    let Some(route) = find_route(router, path) else {
-        return Ok(Operation::NoRoute);
+    let Some(Route { place, words }) = routes.find(path) else {
+        return Ok((None, Operation::NoRoute));
     };
-    let Some(kind) = kind_at(route.place, method) else {
-        return Ok(Operation::NoMethod);
+    let Some(kind) = place.kind(method) else {
+        return Ok((Some(place), Operation::NoMethod));
     };
-    let words = words_at(route);
-    read_as(alloc, kind, &words, body)
+    let op = read_as(alloc, kind, &words, body)?;
+    Ok((Some(place), op))
 }
 
 // The caller of the token that the fields bear.
@@ -133,12 +103,11 @@ pub(crate) struct Pending {
 // The call that a request makes, with the place of its path.
 fn call_of(
     alloc: Global,
-    router: &Router<Place>,
+    routes: &Routes,
     tokens: &TokenTable,
     received: Received<'_>,
 ) -> Result<(Option<Place>, Call), AllocError>
-    requires router { router.now ≡ table }
-    requires fits { IsReceived received }
+    requires { IsReceived received }
     ensures { IfOk result (λ made. IsMadeBy (callers_of tokens.now) received.entry made.0 made.1) }
 {
     let Received {
@@ -152,9 +121,9 @@ fn call_of(
     };
     let path = path_of(target);
     let body = &buffer[spans.len..spans.len + size];
-    let op = operation_of(alloc, router, path, spans.method.of(buffer), body)?;
+    let (place, op) = operation_of(alloc, routes, path, spans.method.of(buffer), body)?;
     let caller = caller_of(tokens, buffer, &fields[..spans.headers])?;
-    Ok((named_place(router, path), Call { caller, op }))
+    Ok((place, Call { caller, op }))
 }
 
 /// How many requests may follow this one, where so many could: none where the connection closes.
@@ -180,13 +149,12 @@ pub(crate) fn left_after(received: Received<'_>, count: u32) -> u32
 /// The call that a request makes, at the next moment.
 pub(crate) fn ask<M: Moments>(
     alloc: Global,
-    router: &Router<Place>,
+    routes: &Routes,
     tokens: &TokenTable,
     moments: &mut M,
     received: Received<'_>,
 ) -> Result<Pending, StreamFault>
-    requires router { router.now ≡ table }
-    requires fits { IsReceived received }
+    requires { IsReceived received }
     ensures made { IfOk result (λ p.
         IsMadeBy (callers_of tokens.now) received.entry p.place p.call) }
     ensures moment { IfOk result (λ p. M.gives moments.old p.moment moments.new) }
@@ -199,7 +167,7 @@ pub(crate) fn ask<M: Moments>(
     let Ok(moment) = moments.next() else {
         return Err(StreamFault::Clock);
     };
-    let Ok((place, call)) = call_of(alloc, router, tokens, received) else {
+    let Ok((place, call)) = call_of(alloc, routes, tokens, received) else {
         return Err(StreamFault::Memory);
     };
     Ok(Pending {

@@ -1,5 +1,5 @@
 //! Laws of what the bytes of a stream spell.
-ghost use Rattle.std.specs.Prelude.{◌≡◌, ℕ, List, codes};
+ghost use Rattle.std.specs.Prelude.{◌≡◌, ℕ, List, Option, codes};
 ghost use Rattle.httparse.specs.Grammar.{RequestHead};
 ghost use Rattle.policy_core.specs.declared.call.Call.{Call};
 ghost use Rattle.token_conf.specs.TokenFile.{Callers};
@@ -7,9 +7,9 @@ ghost use Rattle.wire_http.specs.Asked.{IsCallOf};
 ghost use Rattle.wire_http.specs.Stop.{AreSameEnds};
 ghost use Rattle.wire_http.specs.Wire.{Asked, Finishes, IsRequest, Leads};
 ghost use Rattle.wire_http.specs.Rest.{Kind, IsKind, AreSame};
-ghost use Rattle.wire_http.specs.Route.{IsRoute, HasNoRoute, path_of};
+ghost use Rattle.wire_http.specs.Target.{path_of};
 ghost use Rattle.wire_http.specs.declared.end.End.{End};
-ghost use Rattle.wire_http.specs.declared.route.Place.TheVariants.{Availability};
+ghost use Rattle.wire_route.specs.declared.place.Place.{Place};
 
 use crate::moments::Moments;
 
@@ -25,10 +25,15 @@ pub fn one_request()
         → IsRequest rest h a → IsRequest rest k b → (k ≡ h) × (b ≡ a) }
 {}
 
-/// A request makes one call at most.
+/// A request makes one call at most, at one place.
 pub fn one_call()
-    ensures { (callers : Callers) (h : RequestHead) (body : List ℕ) (c d : Call)
-        → IsCallOf callers h body c → IsCallOf callers h body d → d ≡ c }
+    ensures { (callers : Callers) (h : RequestHead) (body : List ℕ) (a b : Option Place) (c d : Call)
+        → IsCallOf callers h body a c → IsCallOf callers h body b d → (b ≡ a) × (d ≡ c) }
+{}
+
+/// The path of a target ends before its first question mark.
+pub fn sample_path()
+    ensures { path_of (codes "/a?b?c") ≡ codes "/a" }
 {}
 
 /// Where a clock gives one moment at a time, the bytes of a stream spell one list of calls, and one
@@ -41,13 +46,4 @@ pub fn one_stream<M: Moments>()
         → Leads M.gives callers bound rest clock all n left d → Finishes n left end
         → Leads M.gives callers bound rest clock others m last e → Finishes m last other
         → (others ≡ all) × (last ≡ left) × (e ≡ d) × AreSameEnds left end other }
-{}
-
-/// What some paths lead to.
-pub fn sample_paths()
-    ensures one { IsRoute (codes "/dss/v1/uss_availability/uss-a") Availability (codes "uss-a") }
-    ensures no_word { HasNoRoute (codes "/dss/v1/uss_availability/") }
-    ensures two_words { HasNoRoute (codes "/dss/v1/uss_availability/a/b") }
-    ensures other { HasNoRoute (codes "/dss/v1/subscriptions/a") }
-    ensures query { path_of (codes "/a?b?c") ≡ codes "/a" }
 {}

@@ -15,9 +15,9 @@ mod length;
 mod moments;
 mod request;
 mod rest;
-mod route;
 mod serve;
 mod source;
+mod target;
 mod write;
 
 pub use counted::Counted;
@@ -25,6 +25,3 @@ pub use end::{End, Served, WireRule};
 pub use fault::StreamFault;
 pub use moments::{ClockFault, Fixed, Listed, Moments};
 pub use serve::serve_stream;
-
-#[cfg(test)]
-mod tests;

@@ -80,14 +80,21 @@ impl Listed {
 }
 
 impl Moments for Listed {
-    ghost use Rattle.std.specs.Prelude.{◌≡◌, ◌∷◌};
+    ghost use Rattle.std.specs.Prelude.{◌≡◌, ◌∷◌, [], OnOk, OnErr, IfOk};
+    ghost use Rattle.wire_http.specs.Count.{one_more};
     ghost use Rattle.wire_http.specs.Moments.{moments_left, faults_of};
 
     ghost gives = { λ old moment new. moments_left old ≡ moment ∷ moments_left new };
 
     ghost failures = { λ m. faults_of m };
 
-    fn next(&mut self) -> Result<u64, ClockFault> {
+    /// The next moment of the list. Only where none is left there is a fault.
+    fn next(&mut self) -> Result<u64, ClockFault>
+        ensures moment { IfOk result (λ moment. moments_left self.old ≡ moment ∷ moments_left self.new) }
+        ensures ok { OnOk result (faults_of self.new ≡ faults_of self.old) }
+        ensures err { OnErr result (faults_of self.new ≡ one_more (faults_of self.old)) }
+        ensures ended { OnErr result (moments_left self.old ≡ []) }
+    {
         match self.moments.get(self.next) {
             Some(moment) => {
                 let moment = *moment;

@@ -9,7 +9,6 @@ ghost use Rattle.wire_http.specs.Count.{HasRisen, IsGreatest, Spends, most_reads
 ghost use Rattle.wire_http.specs.Fault.{GaveUpAnswering};
 ghost use Rattle.service_core.specs.Run.{IsReplyTo};
 ghost use Rattle.wire_http.specs.Reply.{Replies, RepliesPart};
-ghost use Rattle.wire_http.specs.Table.{table};
 ghost use Rattle.wire_http.specs.Text.{end_texts};
 ghost use Rattle.wire_http.specs.Turn.{IsTurn, IsTurnPart, MayGoOn};
 ghost use Rattle.wire_http.specs.Wire.{Serves, ServesPart};
@@ -23,16 +22,15 @@ use crate::fault::StreamFault;
 use crate::moments::Moments;
 use crate::request::{Next, next_request};
 use crate::rest::HEAD_LIMIT;
-use crate::route::{Place, router};
 use crate::write::write_whole;
 use httparse::spans::EMPTY_HEADER_SPAN;
-use matchit::Router;
 use service_core::reply::Reply;
 use service_core::service::Service;
 use space_core::space::Space;
 use std::alloc::Global;
 use std::io::{Read, Write};
 use token_conf::token_table::TokenTable;
+use wire_route::routes::Routes;
 
 // The most reads of a stream.
 const TURNS: u32 = 1_000_000;
@@ -116,7 +114,7 @@ enum Turn {
 // that were read before and belong to no earlier request.
 fn serve_one<S: Space + Drop, M: Moments, R: Read, W: Write>(
     alloc: Global,
-    router: &Router<Place>,
+    routes: &Routes,
     service: &mut Service<S>,
     tokens: &TokenTable,
     moments: &mut M,
@@ -126,7 +124,6 @@ fn serve_one<S: Space + Drop, M: Moments, R: Read, W: Write>(
     buffer: &mut Vec<u8>,
     count: u32,
 ) -> Result<Turn, StreamFault>
-    requires router { router.now ≡ table }
     requires some { 0 < count }
     requires short { length buffer.old.items ≤ HEAD_LIMIT }
     ensures turn { IfOk result (λ turn.
@@ -176,7 +173,7 @@ fn serve_one<S: Space + Drop, M: Moments, R: Read, W: Write>(
         size,
     };
     let left = left_after(received, count - 1);
-    let pending = ask(alloc, router, tokens, moments, received)?;
+    let pending = ask(alloc, routes, tokens, moments, received)?;
     answer(alloc, service, writer, &pending, left == 0)?;
     shift(buffer, spans.len + size);
     Ok(Turn::Answered(left))
@@ -235,7 +232,7 @@ pub fn serve_stream<S: Space + Drop, M: Moments, R: Read, W: Write>(
     ensures shut { is_shut service.old ≡ true → service.new ≡ service.old }
     ensures sound { S.is_sound (space_of service.new) → S.is_sound (space_of service.old) }
 {
-    let Ok(router) = router(alloc) else {
+    let Ok(routes) = Routes::new(alloc) else {
         return Err(StreamFault::Memory);
     };
     let mut turns = TURNS;
@@ -245,7 +242,7 @@ pub fn serve_stream<S: Space + Drop, M: Moments, R: Read, W: Write>(
     'serving: while left > 0 {
         match serve_one(
             alloc,
-            &router,
+            &routes,
             service,
             tokens,
             moments,

@@ -68,7 +68,12 @@ fn volumes_in(alloc: Global, value: &Value) -> Result<Volumes, BodyFault>
     let Some(items) = value.as_array() else {
         return Err(BodyFault::Malformed);
     };
-    let volumes = each_volume(alloc, items.as_slice())?;
+    let items = items.as_slice();
+    // what is too long is not copied
+    if items.len() > 32 {
+        return Err(BodyFault::Malformed);
+    }
+    let volumes = each_volume(alloc, items)?;
     match few_volumes(volumes) {
         Some(volumes) => Ok(volumes),
         None => Err(BodyFault::Malformed),
@@ -119,12 +124,13 @@ fn key_in(alloc: Global, value: &Value) -> Result<Key, BodyFault>
     let Some(items) = value.as_array() else {
         return Err(BodyFault::Malformed);
     };
-    let versions = each_version(alloc, items.as_slice())?;
-    if versions.len() <= 4096 {
-        Ok(Key::from_vec(versions))
-    } else {
-        Err(BodyFault::Malformed)
+    let items = items.as_slice();
+    // what is too long is not copied
+    if items.len() > 4096 {
+        return Err(BodyFault::Malformed);
     }
+    let versions = each_version(alloc, items)?;
+    Ok(Key::from_vec(versions))
 }
 
 #[tactic(auto, unfolding(crate::specs::Put::key_of))]

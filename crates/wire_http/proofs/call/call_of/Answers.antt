@@ -1,12 +1,12 @@
 use Rattle.std.proofs.Common.{◌∙◌, ap}
 use Rattle.token_conf.specs.TokenFile.{callers_of}
-use Rattle.wire_http.specs.Route.{path_of}
+use Rattle.wire_http.specs.Target.{path_of}
 use Rattle.wire_http.proofs.CallLaws.{call_made}
 use Rattle.wire_http.proofs.call.call_of.Goals as goal
 
 pub returns : goal.returns
 returns c = λ h cover.
     call_made (callers_of c.args.tokens.now) c.args.received.buffer.now c.args.received.fields.now c.args.received.spans c.args.received.size h
-    c.in_ok-op.op c.in_ok-caller.caller c.named_place.result c.path_of-path.result.now c.of-2.result.now
+    c.in_ok-place.op c.in_ok-caller.caller c.in_ok-place.place c.path_of-path.result.now c.of-2.result.now
     (c.path_of-path.ensures ∙ ap path_of (c.in-Ok.ensures.cases.0 ∙ c.of.ensures))
-    c.of-2.ensures c.in_ok-op.ensures c.in_ok-caller.ensures c.named_place.ensures cover
+    c.of-2.ensures c.in_ok-place.ensures c.in_ok-caller.ensures cover

@@ -1,0 +1,3 @@
+pub mod Paths
+mod Seeks
+mod Tables

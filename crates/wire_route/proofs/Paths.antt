@@ -1,0 +1,314 @@
+-- From a path to its place: every path of a place is found there, and it has one place and one list of words.
+use Rattle.std.proofs.Common.{◌≡◌, ℕ, suc, ◌<◌, ◌+◌, List, [], ◌∷◌, ◌++◌, length, Bool, true, false, cond, Option, Some, None, option_map, refl, sym, ap, subst, ◌∙◌, arith, ◌==◌, inl, inr, MatchOption, Bor}
+use Rattle.std.proofs.Common.{take, drop}
+use Rattle.std.proofs.lemmas.Bool.{and_parts, or_parts, eqb-true, false≢true}
+use Rattle.std.specs.Prelude.{codes, not, nat_lt, ◌||◌}
+use Rattle.std.specs.Str.Pattern.{FindsTextPrefix}
+use Rattle.std.specs.List.{list_any, position_or_len, before_first, after_first}
+use Rattle.matchit.proofs.OnLiterals.{matchit_on_literals}
+use Rattle.matchit.proofs.LookupLemmas.{append-cancel}
+use Rattle.matchit.proofs.RenameLemmas.{first-rename}
+use Rattle.matchit.specs.Rows.{RowsOf}
+use Rattle.matchit.specs.Router.{RouteOf, rename, map_key}
+use Rattle.matchit.specs.Seek.{first}
+use Rattle.matchit.specs.Seek as seek
+use Rattle.entity_core.specs.declared.nature.Kind.{Kind}
+use Rattle.entity_core.specs.declared.nature.Kind.TheVariants.{Intent, Constraint}
+use Rattle.wire_json.specs.Body.{Words}
+use Rattle.wire_route.specs.declared.place.Place.{Place}
+use Rattle.wire_route.specs.declared.place.Place.TheVariants.{Query, Entity, EntityAtOvn, Availability}
+use Rattle.wire_route.specs.Place.{references_of, front_of}
+use Rattle.wire_route.specs.Route.{has_slash, is_part, names_entity, one_word, two_words, AreTwoWords, AreWordsOf, IsRoute, HasNoRoute}
+use Rattle.wire_route.specs.Table.{table, with_route, named_place}
+use Rattle.wire_route.proofs.Seeks.{is_plain, steps, pass, seek-empty, leaf, single, two_parts, last_part}
+
+-- ---- slashes
+
+same_slash : (w : List ℕ) → seek.has_slash w ≡ has_slash w
+same_slash [] = refl
+same_slash (b ∷ w) = elim (b == 47) as (λ c. cond c true (seek.has_slash w) ≡ (c || has_slash w)) [ true ↦ refl | false ↦ same_slash w ]
+
+no_slash : (w : List ℕ) → has_slash w ≡ false → seek.has_slash w ≡ false
+no_slash w e = same_slash w ∙ e
+
+slash_between : (a b : List ℕ) → has_slash (a ++ 47 ∷ b) ≡ true
+slash_between [] b = refl
+slash_between (x ∷ a) b = elim (x == 47) as (λ c. (c || has_slash (a ++ 47 ∷ b)) ≡ true) [ true ↦ refl | false ↦ slash_between a b ]
+
+-- no slash is in a text that has none before its first
+pub lacks : (s : List ℕ) → position_or_len (λ b. b == 47) s ≡ length s → has_slash s ≡ false
+lacks [] e = refl
+lacks (x ∷ s) e = by (x == 47) refl e (lacks s)
+  where
+    by : (c : Bool) → (x == 47) ≡ c → cond (not c) (1 + position_or_len (λ b. b == 47) s) 0 ≡ suc (length s)
+        → (position_or_len (λ b. b == 47) s ≡ length s → has_slash s ≡ false) → (c || has_slash s) ≡ false
+    by true q e2 ih = absurd (omega (arith, e2))
+    by false q e2 ih = ih (omega (arith, e2))
+
+-- a text stands round its first slash
+pub round : (s : List ℕ) → position_or_len (λ b. b == 47) s < length s
+    → (s ≡ before_first (λ b. b == 47) s ++ 47 ∷ after_first (λ b. b == 47) s) × (has_slash (before_first (λ b. b == 47) s) ≡ false)
+round [] l = absurd (omega arith)
+round (x ∷ s) l = by (x == 47) refl l (round s)
+  where
+    by : (c : Bool) → (x == 47) ≡ c → cond (not c) (1 + position_or_len (λ b. b == 47) s) 0 < suc (length s)
+        → (position_or_len (λ b. b == 47) s < length s
+            → (s ≡ before_first (λ b. b == 47) s ++ 47 ∷ after_first (λ b. b == 47) s) × (has_slash (before_first (λ b. b == 47) s) ≡ false))
+        → let n : ℕ = cond (not c) (1 + position_or_len (λ b. b == 47) s) 0 in
+        (x ∷ s ≡ take n (x ∷ s) ++ 47 ∷ drop (n + 1) (x ∷ s)) × (has_slash (take n (x ∷ s)) ≡ false)
+    by true q m ih = let same : x ≡ 47 = eqb-true x 47 q in (ap (λ v. v ∷ s) same, refl)
+    by false q m ih =
+        let at : ℕ = position_or_len (λ b. b == 47) s in
+        let e : 1 + at ≡ suc at = omega arith in
+        let f : 1 + at + 1 ≡ suc (at + 1) = omega arith in
+        let r = ih (omega (arith, m)) in
+        rw (f, e, q) (ap (λ z. x ∷ z) r.0, r.1)
+
+tail_lacks : (x : ℕ) (a : List ℕ) → has_slash (x ∷ a) ≡ false → has_slash a ≡ false
+tail_lacks x a p = (or_parts (x == 47) (has_slash a) p).1
+
+-- a text with a slash has one way to stand round the first
+pub one_split : (a b c d : List ℕ) → has_slash a ≡ false → has_slash c ≡ false → a ++ 47 ∷ b ≡ c ++ 47 ∷ d → (a ≡ c) × (b ≡ d)
+one_split [] b [] d p q e = (refl, cc)
+one_split [] b (y ∷ c) d p q e =
+    let same : 47 ≡ y = cc in let bad : has_slash (47 ∷ c) ≡ false = subst (λ v. has_slash (v ∷ c) ≡ false) (sym same) q in absurd (false≢true (sym bad))
+one_split (x ∷ a) b [] d p q e =
+    let same : x ≡ 47 = cc in let bad : has_slash (47 ∷ a) ≡ false = subst (λ v. has_slash (v ∷ a) ≡ false) same p in absurd (false≢true (sym bad))
+one_split (x ∷ a) b (y ∷ c) d p q e =
+    let head : x ≡ y = cc in
+    let tail : a ++ 47 ∷ b ≡ c ++ 47 ∷ d = cc in
+    let rest = one_split a b c d (tail_lacks x a p) (tail_lacks y c q) tail in
+    ((let same : a ≡ c = rest.0 in cc), rest.1)
+
+-- ---- words
+
+-- what a part is
+some_bytes : (w : List ℕ) → is_part w ≡ true → 0 < length w
+some_bytes [] e = absurd (false≢true e)
+some_bytes (b ∷ w) e = omega arith
+
+part_lacks : (w : List ℕ) → is_part w ≡ true → has_slash w ≡ false
+part_lacks w e = by (has_slash w) (and_parts _ _ e).1
+  where
+    by : (c : Bool) → not c ≡ true → c ≡ false
+    by true x = absurd (false≢true x)
+    by false x = refl
+
+not_query : (w : List ℕ) → names_entity w ≡ true → w ≡ codes "query" → ⊥
+not_query w e same =
+    let bad : names_entity (codes "query") ≡ true = subst (λ (v : List ℕ). names_entity v ≡ true) same e in false≢true bad
+
+pub two_are : (rest id ovn : List ℕ) (words : Words) → rest ≡ id ++ 47 ∷ ovn → has_slash id ≡ false → (a : AreTwoWords rest words) → (a.id ≡ id) × (a.ovn ≡ ovn)
+two_are rest id ovn words e p a =
+    one_split a.id a.ovn id ovn (part_lacks a.id (and_parts _ _ a.names).0) p (sym a.splits ∙ e)
+
+one_words : (place : Place) (rest : List ℕ) (v w : Words) → AreWordsOf place rest v → AreWordsOf place rest w → w ≡ v
+one_words (Query kind) rest v w x y = y.1 ∙ sym x.1
+one_words (Entity kind) rest v w x y = y.1 ∙ sym x.1
+one_words (EntityAtOvn kind) rest v w x y =
+    let same = two_are rest x.id x.ovn w x.splits (part_lacks x.id (and_parts _ _ x.names).0) y in
+    y.words_are ∙ ap (λ i. two_words i y.ovn) same.0 ∙ ap (two_words x.id) same.1 ∙ sym x.words_are
+one_words Availability rest v w x y = y.1 ∙ sym x.1
+
+-- ---- the table
+
+places : RowsOf Place
+places = rename (λ (r : RouteOf Place). r.value) table
+
+mapped : (x : Option (RouteOf Place)) → option_map (λ r. r.value) x ≡ map_key (λ r. r.value) x
+mapped None = refl
+mapped (Some r) = refl
+
+named_is : (path : List ℕ) → named_place path ≡ seek.seek 0 places path
+unfolding places
+named_is path = mapped (first table path) ∙ sym (first-rename (λ r. r.value) table path)
+
+references_plain : (kind : Kind) → is_plain (references_of kind) places ≡ true
+unfolding places matchit_on_literals table with_route
+references_plain Intent = refl
+references_plain Constraint = refl
+
+references_steps : (kind : Kind) → steps (references_of kind) places ≡ leaf (Query kind) (EntityAtOvn kind) (Entity kind)
+unfolding places matchit_on_literals table with_route
+references_steps Intent = refl
+references_steps Constraint = refl
+
+availability_plain : is_plain (front_of Availability) places ≡ true
+unfolding places matchit_on_literals table with_route
+availability_plain = refl
+
+availability_steps : steps (front_of Availability) places ≡ (256 ∷ [], Availability) ∷ []
+unfolding places matchit_on_literals table with_route
+availability_steps = refl
+
+query_named : (kind : Kind) → seek.seek 0 (leaf (Query kind) (EntityAtOvn kind) (Entity kind)) (codes "query") ≡ Some (Query kind)
+unfolding matchit_on_literals
+query_named kind = refl
+
+-- what stands after the front of references
+named_at : (kind : Kind) (rest : List ℕ) → named_place (references_of kind ++ rest) ≡ seek.seek 0 (leaf (Query kind) (EntityAtOvn kind) (Entity kind)) rest
+named_at kind rest =
+    named_is (references_of kind ++ rest) ∙ pass (references_of kind) places rest (references_plain kind)
+    ∙ ap (λ (rows : RowsOf Place). seek.seek 0 rows rest) (references_steps kind)
+
+entity_found : (kind : Kind) (w : List ℕ) → names_entity w ≡ true → named_place (references_of kind ++ w) ≡ Some (Entity kind)
+entity_found kind [] e = absurd (false≢true e)
+entity_found kind (b ∷ w) e =
+    named_at kind (b ∷ w)
+    ∙ single (Query kind) (EntityAtOvn kind) (Entity kind) b w (no_slash (b ∷ w) (part_lacks (b ∷ w) (and_parts _ _ e).0)) (not_query (b ∷ w) e)
+
+ovn_found : (kind : Kind) (id ovn : List ℕ) → names_entity id ≡ true → is_part ovn ≡ true
+    → named_place (references_of kind ++ (id ++ 47 ∷ ovn)) ≡ Some (EntityAtOvn kind)
+ovn_found kind [] ovn e f = absurd (false≢true e)
+ovn_found kind (b ∷ id) [] e f = absurd (false≢true f)
+ovn_found kind (b ∷ id) (c ∷ ovn) e f =
+    named_at kind (b ∷ id ++ 47 ∷ c ∷ ovn)
+    ∙ two_parts (Query kind) (EntityAtOvn kind) (Entity kind) b id c ovn (no_slash (b ∷ id) (part_lacks (b ∷ id) (and_parts _ _ e).0))
+    (no_slash (c ∷ ovn) (part_lacks (c ∷ ovn) f))
+
+supplier_found : (w : List ℕ) → is_part w ≡ true → named_place (front_of Availability ++ w) ≡ Some Availability
+supplier_found [] e = absurd (false≢true e)
+supplier_found (b ∷ w) e =
+    named_is (front_of Availability ++ b ∷ w) ∙ pass (front_of Availability) places (b ∷ w) availability_plain
+    ∙ ap (λ (rows : RowsOf Place). seek.seek 0 rows (b ∷ w)) availability_steps ∙ last_part Availability b w (no_slash (b ∷ w) (part_lacks (b ∷ w) e))
+
+-- the router finds every path of a place
+at_rest : (place : Place) (rest : List ℕ) (words : Words) → AreWordsOf place rest words → named_place (front_of place ++ rest) ≡ Some place
+at_rest (Query kind) rest words x = ap (λ v. named_place (references_of kind ++ v)) x.0 ∙ named_at kind (codes "query") ∙ query_named kind
+at_rest (Entity kind) rest words x = entity_found kind rest x.0
+at_rest (EntityAtOvn kind) rest words x = ap (λ v. named_place (references_of kind ++ v)) x.splits ∙ ovn_found kind x.id x.ovn x.names x.part
+at_rest Availability rest words x = supplier_found rest x.0
+
+pub found : (path : List ℕ) (place : Place) (words : Words) → IsRoute path place words → named_place path ≡ Some place
+found path place words (rest, e, x) = ap named_place e ∙ at_rest place rest words x
+
+-- a path leads to one place, and has one list of words there
+one_rest : (place : Place) (path a b : List ℕ) → path ≡ front_of place ++ a → path ≡ front_of place ++ b → b ≡ a
+one_rest place path a b x y = append-cancel (front_of place) b a (sym y ∙ x)
+
+pub one_route : (path : List ℕ) (p q : Place) (v w : Words) → IsRoute path p v → IsRoute path q w → (q ≡ p) × (w ≡ v)
+one_route path p q v w x y =
+    let named : Some q ≡ Some p = sym (found path q w y) ∙ found path p v x in
+    let place : q ≡ p = cc in
+    let at : IsRoute path p w = subst (λ (z : Place). IsRoute path z w) place y in
+    let rest : at.0 ≡ x.0 = one_rest p path x.0 at.0 x.1 at.1 in
+    let words : AreWordsOf p x.0 w = subst (λ (z : List ℕ). AreWordsOf p z w) rest at.2 in
+    (place, one_words p x.0 v w x.2 words)
+
+-- ---- what the code finds
+
+-- what is left where a front was taken off
+pub stripped : (front path rest : List ℕ) (n : ℕ) → FindsTextPrefix front path (Some n) → rest ≡ drop n path → path ≡ front ++ rest
+stripped front path rest n (len, split, cut) e = split ∙ ap (λ v. front ++ v) (sym e)
+
+pub halved : (s : List ℕ) (r : Option (Bor (List ℕ) × Bor (List ℕ)))
+    → MatchOption r (position_or_len (λ b. b == 47) s ≡ length s)
+        (λ x. (x.0.now ≡ before_first (λ b. b == 47) s) × (x.1.now ≡ after_first (λ b. b == 47) s) × (position_or_len (λ b. b == 47) s < length s))
+    → MatchOption r (has_slash s ≡ false) (λ half. (s ≡ half.0.now ++ 47 ∷ half.1.now) × (has_slash half.0.now ≡ false))
+halved s None h = lacks s h
+halved s (Some x) h = let r = round s h.2 in rw (h.0, h.1) r
+
+pub not_halved : (rest : List ℕ) (words : Words) → has_slash rest ≡ false → AreTwoWords rest words → ⊥
+not_halved rest words e a =
+    let bad : has_slash rest ≡ true = ap has_slash a.splits ∙ slash_between a.id a.ovn in
+    false≢true (sym e ∙ bad)
+
+pub not_named : (rest id ovn : List ℕ) (words : Words) → rest ≡ id ++ 47 ∷ ovn → has_slash id ≡ false → names_entity id ≡ false → AreTwoWords rest words → ⊥
+not_named rest id ovn words e p n a =
+    let same = two_are rest id ovn words e p a in
+    let bad : names_entity id ≡ true = subst (λ (z : List ℕ). names_entity z ≡ true) same.0 a.names in
+    false≢true (sym n ∙ bad)
+
+pub not_part : (rest id ovn : List ℕ) (words : Words) → rest ≡ id ++ 47 ∷ ovn → has_slash id ≡ false → is_part ovn ≡ false → AreTwoWords rest words → ⊥
+not_part rest id ovn words e p n a =
+    let same = two_are rest id ovn words e p a in
+    let bad : is_part ovn ≡ true = subst (λ (z : List ℕ). is_part z ≡ true) same.1 a.part in
+    false≢true (sym n ∙ bad)
+
+pub nowhere : (path : List ℕ) → named_place path ≡ None → HasNoRoute path
+nowhere path e place words x = let bad : Some place ≡ None = sym (found path place words x) ∙ e in cc
+
+-- a path that is led to a place without being one of its paths has no route
+pub not_there : (path : List ℕ) (place : Place) → named_place path ≡ Some place → ((words : Words) → IsRoute path place words → ⊥) → HasNoRoute path
+not_there path place e none other words x =
+    let same : Some other ≡ Some place = sym (found path other words x) ∙ e in
+    let is : other ≡ place = cc in
+    none words (subst (λ (z : Place). IsRoute path z words) is x)
+
+pub wrong_front : (path : List ℕ) (place : Place) → named_place path ≡ Some place → ((rest : List ℕ) → path ≡ front_of place ++ rest → ⊥) → HasNoRoute path
+wrong_front path place e none = not_there path place e (λ words x. none x.0 x.1)
+
+pub wrong_words : (path rest : List ℕ) (place : Place) → named_place path ≡ Some place → path ≡ front_of place ++ rest
+    → ((words : Words) → AreWordsOf place rest words → ⊥) → HasNoRoute path
+wrong_words path rest place e split none =
+    not_there path place e (λ words x. none words (subst (λ (z : List ℕ). AreWordsOf place z words) (one_rest place path rest x.0 split x.1) x.2))
+
+-- ---- samples
+
+-- an OVN may not stand after `query`
+named_past : named_place (codes "/dss/v1/operational_intent_references/query/x") ≡ Some (EntityAtOvn Intent)
+unfolding matchit_on_literals table with_route
+named_past = refl
+
+pub past_query : HasNoRoute (codes "/dss/v1/operational_intent_references/query/x")
+past_query =
+    wrong_words (codes "/dss/v1/operational_intent_references/query/x") (codes "query/x") (EntityAtOvn Intent) named_past refl
+    (λ words a. not_query a.id a.names (two_are (codes "query/x") (codes "query") (codes "x") words refl refl a).0)
+
+-- two words
+pub both : (id ovn : List ℕ) → names_entity id ≡ true → is_part ovn ≡ true → AreTwoWords (id ++ 47 ∷ ovn) (two_words id ovn)
+both id ovn e f = record { id = id; ovn = ovn; splits = refl; names = e; part = f; words_are = refl }
+
+-- a path goes nowhere after a text with which no route begins
+lost : (text rest : List ℕ) → is_plain text places ≡ true → steps text places ≡ [] → HasNoRoute (text ++ rest)
+lost text rest plain none =
+    nowhere (text ++ rest)
+    (named_is (text ++ rest) ∙ pass text places rest plain ∙ ap (λ (rows : RowsOf Place). seek.seek 0 rows rest) none ∙ seek-empty 0 rest)
+
+pub other : HasNoRoute (codes "/dss/v1/subscriptions/a")
+unfolding places matchit_on_literals table with_route
+other = lost (codes "/dss/v1/s") (codes "ubscriptions/a") refl refl
+
+pub no_front : HasNoRoute (codes "dss/v1/uss_availability/a")
+unfolding places matchit_on_literals table with_route
+no_front = lost (codes "d") (codes "ss/v1/uss_availability/a") refl refl
+
+ends_at : named_place (codes "/dss/v1/operational_intent_references" ++ []) ≡ None
+unfolding places matchit_on_literals table with_route
+ends_at =
+    named_is (codes "/dss/v1/operational_intent_references") ∙ pass (codes "/dss/v1/operational_intent_references") places [] refl
+    ∙ refl
+
+pub no_slash_there : HasNoRoute (codes "/dss/v1/operational_intent_references")
+no_slash_there = nowhere (codes "/dss/v1/operational_intent_references") ends_at
+
+-- or after the front of references
+gap : (rest : List ℕ) → seek.seek 0 (leaf (Query Intent) (EntityAtOvn Intent) (Entity Intent)) rest ≡ None → HasNoRoute (references_of Intent ++ rest)
+gap rest e = nowhere (references_of Intent ++ rest) (named_at Intent rest ∙ e)
+
+pub no_ovn : HasNoRoute (codes "/dss/v1/operational_intent_references/a1/")
+unfolding matchit_on_literals
+no_ovn = gap (codes "a1/") refl
+
+pub no_word : HasNoRoute (codes "/dss/v1/operational_intent_references/")
+unfolding matchit_on_literals
+no_word = gap [] refl
+
+pub three_words : HasNoRoute (codes "/dss/v1/operational_intent_references/a1/o1/x")
+unfolding matchit_on_literals
+three_words = gap (codes "a1/o1/x") refl
+
+-- or of suppliers
+supplier_gap : (rest : List ℕ) → seek.seek 0 ((256 ∷ [], Availability) ∷ []) rest ≡ None → HasNoRoute (front_of Availability ++ rest)
+supplier_gap rest e =
+    nowhere (front_of Availability ++ rest)
+    (named_is (front_of Availability ++ rest) ∙ pass (front_of Availability) places rest availability_plain
+    ∙ ap (λ (rows : RowsOf Place). seek.seek 0 rows rest) availability_steps ∙ e)
+
+pub no_supplier : HasNoRoute (codes "/dss/v1/uss_availability/")
+unfolding matchit_on_literals
+no_supplier = supplier_gap [] refl
+
+pub two_suppliers : HasNoRoute (codes "/dss/v1/uss_availability/a/b")
+unfolding matchit_on_literals
+two_suppliers = supplier_gap (codes "a/b") refl

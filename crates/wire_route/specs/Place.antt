@@ -1,0 +1,50 @@
+-- The places that paths lead to, and the methods that each of them takes.
+use Rattle.std.specs.Prelude.{ℕ, List, [], ◌∷◌, ◌++◌, codes, if◌then◌else◌, Option, Some, None}
+use Rattle.std.specs.Str.{bytes_eq}
+use Rattle.entity_core.specs.declared.nature.Kind.{Kind}
+use Rattle.entity_core.specs.declared.nature.Kind.TheVariants.{Intent, Constraint}
+use Rattle.policy_core.specs.declared.call.OpKind.{OpKind}
+use Rattle.policy_core.specs.declared.call.OpKind.TheVariants as kinds
+use Rattle.wire_route.specs.declared.place.Place.{Place}
+use Rattle.wire_route.specs.declared.place.Place.TheVariants.{Query, Entity, EntityAtOvn, Availability}
+
+-- what stands before the words of the paths to references of a kind
+abbrev pub references_of : Kind → List ℕ
+references_of Intent = codes "/dss/v1/operational_intent_references/"
+references_of Constraint = codes "/dss/v1/constraint_references/"
+
+-- and before those of a place's paths
+abbrev pub front_of : Place → List ℕ
+front_of (Query kind) = references_of kind
+front_of (Entity kind) = references_of kind
+front_of (EntityAtOvn kind) = references_of kind
+front_of Availability = codes "/dss/v1/uss_availability/"
+
+-- methods by name, with what each asks
+abbrev pub Methods : Type 0
+Methods = List (List ℕ × OpKind)
+
+-- the methods that a place takes
+abbrev pub methods_of : Place → Methods
+methods_of (Query kind) = (codes "POST", kinds.Query kind) ∷ []
+methods_of (Entity kind) = (codes "GET", kinds.Read kind) ∷ (codes "PUT", kinds.Create kind) ∷ []
+methods_of (EntityAtOvn kind) = (codes "PUT", kinds.Update kind) ∷ (codes "DELETE", kinds.Delete kind) ∷ []
+methods_of Availability = (codes "GET", kinds.ReadAvail) ∷ (codes "PUT", kinds.SetAvail) ∷ []
+
+-- what the method of a name asks; names have case
+abbrev pub kind_among : Methods → List ℕ → Option OpKind
+kind_among [] method = None
+kind_among ((name, kind) ∷ more) method = if bytes_eq method name then Some kind else kind_among more method
+
+abbrev pub kind_at : Place → List ℕ → Option OpKind
+kind_at place method = kind_among (methods_of place) method
+
+-- the names of methods in their order, with commas
+abbrev pub names_of : Methods → List ℕ
+names_of [] = []
+names_of ((name, kind) ∷ []) = name
+names_of ((name, kind) ∷ next ∷ more) = name ++ codes ", " ++ names_of (next ∷ more)
+
+-- the text that tells which methods a place takes
+abbrev pub allow_of : Place → List ℕ
+allow_of place = names_of (methods_of place)

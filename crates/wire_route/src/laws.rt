@@ -1,0 +1,50 @@
+//! Laws of routes, each named by a function that does nothing.
+ghost use Rattle.std.specs.Prelude.{◌≡◌, ℕ, List, codes};
+ghost use Rattle.entity_core.specs.declared.nature.Kind.TheVariants.{Intent, Constraint};
+ghost use Rattle.wire_json.specs.Body.{Words};
+ghost use Rattle.wire_route.specs.declared.place.Place.{Place};
+ghost use Rattle.wire_route.specs.declared.place.Place.TheVariants.{Query, Entity, EntityAtOvn, Availability};
+ghost use Rattle.wire_route.specs.Place.{allow_of};
+ghost use Rattle.wire_route.specs.Route.{one_word, two_words, IsRoute, HasNoRoute};
+
+/// A path leads to one place at most, and has one list of words there.
+pub fn one_route()
+    ensures { (path : List ℕ) (p q : Place) (v w : Words)
+        → IsRoute path p v → IsRoute path q w → (q ≡ p) × (w ≡ v) }
+{}
+
+/// What some paths lead to: `quer` and `queryx` name entities, and `query` may stand where an OVN
+/// stands.
+pub fn sample_paths()
+    ensures intents { IsRoute (codes "/dss/v1/operational_intent_references/query") (Query Intent) (one_word (codes "query")) }
+    ensures intent { IsRoute (codes "/dss/v1/operational_intent_references/a1") (Entity Intent) (one_word (codes "a1")) }
+    ensures intent_at { IsRoute (codes "/dss/v1/operational_intent_references/a1/o1") (EntityAtOvn Intent) (two_words (codes "a1") (codes "o1")) }
+    ensures constraints { IsRoute (codes "/dss/v1/constraint_references/query") (Query Constraint) (one_word (codes "query")) }
+    ensures constraint { IsRoute (codes "/dss/v1/constraint_references/c1") (Entity Constraint) (one_word (codes "c1")) }
+    ensures constraint_at { IsRoute (codes "/dss/v1/constraint_references/c1/o1") (EntityAtOvn Constraint) (two_words (codes "c1") (codes "o1")) }
+    ensures supplier { IsRoute (codes "/dss/v1/uss_availability/query") Availability (one_word (codes "query")) }
+    ensures shorter { IsRoute (codes "/dss/v1/operational_intent_references/quer") (Entity Intent) (one_word (codes "quer")) }
+    ensures longer { IsRoute (codes "/dss/v1/operational_intent_references/queryx") (Entity Intent) (one_word (codes "queryx")) }
+    ensures as_ovn { IsRoute (codes "/dss/v1/operational_intent_references/a1/query") (EntityAtOvn Intent) (two_words (codes "a1") (codes "query")) }
+{}
+
+/// Some paths that lead nowhere.
+pub fn sample_gaps()
+    ensures past_query { HasNoRoute (codes "/dss/v1/operational_intent_references/query/x") }
+    ensures no_ovn { HasNoRoute (codes "/dss/v1/operational_intent_references/a1/") }
+    ensures no_word { HasNoRoute (codes "/dss/v1/operational_intent_references/") }
+    ensures no_slash { HasNoRoute (codes "/dss/v1/operational_intent_references") }
+    ensures three_words { HasNoRoute (codes "/dss/v1/operational_intent_references/a1/o1/x") }
+    ensures no_supplier { HasNoRoute (codes "/dss/v1/uss_availability/") }
+    ensures two_suppliers { HasNoRoute (codes "/dss/v1/uss_availability/a/b") }
+    ensures other { HasNoRoute (codes "/dss/v1/subscriptions/a") }
+    ensures no_front { HasNoRoute (codes "dss/v1/uss_availability/a") }
+{}
+
+/// The methods that places take, as the field Allow tells them.
+pub fn allowed()
+    ensures query { allow_of (Query Intent) ≡ codes "POST" }
+    ensures entity { allow_of (Entity Constraint) ≡ codes "GET, PUT" }
+    ensures at { allow_of (EntityAtOvn Intent) ≡ codes "PUT, DELETE" }
+    ensures supplier { allow_of Availability ≡ codes "GET, PUT" }
+{}

@@ -1,0 +1,173 @@
+//! The routes of the service, and the way from a path to its place.
+ghost use Rattle.std.specs.Prelude.{◌≡◌, ◌++◌, List, ℕ, false, codes, IfOk, OnOk, MatchOption, option_map, if◌then◌else◌, Some, None};
+ghost use Rattle.wire_json.specs.Body.{Words, words_of};
+ghost use Rattle.wire_route.specs.Route.{has_slash, is_part, names_entity, one_word, AreTwoWords, AreWordsOf, IsRoute, HasNoRoute};
+ghost use Rattle.wire_route.specs.Place.{front_of};
+ghost use Rattle.wire_route.specs.Table.{Fits, table, with_route, named_place};
+
+use crate::place::Place;
+use entity_core::nature::Kind;
+use matchit::{InsertError, Router};
+use std::alloc::{AllocError, Global};
+use std::marker::Model;
+use wire_json::body::PathWords;
+
+/// The routes of the service, ready to look paths up.
+#[derive(Drop)]
+pub struct Routes {
+    router: Router<Place>,
+}
+
+impl Model for Routes {
+    ghost use Rattle.std.specs.Prelude.{◌≡◌};
+    ghost use Rattle.wire_route.specs.Table.{table};
+
+    ghost Value = { Unit {0} };
+
+    ghost view = { λ _. tt };
+
+    ghost invariant = { λ r. r.router ≡ table };
+}
+
+/// A place, and the words that a path has there.
+#[derive(Clone, Copy, Debug)]
+pub struct Route<'p> {
+    pub place: Place,
+    pub words: PathWords<'p>,
+}
+
+// One more route, which no other is in the way of: it is refused for want of memory alone.
+#[tactic(auto, unfolding(crate::specs::Table::with_route, crate::specs::Table::Fits))]
+fn put(router: &mut Router<Place>, route: &str, place: Place) -> Result<(), AllocError>
+    requires { Fits route.now router.old }
+    ensures { OnOk result (router.new ≡ with_route route.now place router.old) }
+{
+    match router.insert(route, place) {
+        Ok(()) => Ok(()),
+        Err(InsertError::OutOfMemory) => Err(AllocError),
+        Err(_) => unreachable!(),
+    }
+}
+
+fn has_slash(text: &str) -> bool
+    ensures { result ≡ has_slash text.now }
+{
+    text.as_bytes().iter().any(|b| *b == b'/')
+}
+
+fn is_part(text: &str) -> bool
+    ensures { result ≡ is_part text.now }
+{
+    !text.is_empty() && !has_slash(text)
+}
+
+fn names_entity(text: &str) -> bool
+    ensures { result ≡ names_entity text.now }
+{
+    is_part(text) && text != "query"
+}
+
+// The one word of a path, where it may stand there.
+fn one_word(word: &str, is_right: bool) -> Option<PathWords<'_>>
+    ensures { option_map words_of result ≡ (if is_right then Some (one_word word.now) else None) }
+{
+    if is_right {
+        Some(PathWords {
+            first: word,
+            second: None,
+        })
+    } else {
+        None
+    }
+}
+
+// What stands round the first slash.
+fn halves(rest: &str) -> Option<(&str, &str)>
+    ensures { MatchOption result (has_slash rest.now ≡ false)
+        (λ half. (rest.now ≡ half.0.now ++ (codes "/" ++ half.1.now)) × (has_slash half.0.now ≡ false)) }
+{
+    rest.split_once('/')
+}
+
+// A word that names an entity, and one more part.
+fn two_words(rest: &str) -> Option<PathWords<'_>>
+    ensures { MatchOption result ((words : Words) → AreTwoWords rest.now words → ⊥)
+        (λ words. AreTwoWords rest.now (words_of words)) }
+{
+    let Some((id, ovn)) = halves(rest) else {
+        return None;
+    };
+    if !names_entity(id) {
+        return None;
+    }
+    if !is_part(ovn) {
+        return None;
+    }
+    Some(PathWords {
+        first: id,
+        second: Some(ovn),
+    })
+}
+
+// The words that follow the front of a place's path.
+fn words_at(place: Place, rest: &str) -> Option<PathWords<'_>>
+    ensures { MatchOption result ((words : Words) → AreWordsOf place rest.now words → ⊥)
+        (λ words. AreWordsOf place rest.now (words_of words)) }
+{
+    match place {
+        Place::Query(_) => one_word(rest, rest == "query"),
+        Place::Entity(_) => one_word(rest, names_entity(rest)),
+        Place::EntityAtOvn(_) => two_words(rest),
+        Place::Availability => one_word(rest, is_part(rest)),
+    }
+}
+
+impl Routes {
+    /// The routes. Only want of memory is a fault.
+    pub fn new(alloc: Global) -> Result<Routes, AllocError> {
+        let mut router = Router::new(alloc);
+        let intent = "/dss/v1/operational_intent_references/query";
+        put(&mut router, intent, Place::Query(Kind::Intent))?;
+        let intent = "/dss/v1/operational_intent_references/{entityid}";
+        put(&mut router, intent, Place::Entity(Kind::Intent))?;
+        let intent = "/dss/v1/operational_intent_references/{entityid}/{ovn}";
+        put(&mut router, intent, Place::EntityAtOvn(Kind::Intent))?;
+        let constraint = "/dss/v1/constraint_references/query";
+        put(&mut router, constraint, Place::Query(Kind::Constraint))?;
+        let constraint = "/dss/v1/constraint_references/{entityid}";
+        put(&mut router, constraint, Place::Entity(Kind::Constraint))?;
+        let constraint = "/dss/v1/constraint_references/{entityid}/{ovn}";
+        put(&mut router, constraint, Place::EntityAtOvn(Kind::Constraint))?;
+        let availability = "/dss/v1/uss_availability/{uss_id}";
+        put(&mut router, availability, Place::Availability)?;
+        Ok(Routes { router })
+    }
+
+    // The place to which the router leads a path.
+    fn place_at(&self, path: &str) -> Option<Place>
+        ensures { result ≡ named_place path.now }
+    {
+        match self.router.at(path) {
+            Ok(found) => Some(*found.value),
+            Err(_) => None,
+        }
+    }
+
+    /// What a path leads to, and its words there. Paths are compared byte by byte, and nothing in
+    /// them is decoded (this project's profile).
+    pub fn find<'p>(&self, path: &'p str) -> Option<Route<'p>>
+        ensures { MatchOption result (HasNoRoute path.now)
+            (λ route. IsRoute path.now route.place (words_of route.words)) }
+    {
+        let Some(place) = self.place_at(path) else {
+            return None;
+        };
+        let Some(rest) = path.strip_prefix(place.front()) else {
+            return None;
+        };
+        let Some(words) = words_at(place, rest) else {
+            return None;
+        };
+        Some(Route { place, words })
+    }
+}

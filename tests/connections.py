@@ -1,0 +1,321 @@
+"""Connections: requests that come in pieces, devices that fail, and what breaks a rule of the wire.
+
+Standard input and output of the built program are made to give and take few bytes a call, or to fail, by
+tests/devices.c, which is loaded before the C library."""
+import json
+import os
+import pathlib
+import subprocess
+import tempfile
+import time
+
+import wire
+from program import BUILT, TOP, run
+
+NOW = 1000
+CLOSE = b"Connection: close\r\n"
+ID_A, ID_B = ("00000000-0000-4000-8000-0000000000" + end for end in ("a1", "b1"))
+READING = '{"status":{"availability":"Unknown","uss":"uss-b"},"version":""}'
+READS, WRITES, TURNS = (f"dss: stream: fault {it}\n".encode() for it in ("1 Read", "2 Write", "5 Turns"))
+
+
+class Room:
+    """A token file, and the library that stands before the devices."""
+
+    def __enter__(self):
+        self.folder = tempfile.TemporaryDirectory()
+        self.tokens = pathlib.Path(self.folder.name, "tokens.toml")
+        self.tokens.write_text(wire.token_file())
+        self.library = f"{self.folder.name}/devices.so"
+        made = run(["cc", "-shared", "-fPIC", "-O1", "-o", self.library, str(TOP / "tests" / "devices.c")])
+        if made[0]:
+            raise OSError(f"cc: {made[2]!r}")
+        return self
+
+    def __exit__(self, *_):
+        self.folder.cleanup()
+
+    def serve(self, stream, now=NOW, **devices):
+        """The status, output and error of a stream over devices set so."""
+        more = {name: str(value) for name, value in devices.items()}
+        more |= {"LD_PRELOAD": self.library} if devices else {}
+        return run([BUILT, "run", "--tokens", str(self.tokens), "--now", str(now), "-"], stream, more=more)
+
+
+def ask(method, target, token, body=None, fields=(), closes=False):
+    """A request with a bearer token."""
+    fields = [*fields, "Connection: close"] if closes else fields
+    return wire.request(method, target, f"Bearer {token}", None if body is None else body.encode(), fields)
+
+
+def volume(cells=("89c25904",), altitudes=(0, 1200), times=(900, 2000)):
+    lower, upper = altitudes
+    start, end = times
+    return {"cells": list(cells), "altitude_lower": lower, "altitude_upper": upper, "time_start": start, "time_end": end}
+
+
+def intent(volumes, key=(), state="Accepted"):
+    return wire.compact({"extents": volumes, "key": list(key), "state": state, "uss_base_url": "https://a.example"})
+
+
+def reference(entity, manager, version=1, ovn=None, state="Accepted", times=(900, 2000)):
+    seen = {"id": entity, "manager": manager, "state": state, "time_start": times[0], "time_end": times[1]}
+    seen |= {"subscription_id": "00000000-0000-4000-8000-000000000000", "uss_availability": "Unknown"}
+    seen |= {"uss_base_url": "https://a.example", "version": version} | ({"ovn": ovn} if ovn else {})
+    return seen
+
+
+def created(entity, manager, serial):
+    """The body of the answer to a creation."""
+    return wire.compact({"operational_intent_reference": reference(entity, manager, ovn=wire.ovn(serial)), "subscribers": []})
+
+
+def refused(status, message, fields=()):
+    """The last answer of a connection, where a rule is broken."""
+    return wire.answer(status, wire.compact({"message": message}), fields, closes=True)
+
+
+# A supplier declares an intent, another is told what it misses, and declares its own with the key. Then a query.
+MEETING = [
+    (ask("PUT", f"{wire.INTENTS}/{ID_A}", "tok-a", intent([volume()])), wire.answer(201, created(ID_A, "uss-a", 1))),
+    (
+        ask("PUT", f"{wire.INTENTS}/{ID_B}", "tok-b", intent([volume()])),
+        wire.answer(409, wire.compact({"message": "P14 KEY", "missing_constraints": [],
+                                       "missing_operational_intents": [reference(ID_A, "uss-a")]})),
+    ),
+    (
+        ask("PUT", f"{wire.INTENTS}/{ID_B}", "tok-b", intent([volume()], [wire.ovn(1)])),
+        wire.answer(201, created(ID_B, "uss-b", 2)),
+    ),
+    (
+        ask("POST", f"{wire.INTENTS}/query", "tok-b", '{"area_of_interest":{"cells":["89c2591"]}}', closes=True),
+        wire.answer(200, wire.compact({"operational_intent_references": [
+            reference(ID_A, "uss-a"), reference(ID_B, "uss-b", ovn=wire.ovn(2))]}), closes=True),
+    ),
+]
+TWO_READINGS = [
+    (ask("GET", f"{wire.AVAILABILITY}/uss-b", "tok-a"), wire.answer(200, READING)),
+    (ask("GET", f"{wire.AVAILABILITY}/uss-b", "tok-a", closes=True), wire.answer(200, READING, closes=True)),
+]
+
+
+def joined(steps):
+    return b"".join(request for request, _ in steps), b"".join(answer for _, answer in steps)
+
+
+def examples():
+    """The streams of the worked examples, each with its name, its moment and its answers."""
+    for example in json.loads((TOP / "tests" / "worked_examples.json").read_text()):
+        steps = [(step["request"].encode("latin-1"), step["answer"].encode("latin-1")) for step in example["steps"]]
+        if example["in_one_stream"]:
+            kept = [(request.replace(CLOSE, b""), answer.replace(CLOSE, b"")) for request, answer in steps[:-1]]
+            yield example["name"], example["now"], *joined(kept + steps[-1:])
+        else:
+            for request, answer in steps:
+                yield example["name"], example["now"], request, answer
+
+
+def in_pieces():
+    """However few bytes a read gives and a write takes, and wherever the first read ends, the answers are the same."""
+    found = []
+    streams = [("a meeting", NOW, *joined(MEETING)), ("two readings", NOW, *joined(TWO_READINGS)), *examples()]
+    with Room() as room:
+        for name, now, stream, wanted in streams:
+            ways = [{}, {"READ_BYTES": 1}, {"WRITE_BYTES": 7}]
+            if len(stream) < 200:
+                ways += [{"READ_FIRST": at} for at in range(1, len(stream))]
+            for devices in ways:
+                got = room.serve(stream, now, **devices)
+                found += [f"{name}, {devices}: {got!r}"] if got != (0, wanted, b"") else []
+    return found
+
+
+def failing_devices():
+    """A read or a write that fails ends the stream, and the answers to all requests whose bytes had come stand there."""
+    found = []
+    with Room() as room:
+        stream, wanted = joined(TWO_READINGS)
+        ends = [len(TWO_READINGS[0][0]), len(stream)]
+        sizes = [0, len(TWO_READINGS[0][1]), len(wanted)]
+        for at in range(1, len(stream) + 1):
+            come = sum(end < at for end in ends)
+            got = room.serve(stream, READ_BYTES=1, READ_FAILS=at)
+            found += [f"read {at}: {got!r}"] if got != (1, wanted[: sizes[come]], READS) else []
+        for fault in "WRITE_FAILS", "WRITE_STOPS":
+            for at in range(1, len(wanted) // 9 + 2):
+                got = room.serve(stream, WRITE_BYTES=9, **{fault: at})
+                right = got[0] == 1 and got[2] == WRITES and wanted.startswith(got[1]) and len(got[1]) < len(wanted)
+                found += [] if right or got == (0, wanted, b"") and at > 2 * (sizes[1] // 9 + 1) else [f"{fault} {at}: {got!r}"]
+    return found
+
+
+def truncated():
+    """A put that is cut anywhere gets no answer, and the next stream finds nothing."""
+    stream = MEETING[0][0]
+    with Room() as room:
+        got = [(size, room.serve(stream[:size])) for size in range(len(stream))]
+    return [f"{size} bytes: {it!r}" for size, it in got if it != (0, b"", b"")]
+
+
+def turns_end():
+    """A body that comes one byte a read uses the turns of a stream up."""
+    stream = ask("GET", f"{wire.AVAILABILITY}/uss-b", "tok-a", " " * 1_048_576)
+    with Room() as room:
+        began = time.perf_counter()
+        got = room.serve(stream, READ_BYTES=1)
+        print(f"a million reads of one byte: {time.perf_counter() - began:.1f} s")
+    return [f"{got!r}"] if got != (1, b"", TURNS) else []
+
+
+def greatest_body():
+    """A body of 1,048,576 bytes with 2,048 cells and 4,096 entries of a key is answered."""
+    key = [f"{at:0128d}" for at in range(4_096)]
+    body = json.loads(intent([volume(["89c25904"] * 512)] * 4, key))
+    left = 1_048_576 - len(wire.compact(body)) - len(',"x":""')
+    text = wire.compact(body | {"x": "x" * left})
+    stream = ask("PUT", f"{wire.INTENTS}/{ID_A}", "tok-a", text, closes=True)
+    with Room() as room:
+        began = time.perf_counter()
+        got = room.serve(stream)
+        print(f"a body of {len(text):,} bytes: {time.perf_counter() - began:.2f} s")
+    wanted = wire.answer(201, created(ID_A, "uss-a", 1), closes=True)
+    return [f"{got!r}"] if len(text) != 1_048_576 or got != (0, wanted, b"") else []
+
+
+H1, H2 = refused(400, "H1 HEAD"), refused(431, "H2 HEADSIZE")
+H3, H4, H5 = refused(501, "H3 TRANSFER"), refused(400, "H4 LENGTH"), refused(413, "H5 BODYSIZE")
+LINE = f"GET {wire.AVAILABILITY}/uss-b HTTP/1.1\r\n".encode()
+BEARS = b"Authorization: Bearer tok-a\r\nConnection: close\r\n"
+ANSWERED = TWO_READINGS[1][1]
+
+
+def head(fields):
+    """The head of a reading with these fields more."""
+    return LINE + BEARS + fields + b"\r\n"
+
+
+def sized(size):
+    """A head of so many bytes."""
+    return head(b"X: " + b"x" * (size - len(head(b"X: \r\n"))) + b"\r\n")
+
+
+HEADS = [
+    ("nothing", b"", b""),
+    ("line ends alone", b"\r\n\n\r\n", b""),
+    ("8,191 line feeds", b"\n" * 8_191, b""),
+    ("8,192 line feeds", b"\n" * 8_192, H2),
+    ("a head of 8,192 bytes", sized(8_192), ANSWERED),
+    ("a head of 8,193 bytes", sized(8_193), H2),
+    ("empty lines count", b"\r\n" + sized(8_190), ANSWERED),
+    ("empty lines count beyond it", b"\r\n" + sized(8_191), H2),
+    ("64 fields", head(b"Y: z\r\n" * 62), ANSWERED),
+    ("65 fields", head(b"Y: z\r\n" * 63), H2),
+    ("65 fields without an end", LINE + b"Y: z\r\n" * 65, H2),
+    ("a request line that never ends", b"GET /" + b"a" * 9_000, H2),
+    ("bytes that could never begin a head, and no line end", b"\0" * 8_191, b""),
+    ("and 8,192 of them", b"\0" * 8_192, H2),
+    ("and a line end", b"\0\n", H1),
+    ("a fault before 8,192 bytes", LINE + b"A B: c\r\n", H1),
+    ("a fault after the request line, at once", LINE + b"X Y", H1),
+    ("a fault beyond 8,192 bytes", LINE + b"X: " + b"x" * 8_192 + b"\r\nA B: c\r\n\r\n", H2),
+    ("two spaces", b"GET  / HTTP/1.1\r\n\r\n", H1),
+    ("version 2", b"GET / HTTP/2\r\n\r\n", H1),
+    ("a target that is no UTF-8", b"GET /\xff HTTP/1.1\r\n\r\n", H1),
+    ("line feeds without carriage returns", head(b"").replace(b"\r", b""), ANSWERED),
+    ("names in small letters", head(b"").replace(b"Authorization", b"authorization").replace(b"Connection", b"connection"), ANSWERED),
+    ("Transfer-Encoding", head(b"transfer-encoding: chunked\r\nContent-Length: x\r\n"), H3),
+    ("two lengths", head(b"Content-Length: 0\r\ncontent-length: 0\r\n"), H4),
+    ("two lengths in one field", head(b"Content-Length: 0, 0\r\n"), H4),
+    ("a length with a sign", head(b"Content-Length: +5\r\n"), H4),
+    ("an empty length", head(b"Content-Length:\r\n"), H4),
+    ("a length in words", head(b"Content-Length: 4x\r\n"), H4),
+    ("a length of 40 nines", head(b"Content-Length: " + b"9" * 40 + b"\r\n"), H5),
+    ("a length of 30 zeros", head(b"Content-Length: " + b"0" * 30 + b"\r\n"), ANSWERED),
+    ("a length of 1,048,577", head(b"Content-Length: 1048577\r\n"), H5),
+    ("a length of 1,048,576 without a body", head(b"Content-Length: 1048576\r\n"), b""),
+    ("spaces and tabs round a length", head(b"Content-Length: \t0 \t\r\n"), ANSWERED),
+    ("a rule of the wire before the route", b"GET /nothing HTTP/1.1\r\nContent-Length: x\r\n\r\n", H4),
+    ("a rule of the wire after an answer", TWO_READINGS[0][0] + b"GET / HTTP/2\r\n", TWO_READINGS[0][1] + H1),
+    ("part of a head after an answer", TWO_READINGS[0][0] + b"\r\nGET", TWO_READINGS[0][1]),
+    ("a body is no request", ask("GET", f"{wire.AVAILABILITY}/uss-b", "tok-a", "GET / HTTP/2\r\n\r\n"), TWO_READINGS[0][1]),
+    ("what follows a close is not looked at", head(b"") + b"GET / HTTP/2\r\n\r\n", ANSWERED),
+]
+
+# The value of a field Connection, the version, and whether the connection closes.
+CLOSINGS = [
+    (b"A: close", b"1.1", False),
+    (b"Connection: keep-alive", b"1.1", False),
+    (b"Connection: closed, not-close, close x, cl ose", b"1.1", False),
+    (b"Connection:", b"1.1", False),
+    (b"connection: keep-alive,\t CLOSE ", b"1.1", True),
+    (b"Connection: close,", b"1.1", True),
+    (b"Connection: a\r\nConnection: Close", b"1.1", True),
+    (b"Connection: keep-alive", b"1.0", True),
+    (b"A: b", b"1.0", True),
+]
+
+
+def hostile():
+    """Each input gets exactly the answers that are due to it."""
+    found = []
+    table = list(HEADS)
+    for field, version, closes in CLOSINGS:
+        asked = b"GET " + wire.AVAILABILITY.encode() + b"/uss-b HTTP/" + version + b"\r\nAuthorization: Bearer tok-a\r\n" + field + b"\r\n\r\n"
+        one = wire.answer(200, READING, closes=closes)
+        table += [(f"{field!r} in {version!r}", asked + head(b""), one if closes else one + ANSWERED)]
+    with Room() as room:
+        for name, stream, wanted in table:
+            got = room.serve(stream)
+            found += [f"{name}: wanted {wanted!r}, got {got!r}"] if got != (0, wanted, b"") else []
+            if len(stream) < 400:
+                got = room.serve(stream, READ_BYTES=1)
+                found += [f"{name}, one byte a read: {got!r}"] if got != (0, wanted, b"") else []
+    return found
+
+
+P1, P5 = (404, "P1 ROUTE"), (400, "P5 FORM")
+ALLOW_QUERY, ALLOW_ENTITY, ALLOW_OVN = ((405, "P2 METHOD", f"Allow: {it}") for it in ("POST", "GET, PUT", "PUT, DELETE"))
+# What some paths and methods are told, under both kinds of references: a bad word, an unknown route, or other methods.
+PATHS = [
+    ("GET", "/query", ALLOW_QUERY), ("PUT", "/query", ALLOW_QUERY), ("post", "/query", ALLOW_QUERY),
+    ("POST", "/query?a", P5), ("POST", "/quer", ALLOW_ENTITY), ("GET", "/quer", P5), ("GET", "/queryx", P5),
+    ("GET", "/query/x", P1), ("PUT", "/query/x", P1), ("GET", "/query/", P1), ("DELETE", f"/{ID_A}", ALLOW_ENTITY),
+    ("GET", f"/{ID_A}/query", ALLOW_OVN), ("DELETE", f"/{ID_A}/query", P5), ("GET", f"/{ID_A}/", P1), ("GET", "/", P1),
+    ("GET", "", P1), ("GET", f"/{ID_A}/x/y", P1), ("GET", f"//{ID_A}", P1), ("GET", f"/{ID_A}/{'0' * 64}", ALLOW_OVN),
+    ("GET", f"/{ID_A}", (404, "P7 FOUND")), ("GET", f"/{ID_A.upper()}?x=/y/z", (404, "P7 FOUND")),
+    ("DELETE", f"/{ID_A}/{'0' * 64}", (404, "P7 FOUND")), ("HEAD", f"/{ID_A}", ALLOW_ENTITY), ("GET", "%2Fquery", P1),
+]
+OTHERS = [
+    ("GET", "/", P1), ("GET", "dss/v1/uss_availability/a", None), ("GET", "/dss/v1/uss_availability", P1),
+    ("GET", "/dss/v1/uss_availability/", P1), ("GET", "/dss/v1/uss_availability/a/b", P1), ("GET", "/dss/v2/uss_availability/a", P1),
+    ("POST", "/dss/v1/uss_availability/a", ALLOW_ENTITY), ("GET", "/dss/v1/subscriptions/a", P1),
+    ("GET", "http://localhost/dss/v1/uss_availability/a", P1), ("GET", "/dss/v1/uss_availability/a%2Fb", P5),
+]
+
+
+def paths():
+    """Each path and method of the table is told what is due to it."""
+    found = []
+    table = [(method, path, it) for method, path, it in OTHERS if it]
+    table += [(method, front + path, it) for front in (wire.INTENTS,) for method, path, it in PATHS]
+    with Room() as room:
+        for method, path, (status, message, *fields) in table:
+            got = room.serve(ask(method, path, "tok-a", closes=True))
+            found += [f"{method} {path}: {got!r}"] if got != (0, refused(status, message, fields), b"") else []
+        for method, path, (status, message, *fields) in PATHS:
+            path, is_update = wire.CONSTRAINTS + path, method == "DELETE" and path.count("/") == 2
+            token = "tok-c"
+            got = room.serve(ask(method, path, token, closes=True))
+            found += [f"{method} {path}: {got!r}"] if got != (0, refused(status, message, fields), b"") else []
+    return found
+
+
+CASES = {
+    "connections-in-pieces": in_pieces,
+    "devices-that-fail": failing_devices,
+    "put-that-is-cut": truncated,
+    "turns-that-end": turns_end,
+    "greatest-body": greatest_body,
+    "hostile-heads": hostile,
+    "paths-and-methods": paths,
+}
