@@ -61,6 +61,87 @@ forget() {
     rm -f -- "$built/began.$$" "$built/$program.$$" "$built/$program.identity.$$"
 }
 
+# Prints the crates that the program stands on, and it, lowest first, each with those that it names.
+stands_on() {
+    awk -v top="$program" '
+        /^[a-z]/ {
+            name = $1
+            sub(/:.*/, "", name)
+            uses = $0
+            sub(/^[^:]*:/, "", uses)
+            order[++count] = name
+            named[name] = uses
+        }
+        END {
+            wanted[top] = 1
+            for (at = count; at > 0; at--)
+                if (order[at] in wanted) {
+                    split(named[order[at]], parts, " ")
+                    for (part in parts) wanted[parts[part]] = 1
+                }
+            for (at = 1; at <= count; at++)
+                if (order[at] in wanted) {
+                    split(named[order[at]], parts, " ")
+                    line = order[at]
+                    for (part in parts) if (parts[part] in named) line = line " " parts[part]
+                    print line
+                }
+        }
+    ' "$top/crates.txt"
+}
+
+# Prints how many proofs may run at once: one a processor, and two gigabytes of memory for each.
+proofs_at_once() {
+    local cores room
+    cores=$(nproc)
+    room=$(awk '/^MemAvailable/ { print int($2 / 2097152) }' /proc/meminfo)
+    [ "${room:-1}" -ge "$cores" ] || cores=${room:-1}
+    [ "$cores" -gt 0 ] || cores=1
+    printf '%s\n' "$cores"
+}
+
+# Proves and builds a library of the repository with so many proofs at once.
+prove_library() {
+    (unset CDPATH && cd -- "$top/crates/$1" && rt lib --jobs "$2" </dev/null)
+}
+
+# Proves the libraries that the program stands on, lowest first, and says which crate it is at. One that
+# stands on no other is proved beside the rest. The proofs of one crate run side by side; crates that share
+# one below them wait for each other, since rt lets one of its runs at a time into a crate.
+prove_libraries() {
+    local jobs line name below number=0 status=0
+    local -a lines names
+    local -A beside=()
+    jobs=$(proofs_at_once)
+    mapfile -t lines < <(stands_on)
+    for line in "${lines[@]:1}"; do
+        if [[ $line != *' '* && $line != "$program" ]]; then
+            number=$((number + 1))
+            printf '%s: proving %s, crate %s of %s\n' "$program" "$line" "$number" "${#lines[@]}"
+            prove_library "$line" 1 &
+            beside[$line]=$!
+        fi
+    done
+    for line in "${lines[@]}"; do
+        read -ra names <<<"$line"
+        name=${names[0]}
+        [ -z "${beside[$name]-}" ] || continue
+        number=$((number + 1))
+        printf '%s: proving %s, crate %s of %s\n' "$program" "$name" "$number" "${#lines[@]}"
+        # the program itself is proved where it is built
+        [ "$name" != "$program" ] || break
+        for below in "${names[@]:1}"; do
+            if [ -n "${beside[$below]-}" ]; then
+                wait "${beside[$below]}" || status=1
+                unset "beside[$below]"
+            fi
+        done
+        [ "$status" = 0 ] && prove_library "$name" "$jobs" || { status=1; break; }
+    done
+    wait
+    return "$status"
+}
+
 # Proves and builds the program. All that it says goes to standard error.
 build() {
     if ! command -v rt >/dev/null; then
@@ -69,8 +150,9 @@ build() {
     fi
     printf '%s: proving and building the program\n' "$program" >&2
     trap forget EXIT
-    begin &&
-        (unset CDPATH && cd -- "$top/crates/$program" && rt run -- --help </dev/null >/dev/null) &&
+    begin && prove_libraries >&2 &&
+        (unset CDPATH && cd -- "$top/crates/$program" &&
+            rt run --jobs "$(proofs_at_once)" -- --help </dev/null >/dev/null) &&
         keep || return 1
     forget
     trap - EXIT

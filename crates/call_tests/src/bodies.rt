@@ -12,7 +12,12 @@ fn words_of_no_route(rt: HostRuntime) {
         (OpKind::Query(Kind::Intent), "Query", None, body),
         (OpKind::SetAvail, "uss-b", Some("x"), setting),
         (OpKind::ReadAvail, "uss-b", Some("x"), ""),
-        (OpKind::Read(Kind::Constraint), "00000000-0000-4000-8000-0000000000a1", Some("0123456789abcdef"), ""),
+        (
+            OpKind::Read(Kind::Constraint),
+            "00000000-0000-4000-8000-0000000000a1",
+            Some("0123456789abcdef"),
+            "",
+        ),
     ] {
         let words = PathWords { first, second };
         let read = read_body(rt.alloc(), kind, &words, body.as_bytes());

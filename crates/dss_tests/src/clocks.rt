@@ -7,8 +7,7 @@ use wire_http::{Counted, End, Listed, Moments, StreamFault, WireRule, serve_stre
 const TWO: &str =
     "GET /dss/v1/uss_availability/uss-b HTTP/1.1\r\n\r\nGET /dss/v1/uss_availability/uss-b HTTP/1.1\r\n\r\n";
 
-const ONE_AND_A_FAULT: &str =
-    "GET /dss/v1/uss_availability/uss-b HTTP/1.1\r\n\r\nGET / HTTP/2\r\n";
+const ONE_AND_A_FAULT: &str = "GET /dss/v1/uss_availability/uss-b HTTP/1.1\r\n\r\nGET / HTTP/2\r\n";
 
 // How a stream over a clock of so many moments ends, and how many answers were written.
 fn served(alloc: Global, input: &str, count: u64) -> Option<(Result<End, StreamFault>, u64)> {
@@ -21,7 +20,14 @@ fn served(alloc: Global, input: &str, count: u64) -> Option<(Result<End, StreamF
     let mut clock = Listed::new(moments);
     let mut reader = Counted::new(input.as_bytes());
     let mut writer = Counted::new(Vec::new(alloc));
-    let result = serve_stream(alloc, &mut service, &tokens, &mut clock, &mut reader, &mut writer);
+    let result = serve_stream(
+        alloc,
+        &mut service,
+        &tokens,
+        &mut clock,
+        &mut reader,
+        &mut writer,
+    );
     Some((result.map(|it| it.end), writer.calls()))
 }
 

@@ -23,10 +23,23 @@ fn a_cell_that_is_not_written(rt: HostRuntime) {
         };
         let words = ["dss", "cell", "89c25904"];
         let status = run_line(&rt, &words, &mut "".as_bytes(), &mut output, &mut error);
-        let (wanted, told) = if writes < 8 { (1, "dss: output\n") } else { (0, "") };
+        let (wanted, told) = if writes < 8 {
+            (1, "dss: output\n")
+        } else {
+            (0, "")
+        };
         assert_eq!(rt; status, wanted, "after {writes} writes");
-        assert!(rt; error.as_slice() == told.as_bytes(), "after {writes} writes");
-        assert!(rt; text.as_bytes().starts_with(output.taken.as_slice()), "after {writes} writes");
-        assert!(rt; wanted == 1 || output.taken.len() == text.len(), "after {writes} writes");
+        assert!(rt;
+            error.as_slice() == told.as_bytes(),
+            "after {writes} writes"
+        );
+        assert!(rt;
+            text.as_bytes().starts_with(output.taken.as_slice()),
+            "after {writes} writes"
+        );
+        assert!(rt;
+            wanted == 1 || output.taken.len() == text.len(),
+            "after {writes} writes"
+        );
     }
 }

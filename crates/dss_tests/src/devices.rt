@@ -131,6 +131,13 @@ pub fn served_by(
         left: devices.writes,
     });
     let mut clock = Fixed::new(1000);
-    let served = serve_stream(alloc, service, &tokens, &mut clock, &mut reader, &mut writer);
+    let served = serve_stream(
+        alloc,
+        service,
+        &tokens,
+        &mut clock,
+        &mut reader,
+        &mut writer,
+    );
     Some((served.map(|it| it.end), writer.into_inner().taken))
 }

@@ -5,10 +5,8 @@ use entity_core::id_fault::IdFault;
 use entity_core::ovn::Ovn;
 use entity_core::salt::Salt;
 use entity_core::serial::{GREATEST_SERIAL, Serial};
-use entity_core::text::Text;
 use entity_core::uss_id::UssId;
 use entity_core::version::{GREATEST_VERSION, Version};
-use std::alloc::Global;
 
 const LONG: &str = "abcdefghijklmnopqrstuvwxyz-ABCDEFGHIJKLMNOPQRSTUVWXYZ_0123456789";
 
@@ -78,33 +76,6 @@ fn names_and_versions(rt: HostRuntime) {
     ] {
         assert!(rt; BaseUrl::read(alloc, text).err() == fault, "at {text}");
     }
-    let mut url = String::new(alloc);
-    for _ in 0..255 {
-        assert!(rt; url.push('u').is_ok());
-    }
-    assert!(rt; BaseUrl::read(alloc, url.as_str()).is_ok());
-    assert!(rt; url.push('u').is_ok());
-    assert!(rt; BaseUrl::read(alloc, url.as_str()).err() == Some(IdFault::Length));
-}
-
-// Copies of what was read, where they have the same texts.
-fn copies(alloc: Global) -> Option<(UssId, Salt, BaseUrl)> {
-    let uss = UssId::read(alloc, LONG).ok()?.clone().ok()?;
-    let salt = Salt::read(alloc, "demo").ok()?.clone().ok()?;
-    let url = BaseUrl::read(alloc, "https://a.example").ok()?.clone().ok()?;
-    Some((uss, salt, url))
-}
-
-#[test]
-fn copies_have_the_same_texts(rt: HostRuntime) {
-    let (uss, salt, url) = copies(rt.alloc()).expect(&rt, "copies");
-    assert_eq!(rt; uss.text(), LONG);
-    assert!(rt; uss.is(&uss));
-    assert_eq!(rt; salt.text(), "demo");
-    assert_eq!(rt; url.text(), "https://a.example");
-    let ovn = Ovn::read(rt.alloc(), "0123456789abcdef").ok().expect(&rt, "a version number");
-    assert_eq!(rt; ovn.into_text().text(), "0123456789abcdef");
-    assert_eq!(rt; Text::empty(rt.alloc()).text(), "");
 }
 
 #[test]
@@ -112,13 +83,11 @@ fn counts_have_their_limits(rt: HostRuntime) {
     assert_eq!(rt; Version::first().number(), 1);
     let second = Version::first().next().expect(&rt, "a version");
     assert_eq!(rt; second.number(), 2);
-    assert!(rt; Version::from_number(GREATEST_VERSION).is_some_and(|last| last.next().is_none()));
-    for (before, after) in [
-        (0, Some(1)),
-        (9_223_372_036_854_775_806, Some(GREATEST_SERIAL)),
-        (GREATEST_SERIAL, None),
-    ] {
-        let serial = Serial::after(before);
-        assert!(rt; serial.map(|it| it.number()) == after, "after {before}");
+    let last = Version::from_number(GREATEST_VERSION).expect(&rt, "a version");
+    assert!(rt; last.next().is_none());
+    for (before, after) in [(0, 1), (9_223_372_036_854_775_806, GREATEST_SERIAL)] {
+        let serial = Serial::after(before).expect(&rt, "a serial");
+        assert_eq!(rt; serial.number(), after);
     }
+    assert!(rt; Serial::after(GREATEST_SERIAL).is_none());
 }

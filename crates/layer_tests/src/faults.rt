@@ -26,7 +26,10 @@ fn the_first_fault_of_an_extent(rt: HostRuntime) {
         (512, (7, 7), (7, 7), None),
     ] {
         let given = cells(rt.alloc(), count).expect(&rt, "cells");
-        let bounds = ((Some(altitude.0), Some(altitude.1)), (Some(time.0), Some(time.1)));
+        let bounds = (
+            (Some(altitude.0), Some(altitude.1)),
+            (Some(time.0), Some(time.1)),
+        );
         let area = Area::new(given, bounds.0, bounds.1);
         assert!(rt; area.err() == wanted, "of {count} cells");
         let given = cells(rt.alloc(), count).expect(&rt, "cells");
