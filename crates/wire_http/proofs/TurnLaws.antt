@@ -31,7 +31,7 @@ use Rattle.wire_http.specs.Next.{IsNext, NextFits, body_at}
 use Rattle.wire_http.specs.Reply.{Replies, RepliesPart}
 use Rattle.wire_http.specs.Rest.{after}
 use Rattle.wire_http.specs.Stop.{StopsAs}
-use Rattle.wire_http.specs.Text.{answer_text, end_texts}
+use Rattle.wire_http.specs.Text.{end_texts}
 use Rattle.wire_http.specs.Turn.{Took, IsTurn, IsTurnPart, MayGoOn}
 use Rattle.wire_http.specs.Wire.{ClockAfter, IsRequest, MayFollow, left_after}
 use Rattle.wire_http.proofs.KnownBytes.{Appends_nil}

@@ -1,5 +1,5 @@
 -- A request as it was received, and the call that it makes.
-use Rattle.std.specs.Prelude.{◌≡◌, ◌≤◌, ◌+◌, length, Option, IsUtf8}
+use Rattle.std.specs.Prelude.{◌≤◌, ◌+◌, length, Option, IsUtf8}
 use Rattle.httparse.specs.Grammar.{RequestHead}
 use Rattle.httparse.specs.Spans.{IsRequestWithin, span_bytes}
 use Rattle.policy_core.specs.declared.call.Call.{Call}

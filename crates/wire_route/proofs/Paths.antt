@@ -1,10 +1,10 @@
 -- From a path to its place: every path of a place is found there, and it has one place and one list of words.
-use Rattle.std.proofs.Common.{◌≡◌, ℕ, suc, ◌<◌, ◌+◌, List, [], ◌∷◌, ◌++◌, length, Bool, true, false, cond, Option, Some, None, option_map, refl, sym, ap, subst, ◌∙◌, arith, ◌==◌, inl, inr, MatchOption, Bor}
+use Rattle.std.proofs.Common.{◌≡◌, ℕ, suc, ◌<◌, ◌+◌, List, [], ◌∷◌, ◌++◌, length, Bool, true, false, cond, Option, Some, None, option_map, refl, sym, ap, subst, ◌∙◌, arith, ◌==◌, MatchOption, Bor}
 use Rattle.std.proofs.Common.{take, drop}
 use Rattle.std.proofs.lemmas.Bool.{and_parts, or_parts, eqb-true, false≢true}
-use Rattle.std.specs.Prelude.{codes, not, nat_lt, ◌||◌}
+use Rattle.std.specs.Prelude.{codes, not, ◌||◌}
 use Rattle.std.specs.Str.Pattern.{FindsTextPrefix}
-use Rattle.std.specs.List.{list_any, position_or_len, before_first, after_first}
+use Rattle.std.specs.List.{position_or_len, before_first, after_first}
 use Rattle.matchit.proofs.OnLiterals.{matchit_on_literals}
 use Rattle.matchit.proofs.LookupLemmas.{append-cancel}
 use Rattle.matchit.proofs.RenameLemmas.{first-rename}
@@ -18,7 +18,7 @@ use Rattle.wire_json.specs.Body.{Words}
 use Rattle.wire_route.specs.declared.place.Place.{Place}
 use Rattle.wire_route.specs.declared.place.Place.TheVariants.{Query, Entity, EntityAtOvn, Availability}
 use Rattle.wire_route.specs.Place.{references_of, front_of}
-use Rattle.wire_route.specs.Route.{has_slash, is_part, names_entity, one_word, two_words, AreTwoWords, AreWordsOf, IsRoute, HasNoRoute}
+use Rattle.wire_route.specs.Route.{has_slash, is_part, names_entity, two_words, AreTwoWords, AreWordsOf, IsRoute, HasNoRoute}
 use Rattle.wire_route.specs.Table.{table, with_route, named_place}
 use Rattle.wire_route.proofs.Seeks.{is_plain, steps, pass, seek-empty, leaf, single, two_parts, last_part}
 
@@ -53,7 +53,7 @@ round (x ∷ s) l = by (x == 47) refl l (round s)
   where
     by : (c : Bool) → (x == 47) ≡ c → cond (not c) (1 + position_or_len (λ b. b == 47) s) 0 < suc (length s)
         → (position_or_len (λ b. b == 47) s < length s
-            → (s ≡ before_first (λ b. b == 47) s ++ 47 ∷ after_first (λ b. b == 47) s) × (has_slash (before_first (λ b. b == 47) s) ≡ false))
+        → (s ≡ before_first (λ b. b == 47) s ++ 47 ∷ after_first (λ b. b == 47) s) × (has_slash (before_first (λ b. b == 47) s) ≡ false))
         → let n : ℕ = cond (not c) (1 + position_or_len (λ b. b == 47) s) 0 in
         (x ∷ s ≡ take n (x ∷ s) ++ 47 ∷ drop (n + 1) (x ∷ s)) × (has_slash (take n (x ∷ s)) ≡ false)
     by true q m ih = let same : x ≡ 47 = eqb-true x 47 q in (ap (λ v. v ∷ s) same, refl)
@@ -203,7 +203,7 @@ stripped front path rest n (len, split, cut) e = split ∙ ap (λ v. front ++ v)
 
 pub halved : (s : List ℕ) (r : Option (Bor (List ℕ) × Bor (List ℕ)))
     → MatchOption r (position_or_len (λ b. b == 47) s ≡ length s)
-        (λ x. (x.0.now ≡ before_first (λ b. b == 47) s) × (x.1.now ≡ after_first (λ b. b == 47) s) × (position_or_len (λ b. b == 47) s < length s))
+    (λ x. (x.0.now ≡ before_first (λ b. b == 47) s) × (x.1.now ≡ after_first (λ b. b == 47) s) × (position_or_len (λ b. b == 47) s < length s))
     → MatchOption r (has_slash s ≡ false) (λ half. (s ≡ half.0.now ++ 47 ∷ half.1.now) × (has_slash half.0.now ≡ false))
 halved s None h = lacks s h
 halved s (Some x) h = let r = round s h.2 in rw (h.0, h.1) r

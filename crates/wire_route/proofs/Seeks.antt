@@ -1,5 +1,5 @@
 -- Walks over the rows of a router, where the routes are literal text and whole parts.
-use Rattle.std.proofs.Common.{◌≡◌, ◌≢◌, ℕ, zero, suc, ◌-◌, ◌<◌, List, [], ◌∷◌, ◌++◌, length, Bool, true, false, cond, Option, Some, None, refl, sym, ap, ◌∙◌, arith, ◌==◌, ◌&&◌, ltb}
+use Rattle.std.proofs.Common.{◌≡◌, ℕ, zero, suc, ◌-◌, ◌<◌, List, [], ◌∷◌, ◌++◌, length, Bool, true, false, cond, Option, Some, None, refl, sym, ap, ◌∙◌, arith, ◌==◌, ◌&&◌, ltb}
 use Rattle.std.proofs.Common.{◌⊎◌, inl, inr, nat_eq, nat_lt, arith, length-append}
 use Rattle.std.proofs.lemmas.Bool.{and_parts, eqb-true, false≢true}
 use Rattle.std.proofs.lemmas.Bool.Decides.{nat_tests}
@@ -7,7 +7,7 @@ use Rattle.std.proofs.lemmas.List.{drop_at}
 use Rattle.std.specs.Prelude.{codes}
 use Rattle.std.specs.List.{list_all, ends_with}
 use Rattle.matchit.specs.Rows.{RowsOf, param_token, catch_all_token}
-use Rattle.matchit.specs.Seek.{own, step, or_else, seek, segment, cuts, longest_suffix, with_suffix, same_text, param_step, has_slash}
+use Rattle.matchit.specs.Seek.{own, step, or_else, seek, segment, cuts, longest_suffix, param_step, has_slash}
 
 module _ {K : Type 0} where
   pub or_else-none : (a : Option K) → or_else a None ≡ a
@@ -191,7 +191,7 @@ module _ {K : Type 0} where
   walk rs after b n p k e right left =
       let m : suc n - 1 ≡ n = omega arith in
       let there : seek ((param_step (step param_token rs) (b ∷ p)).0 - 1) (param_step (step param_token rs) (b ∷ p)).1 p ≡ Some k =
-          ap (λ z. seek (z.0 - 1) z.1 p) e ∙ ap (λ i. seek i after p) m ∙ right in
+      ap (λ z. seek (z.0 - 1) z.1 p) e ∙ ap (λ i. seek i after p) m ∙ right in
       joined (seek 0 (step b rs) p) _ _ k left there
 
   -- the last part

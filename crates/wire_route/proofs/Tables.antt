@@ -1,53 +1,52 @@
 -- The rows of the routes.
-use Rattle.std.proofs.Common.{◌≡◌, List, [], refl}
-use Rattle.std.specs.Prelude.{codes}
+use Rattle.std.proofs.Common.{[], refl}
 use Rattle.matchit.proofs.OnLiterals.{matchit_on_literals}
 use Rattle.entity_core.specs.declared.nature.Kind.TheVariants.{Intent, Constraint}
 use Rattle.wire_route.specs.declared.place.Place.TheVariants.{Query, Entity, EntityAtOvn, Availability}
-use Rattle.wire_route.specs.Table.{Rows, Fits, table, with_route}
+use Rattle.wire_route.specs.Table.{Rows, Fits, with_route}
 
 abbrev pub rows_1 : Rows
-rows_1 = with_route (codes "/dss/v1/operational_intent_references/query") (Query Intent) []
+rows_1 = with_route (Query Intent) []
 
 abbrev pub rows_2 : Rows
-rows_2 = with_route (codes "/dss/v1/operational_intent_references/{entityid}") (Entity Intent) rows_1
+rows_2 = with_route (Entity Intent) rows_1
 
 abbrev pub rows_3 : Rows
-rows_3 = with_route (codes "/dss/v1/operational_intent_references/{entityid}/{ovn}") (EntityAtOvn Intent) rows_2
+rows_3 = with_route (EntityAtOvn Intent) rows_2
 
 abbrev pub rows_4 : Rows
-rows_4 = with_route (codes "/dss/v1/constraint_references/query") (Query Constraint) rows_3
+rows_4 = with_route (Query Constraint) rows_3
 
 abbrev pub rows_5 : Rows
-rows_5 = with_route (codes "/dss/v1/constraint_references/{entityid}") (Entity Constraint) rows_4
+rows_5 = with_route (Entity Constraint) rows_4
 
 abbrev pub rows_6 : Rows
-rows_6 = with_route (codes "/dss/v1/constraint_references/{entityid}/{ovn}") (EntityAtOvn Constraint) rows_5
+rows_6 = with_route (EntityAtOvn Constraint) rows_5
 
-pub fits_1 : Fits (codes "/dss/v1/operational_intent_references/query") []
+pub fits_1 : Fits (Query Intent) []
 unfolding matchit_on_literals with_route Fits
 fits_1 = refl
 
-pub fits_2 : Fits (codes "/dss/v1/operational_intent_references/{entityid}") rows_1
+pub fits_2 : Fits (Entity Intent) rows_1
 unfolding matchit_on_literals with_route Fits
 fits_2 = refl
 
-pub fits_3 : Fits (codes "/dss/v1/operational_intent_references/{entityid}/{ovn}") rows_2
+pub fits_3 : Fits (EntityAtOvn Intent) rows_2
 unfolding matchit_on_literals with_route Fits
 fits_3 = refl
 
-pub fits_4 : Fits (codes "/dss/v1/constraint_references/query") rows_3
+pub fits_4 : Fits (Query Constraint) rows_3
 unfolding matchit_on_literals with_route Fits
 fits_4 = refl
 
-pub fits_5 : Fits (codes "/dss/v1/constraint_references/{entityid}") rows_4
+pub fits_5 : Fits (Entity Constraint) rows_4
 unfolding matchit_on_literals with_route Fits
 fits_5 = refl
 
-pub fits_6 : Fits (codes "/dss/v1/constraint_references/{entityid}/{ovn}") rows_5
+pub fits_6 : Fits (EntityAtOvn Constraint) rows_5
 unfolding matchit_on_literals with_route Fits
 fits_6 = refl
 
-pub fits_7 : Fits (codes "/dss/v1/uss_availability/{uss_id}") rows_6
+pub fits_7 : Fits Availability rows_6
 unfolding matchit_on_literals with_route Fits
 fits_7 = refl

@@ -20,6 +20,13 @@ front_of (Entity kind) = references_of kind
 front_of (EntityAtOvn kind) = references_of kind
 front_of Availability = codes "/dss/v1/uss_availability/"
 
+-- the route of a place, its words in braces
+abbrev pub route_of : Place → List ℕ
+route_of (Query kind) = references_of kind ++ codes "query"
+route_of (Entity kind) = references_of kind ++ codes "{entityid}"
+route_of (EntityAtOvn kind) = references_of kind ++ codes "{entityid}/{ovn}"
+route_of Availability = codes "/dss/v1/uss_availability/{uss_id}"
+
 -- methods by name, with what each asks
 abbrev pub Methods : Type 0
 Methods = List (List ℕ × OpKind)

@@ -1,6 +1,6 @@
 //! The places that paths lead to.
 ghost use Rattle.std.specs.Prelude.{◌≡◌};
-ghost use Rattle.wire_route.specs.Place.{front_of, kind_at, allow_of};
+ghost use Rattle.wire_route.specs.Place.{front_of, route_of, kind_at, allow_of};
 
 use entity_core::nature::Kind;
 use policy_core::call::OpKind;
@@ -31,6 +31,25 @@ impl Place {
             Place::EntityAtOvn(Kind::Intent) => "/dss/v1/operational_intent_references/",
             Place::EntityAtOvn(Kind::Constraint) => "/dss/v1/constraint_references/",
             Place::Availability => "/dss/v1/uss_availability/",
+        }
+    }
+
+    /// The route of the place, its words in braces.
+    pub(crate) fn route(self) -> &'static str
+        ensures { result.now ≡ route_of self }
+    {
+        match self {
+            Place::Query(Kind::Intent) => "/dss/v1/operational_intent_references/query",
+            Place::Query(Kind::Constraint) => "/dss/v1/constraint_references/query",
+            Place::Entity(Kind::Intent) => "/dss/v1/operational_intent_references/{entityid}",
+            Place::Entity(Kind::Constraint) => "/dss/v1/constraint_references/{entityid}",
+            Place::EntityAtOvn(Kind::Intent) => {
+                "/dss/v1/operational_intent_references/{entityid}/{ovn}"
+            }
+            Place::EntityAtOvn(Kind::Constraint) => {
+                "/dss/v1/constraint_references/{entityid}/{ovn}"
+            }
+            Place::Availability => "/dss/v1/uss_availability/{uss_id}",
         }
     }
 

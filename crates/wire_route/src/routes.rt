@@ -36,13 +36,13 @@ pub struct Route<'p> {
     pub words: PathWords<'p>,
 }
 
-// One more route, which no other is in the way of: it is refused for want of memory alone.
+// The route of a place more, which no other is in the way of: it is refused for want of memory alone.
 #[tactic(auto, unfolding(crate::specs::Table::with_route, crate::specs::Table::Fits))]
-fn put(router: &mut Router<Place>, route: &str, place: Place) -> Result<(), AllocError>
-    requires { Fits route.now router.old }
-    ensures { OnOk result (router.new ≡ with_route route.now place router.old) }
+fn put(router: &mut Router<Place>, place: Place) -> Result<(), AllocError>
+    requires { Fits place router.old }
+    ensures { OnOk result (router.new ≡ with_route place router.old) }
 {
-    match router.insert(route, place) {
+    match router.insert(place.route(), place) {
         Ok(()) => Ok(()),
         Err(InsertError::OutOfMemory) => Err(AllocError),
         Err(_) => unreachable!(),
@@ -126,20 +126,13 @@ impl Routes {
     /// The routes. Only want of memory is a fault.
     pub fn new(alloc: Global) -> Result<Routes, AllocError> {
         let mut router = Router::new(alloc);
-        let intent = "/dss/v1/operational_intent_references/query";
-        put(&mut router, intent, Place::Query(Kind::Intent))?;
-        let intent = "/dss/v1/operational_intent_references/{entityid}";
-        put(&mut router, intent, Place::Entity(Kind::Intent))?;
-        let intent = "/dss/v1/operational_intent_references/{entityid}/{ovn}";
-        put(&mut router, intent, Place::EntityAtOvn(Kind::Intent))?;
-        let constraint = "/dss/v1/constraint_references/query";
-        put(&mut router, constraint, Place::Query(Kind::Constraint))?;
-        let constraint = "/dss/v1/constraint_references/{entityid}";
-        put(&mut router, constraint, Place::Entity(Kind::Constraint))?;
-        let constraint = "/dss/v1/constraint_references/{entityid}/{ovn}";
-        put(&mut router, constraint, Place::EntityAtOvn(Kind::Constraint))?;
-        let availability = "/dss/v1/uss_availability/{uss_id}";
-        put(&mut router, availability, Place::Availability)?;
+        put(&mut router, Place::Query(Kind::Intent))?;
+        put(&mut router, Place::Entity(Kind::Intent))?;
+        put(&mut router, Place::EntityAtOvn(Kind::Intent))?;
+        put(&mut router, Place::Query(Kind::Constraint))?;
+        put(&mut router, Place::Entity(Kind::Constraint))?;
+        put(&mut router, Place::EntityAtOvn(Kind::Constraint))?;
+        put(&mut router, Place::Availability)?;
         Ok(Routes { router })
     }
 
