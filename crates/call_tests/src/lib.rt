@@ -6,4 +6,8 @@ mod bodies;
 #[cfg(test)]
 mod calls;
 #[cfg(test)]
+mod old_ovn;
+#[cfg(test)]
 mod replies;
+#[cfg(test)]
+mod told;

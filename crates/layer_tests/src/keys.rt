@@ -1,4 +1,4 @@
-//! What a key lacks, beside the plain search that defines it.
+//! What is missing from a key, beside the plain search that defines it.
 use entity_core::base_url::BaseUrl;
 use entity_core::entity::Entity;
 use entity_core::entity_id::EntityId;
@@ -77,7 +77,7 @@ fn is_known(key: &[Ovn], sought: &str) -> bool {
 fn missing_is_as_the_plain_search_says(rt: HostRuntime) {
     let alloc = rt.alloc();
     let needed = entities(alloc, 401).expect(&rt, "entities");
-    for (count, below, lacking) in [
+    for (count, below, missed) in [
         (0, 401, 401),
         (1, 401, 400),
         (200, 401, 201),
@@ -88,7 +88,7 @@ fn missing_is_as_the_plain_search_says(rt: HostRuntime) {
     ] {
         let key = key(alloc, count, below).expect(&rt, "a key");
         let quick = missing(alloc, key.as_slice(), needed.as_slice()).expect(&rt, "places");
-        assert_eq!(rt; quick.len(), lacking, "of a key of {count}");
+        assert_eq!(rt; quick.len(), missed, "of a key of {count}");
         let mut places = quick.iter();
         for (place, entity) in needed.iter().enumerate() {
             if !is_known(key.as_slice(), entity.ovn.text()) {

@@ -1,3 +1,6 @@
 pub mod Places
 pub mod Index
+pub mod Finds
+pub mod Members
 pub mod Veils
+pub mod Puts

@@ -5,7 +5,7 @@ use Rattle.std.proofs.Common.{arith, subst, sym, ap, ◌∙◌, get_or, suc, map
 use Rattle.std.proofs.lemmas.List.{take_more, length-take-le, map-append}
 use Rattle.std.proofs.lemmas.List.Elements.{All-from_recursion, filter_map-append}
 use Rattle.entity_core.specs.declared.entity.Entity.{Entity}
-use Rattle.policy_core.specs.Missing.{places_from, is_lacking, lacking}
+use Rattle.policy_core.specs.Missing.{places_from, is_missing_from, missing_from}
 
 places_push : {X : Type 0} (p : X → Bool) (k : ℕ) (xs : List X) (y : X) → places_from p k (xs ++ y ∷ []) ≡ places_from p k xs ++ cond (p y) ((k + length xs) ∷ []) []
 places_push p k [] y = elim (p y) as (λ b. cond b (k ∷ []) [] ≡ cond b ((k + 0) ∷ []) []) [ true ↦ ap (λ (n : ℕ). n ∷ []) (omega arith) | false ↦ refl ]
@@ -56,15 +56,15 @@ pick_more {E} f es places i d x h is =
     ∙ (map-append f (filter_map (slice_get es) (take i places)) (cons_option (slice_get es (get_or places i d)) [])
     ∙ ap (λ (o : Option E). map f (filter_map (slice_get es) (take i places)) ++ map f (cons_option o [])) is))
 
-pub lacking_is : {R : Type 0} (f : Entity → R) (key : List (List ℕ)) (es es1 es2 met : List Entity) (ps ps2 : List ℕ) → es1 ≡ es → es2 ≡ es → ps2 ≡ ps → ps ≡ places_from (is_lacking key) 0 es1 → es ≡ met
-    → map f (filter_map (slice_get es2) ps2) ≡ map f (lacking key met)
-unfolding lacking
-lacking_is f key es es1 es2 met ps ps2 one two three places is =
+pub missing_is : {R : Type 0} (f : Entity → R) (key : List (List ℕ)) (es es1 es2 met : List Entity) (ps ps2 : List ℕ) → es1 ≡ es → es2 ≡ es → ps2 ≡ ps → ps ≡ places_from (is_missing_from key) 0 es1 → es ≡ met
+    → map f (filter_map (slice_get es2) ps2) ≡ map f (missing_from key met)
+unfolding missing_from
+missing_is f key es es1 es2 met ps ps2 one two three places is =
     ap (λ (e : List Entity). map f (filter_map (slice_get e) ps2)) two
-    ∙ (ap (λ (p : List ℕ). map f (filter_map (slice_get es) p)) (three ∙ (places ∙ ap (places_from (is_lacking key) 0) one))
-    ∙ (ap (map f) (picked (is_lacking key) es) ∙ ap (λ (e : List Entity). map f (filter (is_lacking key) e)) is))
+    ∙ (ap (λ (p : List ℕ). map f (filter_map (slice_get es) p)) (three ∙ (places ∙ ap (places_from (is_missing_from key) 0) one))
+    ∙ (ap (map f) (picked (is_missing_from key) es) ∙ ap (λ (e : List Entity). map f (filter (is_missing_from key) e)) is))
 
-pub inside_is : (key : List (List ℕ)) (es es1 es2 : List Entity) (ps ps2 : List ℕ) → es1 ≡ es → es2 ≡ es → ps2 ≡ ps → ps ≡ places_from (is_lacking key) 0 es1 → All (λ i. i < length es2) ps2
+pub inside_is : (key : List (List ℕ)) (es es1 es2 : List Entity) (ps ps2 : List ℕ) → es1 ≡ es → es2 ≡ es → ps2 ≡ ps → ps ≡ places_from (is_missing_from key) 0 es1 → All (λ i. i < length es2) ps2
 inside_is key es es1 es2 ps ps2 one two three places =
     subst (λ (e : List Entity). All (λ i. i < length e) ps2) (sym two)
-    (subst (λ (p : List ℕ). All (λ i. i < length es) p) (sym (three ∙ (places ∙ ap (places_from (is_lacking key) 0) one))) (places_inside (is_lacking key) es))
+    (subst (λ (p : List ℕ). All (λ i. i < length es) p) (sym (three ∙ (places ∙ ap (places_from (is_missing_from key) 0) one))) (places_inside (is_missing_from key) es))

@@ -17,25 +17,12 @@ use Rattle.policy_core.specs.declared.rule.Rule.{Rule}
 use Rattle.policy_core.specs.declared.rule.Rule.TheVariants.{Manager, Version}
 use Rattle.policy_core.specs.Policy.{breaks, breaks_found, early_rules, standing_rules}
 use Rattle.policy_core.specs.Standing.{found_of, kept_of}
-use Rattle.policy_core.specs.Blind.{veiled, veiled_entry, Like, is_uss}
+use Rattle.policy_core.specs.Blind.{veiled, veiled_entry, IsLike, is_uss}
+use Rattle.policy_core.proofs.Finds.{or_else, find-append}
 
 -- a supplier by its text
 pub one_uss : (m : List ℕ) (caller : Caller) → is_uss m (Some caller) ≡ true → caller.uss ≡ m
 one_uss m caller h = one_text caller.uss m (sym h)
-
--- ---- the first of two lists
-
-abbrev pub or_else : {X : Type 0} → Option X → Option X → Option X
-or_else (Some x) o = Some x
-or_else None o = o
-
-pub find-append : {X : Type 0} (p : X → Bool) (xs ys : List X) → find p (xs ++ ys) ≡ or_else (find p xs) (find p ys)
-find-append p [] ys = refl
-find-append p (x ∷ xs) ys =
-    elim (p x) as (λ b. cond b (Some x) (find p (xs ++ ys)) ≡ or_else (cond b (Some x) (find p xs)) (find p ys)) [
-      | true ↦ refl
-      | false ↦ find-append p xs ys
-    ]
 
 -- ---- what is found
 
@@ -50,10 +37,10 @@ find-veiled m k (e ∷ es) =
 get-veiled : (m : List ℕ) (a : Airspace) (k : EntityKey) → option_map (veiled m) (get a.entities k) ≡ maps.find key_cmp k (map (veiled_entry m) (entries a.entities))
 get-veiled m a k = ap (option_map (veiled m)) (get-entries a.entities k) ∙ find-veiled m k (entries a.entities)
 
-pub get_like : (m : List ℕ) (a b : Airspace) (k : EntityKey) → Like m a b → option_map (veiled m) (get a.entities k) ≡ option_map (veiled m) (get b.entities k)
+pub get_like : (m : List ℕ) (a b : Airspace) (k : EntityKey) → IsLike m a b → option_map (veiled m) (get a.entities k) ≡ option_map (veiled m) (get b.entities k)
 get_like m a b k l = get-veiled m a k ∙ (ap (maps.find key_cmp k) l.entities ∙ sym (get-veiled m b k))
 
-pub found_like : (m : List ℕ) (a b : Airspace) (op : Operation) → Like m a b → option_map (veiled m) (found_of a op) ≡ option_map (veiled m) (found_of b op)
+pub found_like : (m : List ℕ) (a b : Airspace) (op : Operation) → IsLike m a b → option_map (veiled m) (found_of a op) ≡ option_map (veiled m) (found_of b op)
 found_like m a b NoRoute l = refl
 found_like m a b NoMethod l = refl
 found_like m a b (Malformed kind) l = refl
@@ -98,7 +85,7 @@ standing_veiled caller (Some e) kept t (Delete kind id ovn) = manager_first (sam
 standing_veiled caller (Some e) kept t (ReadAvail uss) = refl
 standing_veiled caller (Some e) kept t (SetAvail uss old availability) = refl
 
-standing_by : (caller : Caller) (a b : Airspace) (t : ℕ) (op : Operation) → Like caller.uss a b → find (breaks a t (record { caller = Some caller; op = op })) standing_rules ≡ find (breaks b t (record { caller = Some caller; op = op })) standing_rules
+standing_by : (caller : Caller) (a b : Airspace) (t : ℕ) (op : Operation) → IsLike caller.uss a b → find (breaks a t (record { caller = Some caller; op = op })) standing_rules ≡ find (breaks b t (record { caller = Some caller; op = op })) standing_rules
 standing_by caller a b t op l =
     let c : Call = record { caller = Some caller; op = op } in
     standing_veiled caller (found_of a op) (kept_of a op) t op
@@ -107,11 +94,11 @@ standing_by caller a b t op l =
     ∙ sym (standing_veiled caller (found_of b op) (kept_of b op) t op)))
 
 -- the first of P1 to P13, by who calls
-pub rules_like : (m : List ℕ) (a b : Airspace) (t : ℕ) (caller : Option Caller) (op : Operation) → Like m a b → is_uss m caller ≡ true
+pub rules_like : (m : List ℕ) (a b : Airspace) (t : ℕ) (caller : Option Caller) (op : Operation) → IsLike m a b → is_uss m caller ≡ true
     → find (breaks a t (record { caller = caller; op = op })) (early_rules ++ standing_rules) ≡ find (breaks b t (record { caller = caller; op = op })) (early_rules ++ standing_rules)
 rules_like m a b t None op l is = cc
 rules_like m a b t (Some caller) op l is =
     let c : Call = record { caller = Some caller; op = op } in
     find-append (breaks a t c) early_rules standing_rules
-    ∙ (ap (or_else (find (breaks a t c) early_rules)) (standing_by caller a b t op (subst (λ (u : List ℕ). Like u a b) (sym (one_uss m caller is)) l))
+    ∙ (ap (or_else (find (breaks a t c) early_rules)) (standing_by caller a b t op (subst (λ (u : List ℕ). IsLike u a b) (sym (one_uss m caller is)) l))
     ∙ sym (find-append (breaks b t c) early_rules standing_rules))

@@ -1,4 +1,4 @@
--- What a supplier cannot tell apart: the version numbers of what others manage.
+-- What a supplier cannot tell apart: the OVNs of what others manage.
 use Rattle.std.specs.Prelude.{◌≡◌, ℕ, ◌||◌, Bool, true, false, List, [], ◌++◌, map, Option, Some, None, find, if◌then◌else◌}
 use Rattle.std.specs.FinMap.{entries}
 use Rattle.entity_core.specs.IdTexts.{same_text}
@@ -7,23 +7,23 @@ use Rattle.entity_core.specs.declared.entity.Entity.{Entity}
 use Rattle.policy_core.specs.declared.scope.Caller.{Caller}
 use Rattle.policy_core.specs.declared.call.Call.{Call}
 use Rattle.policy_core.specs.declared.call.Operation.{Operation}
-use Rattle.policy_core.specs.declared.call.Operation.TheVariants.{Create, Update, Delete}
-use Rattle.policy_core.specs.Missing.{in_key}
+use Rattle.policy_core.specs.declared.call.Operation.TheVariants.{Update, Delete}
+use Rattle.policy_core.specs.Missing.{in_key, key_shown}
 use Rattle.policy_core.specs.Policy.{breaks, early_rules, standing_rules}
 use Rattle.policy_core.specs.View.{view_of}
 
 -- ---- airspaces
 
--- an entity without its version number, unless the supplier manages it
+-- an entity without its OVN, unless the supplier manages it
 abbrev pub veiled : List ℕ → Entity → Entity
 veiled m e = record e { ovn = if same_text e.manager m then e.ovn else [] }
 
 abbrev pub veiled_entry : List ℕ → EntityKey × Entity → EntityKey × Entity
 veiled_entry m e = (e.0, veiled m e.1)
 
--- Two airspaces are alike to a supplier: they differ in nothing but the version numbers of the
+-- Two airspaces are alike to a supplier: they differ in nothing but the OVNs of the
 -- entities that it does not manage.
-pub record Like (m : List ℕ) (a b : Airspace) : Type 0 where
+pub record IsLike (m : List ℕ) (a b : Airspace) : Type 0 where
   pub entities : map (veiled_entry m) (entries a.entities) ≡ map (veiled_entry m) (entries b.entities)
   pub availabilities : a.availabilities ≡ b.availabilities
   pub serial : a.serial ≡ b.serial
@@ -38,43 +38,37 @@ is_uss m None = false
 abbrev pub is_by : List ℕ → Call → Bool
 is_by m c = is_uss m c.caller
 
--- the key that comes with an operation
-abbrev pub key_shown : Operation → List (List ℕ)
-key_shown (Create id put) = put.key
-key_shown (Update id ovn put) = put.key
-key_shown op = []
-
--- whether the path has this version number
+-- whether the path has this OVN
 abbrev pub is_path : Operation → List ℕ → Bool
 is_path (Update id ovn put) present = same_text ovn present
 is_path (Delete kind id ovn) present = same_text ovn present
 is_path op present = false
 
--- of each entity by its kind and id, whether the supplier manages it or the key has its version number
+-- of each entity by its kind and id, whether the supplier manages it or the key has its OVN
 abbrev pub known : List ℕ → Operation → Airspace → List Bool
 known m op a = map (λ e. same_text e.1.manager m || in_key (key_shown op) e.1.ovn) (entries a.entities)
 
--- and whether the supplier manages it or its version number is in the path
+-- and whether the supplier manages it or its OVN is in the path
 abbrev pub named : List ℕ → Operation → Airspace → List Bool
 named m op a = map (λ e. same_text e.1.manager m || is_path op e.1.ovn) (entries a.entities)
 
--- Of each entity that the supplier does not manage, the version number in the one airspace is in the
+-- Of each entity that the supplier does not manage, the OVN in the one airspace is in the
 -- call's key exactly where that in the other is.
-abbrev pub SameKnown : List ℕ → Call → Airspace → Airspace → Type 0
-SameKnown m c a b = known m c.op a ≡ known m c.op b
+abbrev pub KnowsTheSame : List ℕ → Call → Airspace → Airspace → Type 0
+KnowsTheSame m c a b = known m c.op a ≡ known m c.op b
 
 -- And it is in the call's path exactly where that in the other is.
-pub record SameTold (m : List ℕ) (c : Call) (a b : Airspace) : Type 0 where
+pub record ToldTheSame (m : List ℕ) (c : Call) (a b : Airspace) : Type 0 where
   pub known : known m c.op a ≡ known m c.op b
   pub named : named m c.op a ≡ named m c.op b
 
 -- ---- laws
 
--- What a supplier sees of an entity that it does not manage is the same for every version number.
+-- What a supplier sees of an entity that it does not manage is the same for every OVN.
 abbrev pub ViewIsBlind : Type 0
 ViewIsBlind = (a : Airspace) (uss : List ℕ) (e : Entity) (ovn : List ℕ) → same_text e.manager uss ≡ false → view_of a uss (record e { ovn = ovn }) ≡ view_of a uss e
 
 -- Which of P1 to P13 a supplier's call breaks first is the same in airspaces that are alike to it.
 abbrev pub RulesAreBlind : Type 0
-RulesAreBlind = (m : List ℕ) (a b : Airspace) (now : ℕ) (c : Call) → Like m a b → is_by m c ≡ true
+RulesAreBlind = (m : List ℕ) (a b : Airspace) (now : ℕ) (c : Call) → IsLike m a b → is_by m c ≡ true
     → find (breaks a now c) (early_rules ++ standing_rules) ≡ find (breaks b now c) (early_rules ++ standing_rules)

@@ -6,3 +6,4 @@ pub mod Policy
 pub mod View
 pub mod Missing
 pub mod Blind
+pub mod Known

@@ -1,4 +1,4 @@
--- What a put needs to know, and what its key lacks.
+-- What a call needs to know, and what is missing from its key.
 use Rattle.std.specs.Prelude.{ℕ, ◌+◌, ◌&&◌, not, Bool, true, false, List, [], ◌∷◌, map, filter, Option, Some, None, if◌then◌else◌}
 use Rattle.std.specs.List.{list_any}
 use Rattle.grid_core.specs.Extent.{region_of}
@@ -6,6 +6,7 @@ use Rattle.entity_core.specs.IdTexts.{same_text}
 use Rattle.entity_core.specs.Airspace.{Airspace}
 use Rattle.entity_core.specs.Search.{meeting_in}
 use Rattle.entity_core.specs.declared.entity.Entity.{Entity}
+use Rattle.entity_core.specs.declared.nature.Kind.{Kind}
 use Rattle.entity_core.specs.declared.nature.Kind.TheVariants as kinds
 use Rattle.entity_core.specs.declared.nature.State.TheVariants.{Accepted, Activated}
 use Rattle.entity_core.specs.declared.nature.Nature.{Nature}
@@ -28,26 +29,46 @@ needs_key (Intent Accepted) = true
 needs_key (Intent Activated) = true
 needs_key nature = false
 
--- every intent but itself that meets a volume of the put, whoever manages it
-abbrev pub needed_intents : Airspace → ℕ → Put → List Entity
-needed_intents a id put = if needs_key put.nature then meeting_in a.entities kinds.Intent (map region_of put.volumes) (Some id) else []
+-- whether entities of a kind are asked of a put: intents where it needs a key, and constraints where
+-- its caller processes them, too
+abbrev pub is_asked : Kind → Option Caller → Nature → Bool
+is_asked kinds.Intent caller nature = needs_key nature
+is_asked kinds.Constraint (Some caller) nature = needs_key nature && has_scope caller.scopes ConstraintProcessing
+is_asked kinds.Constraint None nature = false
 
--- and every constraint that does, exactly when the caller processes constraints
-abbrev pub needed_constraints : Airspace → Caller → Put → List Entity
-needed_constraints a caller put =
-    if needs_key put.nature && has_scope caller.scopes ConstraintProcessing then meeting_in a.entities kinds.Constraint (map region_of put.volumes) None else []
+-- the id that is left out: an intent does not need itself, but a constraint of the same id
+abbrev pub left_out : Kind → ℕ → Option ℕ
+left_out kinds.Intent id = Some id
+left_out kinds.Constraint id = None
+
+-- what meets a volume of a put, whoever manages it
+abbrev pub needed_put : Kind → Airspace → Option Caller → ℕ → Put → List Entity
+needed_put kind a caller id put = if is_asked kind caller put.nature then meeting_in a.entities kind (map region_of put.volumes) (left_out kind id) else []
+
+-- What a call needs to know of a kind, by rising ids: whoever makes it, and of other operations than
+-- puts nothing.
+abbrev pub needed : Kind → Airspace → Option Caller → Operation → List Entity
+needed kind a caller (Create id put) = needed_put kind a caller id put
+needed kind a caller (Update id ovn put) = needed_put kind a caller id put
+needed kind a caller op = []
 
 -- ---- what is missing
+
+-- the key that comes with an operation
+abbrev pub key_shown : Operation → List (List ℕ)
+key_shown (Create id put) = put.key
+key_shown (Update id ovn put) = put.key
+key_shown op = []
 
 abbrev pub in_key : List (List ℕ) → List ℕ → Bool
 in_key key ovn = list_any (same_text ovn) key
 
-abbrev pub is_lacking : List (List ℕ) → Entity → Bool
-is_lacking key e = not (in_key key e.ovn)
+abbrev pub is_missing_from : List (List ℕ) → Entity → Bool
+is_missing_from key e = not (in_key key e.ovn)
 
--- those whose present version number is not in the key
-unfoldable pub lacking : List (List ℕ) → List Entity → List Entity
-lacking key es = filter (is_lacking key) es
+-- those whose present OVN is not in the key
+unfoldable pub missing_from : List (List ℕ) → List Entity → List Entity
+missing_from key es = filter (is_missing_from key) es
 
 -- the places from a number on of what passes a test
 abbrev pub places_from : {X : Type 0} → (X → Bool) → ℕ → List X → List ℕ
@@ -57,19 +78,22 @@ places_from test k (x ∷ xs) = if test x then k ∷ places_from test (k + 1) xs
 abbrev pub nothing_missing : Missing
 nothing_missing = record { intents = []; constraints = [] }
 
-abbrev pub missing_put : Airspace → Caller → ℕ → Put → Missing
-missing_put a caller id put = record {
-  intents = map (view_of a caller.uss) (lacking put.key (needed_intents a id put));
-  constraints = map (view_of a caller.uss) (lacking put.key (needed_constraints a caller put));
+-- what a key does not have of what is needed of each kind, as the caller may see it
+abbrev pub missing_of : Airspace → Caller → List (List ℕ) → (Kind → List Entity) → Missing
+missing_of a caller key asked = record {
+  intents = map (view_of a caller.uss) (missing_from key (asked kinds.Intent));
+  constraints = map (view_of a caller.uss) (missing_from key (asked kinds.Constraint));
 }
 
--- What the key of an operation lacks, as the caller may see it: intents and constraints, each by rising
--- ids. Of other operations than puts, nothing is needed.
-abbrev pub missing_by : Airspace → Caller → Operation → Missing
-missing_by a caller (Create id put) = missing_put a caller id put
-missing_by a caller (Update id ovn put) = missing_put a caller id put
-missing_by a caller op = nothing_missing
+-- of a put under an id
+abbrev pub missing_put : Airspace → Caller → ℕ → Put → Missing
+missing_put a caller id put = missing_of a caller put.key (λ kind. needed_put kind a (Some caller) id put)
 
+-- What a call needs to know and its key does not have: intents and constraints, each by rising ids.
+abbrev pub missing_by : Airspace → Caller → Operation → Missing
+missing_by a caller op = missing_of a caller (key_shown op) (λ kind. needed kind a (Some caller) op)
+
+-- where there is no caller, nobody is to see it
 abbrev pub missing_for : Airspace → Option Caller → Operation → Missing
 missing_for a (Some caller) op = missing_by a caller op
 missing_for a None op = nothing_missing

@@ -1,13 +1,26 @@
 //! Laws of the policy, each named by a function that does nothing.
 ghost use Rattle.policy_core.specs.Blind.{RulesAreBlind, ViewIsBlind};
+ghost use Rattle.policy_core.specs.Known.{NeededIsAsked, PutsKnow};
 
-/// What a supplier sees of an entity that it does not manage is the same for every version number.
+/// What a supplier sees of an entity that it does not manage is the same for every OVN.
 pub fn view_is_blind()
     ensures { ViewIsBlind }
 {}
 
-/// Which of P1 to P13 a supplier's call breaks first does not depend on the version numbers of
+/// Which of P1 to P13 a supplier's call breaks first does not depend on the OVNs of
 /// what it does not manage.
 pub fn rules_are_blind()
     ensures { RulesAreBlind }
+{}
+
+/// A put that breaks no rule, of an intent that is planned or flown as planned, had in its key the
+/// OVN of each other entity that it meets and that its caller is to know of.
+pub fn puts_know()
+    ensures { PutsKnow }
+{}
+
+/// What a call needs to know, and whose OVN its key does not have, is asked for: one of P1 to P14 is
+/// broken, and where P14 is the first, it is listed.
+pub fn needed_is_asked()
+    ensures { NeededIsAsked }
 {}

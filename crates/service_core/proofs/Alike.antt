@@ -16,7 +16,6 @@ use Rattle.entity_core.specs.declared.entity.Entity.{Entity}
 use Rattle.entity_core.specs.declared.nature.Kind.{Kind}
 use Rattle.entity_core.specs.declared.nature.Kind.TheVariants as kinds
 use Rattle.policy_core.specs.declared.scope.Caller.{Caller}
-use Rattle.policy_core.specs.declared.scope.Scope.TheVariants.{ConstraintProcessing}
 use Rattle.policy_core.specs.declared.call.Call.{Call}
 use Rattle.policy_core.specs.declared.call.Put.{Put}
 use Rattle.policy_core.specs.declared.call.Operation.{Operation}
@@ -24,14 +23,14 @@ use Rattle.policy_core.specs.declared.call.Operation.TheVariants.{NoRoute, NoMet
 use Rattle.policy_core.specs.declared.rule.Rule.{Rule}
 use Rattle.policy_core.specs.declared.rule.Rule.TheVariants.{Route, Method, Token, Scope, Form, Area, Found, Fresh, Manager, Version, Role, Change, Ended, Key, Limit}
 use Rattle.policy_core.specs.declared.reference.Reference.{Reference}
-use Rattle.policy_core.specs.Scope.{has_scope}
-use Rattle.policy_core.specs.Blind.{veiled, veiled_entry, Like, is_uss, known}
-use Rattle.policy_core.specs.Missing.{in_key, is_lacking, lacking, needs_key, needed_intents, needed_constraints, is_none_of, is_nothing, missing_put, missing_by}
+use Rattle.policy_core.specs.Blind.{veiled, veiled_entry, IsLike, is_uss, known}
+use Rattle.policy_core.specs.Missing.{in_key, is_asked, is_missing_from, left_out, missing_from, needed_put, is_none_of, is_nothing, missing_put, missing_by}
 use Rattle.policy_core.specs.Policy.{breaks, breaks_limit, early_rules, standing_rules, last_rules, first_broken}
 use Rattle.policy_core.specs.Standing.{found_of}
 use Rattle.policy_core.specs.View.{view_of, view_with}
-use Rattle.policy_core.proofs.Veils.{one_uss, or_else, find-append, get_like, found_like, rules_like}
-use Rattle.space_core.proofs.Keys.{key_total, key_exact}
+use Rattle.policy_core.proofs.Finds.{or_else, find-append}
+use Rattle.policy_core.proofs.Veils.{one_uss, get_like, found_like, rules_like}
+use Rattle.entity_core.proofs.Keys.{key_total, key_exact}
 use Rattle.space_core.proofs.Maps.{entries-remove}
 use Rattle.service_core.specs.declared.reply.Answer.TheVariants.{Created, Changed, Listed, Avail}
 use Rattle.service_core.specs.declared.reply.Answer.TheVariants as answers
@@ -60,7 +59,7 @@ where-veiled m p (x ∷ es) =
 
 -- ---- changes
 
-with_like : (m : List ℕ) (a b : Airspace) (e : Entity) → Like m a b → Like m (with_entity a e) (with_entity b e)
+with_like : (m : List ℕ) (a b : Airspace) (e : Entity) → IsLike m a b → IsLike m (with_entity a e) (with_entity b e)
 with_like m a b e l =
     let side : (x : Airspace) → map (veiled_entry m) (entries (insert x.entities (key_of e) e)) ≡ put key_cmp (key_of e) (veiled m e) (map (veiled_entry m) (entries x.entities)) =
     λ x. ap (map (veiled_entry m)) (entries-insert key_total x.entities (key_of e) e) ∙ put-veiled m (key_of e) e (entries x.entities) in
@@ -70,7 +69,7 @@ with_like m a b e l =
       serial = ap (λ (n : ℕ). n + 1) l.serial;
     }
 
-without_like : (m : List ℕ) (a b : Airspace) (k : EntityKey) → Like m a b → Like m (without_entity a k) (without_entity b k)
+without_like : (m : List ℕ) (a b : Airspace) (k : EntityKey) → IsLike m a b → IsLike m (without_entity a k) (without_entity b k)
 without_like m a b k l =
     let p : EntityKey → Bool = λ x. not (eq_by_cmp key_cmp k x) in
     let side : (x : Airspace) → map (veiled_entry m) (entries (remove x.entities k)) ≡ where_key key_cmp p (map (veiled_entry m) (entries x.entities)) =
@@ -85,29 +84,29 @@ without_like m a b k l =
 same_update : (m salt : List ℕ) (n k id : ℕ) (put : Put) (e f : Entity) → n ≡ k → veiled m e ≡ veiled m f → updated salt (n + 1) id put e ≡ updated salt (k + 1) id put f
 same_update m salt n k id put e f s v = λ i. updated salt (s i + 1) id put (v i)
 
-update_like : (m salt : List ℕ) (a b : Airspace) (uss : List ℕ) (id : ℕ) (put : Put) (o p : Option Entity) → Like m a b → option_map (veiled m) o ≡ option_map (veiled m) p
-    → Like m (update_effect salt a uss id put o).0 (update_effect salt b uss id put p).0
+update_like : (m salt : List ℕ) (a b : Airspace) (uss : List ℕ) (id : ℕ) (put : Put) (o p : Option Entity) → IsLike m a b → option_map (veiled m) o ≡ option_map (veiled m) p
+    → IsLike m (update_effect salt a uss id put o).0 (update_effect salt b uss id put p).0
 update_like m salt a b uss id put None None l v = l
 update_like m salt a b uss id put None (Some f) l v = cc
 update_like m salt a b uss id put (Some e) None l v = cc
 update_like m salt a b uss id put (Some e) (Some f) l v =
     let same : veiled m e ≡ veiled m f = cc in
-    subst (λ (x : Entity). Like m (with_entity a (updated salt (a.serial + 1) id put e)) (with_entity b x)) (same_update m salt a.serial b.serial id put e f l.serial same) (with_like m a b (updated salt (a.serial + 1) id put e) l)
+    subst (λ (x : Entity). IsLike m (with_entity a (updated salt (a.serial + 1) id put e)) (with_entity b x)) (same_update m salt a.serial b.serial id put e f l.serial same) (with_like m a b (updated salt (a.serial + 1) id put e) l)
 
-delete_like : (m : List ℕ) (a b : Airspace) (uss : List ℕ) (k : EntityKey) (o p : Option Entity) → Like m a b → option_map (veiled m) o ≡ option_map (veiled m) p → Like m (delete_effect a uss k o).0 (delete_effect b uss k p).0
+delete_like : (m : List ℕ) (a b : Airspace) (uss : List ℕ) (k : EntityKey) (o p : Option Entity) → IsLike m a b → option_map (veiled m) o ≡ option_map (veiled m) p → IsLike m (delete_effect a uss k o).0 (delete_effect b uss k p).0
 delete_like m a b uss k None None l v = l
 delete_like m a b uss k None (Some f) l v = cc
 delete_like m a b uss k (Some e) None l v = cc
 delete_like m a b uss k (Some e) (Some f) l v = without_like m a b k l
 
-read_like : (m : List ℕ) (a b : Airspace) (uss : List ℕ) (o p : Option Entity) → Like m a b → Like m (read_effect a uss o).0 (read_effect b uss p).0
+read_like : (m : List ℕ) (a b : Airspace) (uss : List ℕ) (o p : Option Entity) → IsLike m a b → IsLike m (read_effect a uss o).0 (read_effect b uss p).0
 read_like m a b uss None None l = l
 read_like m a b uss None (Some f) l = l
 read_like m a b uss (Some e) None l = l
 read_like m a b uss (Some e) (Some f) l = l
 
 -- whoever makes the call, its effect leaves airspaces alike
-effect_like : (m salt : List ℕ) (a b : Airspace) (caller : Option Caller) (op : Operation) → Like m a b → Like m (effect salt a caller op).0 (effect salt b caller op).0
+effect_like : (m salt : List ℕ) (a b : Airspace) (caller : Option Caller) (op : Operation) → IsLike m a b → IsLike m (effect salt a caller op).0 (effect salt b caller op).0
 effect_like m salt a b None op l = l
 effect_like m salt a b (Some caller) NoRoute l = l
 effect_like m salt a b (Some caller) NoMethod l = l
@@ -115,7 +114,7 @@ effect_like m salt a b (Some caller) (Malformed kind) l = l
 effect_like m salt a b (Some caller) (Query kind area) l = l
 effect_like m salt a b (Some caller) (Read kind id) l = read_like m a b caller.uss (get a.entities (kind, id)) (get b.entities (kind, id)) l
 effect_like m salt a b (Some caller) (Create id put) l =
-    subst (λ (n : ℕ). Like m (with_entity a (created salt (a.serial + 1) caller.uss id put)) (with_entity b (created salt (n + 1) caller.uss id put))) l.serial (with_like m a b (created salt (a.serial + 1) caller.uss id put) l)
+    subst (λ (n : ℕ). IsLike m (with_entity a (created salt (a.serial + 1) caller.uss id put)) (with_entity b (created salt (n + 1) caller.uss id put))) l.serial (with_like m a b (created salt (a.serial + 1) caller.uss id put) l)
 effect_like m salt a b (Some caller) (Update id ovn put) l = update_like m salt a b caller.uss id put (get a.entities (kind_of put.nature, id)) (get b.entities (kind_of put.nature, id)) l (get_like m a b (kind_of put.nature, id) l)
 effect_like m salt a b (Some caller) (Delete kind id ovn) l = delete_like m a b caller.uss (kind, id) (get a.entities (kind, id)) (get b.entities (kind, id)) l (get_like m a b (kind, id) l)
 effect_like m salt a b (Some caller) (ReadAvail uss) l = l
@@ -154,7 +153,7 @@ met-veiled m kind areas except (x ∷ es) =
       | false ↦ met-veiled m kind areas except es
     ]
 
-met_like : (m : List ℕ) (a b : Airspace) (kind : Kind) (areas : List Region) (except : Option ℕ) → Like m a b → map (veiled m) (meeting_in a.entities kind areas except) ≡ map (veiled m) (meeting_in b.entities kind areas except)
+met_like : (m : List ℕ) (a b : Airspace) (kind : Kind) (areas : List Region) (except : Option ℕ) → IsLike m a b → map (veiled m) (meeting_in a.entities kind areas except) ≡ map (veiled m) (meeting_in b.entities kind areas except)
 unfolding meeting_in
 met_like m a b kind areas except l =
     met-veiled m kind areas except (entries a.entities)
@@ -173,7 +172,7 @@ seen_like m a b (e ∷ es) (f ∷ fs) l v =
 
 -- ---- what the supplier is told of an effect
 
-read_told : (m : List ℕ) (a b : Airspace) (o p : Option Entity) → Like m a b → option_map (veiled m) o ≡ option_map (veiled m) p → (read_effect a m o).1 ≡ (read_effect b m p).1
+read_told : (m : List ℕ) (a b : Airspace) (o p : Option Entity) → IsLike m a b → option_map (veiled m) o ≡ option_map (veiled m) p → (read_effect a m o).1 ≡ (read_effect b m p).1
 read_told m a b None None l v = refl
 read_told m a b None (Some f) l v = cc
 read_told m a b (Some e) None l v = cc
@@ -181,7 +180,7 @@ read_told m a b (Some e) (Some f) l v =
     let same : veiled m e ≡ veiled m f = cc in
     ap (λ (r : Reference). Done (answers.Found r)) (view_like m a b e f l.availabilities same)
 
-delete_told : (m : List ℕ) (a b : Airspace) (k : EntityKey) (o p : Option Entity) → Like m a b → option_map (veiled m) o ≡ option_map (veiled m) p → (delete_effect a m k o).1 ≡ (delete_effect b m k p).1
+delete_told : (m : List ℕ) (a b : Airspace) (k : EntityKey) (o p : Option Entity) → IsLike m a b → option_map (veiled m) o ≡ option_map (veiled m) p → (delete_effect a m k o).1 ≡ (delete_effect b m k p).1
 delete_told m a b k None None l v = refl
 delete_told m a b k None (Some f) l v = cc
 delete_told m a b k (Some e) None l v = cc
@@ -189,7 +188,7 @@ delete_told m a b k (Some e) (Some f) l v =
     let same : veiled m e ≡ veiled m f = cc in
     ap (λ (r : Reference). Done (Changed r)) (view_like m a b e f l.availabilities same)
 
-update_told : (m salt : List ℕ) (a b : Airspace) (id : ℕ) (put : Put) (o p : Option Entity) → Like m a b → option_map (veiled m) o ≡ option_map (veiled m) p → (update_effect salt a m id put o).1 ≡ (update_effect salt b m id put p).1
+update_told : (m salt : List ℕ) (a b : Airspace) (id : ℕ) (put : Put) (o p : Option Entity) → IsLike m a b → option_map (veiled m) o ≡ option_map (veiled m) p → (update_effect salt a m id put o).1 ≡ (update_effect salt b m id put p).1
 update_told m salt a b id put None None l v = refl
 update_told m salt a b id put None (Some f) l v = cc
 update_told m salt a b id put (Some e) None l v = cc
@@ -199,7 +198,7 @@ update_told m salt a b id put (Some e) (Some f) l v =
     let y : Entity = updated salt (b.serial + 1) id put f in
     ap (λ (r : Reference). Done (Changed r)) (view_like m (with_entity a x) (with_entity b y) x y l.availabilities (ap (veiled m) (same_update m salt a.serial b.serial id put e f l.serial same)))
 
-effect_told : (salt : List ℕ) (a b : Airspace) (caller : Caller) (op : Operation) → Like caller.uss a b → (effect_by salt a caller op).1 ≡ (effect_by salt b caller op).1
+effect_told : (salt : List ℕ) (a b : Airspace) (caller : Caller) (op : Operation) → IsLike caller.uss a b → (effect_by salt a caller op).1 ≡ (effect_by salt b caller op).1
 effect_told salt a b caller NoRoute l = refl
 effect_told salt a b caller NoMethod l = refl
 effect_told salt a b caller (Malformed kind) l = refl
@@ -221,68 +220,64 @@ seen_known : (own : Bool) (key : List (List ℕ)) (ovn : List ℕ) → in_key ke
 seen_known true key ovn = refl
 seen_known false key ovn = refl
 
--- of some entities behind the veil, and what is known of each, those that are sought and lacking
-abbrev lacking_of : List ℕ → (EntityKey × Entity → Bool) → List (List ℕ) → List (EntityKey × Entity) → List Bool → List Entity
-lacking_of m test key [] bs = []
-lacking_of m test key (x ∷ xs) [] = []
-lacking_of m test key (x ∷ xs) (b ∷ bs) =
-    cond (test x) (cond (not (cond (same_text x.1.manager m) (in_key key x.1.ovn) b)) (x.1 ∷ lacking_of m test key xs bs) (lacking_of m test key xs bs)) (lacking_of m test key xs bs)
+-- of some entities behind the veil, and what is known of each, those that are sought and missing
+abbrev missing_known : List ℕ → (EntityKey × Entity → Bool) → List (List ℕ) → List (EntityKey × Entity) → List Bool → List Entity
+missing_known m test key [] bs = []
+missing_known m test key (x ∷ xs) [] = []
+missing_known m test key (x ∷ xs) (b ∷ bs) =
+    cond (test x) (cond (not (cond (same_text x.1.manager m) (in_key key x.1.ovn) b)) (x.1 ∷ missing_known m test key xs bs) (missing_known m test key xs bs)) (missing_known m test key xs bs)
 
-lacking-veiled : (m : List ℕ) (kind : Kind) (areas : List Region) (except : Option ℕ) (key : List (List ℕ)) (es : List (EntityKey × Entity)) → map (veiled m) (filter (is_lacking key) (map (λ e. e.1) (filter (is_sought kind areas except) es)))
-    ≡ lacking_of m (is_sought kind areas except) key (map (veiled_entry m) es) (map (λ e. same_text e.1.manager m || in_key key e.1.ovn) es)
-lacking-veiled m kind areas except key [] = refl
-lacking-veiled m kind areas except key (x ∷ es) =
+missing-veiled : (m : List ℕ) (kind : Kind) (areas : List Region) (except : Option ℕ) (key : List (List ℕ)) (es : List (EntityKey × Entity)) → map (veiled m) (filter (is_missing_from key) (map (λ e. e.1) (filter (is_sought kind areas except) es)))
+    ≡ missing_known m (is_sought kind areas except) key (map (veiled_entry m) es) (map (λ e. same_text e.1.manager m || in_key key e.1.ovn) es)
+missing-veiled m kind areas except key [] = refl
+missing-veiled m kind areas except key (x ∷ es) =
     let test : EntityKey × Entity → Bool = is_sought kind areas except in
-    let rest : List Entity = lacking_of m test key (map (veiled_entry m) es) (map (λ e. same_text e.1.manager m || in_key key e.1.ovn) es) in
-    let ih = lacking-veiled m kind areas except key es in
-    elim (is_sought kind areas except x) as (λ b. map (veiled m) (filter (is_lacking key) (map (λ e. e.1) (cond b (x ∷ filter test es) (filter test es))))
+    let rest : List Entity = missing_known m test key (map (veiled_entry m) es) (map (λ e. same_text e.1.manager m || in_key key e.1.ovn) es) in
+    let ih = missing-veiled m kind areas except key es in
+    elim (is_sought kind areas except x) as (λ b. map (veiled m) (filter (is_missing_from key) (map (λ e. e.1) (cond b (x ∷ filter test es) (filter test es))))
     ≡ cond b (cond (not (cond (same_text x.1.manager m) (in_key key (cond (same_text x.1.manager m) x.1.ovn [])) (same_text x.1.manager m || in_key key x.1.ovn))) (veiled m x.1 ∷ rest) rest) rest) [
-      | true ↦ subst (λ (k : Bool). map (veiled m) (cond (not (in_key key x.1.ovn)) (x.1 ∷ filter (is_lacking key) (map (λ e. e.1) (filter test es))) (filter (is_lacking key) (map (λ e. e.1) (filter test es)))) ≡ cond (not k) (veiled m x.1 ∷ rest) rest) (seen_known (same_text x.1.manager m) key x.1.ovn) (
-          elim (in_key key x.1.ovn) as (λ k. map (veiled m) (cond (not k) (x.1 ∷ filter (is_lacking key) (map (λ e. e.1) (filter test es))) (filter (is_lacking key) (map (λ e. e.1) (filter test es)))) ≡ cond (not k) (veiled m x.1 ∷ rest) rest) [
+      | true ↦ subst (λ (k : Bool). map (veiled m) (cond (not (in_key key x.1.ovn)) (x.1 ∷ filter (is_missing_from key) (map (λ e. e.1) (filter test es))) (filter (is_missing_from key) (map (λ e. e.1) (filter test es)))) ≡ cond (not k) (veiled m x.1 ∷ rest) rest) (seen_known (same_text x.1.manager m) key x.1.ovn) (
+          elim (in_key key x.1.ovn) as (λ k. map (veiled m) (cond (not k) (x.1 ∷ filter (is_missing_from key) (map (λ e. e.1) (filter test es))) (filter (is_missing_from key) (map (λ e. e.1) (filter test es)))) ≡ cond (not k) (veiled m x.1 ∷ rest) rest) [
             | true ↦ ih
             | false ↦ ap (λ (ys : List Entity). veiled m x.1 ∷ ys) ih
           ])
       | false ↦ ih
     ]
 
-lacking_like : (m : List ℕ) (a b : Airspace) (kind : Kind) (areas : List Region) (except : Option ℕ) (key : List (List ℕ)) → Like m a b
+met_missing_like : (m : List ℕ) (a b : Airspace) (kind : Kind) (areas : List Region) (except : Option ℕ) (key : List (List ℕ)) → IsLike m a b
     → map (λ e. same_text e.1.manager m || in_key key e.1.ovn) (entries a.entities) ≡ map (λ e. same_text e.1.manager m || in_key key e.1.ovn) (entries b.entities)
-    → map (veiled m) (lacking key (meeting_in a.entities kind areas except)) ≡ map (veiled m) (lacking key (meeting_in b.entities kind areas except))
-unfolding lacking meeting_in
-lacking_like m a b kind areas except key l k =
-    lacking-veiled m kind areas except key (entries a.entities)
-    ∙ ((λ i. lacking_of m (is_sought kind areas except) key (l.entities i) (k i))
-    ∙ sym (lacking-veiled m kind areas except key (entries b.entities)))
+    → map (veiled m) (missing_from key (meeting_in a.entities kind areas except)) ≡ map (veiled m) (missing_from key (meeting_in b.entities kind areas except))
+unfolding missing_from meeting_in
+met_missing_like m a b kind areas except key l k =
+    missing-veiled m kind areas except key (entries a.entities)
+    ∙ ((λ i. missing_known m (is_sought kind areas except) key (l.entities i) (k i))
+    ∙ sym (missing-veiled m kind areas except key (entries b.entities)))
 
 -- of what is asked for, or else of nothing
-asked_like : (m : List ℕ) (asked : Bool) (key : List (List ℕ)) (es fs : List Entity) → map (veiled m) (lacking key es) ≡ map (veiled m) (lacking key fs) → map (veiled m) (lacking key (cond asked es [])) ≡ map (veiled m) (lacking key (cond asked fs []))
+asked_like : (m : List ℕ) (asked : Bool) (key : List (List ℕ)) (es fs : List Entity) → map (veiled m) (missing_from key es) ≡ map (veiled m) (missing_from key fs)
+    → map (veiled m) (missing_from key (cond asked es [])) ≡ map (veiled m) (missing_from key (cond asked fs []))
 asked_like m true key es fs h = h
 asked_like m false key es fs h = refl
 
-intents_like : (m : List ℕ) (a b : Airspace) (id : ℕ) (put : Put) → Like m a b → map (λ e. same_text e.1.manager m || in_key put.key e.1.ovn) (entries a.entities) ≡ map (λ e. same_text e.1.manager m || in_key put.key e.1.ovn) (entries b.entities)
-    → map (veiled m) (lacking put.key (needed_intents a id put)) ≡ map (veiled m) (lacking put.key (needed_intents b id put))
-intents_like m a b id put l k =
+needed_like : (m : List ℕ) (kind : Kind) (a b : Airspace) (caller : Option Caller) (id : ℕ) (put : Put) → IsLike m a b
+    → map (λ e. same_text e.1.manager m || in_key put.key e.1.ovn) (entries a.entities) ≡ map (λ e. same_text e.1.manager m || in_key put.key e.1.ovn) (entries b.entities)
+    → map (veiled m) (missing_from put.key (needed_put kind a caller id put)) ≡ map (veiled m) (missing_from put.key (needed_put kind b caller id put))
+needed_like m kind a b caller id put l k =
     let areas : List Region = map region_of put.volumes in
-    asked_like m (needs_key put.nature) put.key (meeting_in a.entities kinds.Intent areas (Some id)) (meeting_in b.entities kinds.Intent areas (Some id)) (lacking_like m a b kinds.Intent areas (Some id) put.key l k)
+    asked_like m (is_asked kind caller put.nature) put.key (meeting_in a.entities kind areas (left_out kind id)) (meeting_in b.entities kind areas (left_out kind id)) (met_missing_like m a b kind areas (left_out kind id) put.key l k)
 
-constraints_like : (m : List ℕ) (a b : Airspace) (caller : Caller) (put : Put) → Like m a b → map (λ e. same_text e.1.manager m || in_key put.key e.1.ovn) (entries a.entities) ≡ map (λ e. same_text e.1.manager m || in_key put.key e.1.ovn) (entries b.entities)
-    → map (veiled m) (lacking put.key (needed_constraints a caller put)) ≡ map (veiled m) (lacking put.key (needed_constraints b caller put))
-constraints_like m a b caller put l k =
-    let areas : List Region = map region_of put.volumes in
-    asked_like m (needs_key put.nature && has_scope caller.scopes ConstraintProcessing) put.key (meeting_in a.entities kinds.Constraint areas None) (meeting_in b.entities kinds.Constraint areas None) (lacking_like m a b kinds.Constraint areas None put.key l k)
-
-missing_put_like : (a b : Airspace) (caller : Caller) (id : ℕ) (put : Put) → Like caller.uss a b
+missing_put_like : (a b : Airspace) (caller : Caller) (id : ℕ) (put : Put) → IsLike caller.uss a b
     → map (λ e. same_text e.1.manager caller.uss || in_key put.key e.1.ovn) (entries a.entities) ≡ map (λ e. same_text e.1.manager caller.uss || in_key put.key e.1.ovn) (entries b.entities)
     → missing_put a caller id put ≡ missing_put b caller id put
 missing_put_like a b caller id put l k =
-    let one : map (view_of a caller.uss) (lacking put.key (needed_intents a id put)) ≡ map (view_of b caller.uss) (lacking put.key (needed_intents b id put)) =
-    seen_like caller.uss a b (lacking put.key (needed_intents a id put)) (lacking put.key (needed_intents b id put)) l.availabilities (intents_like caller.uss a b id put l k) in
-    let two : map (view_of a caller.uss) (lacking put.key (needed_constraints a caller put)) ≡ map (view_of b caller.uss) (lacking put.key (needed_constraints b caller put)) =
-    seen_like caller.uss a b (lacking put.key (needed_constraints a caller put)) (lacking put.key (needed_constraints b caller put)) l.availabilities (constraints_like caller.uss a b caller put l k) in
-    λ i. record { intents = one i; constraints = two i }
+    let of : Airspace → Kind → List Entity = λ x kind. missing_from put.key (needed_put kind x (Some caller) id put) in
+    let seen : (kind : Kind) → map (view_of a caller.uss) (of a kind) ≡ map (view_of b caller.uss) (of b kind) =
+    λ kind. seen_like caller.uss a b (of a kind) (of b kind) l.availabilities (needed_like caller.uss kind a b (Some caller) id put l k) in
+    λ i. record { intents = seen kinds.Intent i; constraints = seen kinds.Constraint i }
 
--- the supplier's own call lacks the same
-missing_like : (a b : Airspace) (caller : Caller) (op : Operation) → Like caller.uss a b → known caller.uss op a ≡ known caller.uss op b → missing_by a caller op ≡ missing_by b caller op
+-- of the supplier's own call, the same is missing
+missing_like : (a b : Airspace) (caller : Caller) (op : Operation) → IsLike caller.uss a b → known caller.uss op a ≡ known caller.uss op b → missing_by a caller op ≡ missing_by b caller op
+unfolding missing_from
 missing_like a b caller NoRoute l k = refl
 missing_like a b caller NoMethod l k = refl
 missing_like a b caller (Malformed kind) l k = refl
@@ -294,21 +289,24 @@ missing_like a b caller (Delete kind id ovn) l k = refl
 missing_like a b caller (ReadAvail uss) l k = refl
 missing_like a b caller (SetAvail uss old availability) l k = refl
 
--- another's call lacks something of both or of neither
+-- of another's call, something is missing in both or in neither
 none_like : (m : List ℕ) (v w : Entity → Reference) (es fs : List Entity) → map (veiled m) es ≡ map (veiled m) fs → is_none_of (map v es) ≡ is_none_of (map w fs)
 none_like m v w [] [] h = refl
 none_like m v w [] (f ∷ fs) h = cc
 none_like m v w (e ∷ es) [] h = cc
 none_like m v w (e ∷ es) (f ∷ fs) h = refl
 
-nothing_put_like : (m : List ℕ) (a b : Airspace) (caller : Caller) (id : ℕ) (put : Put) → Like m a b → map (λ e. same_text e.1.manager m || in_key put.key e.1.ovn) (entries a.entities) ≡ map (λ e. same_text e.1.manager m || in_key put.key e.1.ovn) (entries b.entities)
+nothing_put_like : (m : List ℕ) (a b : Airspace) (caller : Caller) (id : ℕ) (put : Put) → IsLike m a b
+    → map (λ e. same_text e.1.manager m || in_key put.key e.1.ovn) (entries a.entities) ≡ map (λ e. same_text e.1.manager m || in_key put.key e.1.ovn) (entries b.entities)
     → is_nothing (missing_put a caller id put) ≡ is_nothing (missing_put b caller id put)
 nothing_put_like m a b caller id put l k =
-    let one = none_like m (view_of a caller.uss) (view_of b caller.uss) (lacking put.key (needed_intents a id put)) (lacking put.key (needed_intents b id put)) (intents_like m a b id put l k) in
-    let two = none_like m (view_of a caller.uss) (view_of b caller.uss) (lacking put.key (needed_constraints a caller put)) (lacking put.key (needed_constraints b caller put)) (constraints_like m a b caller put l k) in
-    λ i. one i && two i
+    let of : Airspace → Kind → List Entity = λ x kind. missing_from put.key (needed_put kind x (Some caller) id put) in
+    let none : (kind : Kind) → is_none_of (map (view_of a caller.uss) (of a kind)) ≡ is_none_of (map (view_of b caller.uss) (of b kind)) =
+    λ kind. none_like m (view_of a caller.uss) (view_of b caller.uss) (of a kind) (of b kind) (needed_like m kind a b (Some caller) id put l k) in
+    λ i. none kinds.Intent i && none kinds.Constraint i
 
-nothing_like : (m : List ℕ) (a b : Airspace) (caller : Caller) (op : Operation) → Like m a b → known m op a ≡ known m op b → is_nothing (missing_by a caller op) ≡ is_nothing (missing_by b caller op)
+nothing_like : (m : List ℕ) (a b : Airspace) (caller : Caller) (op : Operation) → IsLike m a b → known m op a ≡ known m op b → is_nothing (missing_by a caller op) ≡ is_nothing (missing_by b caller op)
+unfolding missing_from
 nothing_like m a b caller NoRoute l k = refl
 nothing_like m a b caller NoMethod l k = refl
 nothing_like m a b caller (Malformed kind) l k = refl
@@ -335,20 +333,20 @@ limit-veiled m (Some e) n (Delete kind id ovn) = refl
 limit-veiled m (Some e) n (ReadAvail uss) = refl
 limit-veiled m (Some e) n (SetAvail uss old availability) = refl
 
-limit_like : (m : List ℕ) (a b : Airspace) (op : Operation) → Like m a b → breaks_limit (found_of a op) a.serial op ≡ breaks_limit (found_of b op) b.serial op
+limit_like : (m : List ℕ) (a b : Airspace) (op : Operation) → IsLike m a b → breaks_limit (found_of a op) a.serial op ≡ breaks_limit (found_of b op) b.serial op
 limit_like m a b op l =
     limit-veiled m (found_of a op) a.serial op
     ∙ ((λ i. breaks_limit (found_like m a b op l i) (l.serial i) op)
     ∙ sym (limit-veiled m (found_of b op) b.serial op))
 
-pub last_like : (m : List ℕ) (a b : Airspace) (t : ℕ) (caller : Caller) (op : Operation) → Like m a b → known m op a ≡ known m op b
+pub last_like : (m : List ℕ) (a b : Airspace) (t : ℕ) (caller : Caller) (op : Operation) → IsLike m a b → known m op a ≡ known m op b
     → find (breaks a t (record { caller = Some caller; op = op })) last_rules ≡ find (breaks b t (record { caller = Some caller; op = op })) last_rules
 last_like m a b t caller op l k =
     λ i. cond (not (nothing_like m a b caller op l k i)) (Some Key) (cond (limit_like m a b op l i) (Some Limit) None)
 
 -- ---- the supplier's own call
 
-own_first : (m : List ℕ) (a b : Airspace) (t : ℕ) (caller : Caller) (op : Operation) → Like m a b → is_uss m (Some caller) ≡ true → known m op a ≡ known m op b
+own_first : (m : List ℕ) (a b : Airspace) (t : ℕ) (caller : Caller) (op : Operation) → IsLike m a b → is_uss m (Some caller) ≡ true → known m op a ≡ known m op b
     → first_broken a t (record { caller = Some caller; op = op }) ≡ first_broken b t (record { caller = Some caller; op = op })
 unfolding first_broken
 own_first m a b t caller op l is k =
@@ -374,32 +372,32 @@ told_like a b caller op Ended h = refl
 told_like a b caller op Key h = h
 told_like a b caller op Limit h = refl
 
-step_told : (salt : List ℕ) (a b : Airspace) (caller : Caller) (op : Operation) (r : Option Rule) → Like caller.uss a b → known caller.uss op a ≡ known caller.uss op b
+step_told : (salt : List ℕ) (a b : Airspace) (caller : Caller) (op : Operation) (r : Option Rule) → IsLike caller.uss a b → known caller.uss op a ≡ known caller.uss op b
     → (step_by salt a (record { caller = Some caller; op = op }) r).1 ≡ (step_by salt b (record { caller = Some caller; op = op }) r).1
 step_told salt a b caller op None l k = effect_told salt a b caller op l
 step_told salt a b caller op (Some p) l k = ap (Denied p) (told_like a b caller op p (missing_like a b caller op l k))
 
-step_like : (m salt : List ℕ) (a b : Airspace) (c : Call) (r : Option Rule) → Like m a b → Like m (step_by salt a c r).0 (step_by salt b c r).0
+step_like : (m salt : List ℕ) (a b : Airspace) (c : Call) (r : Option Rule) → IsLike m a b → IsLike m (step_by salt a c r).0 (step_by salt b c r).0
 step_like m salt a b c None l = effect_like m salt a b c.caller c.op l
 step_like m salt a b c (Some p) l = l
 
-own_told : (salt : List ℕ) (a b : Airspace) (t : ℕ) (caller : Caller) (op : Operation) → Like caller.uss a b → is_uss caller.uss (Some caller) ≡ true → known caller.uss op a ≡ known caller.uss op b
+own_told : (salt : List ℕ) (a b : Airspace) (t : ℕ) (caller : Caller) (op : Operation) → IsLike caller.uss a b → is_uss caller.uss (Some caller) ≡ true → known caller.uss op a ≡ known caller.uss op b
     → (step salt a t (record { caller = Some caller; op = op })).1 ≡ (step salt b t (record { caller = Some caller; op = op })).1
 unfolding step
 own_told salt a b t caller op l is k =
     let c : Call = record { caller = Some caller; op = op } in
     ap (λ (r : Option Rule). (step_by salt a c r).1) (own_first caller.uss a b t caller op l is k) ∙ step_told salt a b caller op (first_broken b t c) l k
 
-pub stays_like : (m salt : List ℕ) (a b : Airspace) (t : ℕ) (c : Call) → Like m a b → first_broken a t c ≡ first_broken b t c → Like m (step salt a t c).0 (step salt b t c).0
+pub stays_like : (m salt : List ℕ) (a b : Airspace) (t : ℕ) (c : Call) → IsLike m a b → first_broken a t c ≡ first_broken b t c → IsLike m (step salt a t c).0 (step salt b t c).0
 unfolding step
-stays_like m salt a b t c l h = subst (λ (r : Option Rule). Like m (step_by salt a c (first_broken a t c)).0 (step_by salt b c r).0) h (step_like m salt a b c (first_broken a t c) l)
+stays_like m salt a b t c l h = subst (λ (r : Option Rule). IsLike m (step_by salt a c (first_broken a t c)).0 (step_by salt b c r).0) h (step_like m salt a b c (first_broken a t c) l)
 
-pub own_call : (salt m : List ℕ) (a b : Airspace) (t : ℕ) (caller : Option Caller) (op : Operation) → Like m a b → is_uss m caller ≡ true → known m op a ≡ known m op b
-    → ((step salt a t (record { caller = caller; op = op })).1 ≡ (step salt b t (record { caller = caller; op = op })).1) × Like m (step salt a t (record { caller = caller; op = op })).0 (step salt b t (record { caller = caller; op = op })).0
+pub own_call : (salt m : List ℕ) (a b : Airspace) (t : ℕ) (caller : Option Caller) (op : Operation) → IsLike m a b → is_uss m caller ≡ true → known m op a ≡ known m op b
+    → ((step salt a t (record { caller = caller; op = op })).1 ≡ (step salt b t (record { caller = caller; op = op })).1) × IsLike m (step salt a t (record { caller = caller; op = op })).0 (step salt b t (record { caller = caller; op = op })).0
 own_call salt m a b t None op l is k = cc
 own_call salt m a b t (Some caller) op l is k =
     let same : m ≡ caller.uss = sym (one_uss m caller is) in
     let own : is_uss caller.uss (Some caller) ≡ true = subst (λ (u : List ℕ). is_uss u (Some caller) ≡ true) same is in (
-      own_told salt a b t caller op (subst (λ (u : List ℕ). Like u a b) same l) own (subst (λ (u : List ℕ). known u op a ≡ known u op b) same k),
+      own_told salt a b t caller op (subst (λ (u : List ℕ). IsLike u a b) same l) own (subst (λ (u : List ℕ). known u op a ≡ known u op b) same k),
       stays_like m salt a b t (record { caller = Some caller; op = op }) l (own_first m a b t caller op l is k),
     )

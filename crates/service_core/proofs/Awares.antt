@@ -1,113 +1,39 @@
 -- After a run, each later put knew the earlier ones that it meets.
-use Rattle.std.specs.Prelude.{◌≡◌, ℕ, ◌+◌, ◌≤◌, ◌&&◌, not, nat_eq, Bool, true, false, List, [], ◌∷◌, ◌++◌, map, filter, Option, Some, None, cond, refl}
+use Rattle.std.specs.Prelude.{◌≡◌, ℕ, ◌+◌, ◌≤◌, not, Bool, true, false, List, [], ◌∷◌, map, Option, Some, None, cond, refl, Contains}
 use Rattle.std.proofs.Common.{arith, sym, ap, ◌∙◌, subst, inl, inr}
-use Rattle.std.proofs.lemmas.Option.{same_Some}
 use Rattle.std.proofs.lemmas.List.{nil_from_length}
-use Rattle.std.specs.Cmp.{unsigned_tied}
 use Rattle.std.specs.Ordering.{eq_by_cmp}
 use Rattle.std.specs.List.{AllByRecursion}
-use Rattle.std.specs.FinMap as maps
 use Rattle.std.specs.FinMap.{get, entries, empty, get-entries, get-empty, len-entries, len-empty, entries-insert}
-use Rattle.grid_core.specs.Extent.{Region, region_of, any_meet}
+use Rattle.grid_core.specs.Extent.{region_of, any_meet}
 use Rattle.entity_core.specs.Airspace.{Airspace, EntityKey, key_cmp, key_of, with_availability, with_entity, without_entity, empty_at, Stated}
 use Rattle.entity_core.specs.Entity.{kind_of}
 use Rattle.entity_core.specs.Ovn.{ovn_text}
-use Rattle.entity_core.specs.Search.{meeting_in, is_sought}
 use Rattle.entity_core.specs.declared.entity.Entity.{Entity}
 use Rattle.entity_core.specs.declared.nature.Kind.{Kind}
-use Rattle.entity_core.specs.declared.nature.Kind.TheVariants as kinds
-use Rattle.entity_core.specs.declared.nature.Nature.{Nature}
-use Rattle.entity_core.specs.declared.nature.Nature.TheVariants.{Intent, Constraint}
 use Rattle.policy_core.specs.declared.scope.Caller.{Caller}
-use Rattle.policy_core.specs.declared.scope.Scope.TheVariants.{ConstraintProcessing}
 use Rattle.policy_core.specs.declared.call.Call.{Call}
 use Rattle.policy_core.specs.declared.call.Put.{Put}
 use Rattle.policy_core.specs.declared.call.Operation.{Operation}
 use Rattle.policy_core.specs.declared.call.Operation.TheVariants.{NoRoute, NoMethod, Malformed, Query, Read, Create, Update, Delete, ReadAvail, SetAvail}
-use Rattle.policy_core.specs.declared.rule.Rule.TheVariants.{Key, Limit}
-use Rattle.policy_core.specs.declared.reference.Reference.{Reference}
-use Rattle.policy_core.specs.Scope.{has_scope}
-use Rattle.policy_core.specs.Blind.{key_shown}
-use Rattle.policy_core.specs.Missing.{in_key, is_lacking, lacking, needs_key, is_none_of, is_nothing, missing_put, missing_for}
-use Rattle.policy_core.specs.Policy.{breaks, early_rules, standing_rules, last_rules, first_broken}
-use Rattle.policy_core.specs.View.{view_of}
-use Rattle.space_core.proofs.Keys.{key_total, key_exact}
+use Rattle.policy_core.specs.Known.{is_declared, is_told_of, put_of}
+use Rattle.policy_core.specs.Missing.{key_shown}
+use Rattle.policy_core.specs.Policy.{first_broken}
+use Rattle.policy_core.proofs.Puts.{puts_know}
+use Rattle.entity_core.proofs.Keys.{key_total, key_exact, one_key}
 use Rattle.space_core.proofs.Maps.{entries-remove}
 use Rattle.service_core.specs.declared.reply.Reply.{Reply}
 use Rattle.service_core.specs.declared.reply.Reply.TheVariants.{Done, Denied, Fault, Stopped}
-use Rattle.service_core.specs.Aware.{put_in, last_put, later_or, is_owed, Knew, KnewOthers, SerialsDiffer, Aware}
+use Rattle.service_core.specs.Aware.{MadeCall, is_done, left_by, put_in, last_writer, later_or, Knew, KnewOthers, AllKeyed, SerialsDiffer, Aware}
 use Rattle.service_core.specs.Run.{Timed, Runs, replies_of, airspace_after, answered_calls, told_replies, has_stopped}
 use Rattle.service_core.specs.Stale.{IsNumbered, AllNumbered}
 use Rattle.service_core.specs.Step.{step, step_by, effect, created, updated, update_effect, delete_effect, read_effect}
-use Rattle.service_core.proofs.Judged.{find_rest}
-use Rattle.service_core.proofs.Kept.{one_key, got, stayed, all_found, all_put, all_where, all_turned}
-
--- ---- a put whose key lacks nothing
-
-both_true : (a b : Bool) → a && b ≡ true → (a ≡ true) × (b ≡ true)
-both_true true b h = (refl, h)
-both_true false b h = cc
-
--- where nothing that is sought is lacking, the key has the version number of each
-none_lacks : (v : Entity → Reference) (key : List (List ℕ)) (test : EntityKey × Entity → Bool) (es : List (EntityKey × Entity)) (q : EntityKey) (y : Entity)
-    → is_none_of (map v (filter (is_lacking key) (map (λ e. e.1) (filter test es)))) ≡ true → maps.find key_cmp q es ≡ Some y → test (q, y) ≡ true → in_key key y.ovn ≡ true
-none_lacks v key test [] q y n f s = cc
-none_lacks v key test (e ∷ es) q y n f s =
-    let rest : List (EntityKey × Entity) = filter test es in
-    let others : List Entity = filter (is_lacking key) (map (λ x. x.1) rest) in
-    elim (eq_by_cmp key_cmp q e.0) as (λ b. eq_by_cmp key_cmp q e.0 ≡ b → cond b (Some e.1) (maps.find key_cmp q es) ≡ Some y → in_key key y.ovn ≡ true) [
-      | true ↦ λ t g.
-          let same : e.1 ≡ y = same_Some e.1 y g in
-          let key_is : e.0 ≡ q = sym (one_key q e.0 t) in
-          let here : test (e.0, e.1) ≡ true = (λ i. test (key_is i, same i)) ∙ s in
-          elim (in_key key e.1.ovn) as (λ b. in_key key e.1.ovn ≡ b → is_none_of (map v (cond (not b) (e.1 ∷ others) others)) ≡ true → in_key key y.ovn ≡ true) [
-            | true ↦ λ k z. ap (λ (x : Entity). in_key key x.ovn) (sym same) ∙ k
-            | false ↦ λ k z. cc
-          ] refl (subst (λ (b : Bool). is_none_of (map v (filter (is_lacking key) (map (λ x. x.1) (cond b (e ∷ rest) rest)))) ≡ true) here n)
-      | false ↦ λ t g. none_lacks v key test es q y (
-          elim (test e) as (λ b. is_none_of (map v (filter (is_lacking key) (map (λ x. x.1) (cond b (e ∷ rest) rest)))) ≡ true → is_none_of (map v others) ≡ true) [
-            | true ↦ elim (in_key key e.1.ovn) as (λ b. is_none_of (map v (cond (not b) (e.1 ∷ others) others)) ≡ true → is_none_of (map v others) ≡ true) [
-              | true ↦ λ z. z
-              | false ↦ λ z. cc
-            ]
-            | false ↦ λ z. z
-          ] n) g s
-    ] refl f
-
-none_met : (a : Airspace) (v : Entity → Reference) (key : List (List ℕ)) (test : EntityKey × Entity → Bool) (q : EntityKey) (y : Entity)
-    → is_none_of (map v (filter (is_lacking key) (map (λ e. e.1) (filter test (entries a.entities))))) ≡ true → get a.entities q ≡ Some y → test (q, y) ≡ true → in_key key y.ovn ≡ true
-none_met a v key test q y n f s = none_lacks v key test (entries a.entities) q y n (sym (get-entries a.entities q) ∙ f) s
-
-other_id : (n id : ℕ) → eq_by_cmp key_cmp (kinds.Intent, n) (kinds.Intent, id) ≡ false → not (nat_eq n id) ≡ true
-other_id n id h = ap not (sym (unsigned_tied n id) ∙ h)
-
--- of two intents with one kind and different keys, the ids differ
-other_intent : (n id : ℕ) (nature : Nature) → needs_key nature ≡ true → eq_by_cmp key_cmp (kinds.Intent, n) (kind_of nature, id) ≡ false → not (nat_eq n id) ≡ true
-other_intent n id (Intent state) needs h = other_id n id h
-other_intent n id Constraint needs h = cc
-
--- the key of a put that lacks nothing has the version number of each other entity that it is to know
-put_knows : (a : Airspace) (caller : Caller) (id : ℕ) (put : Put) (y : Entity) → is_nothing (missing_put a caller id put) ≡ true → get a.entities (key_of y) ≡ Some y
-    → eq_by_cmp key_cmp (key_of y) (kind_of put.nature, id) ≡ false → needs_key put.nature ≡ true → any_meet y.volumes (map region_of put.volumes) ≡ true → is_owed (Some caller) y.nature ≡ true
-    → in_key put.key y.ovn ≡ true
-unfolding lacking meeting_in
-put_knows a caller id put y none found other needs meet owed =
-    let areas : List Region = map region_of put.volumes in
-    let parts = both_true (is_none_of (missing_put a caller id put).intents) (is_none_of (missing_put a caller id put).constraints) none in
-    elim (y.nature) as (λ n. y.nature ≡ n → is_owed (Some caller) n ≡ true → get a.entities (kind_of n, y.id) ≡ Some y → eq_by_cmp key_cmp (kind_of n, y.id) (kind_of put.nature, id) ≡ false → in_key put.key y.ovn ≡ true) [
-      | Intent state ↦ λ is o f e.
-          let lacks = subst (λ (b : Bool). is_none_of (map (view_of a caller.uss) (filter (is_lacking put.key) (cond b (map (λ x. x.1) (filter (is_sought kinds.Intent areas (Some id)) (entries a.entities))) []))) ≡ true) needs parts.0 in
-          none_met a (view_of a caller.uss) put.key (is_sought kinds.Intent areas (Some id)) (kinds.Intent, y.id) y lacks f (λ i. other_intent y.id id put.nature needs e i && meet i)
-      | Constraint ↦ λ is o f e.
-          let asked : needs_key put.nature && has_scope caller.scopes ConstraintProcessing ≡ true = λ i. needs i && o i in
-          let lacks = subst (λ (b : Bool). is_none_of (map (view_of a caller.uss) (filter (is_lacking put.key) (cond b (map (λ x. x.1) (filter (is_sought kinds.Constraint areas None) (entries a.entities))) []))) ≡ true) asked parts.1 in
-          none_met a (view_of a caller.uss) put.key (is_sought kinds.Constraint areas None) (kinds.Constraint, y.id) y lacks f meet
-    ] refl owed found other
+use Rattle.service_core.proofs.Kept.{got, stayed, all_found, all_put, all_where, all_turned}
 
 -- ---- what holds all along
 
-pub record Kept (salt : List ℕ) (last : EntityKey → Option Call) (a : Airspace) : Type 0 where
-  pub keyed : (k : EntityKey) (x : Entity) → get a.entities k ≡ Some x → key_of x ≡ k
+pub record Kept (salt : List ℕ) (last : EntityKey → Option MadeCall) (a : Airspace) : Type 0 where
+  pub keyed : AllKeyed a
   pub numbered : AllNumbered salt a
   pub serials : SerialsDiffer a
   pub knew : KnewOthers last a
@@ -116,14 +42,14 @@ within : (salt : List ℕ) (a : Airspace) (k : EntityKey) (x : Entity) → AllNu
 within salt a k x n h = (all_found (IsNumbered salt a.serial) (entries a.entities) k x n (sym (get-entries a.entities k) ∙ h)).within
 
 raised : (salt : List ℕ) (serial : ℕ) (x : Entity) → IsNumbered salt serial x → IsNumbered salt (serial + 1) x
-raised salt serial x n = record { within = let w = n.within in omega arith; ovn = n.ovn }
+raised salt serial x n = record { positive = n.positive; within = let w = n.within in omega arith; ovn = n.ovn }
 
 -- ---- after each change
 
 -- with an entity that knew the others
-kept_with : (salt : List ℕ) (last : EntityKey → Option Call) (a : Airspace) (c : Call) (e : Entity) → Kept salt last a → e.serial ≡ a.serial + 1 → e.ovn ≡ ovn_text salt e.serial
-    → ((y : Entity) → get a.entities (key_of y) ≡ Some y → eq_by_cmp key_cmp (key_of y) (key_of e) ≡ false → needs_key e.nature ≡ true → any_meet y.volumes (map region_of e.volumes) ≡ true → is_owed c.caller y.nature ≡ true → in_key (key_shown c.op) y.ovn ≡ true)
-    → Kept salt (λ k. later_or (cond (eq_by_cmp key_cmp k (key_of e)) (Some c) None) (last k)) (with_entity a e)
+kept_with : (salt : List ℕ) (last : EntityKey → Option MadeCall) (a : Airspace) (c : Call) (e : Entity) → Kept salt last a → e.serial ≡ a.serial + 1 → e.ovn ≡ ovn_text salt e.serial
+    → ((y : Entity) → get a.entities (key_of y) ≡ Some y → eq_by_cmp key_cmp (key_of y) (key_of e) ≡ false → is_declared e.nature ≡ true → any_meet y.volumes (map region_of e.volumes) ≡ true → is_told_of c.caller y.nature ≡ true → Contains (key_shown c.op) y.ovn)
+    → Kept salt (λ k. later_or (cond (eq_by_cmp key_cmp k (key_of e)) (Some (record { before = a; call = c })) None) (last k)) (with_entity a e)
 kept_with salt last a c e s new text knows =
     record {
       keyed = λ k x h. elim (got a.entities (key_of e) e k x h) [
@@ -131,7 +57,7 @@ kept_with salt last a c e s new text knows =
         | inr p ↦ s.keyed k x p.1
       ];
       numbered = subst (AllByRecursion (λ x. IsNumbered salt (a.serial + 1) x.1)) (sym (entries-insert key_total a.entities (key_of e) e)) (
-          all_put (IsNumbered salt (a.serial + 1)) (key_of e) e (entries a.entities) (record { within = omega (arith, new); ovn = text })
+          all_put (IsNumbered salt (a.serial + 1)) (key_of e) e (entries a.entities) (record { positive = omega (arith, new); within = omega (arith, new); ovn = text })
           (all_turned (IsNumbered salt a.serial) (IsNumbered salt (a.serial + 1)) (raised salt a.serial) (entries a.entities) s.numbered));
       serials = λ k l x y hx hy same. elim (got a.entities (key_of e) e k x hx) [
         | inl p ↦ elim (got a.entities (key_of e) e l y hy) [
@@ -158,9 +84,10 @@ kept_with salt last a c e s new text knows =
           | inr q ↦
               let at : key_of y ≡ l = s.keyed l y q.1 in
               record {
-                call = c;
-                made = ap (λ (b : Bool). later_or (cond b (Some c) None) (last k)) p.0;
-                knew = knows y (ap (get a.entities) at ∙ q.1) (ap (λ (z : EntityKey). eq_by_cmp key_cmp z (key_of e)) at ∙ q.0) (ap (λ (z : Entity). needs_key z.nature) p.1 ∙ needs) (ap (λ (z : Entity). any_meet y.volumes (map region_of z.volumes)) p.1 ∙ meet);
+                made = record { before = a; call = c };
+                last = ap (λ (b : Bool). later_or (cond b (Some (record { before = a; call = c })) None) (last k)) p.0;
+                stood = ap (get a.entities) at ∙ q.1;
+                knew = knows y (ap (get a.entities) at ∙ q.1) (ap (λ (z : EntityKey). eq_by_cmp key_cmp z (key_of e)) at ∙ q.0) (ap (λ (z : Entity). is_declared z.nature) p.1 ∙ needs) (ap (λ (z : Entity). any_meet y.volumes (map region_of z.volumes)) p.1 ∙ meet);
               }
         ]
         | inr p ↦ elim (got a.entities (key_of e) e l y hy) [
@@ -168,13 +95,13 @@ kept_with salt last a c e s new text knows =
               let one : y.serial ≡ e.serial = ap (λ (z : Entity). z.serial) (sym q.1) in
               let two : x.serial ≤ a.serial = within salt a k x s.numbered p.1 in
               absurd (omega (arith, one, two, older, new))
-          | inr q ↦ subst (λ (o : Option Call). Knew o y) (sym (ap (λ (b : Bool). later_or (cond b (Some c) None) (last k)) p.0)) (s.knew k l x y p.1 q.1 older needs meet)
+          | inr q ↦ subst (λ (o : Option MadeCall). Knew o y) (sym (ap (λ (b : Bool). later_or (cond b (Some (record { before = a; call = c })) None) (last k)) p.0)) (s.knew k l x y p.1 q.1 older needs meet)
         ]
       ];
     }
 
 -- without an entity
-kept_without : (salt : List ℕ) (last : EntityKey → Option Call) (a : Airspace) (k : EntityKey) → Kept salt last a → Kept salt last (without_entity a k)
+kept_without : (salt : List ℕ) (last : EntityKey → Option MadeCall) (a : Airspace) (k : EntityKey) → Kept salt last a → Kept salt last (without_entity a k)
 kept_without salt last a k s = record {
   keyed = λ q x h. s.keyed q x (stayed a.entities k q x h);
   numbered = subst (AllByRecursion (λ x. IsNumbered salt (a.serial + 1) x.1)) (sym (entries-remove key_total key_exact a.entities k)) (
@@ -185,7 +112,7 @@ kept_without salt last a k s = record {
 }
 
 -- with an availability
-kept_stated : (salt : List ℕ) (last : EntityKey → Option Call) (a : Airspace) (uss : List ℕ) (stated : Stated) → Kept salt last a → Kept salt last (with_availability a uss stated)
+kept_stated : (salt : List ℕ) (last : EntityKey → Option MadeCall) (a : Airspace) (uss : List ℕ) (stated : Stated) → Kept salt last a → Kept salt last (with_availability a uss stated)
 kept_stated salt last a uss stated s = record {
   keyed = s.keyed;
   numbered = all_turned (IsNumbered salt a.serial) (IsNumbered salt (a.serial + 1)) (raised salt a.serial) (entries a.entities) s.numbered;
@@ -196,66 +123,57 @@ kept_stated salt last a uss stated s = record {
 -- ---- after a call
 
 -- the last put, after one more call with its reply
-abbrev pub last_with : (EntityKey → Option Call) → Call → Reply → EntityKey → Option Call
-last_with last c r = λ k. later_or (put_in k c r) (last k)
+abbrev pub last_with : (EntityKey → Option MadeCall) → Airspace → Call → Reply → EntityKey → Option MadeCall
+last_with last a c r = λ k. later_or (put_in k a c r) (last k)
 
-kept_create : (salt : List ℕ) (last : EntityKey → Option Call) (a : Airspace) (caller : Caller) (id : ℕ) (put : Put) → Kept salt last a → is_nothing (missing_put a caller id put) ≡ true
-    → Kept salt (last_with last (record { caller = Some caller; op = Create id put }) (effect salt a (Some caller) (Create id put)).1) (effect salt a (Some caller) (Create id put)).0
-kept_create salt last a caller id put s none =
+-- the key of an operation has the OVN of each other entity that a put of it is to know
+abbrev Knows : Airspace → Option Caller → Operation → Type 0
+Knows a caller op = (id : ℕ) (put : Put) (y : Entity) → put_of op ≡ Some (id, put) → is_declared put.nature ≡ true → get a.entities (key_of y) ≡ Some y → eq_by_cmp key_cmp (key_of y) (kind_of put.nature, id) ≡ false
+    → any_meet y.volumes (map region_of put.volumes) ≡ true → is_told_of caller y.nature ≡ true → Contains put.key y.ovn
+
+kept_create : (salt : List ℕ) (last : EntityKey → Option MadeCall) (a : Airspace) (caller : Caller) (id : ℕ) (put : Put) → Kept salt last a → Knows a (Some caller) (Create id put)
+    → Kept salt (last_with last a (record { caller = Some caller; op = Create id put }) (effect salt a (Some caller) (Create id put)).1) (effect salt a (Some caller) (Create id put)).0
+kept_create salt last a caller id put s knows =
     kept_with salt last a (record { caller = Some caller; op = Create id put }) (created salt (a.serial + 1) caller.uss id put) s refl refl
-    (λ y found other needs meet owed. put_knows a caller id put y none found other needs meet owed)
+    (λ y found other needs meet owed. knows id put y refl needs found other meet owed)
 
-kept_update : (salt : List ℕ) (last : EntityKey → Option Call) (a : Airspace) (caller : Caller) (id : ℕ) (ovn : List ℕ) (put : Put) (o : Option Entity) → Kept salt last a → is_nothing (missing_put a caller id put) ≡ true
-    → Kept salt (last_with last (record { caller = Some caller; op = Update id ovn put }) (update_effect salt a caller.uss id put o).1) (update_effect salt a caller.uss id put o).0
-kept_update salt last a caller id ovn put None s none = s
-kept_update salt last a caller id ovn put (Some e) s none =
+kept_update : (salt : List ℕ) (last : EntityKey → Option MadeCall) (a : Airspace) (caller : Caller) (id : ℕ) (ovn : List ℕ) (put : Put) (o : Option Entity) → Kept salt last a → Knows a (Some caller) (Update id ovn put)
+    → Kept salt (last_with last a (record { caller = Some caller; op = Update id ovn put }) (update_effect salt a caller.uss id put o).1) (update_effect salt a caller.uss id put o).0
+kept_update salt last a caller id ovn put None s knows = s
+kept_update salt last a caller id ovn put (Some e) s knows =
     kept_with salt last a (record { caller = Some caller; op = Update id ovn put }) (updated salt (a.serial + 1) id put e) s refl refl
-    (λ y found other needs meet owed. put_knows a caller id put y none found other needs meet owed)
+    (λ y found other needs meet owed. knows id put y refl needs found other meet owed)
 
-kept_delete : (salt : List ℕ) (last : EntityKey → Option Call) (a : Airspace) (caller : Caller) (kind : Kind) (id : ℕ) (ovn : List ℕ) (o : Option Entity) → Kept salt last a
-    → Kept salt (last_with last (record { caller = Some caller; op = Delete kind id ovn }) (delete_effect a caller.uss (kind, id) o).1) (delete_effect a caller.uss (kind, id) o).0
+kept_delete : (salt : List ℕ) (last : EntityKey → Option MadeCall) (a : Airspace) (caller : Caller) (kind : Kind) (id : ℕ) (ovn : List ℕ) (o : Option Entity) → Kept salt last a
+    → Kept salt (last_with last a (record { caller = Some caller; op = Delete kind id ovn }) (delete_effect a caller.uss (kind, id) o).1) (delete_effect a caller.uss (kind, id) o).0
 kept_delete salt last a caller kind id ovn None s = s
 kept_delete salt last a caller kind id ovn (Some e) s = kept_without salt last a (kind, id) s
 
-kept_read : (salt : List ℕ) (last : EntityKey → Option Call) (a : Airspace) (caller : Caller) (kind : Kind) (id : ℕ) (o : Option Entity) → Kept salt last a
-    → Kept salt (last_with last (record { caller = Some caller; op = Read kind id }) (read_effect a caller.uss o).1) (read_effect a caller.uss o).0
+kept_read : (salt : List ℕ) (last : EntityKey → Option MadeCall) (a : Airspace) (caller : Caller) (kind : Kind) (id : ℕ) (o : Option Entity) → Kept salt last a
+    → Kept salt (last_with last a (record { caller = Some caller; op = Read kind id }) (read_effect a caller.uss o).1) (read_effect a caller.uss o).0
 kept_read salt last a caller kind id None s = s
 kept_read salt last a caller kind id (Some e) s = s
 
--- the effect of a call that lacks nothing
-kept_effect : (salt : List ℕ) (last : EntityKey → Option Call) (a : Airspace) (caller : Option Caller) (op : Operation) → Kept salt last a → is_nothing (missing_for a caller op) ≡ true
-    → Kept salt (last_with last (record { caller = caller; op = op }) (effect salt a caller op).1) (effect salt a caller op).0
-kept_effect salt last a None op s none = s
-kept_effect salt last a (Some caller) NoRoute s none = s
-kept_effect salt last a (Some caller) NoMethod s none = s
-kept_effect salt last a (Some caller) (Malformed kind) s none = s
-kept_effect salt last a (Some caller) (Query kind area) s none = s
-kept_effect salt last a (Some caller) (Read kind id) s none = kept_read salt last a caller kind id (get a.entities (kind, id)) s
-kept_effect salt last a (Some caller) (Create id put) s none = kept_create salt last a caller id put s none
-kept_effect salt last a (Some caller) (Update id ovn put) s none = kept_update salt last a caller id ovn put (get a.entities (kind_of put.nature, id)) s none
-kept_effect salt last a (Some caller) (Delete kind id ovn) s none = kept_delete salt last a caller kind id ovn (get a.entities (kind, id)) s
-kept_effect salt last a (Some caller) (ReadAvail uss) s none = s
-kept_effect salt last a (Some caller) (SetAvail uss old availability) s none = kept_stated salt last a uss (availability, ovn_text salt (a.serial + 1)) s
+-- the effect of a call
+kept_effect : (salt : List ℕ) (last : EntityKey → Option MadeCall) (a : Airspace) (caller : Option Caller) (op : Operation) → Kept salt last a → Knows a caller op
+    → Kept salt (last_with last a (record { caller = caller; op = op }) (effect salt a caller op).1) (effect salt a caller op).0
+kept_effect salt last a None op s knows = s
+kept_effect salt last a (Some caller) NoRoute s knows = s
+kept_effect salt last a (Some caller) NoMethod s knows = s
+kept_effect salt last a (Some caller) (Malformed kind) s knows = s
+kept_effect salt last a (Some caller) (Query kind area) s knows = s
+kept_effect salt last a (Some caller) (Read kind id) s knows = kept_read salt last a caller kind id (get a.entities (kind, id)) s
+kept_effect salt last a (Some caller) (Create id put) s knows = kept_create salt last a caller id put s knows
+kept_effect salt last a (Some caller) (Update id ovn put) s knows = kept_update salt last a caller id ovn put (get a.entities (kind_of put.nature, id)) s knows
+kept_effect salt last a (Some caller) (Delete kind id ovn) s knows = kept_delete salt last a caller kind id ovn (get a.entities (kind, id)) s
+kept_effect salt last a (Some caller) (ReadAvail uss) s knows = s
+kept_effect salt last a (Some caller) (SetAvail uss old availability) s knows = kept_stated salt last a uss (availability, ovn_text salt (a.serial + 1)) s
 
-no_key : (k l : Bool) → cond k (Some Key) (cond l (Some Limit) None) ≡ None → not k ≡ true
-no_key true l h = cc
-no_key false l h = refl
-
-not_not : (b : Bool) → not (not b) ≡ true → b ≡ true
-not_not true h = refl
-not_not false h = h
-
--- a call that breaks no rule lacks nothing
-lacks_nothing : (a : Airspace) (t : ℕ) (c : Call) → first_broken a t c ≡ None → is_nothing (missing_for a c.caller c.op) ≡ true
-unfolding first_broken
-lacks_nothing a t c h =
-    not_not (is_nothing (missing_for a c.caller c.op)) (no_key (breaks a t c Key) (breaks a t c Limit) (find_rest (breaks a t c) standing_rules last_rules (find_rest (breaks a t c) early_rules (standing_rules ++ last_rules) h)))
-
-pub kept_step : (salt : List ℕ) (last : EntityKey → Option Call) (a : Airspace) (t : ℕ) (c : Call) → Kept salt last a → Kept salt (last_with last c (step salt a t c).1) (step salt a t c).0
+pub kept_step : (salt : List ℕ) (last : EntityKey → Option MadeCall) (a : Airspace) (t : ℕ) (c : Call) → Kept salt last a → Kept salt (last_with last a c (step salt a t c).1) (step salt a t c).0
 unfolding step
 kept_step salt last a t c s =
-    elim (first_broken a t c) as (λ r. first_broken a t c ≡ r → Kept salt (last_with last c (step_by salt a c r).1) (step_by salt a c r).0) [
-      | None ↦ λ h. kept_effect salt last a c.caller c.op s (lacks_nothing a t c h)
+    elim (first_broken a t c) as (λ r. first_broken a t c ≡ r → Kept salt (last_with last a c (step_by salt a c r).1) (step_by salt a c r).0) [
+      | None ↦ λ h. kept_effect salt last a c.caller c.op s (λ id put y is. puts_know a t c.caller c.op id put y is h)
       | Some p ↦ λ h. s
     ] refl
 
@@ -269,12 +187,48 @@ later_none : {X : Type 0} (x : Option X) → later_or x None ≡ x
 later_none (Some x) = refl
 later_none None = refl
 
-pub kept_run : (salt : List ℕ) (last : EntityKey → Option Call) (cs : List Timed) (a : Airspace) → Kept salt last a → Kept salt (λ k. later_or (last_put k cs (replies_of salt a cs)) (last k)) (airspace_after salt a cs)
+read_left : (a : Airspace) (uss : List ℕ) (o : Option Entity) → cond (is_done (read_effect a uss o).1) (read_effect a uss o).0 a ≡ (read_effect a uss o).0
+read_left a uss None = refl
+read_left a uss (Some e) = refl
+
+update_left : (salt : List ℕ) (a : Airspace) (uss : List ℕ) (id : ℕ) (put : Put) (o : Option Entity) → cond (is_done (update_effect salt a uss id put o).1) (update_effect salt a uss id put o).0 a ≡ (update_effect salt a uss id put o).0
+update_left salt a uss id put None = refl
+update_left salt a uss id put (Some e) = refl
+
+delete_left : (a : Airspace) (uss : List ℕ) (k : EntityKey) (o : Option Entity) → cond (is_done (delete_effect a uss k o).1) (delete_effect a uss k o).0 a ≡ (delete_effect a uss k o).0
+delete_left a uss k None = refl
+delete_left a uss k (Some e) = refl
+
+effect_left : (salt : List ℕ) (a : Airspace) (caller : Option Caller) (op : Operation) → cond (is_done (effect salt a caller op).1) (effect salt a caller op).0 a ≡ (effect salt a caller op).0
+effect_left salt a None op = refl
+effect_left salt a (Some caller) NoRoute = refl
+effect_left salt a (Some caller) NoMethod = refl
+effect_left salt a (Some caller) (Malformed kind) = refl
+effect_left salt a (Some caller) (Query kind area) = refl
+effect_left salt a (Some caller) (Read kind id) = read_left a caller.uss (get a.entities (kind, id))
+effect_left salt a (Some caller) (Create id put) = refl
+effect_left salt a (Some caller) (Update id ovn put) = update_left salt a caller.uss id put (get a.entities (kind_of put.nature, id))
+effect_left salt a (Some caller) (Delete kind id ovn) = delete_left a caller.uss (kind, id) (get a.entities (kind, id))
+effect_left salt a (Some caller) (ReadAvail uss) = refl
+effect_left salt a (Some caller) (SetAvail uss old availability) = refl
+
+-- what is left by a call that the policy answers is what the policy leaves
+step_left : (salt : List ℕ) (a : Airspace) (c : Timed) → left_by salt a c (step salt a c.0 c.1).1 ≡ (step salt a c.0 c.1).0
+unfolding step
+step_left salt a c =
+    elim (first_broken a c.0 c.1) as (λ r. cond (is_done (step_by salt a c.1 r).1) (step_by salt a c.1 r).0 a ≡ (step_by salt a c.1 r).0) [
+      | None ↦ effect_left salt a c.1.caller c.1.op
+      | Some p ↦ refl
+    ]
+
+pub kept_run : (salt : List ℕ) (last : EntityKey → Option MadeCall) (cs : List Timed) (a : Airspace) → Kept salt last a → Kept salt (λ k. later_or (last_writer salt k a cs (replies_of salt a cs)) (last k)) (airspace_after salt a cs)
 kept_run salt last [] a s = s
 kept_run salt last (c ∷ cs) a s =
     let x = step salt a c.0 c.1 in
-    subst (λ (f : EntityKey → Option Call). Kept salt f (airspace_after salt x.0 cs)) (λ i k. later_later (last_put k cs (replies_of salt x.0 cs)) (put_in k c.1 x.1) (last k) i)
-    (kept_run salt (last_with last c.1 x.1) cs x.0 (kept_step salt last a c.0 c.1 s))
+    let rs = replies_of salt x.0 cs in
+    subst (λ (f : EntityKey → Option MadeCall). Kept salt f (airspace_after salt x.0 cs)) (λ i k. (later_later (last_writer salt k x.0 cs rs) (put_in k a c.1 x.1) (last k)
+    ∙ ap (λ (b : Airspace). later_or (later_or (last_writer salt k b cs rs) (put_in k a c.1 x.1)) (last k)) (sym (step_left salt a c))) i)
+    (kept_run salt (last_with last a c.1 x.1) cs x.0 (kept_step salt last a c.0 c.1 s))
 
 kept_empty : (salt : List ℕ) (n : ℕ) → Kept salt (λ k. None) (empty_at n)
 kept_empty salt n =
@@ -288,31 +242,33 @@ kept_empty salt n =
     }
 
 -- the last put among the calls that were answered is the last put of all
-last_told : (k : EntityKey) (cs : List Timed) (rs : List Reply) → has_stopped rs ≡ false → last_put k (answered_calls cs rs) (told_replies rs) ≡ last_put k cs rs
-last_told k [] rs h = refl
-last_told k (c ∷ cs) [] h = refl
-last_told k (c ∷ cs) (Fault ∷ rs) h = last_told k cs rs h ∙ sym (later_none (last_put k cs rs))
-last_told k (c ∷ cs) (Stopped ∷ rs) h = cc
-last_told k (c ∷ cs) (Done x ∷ rs) h = ap (λ (o : Option Call). later_or o (put_in k c.1 (Done x))) (last_told k cs rs h)
-last_told k (c ∷ cs) (Denied p m ∷ rs) h = ap (λ (o : Option Call). later_or o (put_in k c.1 (Denied p m))) (last_told k cs rs h)
+last_told : (salt : List ℕ) (k : EntityKey) (a : Airspace) (cs : List Timed) (rs : List Reply) → has_stopped rs ≡ false → last_writer salt k a (answered_calls cs rs) (told_replies rs) ≡ last_writer salt k a cs rs
+last_told salt k a [] rs h = refl
+last_told salt k a (c ∷ cs) [] h = refl
+last_told salt k a (c ∷ cs) (Fault ∷ rs) h = last_told salt k a cs rs h ∙ sym (later_none (last_writer salt k a cs rs))
+last_told salt k a (c ∷ cs) (Stopped ∷ rs) h = cc
+last_told salt k a (c ∷ cs) (Done x ∷ rs) h = ap (λ (o : Option MadeCall). later_or o (put_in k a c.1 (Done x))) (last_told salt k (step salt a c.0 c.1).0 cs rs h)
+last_told salt k a (c ∷ cs) (Denied p m ∷ rs) h = ap (λ (o : Option MadeCall). later_or o (put_in k a c.1 (Denied p m))) (last_told salt k a cs rs h)
 
 kept_told : (salt : List ℕ) (n : ℕ) (cs : List Timed) (rs : List Reply) → told_replies rs ≡ replies_of salt (empty_at n) (answered_calls cs rs) → has_stopped rs ≡ false
-    → Kept salt (λ k. last_put k cs rs) (airspace_after salt (empty_at n) (answered_calls cs rs))
+    → Kept salt (λ k. last_writer salt k (empty_at n) cs rs) (airspace_after salt (empty_at n) (answered_calls cs rs))
 kept_told salt n cs rs told h =
     let answered = answered_calls cs rs in
-    subst (λ (f : EntityKey → Option Call). Kept salt f (airspace_after salt (empty_at n) answered)) (λ i k. (ap (λ (qs : List Reply). later_or (last_put k answered qs) None) (sym told) ∙ (later_none (last_put k answered (told_replies rs)) ∙ last_told k cs rs h)) i)
+    let last = λ (k : EntityKey) (qs : List Reply). last_writer salt k (empty_at n) answered qs in
+    subst (λ (f : EntityKey → Option MadeCall). Kept salt f (airspace_after salt (empty_at n) answered)) (λ i k. (ap (λ (qs : List Reply). later_or (last k qs) None) (sym told) ∙ (later_none (last k (told_replies rs)) ∙ last_told salt k (empty_at n) cs rs h)) i)
     (kept_run salt (λ k. None) answered (empty_at n) (kept_empty salt n))
 
-pub aware_after : (salt : List ℕ) (n : ℕ) (cs : List Timed) (rs : List Reply) → told_replies rs ≡ replies_of salt (empty_at n) (answered_calls cs rs) → has_stopped rs ≡ false → Aware cs rs (airspace_after salt (empty_at n) (answered_calls cs rs))
-aware_after salt n cs rs told h = let k = kept_told salt n cs rs told h in record { serials = k.serials; knew = k.knew }
+pub aware_after : (salt : List ℕ) (n : ℕ) (cs : List Timed) (rs : List Reply) → told_replies rs ≡ replies_of salt (empty_at n) (answered_calls cs rs) → has_stopped rs ≡ false
+    → Aware salt (empty_at n) cs rs (airspace_after salt (empty_at n) (answered_calls cs rs))
+aware_after salt n cs rs told h = let k = kept_told salt n cs rs told h in record { keyed = k.keyed; serials = k.serials; knew = k.knew }
 
 pub numbered_after : (salt : List ℕ) (n : ℕ) (cs : List Timed) (rs : List Reply) → told_replies rs ≡ replies_of salt (empty_at n) (answered_calls cs rs) → has_stopped rs ≡ false → AllNumbered salt (airspace_after salt (empty_at n) (answered_calls cs rs))
 numbered_after salt n cs rs told h = (kept_told salt n cs rs told h).numbered
 
 -- ---- what is held after a run
 
-pub held_aware : {S : Type 0} (Holds : S → Airspace → Type 0) (salt : List ℕ) (n : ℕ) (cs : List Timed) (rs : List Reply) (new : S) → Runs Holds salt (empty_at n) cs rs new → has_stopped rs ≡ false → (a : Airspace) → Holds new a → Aware cs rs a
-held_aware Holds salt n cs rs new t h a held = subst (Aware cs rs) (sym ((t.whole h).only a held)) (aware_after salt n cs rs t.replies h)
+pub held_aware : {S : Type 0} (Holds : S → Airspace → Type 0) (salt : List ℕ) (n : ℕ) (cs : List Timed) (rs : List Reply) (new : S) → Runs Holds salt (empty_at n) cs rs new → has_stopped rs ≡ false → (a : Airspace) → Holds new a → Aware salt (empty_at n) cs rs a
+held_aware Holds salt n cs rs new t h a held = subst (Aware salt (empty_at n) cs rs) (sym ((t.whole h).only a held)) (aware_after salt n cs rs t.replies h)
 
 pub held_numbered : {S : Type 0} (Holds : S → Airspace → Type 0) (salt : List ℕ) (n : ℕ) (cs : List Timed) (rs : List Reply) (new : S) → Runs Holds salt (empty_at n) cs rs new → has_stopped rs ≡ false → (a : Airspace) → Holds new a → AllNumbered salt a
 held_numbered Holds salt n cs rs new t h a held = subst (AllNumbered salt) (sym ((t.whole h).only a held)) (numbered_after salt n cs rs t.replies h)

@@ -15,10 +15,11 @@ use Rattle.policy_core.specs.declared.call.Operation.{Operation}
 use Rattle.policy_core.specs.declared.call.Operation.TheVariants.{NoRoute, NoMethod, Malformed, Query, Read, Create, Update, Delete, ReadAvail, SetAvail}
 use Rattle.policy_core.specs.declared.rule.Rule.{Rule}
 use Rattle.policy_core.specs.declared.rule.Rule.TheVariants.{Found, Fresh, Manager, Version, Role, Change, Ended}
-use Rattle.policy_core.specs.Blind.{veiled, veiled_entry, Like, is_by, known, named}
+use Rattle.policy_core.specs.Blind.{veiled, veiled_entry, IsLike, is_by, known, named}
 use Rattle.policy_core.specs.Policy.{breaks, early_rules, standing_rules, last_rules, first_broken, is_unfound, is_taken, is_foreign, is_stale, is_outside_role, is_wrong_change, is_ended, has_another_version}
 use Rattle.policy_core.specs.Standing.{found_of, kept_of}
-use Rattle.policy_core.proofs.Veils.{or_else, find-append, found_like}
+use Rattle.policy_core.proofs.Finds.{or_else, find-append}
+use Rattle.policy_core.proofs.Veils.{found_like}
 use Rattle.service_core.specs.Blind.{AllMadeAlike, replies_to}
 use Rattle.service_core.specs.Run.{Timed, replies_of, airspace_after}
 use Rattle.service_core.specs.Step.{step}
@@ -26,7 +27,7 @@ use Rattle.service_core.proofs.Alike.{last_like, stays_like, own_call}
 
 -- ---- the version that a path names
 
--- whether the path has an entity's version number, from what is told of it behind the veil
+-- whether the path has an entity's OVN, from what is told of it behind the veil
 seen_path : (own : Bool) (ovn present : List ℕ) → same_text ovn present ≡ cond own (same_text ovn (cond own present [])) (own || same_text ovn present)
 seen_path true ovn present = refl
 seen_path false ovn present = refl
@@ -46,7 +47,7 @@ another-veiled m ovn k (x ∷ es) =
       | false ↦ another-veiled m ovn k es
     ]
 
-another_like : (m ovn : List ℕ) (a b : Airspace) (k : EntityKey) → Like m a b → map (λ e. same_text e.1.manager m || same_text ovn e.1.ovn) (entries a.entities) ≡ map (λ e. same_text e.1.manager m || same_text ovn e.1.ovn) (entries b.entities)
+another_like : (m ovn : List ℕ) (a b : Airspace) (k : EntityKey) → IsLike m a b → map (λ e. same_text e.1.manager m || same_text ovn e.1.ovn) (entries a.entities) ≡ map (λ e. same_text e.1.manager m || same_text ovn e.1.ovn) (entries b.entities)
     → has_another_version (get a.entities k) ovn ≡ has_another_version (get b.entities k) ovn
 another_like m ovn a b k l n =
     ap (λ (o : Option Entity). has_another_version o ovn) (get-entries a.entities k)
@@ -55,7 +56,7 @@ another_like m ovn a b k l n =
     ∙ (sym (another-veiled m ovn k (entries b.entities))
     ∙ ap (λ (o : Option Entity). has_another_version o ovn) (sym (get-entries b.entities k)))))
 
-stale_like : (m : List ℕ) (a b : Airspace) (op : Operation) → Like m a b → named m op a ≡ named m op b → is_stale op (found_of a op) (kept_of a op) ≡ is_stale op (found_of b op) (kept_of b op)
+stale_like : (m : List ℕ) (a b : Airspace) (op : Operation) → IsLike m a b → named m op a ≡ named m op b → is_stale op (found_of a op) (kept_of a op) ≡ is_stale op (found_of b op) (kept_of b op)
 stale_like m a b NoRoute l n = refl
 stale_like m a b NoMethod l n = refl
 stale_like m a b (Malformed kind) l n = refl
@@ -88,7 +89,7 @@ rules-veiled m caller (Some e) t (Delete kind id ovn) stale = refl
 rules-veiled m caller (Some e) t (ReadAvail uss) stale = refl
 rules-veiled m caller (Some e) t (SetAvail uss old availability) stale = refl
 
-standing_like : (m : List ℕ) (a b : Airspace) (t : ℕ) (caller : Caller) (op : Operation) → Like m a b → named m op a ≡ named m op b
+standing_like : (m : List ℕ) (a b : Airspace) (t : ℕ) (caller : Caller) (op : Operation) → IsLike m a b → named m op a ≡ named m op b
     → find (breaks a t (record { caller = Some caller; op = op })) standing_rules ≡ find (breaks b t (record { caller = Some caller; op = op })) standing_rules
 standing_like m a b t caller op l n =
     rules-veiled m caller (found_of a op) t op (is_stale op (found_of a op) (kept_of a op))
@@ -109,7 +110,7 @@ no_caller a b t (Delete kind id ovn) = refl
 no_caller a b t (ReadAvail uss) = refl
 no_caller a b t (SetAvail uss old availability) = refl
 
-others_first : (m : List ℕ) (a b : Airspace) (t : ℕ) (caller : Option Caller) (op : Operation) → Like m a b → known m op a ≡ known m op b → named m op a ≡ named m op b
+others_first : (m : List ℕ) (a b : Airspace) (t : ℕ) (caller : Option Caller) (op : Operation) → IsLike m a b → known m op a ≡ known m op b → named m op a ≡ named m op b
     → first_broken a t (record { caller = caller; op = op }) ≡ first_broken b t (record { caller = caller; op = op })
 unfolding first_broken
 others_first m a b t None op l k n = no_caller a b t op
@@ -124,16 +125,16 @@ others_first m a b t (Some caller) op l k n =
 
 -- ---- lists of calls
 
-pub run_blind : (salt m : List ℕ) (cs : List Timed) (a b : Airspace) → Like m a b → AllMadeAlike salt m cs a b
-    → (replies_to m cs (replies_of salt a cs) ≡ replies_to m cs (replies_of salt b cs)) × Like m (airspace_after salt a cs) (airspace_after salt b cs)
+pub run_blind : (salt m : List ℕ) (cs : List Timed) (a b : Airspace) → IsLike m a b → AllMadeAlike salt m cs a b
+    → (replies_to m cs (replies_of salt a cs) ≡ replies_to m cs (replies_of salt b cs)) × IsLike m (airspace_after salt a cs) (airspace_after salt b cs)
 run_blind salt m [] a b l h = (refl, l)
 run_blind salt m (c ∷ cs) a b l h =
     let x = step salt a c.0 c.1 in
     let y = step salt b c.0 c.1 in
-    let later = λ (k : Like m x.0 y.0). run_blind salt m cs x.0 y.0 k h.1 in
+    let later = λ (k : IsLike m x.0 y.0). run_blind salt m cs x.0 y.0 k h.1 in
     let rs = replies_to m cs (replies_of salt x.0 cs) in
     let qs = replies_to m cs (replies_of salt y.0 cs) in
-    elim (is_by m c.1) as (λ own. is_by m c.1 ≡ own → (cond own (x.1 ∷ rs) rs ≡ cond own (y.1 ∷ qs) qs) × Like m (airspace_after salt x.0 cs) (airspace_after salt y.0 cs)) [
+    elim (is_by m c.1) as (λ own. is_by m c.1 ≡ own → (cond own (x.1 ∷ rs) rs ≡ cond own (y.1 ∷ qs) qs) × IsLike m (airspace_after salt x.0 cs) (airspace_after salt y.0 cs)) [
       | true ↦ λ is.
           let now = own_call salt m a b c.0 c.1.caller c.1.op l is (h.0.own is) in
           let rest = later now.1 in

@@ -1,8 +1,6 @@
 -- Which rule is the first that is broken, and what is missing.
 use Rattle.std.specs.Prelude.{◌≡◌, ℕ, ◌&&◌, Bool, true, false, List, [], ◌∷◌, ◌++◌, map, Option, Some, None, find, cond, refl, IfSome, not}
 use Rattle.std.proofs.Common.{sym, ap, ◌∙◌, subst}
-use Rattle.std.specs.List.{AllByRecursion}
-use Rattle.std.proofs.lemmas.Option.{same_Some}
 use Rattle.grid_core.specs.Extent.{Region, region_of}
 use Rattle.entity_core.specs.Airspace.{Airspace, Stated}
 use Rattle.entity_core.specs.Search.{meeting_in}
@@ -19,10 +17,11 @@ use Rattle.policy_core.specs.declared.rule.Rule.TheVariants.{Key, Limit}
 use Rattle.policy_core.specs.declared.reference.Missing.{Missing}
 use Rattle.policy_core.specs.declared.reference.Reference.{Reference}
 use Rattle.policy_core.specs.Scope.{has_scope}
-use Rattle.policy_core.specs.Missing.{is_nothing, lacking, missing_by, missing_for, missing_put, needs_key, nothing_missing}
+use Rattle.policy_core.specs.Missing.{is_nothing, missing_from, missing_by, missing_for, missing_put, needs_key, nothing_missing}
 use Rattle.policy_core.specs.Policy.{breaks, breaks_found, breaks_limit, early_rules, standing_rules, last_rules, first_broken}
 use Rattle.policy_core.specs.Standing.{found_of}
 use Rattle.policy_core.specs.View.{view_of}
+use Rattle.policy_core.proofs.Finds.{find_has, find_rest}
 use Rattle.service_core.specs.declared.look.Grounds.{Grounds}
 use Rattle.service_core.specs.Step.{told_missing}
 use Rattle.service_core.specs.Looks.{IsGround, IsFirst, IsReady}
@@ -41,23 +40,6 @@ find_later p (y ∷ xs) ys h =
     elim (p y) as (λ b. cond b (Some y) (find p xs) ≡ None → cond b (Some y) (find p (xs ++ ys)) ≡ find p ys) [
       | true ↦ λ e. cc
       | false ↦ λ e. find_later p xs ys e
-    ] h
-
--- what all members of a list have, the found one has
-pub find_has : {X : Type 0} (Q : X → Type 0) (p : X → Bool) (xs : List X) (x : X) → AllByRecursion Q xs → find p xs ≡ Some x → Q x
-find_has Q p [] x all h = cc
-find_has {X} Q p (y ∷ xs) x all h =
-    elim (p y) as (λ b. cond b (Some y) (find p xs) ≡ Some x → Q x) [
-      | true ↦ λ e. subst Q (same_Some y x e) all.0
-      | false ↦ λ e. find_has Q p xs x all.1 e
-    ] h
-
-pub find_rest : {X : Type 0} (p : X → Bool) (xs ys : List X) → find p (xs ++ ys) ≡ None → find p ys ≡ None
-find_rest p [] ys h = h
-find_rest p (y ∷ xs) ys h =
-    elim (p y) as (λ b. cond b (Some y) (find p (xs ++ ys)) ≡ None → find p ys ≡ None) [
-      | true ↦ λ e. cc
-      | false ↦ λ e. find_rest p xs ys e
     ] h
 
 find_none : {X : Type 0} (p : X → Bool) (xs ys : List X) → find p (xs ++ ys) ≡ None → find p xs ≡ None
@@ -159,24 +141,24 @@ some_of_none o P e = subst (λ (x : Option Rule). IfSome x P) e tt
 both : (i j k l : List Reference) → i ≡ j → k ≡ l → ◌≡◌ {A = Missing} (record { intents = i; constraints = k }) (record { intents = j; constraints = l })
 both i j k l h g = ap (λ (x : List Reference). record { intents = x; constraints = k }) h ∙ ap (λ (x : List Reference). record { intents = j; constraints = x }) g
 
-lacks_none : {A : Type 0} (f : Entity → A) (key : List (List ℕ)) → [] ≡ map f (lacking key [])
-unfolding lacking
-lacks_none f key = refl
+missing_none : {A : Type 0} (f : Entity → A) (key : List (List ℕ)) → [] ≡ map f (missing_from key [])
+unfolding missing_from
+missing_none f key = refl
 
 -- a caller who does not process constraints needs none
 pub missing_without : (a : Airspace) (caller : Caller) (id : ℕ) (put : Put) (areas : List Region) (key : List (List ℕ)) (intents none : List Reference) → needs_key put.nature ≡ true → has_scope caller.scopes ConstraintProcessing ≡ false
-    → areas ≡ map region_of put.volumes → key ≡ put.key → intents ≡ map (view_of a caller.uss) (lacking key (meeting_in a.entities kinds.Intent areas (Some id))) → none ≡ [] → ◌≡◌ {A = Missing} (record { intents = intents; constraints = none }) (missing_put a caller id put)
+    → areas ≡ map region_of put.volumes → key ≡ put.key → intents ≡ map (view_of a caller.uss) (missing_from key (meeting_in a.entities kinds.Intent areas (Some id))) → none ≡ [] → ◌≡◌ {A = Missing} (record { intents = intents; constraints = none }) (missing_put a caller id put)
 missing_without a caller id put areas key intents none needs lacks same keys is nil =
     let met : List Entity = meeting_in a.entities kinds.Intent (map region_of put.volumes) (Some id) in
     both intents _ none _
-    (is ∙ (ap (λ (k : List (List ℕ)). map (view_of a caller.uss) (lacking k (meeting_in a.entities kinds.Intent areas (Some id)))) keys ∙ (ap (λ (r : List Region). map (view_of a caller.uss) (lacking put.key (meeting_in a.entities kinds.Intent r (Some id)))) same
-    ∙ ap (λ (b : Bool). map (view_of a caller.uss) (lacking put.key (cond b met []))) (sym needs))))
-    (nil ∙ (lacks_none (view_of a caller.uss) put.key
-    ∙ (ap (λ (b : Bool). map (view_of a caller.uss) (lacking put.key (cond b (meeting_in a.entities kinds.Constraint (map region_of put.volumes) None) []))) (sym (ap (λ (b : Bool). b && has_scope caller.scopes ConstraintProcessing) needs ∙ lacks)))))
+    (is ∙ (ap (λ (k : List (List ℕ)). map (view_of a caller.uss) (missing_from k (meeting_in a.entities kinds.Intent areas (Some id)))) keys ∙ (ap (λ (r : List Region). map (view_of a caller.uss) (missing_from put.key (meeting_in a.entities kinds.Intent r (Some id)))) same
+    ∙ ap (λ (b : Bool). map (view_of a caller.uss) (missing_from put.key (cond b met []))) (sym needs))))
+    (nil ∙ (missing_none (view_of a caller.uss) put.key
+    ∙ (ap (λ (b : Bool). map (view_of a caller.uss) (missing_from put.key (cond b (meeting_in a.entities kinds.Constraint (map region_of put.volumes) None) []))) (sym (ap (λ (b : Bool). b && has_scope caller.scopes ConstraintProcessing) needs ∙ lacks)))))
 
 -- a put without a key needs nothing
 pub needs_nothing : (a : Airspace) (caller : Caller) (id : ℕ) (put : Put) (m : Missing) → needs_key put.nature ≡ false → m ≡ nothing_missing → m ≡ missing_put a caller id put
 needs_nothing a caller id put m lacks none =
     none ∙ both [] _ [] _
-    (lacks_none (view_of a caller.uss) put.key ∙ ap (λ (b : Bool). map (view_of a caller.uss) (lacking put.key (cond b (meeting_in a.entities kinds.Intent (map region_of put.volumes) (Some id)) []))) (sym lacks))
-    (lacks_none (view_of a caller.uss) put.key ∙ ap (λ (b : Bool). map (view_of a caller.uss) (lacking put.key (cond (b && has_scope caller.scopes ConstraintProcessing) (meeting_in a.entities kinds.Constraint (map region_of put.volumes) None) []))) (sym lacks))
+    (missing_none (view_of a caller.uss) put.key ∙ ap (λ (b : Bool). map (view_of a caller.uss) (missing_from put.key (cond b (meeting_in a.entities kinds.Intent (map region_of put.volumes) (Some id)) []))) (sym lacks))
+    (missing_none (view_of a caller.uss) put.key ∙ ap (λ (b : Bool). map (view_of a caller.uss) (missing_from put.key (cond (b && has_scope caller.scopes ConstraintProcessing) (meeting_in a.entities kinds.Constraint (map region_of put.volumes) None) []))) (sym lacks))

@@ -2,7 +2,6 @@
 use Rattle.std.specs.Prelude.{◌≡◌, Bool, true, false, List, [], ◌∷◌, Some, None, cond, refl, ◌⊎◌}
 use Rattle.std.proofs.Common.{sym, ◌∙◌, subst, inl, inr}
 use Rattle.std.proofs.lemmas.Option.{same_Some}
-use Rattle.std.specs.Cmp.{Equal-is}
 use Rattle.std.specs.Ordering.{eq_by_cmp}
 use Rattle.std.specs.declared.cmp.Ordering.TheVariants.{Less, Equal, Greater}
 use Rattle.std.specs.List.{AllByRecursion}
@@ -11,11 +10,7 @@ use Rattle.std.specs.FinMap.{get, insert, remove, get-insert, get-remove}
 use Rattle.std.specs.FinMap.Entries.{put, where_key, by_order}
 use Rattle.entity_core.specs.Airspace.{Entities, EntityKey, key_cmp}
 use Rattle.entity_core.specs.declared.entity.Entity.{Entity}
-use Rattle.space_core.proofs.Keys.{key_total, key_exact}
-
--- a key that compares as equal is the key
-pub one_key : (k l : EntityKey) → eq_by_cmp key_cmp k l ≡ true → k ≡ l
-one_key k l h = key_exact k l ((Equal-is (key_cmp k l)).0 h)
+use Rattle.entity_core.proofs.Keys.{key_total}
 
 -- ---- by keys
 

@@ -32,7 +32,7 @@ use Rattle.service_core.specs.declared.reply.Reply.TheVariants.{Done}
 use Rattle.service_core.specs.declared.look.Grounds.{Grounds}
 use Rattle.service_core.specs.Step.{effect, effect_by, kept_as, create_effect, put_effect, update_effect, delete_effect}
 use Rattle.service_core.specs.Looks.{IsGround, Makes, Prepares, changed_by}
-use Rattle.service_core.proofs.Judged.{find_rest}
+use Rattle.policy_core.proofs.Finds.{find_rest}
 
 no_limit : (k l : Bool) → cond k (Some Key) (cond l (Some Limit) None) ≡ None → l ≡ false
 no_limit true l h = cc

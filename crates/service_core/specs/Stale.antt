@@ -1,32 +1,25 @@
--- A key of old version numbers is not enough.
-use Rattle.std.specs.Prelude.{◌≡◌, ◌≢◌, ℕ, ◌≤◌, List, [], Option, Some, None, Contains}
+-- A key of old OVNs is not enough.
+use Rattle.std.specs.Prelude.{◌≡◌, ◌≢◌, ℕ, ◌≤◌, List, Contains}
 use Rattle.std.specs.List.{AllByRecursion}
 use Rattle.std.specs.FinMap.{entries}
 use Rattle.entity_core.specs.Airspace.{Airspace}
 use Rattle.entity_core.specs.Ovn.{ovn_text}
 use Rattle.entity_core.specs.declared.entity.Entity.{Entity}
 use Rattle.entity_core.specs.declared.nature.Kind.{Kind}
-use Rattle.entity_core.specs.declared.nature.Kind.TheVariants.{Intent, Constraint}
-use Rattle.policy_core.specs.declared.scope.Caller.{Caller}
 use Rattle.policy_core.specs.declared.call.Call.{Call}
-use Rattle.policy_core.specs.declared.call.Put.{Put}
-use Rattle.policy_core.specs.declared.call.Operation.{Operation}
-use Rattle.policy_core.specs.declared.call.Operation.TheVariants.{Create, Update}
 use Rattle.policy_core.specs.declared.rule.Rule.TheVariants.{Key}
-use Rattle.policy_core.specs.declared.reference.Missing.{Missing}
-use Rattle.policy_core.specs.declared.reference.Reference.{Reference}
-use Rattle.policy_core.specs.Blind.{key_shown}
-use Rattle.policy_core.specs.Missing.{needed_intents, needed_constraints}
+use Rattle.policy_core.specs.Known.{IsListed}
+use Rattle.policy_core.specs.Missing.{key_shown, needed}
 use Rattle.policy_core.specs.Rule.{number_of}
-use Rattle.policy_core.specs.View.{view_of}
 use Rattle.service_core.specs.declared.reply.Reply.{Reply}
 use Rattle.service_core.specs.declared.reply.Reply.TheVariants.{Done, Denied, Fault, Stopped}
 use Rattle.service_core.specs.Step.{step}
 
 -- ---- the airspace
 
--- an entity's serial is at most that of the airspace, and its version number is the serial's
+-- an entity's serial is from 1 to that of the airspace, and its OVN is the serial's
 pub record IsNumbered (salt : List ℕ) (serial : ℕ) (e : Entity) : Type 0 where
+  pub positive : 1 ≤ e.serial
   pub within : e.serial ≤ serial
   pub ovn : e.ovn ≡ ovn_text salt e.serial
 
@@ -34,13 +27,13 @@ pub record IsNumbered (salt : List ℕ) (serial : ℕ) (e : Entity) : Type 0 whe
 abbrev pub AllNumbered : List ℕ → Airspace → Type 0
 AllNumbered salt a = AllByRecursion (λ e. IsNumbered salt a.serial e.1) (entries a.entities)
 
--- no two serials up to one have the same version number
+-- no two serials from 1 to this one have the same OVN
 abbrev pub DifferUpTo : List ℕ → ℕ → Type 0
-DifferUpTo salt serial = (n k : ℕ) → n ≤ serial → k ≤ serial → ovn_text salt n ≡ ovn_text salt k → n ≡ k
+DifferUpTo salt serial = (n k : ℕ) → 1 ≤ n → n ≤ serial → 1 ≤ k → k ≤ serial → ovn_text salt n ≡ ovn_text salt k → n ≡ k
 
--- ---- the call
+-- ---- the key
 
--- the version number of a serial from 1 to the present one, which is not that of the entity
+-- the OVN of a serial from 1 to the present one, which is not that of the entity
 pub record IsOfAnother (salt : List ℕ) (a : Airspace) (y : Entity) (ovn : List ℕ) : Type 0 where
   pub serial : ℕ
   pub positive : 1 ≤ serial
@@ -48,30 +41,11 @@ pub record IsOfAnother (salt : List ℕ) (a : Airspace) (y : Entity) (ovn : List
   pub other : serial ≢ y.serial
   pub text : ovn ≡ ovn_text salt serial
 
--- what a put needs to know, by kinds
-abbrev pub needed_put : Kind → Airspace → Option Caller → ℕ → Put → List Entity
-needed_put Intent a caller id put = needed_intents a id put
-needed_put Constraint a (Some caller) id put = needed_constraints a caller put
-needed_put Constraint a None id put = []
-
--- and a call
-abbrev pub needed_for : Kind → Airspace → Option Caller → Operation → List Entity
-needed_for kind a caller (Create id put) = needed_put kind a caller id put
-needed_for kind a caller (Update id ovn put) = needed_put kind a caller id put
-needed_for kind a caller op = []
-
-abbrev pub needed_of : Kind → Airspace → Call → List Entity
-needed_of kind a c = needed_for kind a c.caller c.op
-
 -- ---- the reply
 
-abbrev pub listed : Kind → Missing → List Reference
-listed Intent m = m.intents
-listed Constraint m = m.constraints
-
--- A denial by one of P1 to P14; one by P14 lists the entity, as the caller may see it.
+-- A denial by one of P1 to P14; one by P14 lists the entity.
 abbrev pub IsRefusedFor : Kind → Airspace → Call → Entity → Reply → Type 0
-IsRefusedFor kind a c y (Denied p m) = (number_of p ≤ 14) × (p ≡ Key → (caller : Caller) → c.caller ≡ Some caller → Contains (listed kind m) (view_of a caller.uss y))
+IsRefusedFor kind a c y (Denied p m) = (number_of p ≤ 14) × (p ≡ Key → IsListed kind a c.caller y m)
 IsRefusedFor kind a c y (Done answer) = ⊥
 IsRefusedFor kind a c y Fault = ⊥
 IsRefusedFor kind a c y Stopped = ⊥
@@ -85,13 +59,14 @@ FailsOrIsRefused kind a c y Stopped = Unit {0}
 
 -- ---- the law
 
--- A put needs to know an entity, and its key has version numbers of other serials alone.
+-- A put needs to know an entity, and its key has OVNs of other serials alone: an old one of that entity,
+-- and those of others.
 pub record IsStale (salt : List ℕ) (kind : Kind) (a : Airspace) (c : Call) (y : Entity) : Type 0 where
   pub numbered : AllNumbered salt a
   pub differ : DifferUpTo salt a.serial
-  pub needed : Contains (needed_of kind a c) y
+  pub needs : Contains (needed kind a c.caller c.op) y
   pub old : AllByRecursion (IsOfAnother salt a y) (key_shown c.op)
 
--- It is refused for that entity, if no earlier rule is broken.
+-- The policy refuses it for that entity, or for an earlier rule that it breaks.
 abbrev pub StaleIsRefused : Type 0
 StaleIsRefused = (salt : List ℕ) (a : Airspace) (now : ℕ) (c : Call) (kind : Kind) (y : Entity) → IsStale salt kind a c y → IsRefusedFor kind a c y (step salt a now c).1

@@ -5,7 +5,7 @@ ghost use Rattle.policy_core.specs.Missing.{missing_by, missing_put, needs_key};
 ghost use Rattle.policy_core.specs.Policy.{breaks, breaks_found, early_rules, standing_rules};
 ghost use Rattle.service_core.specs.Looks.{Looks, IsGround, IsFirst, IsReady, IsReadyIfAllowed, Judges, verdict_of};
 
-use crate::look::{Grounds, Halt, lacking, look};
+use crate::look::{Grounds, Halt, look, missing_among};
 use entity_core::entity_id::EntityId;
 use entity_core::nature::Kind;
 use policy_core::call::{Call, Operation, Put};
@@ -20,13 +20,14 @@ use std::alloc::Global;
 /// What was decided of a call.
 #[derive(Debug, Drop)]
 pub enum Verdict {
-    /// It breaks this rule first; this is what its key lacks.
+    /// It breaks this rule first; this is what is missing.
     Refused(Rule, Missing),
     /// It breaks no rule; this was looked up for it.
     Allowed(Grounds),
 }
 
-// All that the key of an operation lacks.
+// All that is missing from the key of an operation.
+#[tactic(auto, unfolding(policy_core::specs::Missing::missing_from))]
 fn missing_by<S: Space>(
     space: &mut S,
     alloc: Global,
@@ -42,7 +43,7 @@ fn missing_by<S: Space>(
     }
 }
 
-// All that the key of a put lacks.
+// All that is missing from the key of a put.
 fn missing_of<S: Space>(
     space: &mut S,
     alloc: Global,
@@ -70,7 +71,7 @@ fn missing_put<S: Space>(
 {
     let key = put.key.items();
     let areas = put.volumes.areas(alloc)?;
-    let intents = lacking(
+    let intents = missing_among(
         space,
         alloc,
         &caller.uss,
@@ -85,7 +86,7 @@ fn missing_put<S: Space>(
             constraints: References::new(alloc),
         });
     }
-    let constraints = lacking(
+    let constraints = missing_among(
         space,
         alloc,
         &caller.uss,

@@ -3,7 +3,7 @@ ghost use Rattle.service_core.specs.Aware.{MeetingIsMutual};
 ghost use Rattle.service_core.specs.Blind.{CallIsBlind, RunIsBlind};
 ghost use Rattle.service_core.specs.Stale.{StaleIsRefused};
 
-/// What a supplier's call is told, and what it leaves, does not depend on the version numbers of what
+/// What a supplier's call is told, and what it leaves, does not depend on the OVNs of what
 /// others manage, where its key knows as much of them.
 pub fn call_is_blind()
     ensures { CallIsBlind }
@@ -14,7 +14,7 @@ pub fn run_is_blind()
     ensures { RunIsBlind }
 {}
 
-/// A put whose key has old version numbers alone is refused for each entity that it needs to know.
+/// A put whose key has old OVNs alone is refused for each entity that it needs to know.
 pub fn stale_is_refused()
     ensures { StaleIsRefused }
 {}

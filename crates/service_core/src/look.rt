@@ -4,7 +4,7 @@ ghost use Rattle.std.specs.List.{All, filter_map, slice_get};
 ghost use Rattle.std.specs.FinMap.{get};
 ghost use Rattle.entity_core.specs.Airspace.{availability_of};
 ghost use Rattle.entity_core.specs.Search.{meeting_in};
-ghost use Rattle.policy_core.specs.Missing.{lacking};
+ghost use Rattle.policy_core.specs.Missing.{missing_from};
 ghost use Rattle.policy_core.specs.Standing.{found_of, kept_of};
 ghost use Rattle.policy_core.specs.View.{view_of};
 ghost use Rattle.service_core.specs.Looks.{Looks, IsGround};
@@ -208,9 +208,9 @@ fn references_at<S: Space>(
     Ok(References::from_vec(items))
 }
 
-/// The references of the entities of a kind, but the one of an id, that meet some area and whose
-/// version numbers are not in the key.
-pub fn lacking<S: Space>(
+/// The references of the entities of a kind, but the one of an id, that meet some area and whose OVNs
+/// are not in the key.
+pub fn missing_among<S: Space>(
     space: &mut S,
     alloc: Global,
     uss: &UssId,
@@ -219,7 +219,7 @@ pub fn lacking<S: Space>(
     except: Option<EntityId>,
     key: &[Ovn],
 ) -> Result<References, Halt>
-    ensures { Looks S.holds S.is_sound S.refusals S.is_broken space.old space.new result (λ a references. references ≡ map (view_of a uss.now) (lacking key.now (meeting_in a.entities kind areas.now except))) }
+    ensures { Looks S.holds S.is_sound S.refusals S.is_broken space.old space.new result (λ a references. references ≡ map (view_of a uss.now) (missing_from key.now (meeting_in a.entities kind areas.now except))) }
 {
     let needed = look_meeting(space, kind, areas, except)?;
     let places = missing(alloc, key, &needed)?;

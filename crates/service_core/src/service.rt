@@ -154,8 +154,8 @@ impl<S: Space + Drop> Service<S> {
     /// call after it. A call that breaks one of P1 to P6 is denied without memory, and the space is not
     /// asked.
     ///
-    /// A put that needs to know an entity, and whose key has version numbers of other serials alone,
-    /// is not done: it is denied by one of P1 to P14, and where it is P14, the entity is listed.
+    /// A put that needs to know an entity, and whose key has OVNs of other serials alone, is not done:
+    /// it is denied by one of P1 to P14, and where it is P14, the entity is listed.
     pub fn call(&mut self, alloc: Global, now: u64, call: &Call) -> Reply
         ensures salt { salt_of self.new ≡ salt_of self.old }
         ensures stays_shut { IsTrue (is_shut self.old) → (result ≡ Reply.Stopped) × (self.new ≡ self.old) }
@@ -184,7 +184,7 @@ impl<S: Space + Drop> Service<S> {
     ///
     /// Where the space was empty and nothing stopped: of two entities that meet in the end, where the
     /// later one is an intent that is planned or flown as planned, the last put of the later one had
-    /// the version number of the other in its key.
+    /// the OVN of the other in its key (that of a constraint, if its caller processes constraints).
     pub fn run(&mut self, alloc: Global, calls: &[(u64, Call)]) -> Result<Vec<Reply>, AllocError>
         ensures none_made { OnErr result (self.new ≡ self.old) }
         ensures salt { salt_of self.new ≡ salt_of self.old }
@@ -197,7 +197,7 @@ impl<S: Space + Drop> Service<S> {
             → Runs S.holds (salt_of self.old) a calls.now replies.items (space_of self.new)) }
         ensures cause { is_shut self.old ≡ false → IfOk result (λ replies. has_stopped replies.items ≡ true → S.is_broken (space_of self.new) ≡ true) }
         ensures aware { is_shut self.old ≡ false → S.is_sound (space_of self.new) → IfOk result (λ replies. has_stopped replies.items ≡ false → (n : ℕ) → IsContent S.holds (space_of self.old) (empty_at n)
-            → (a : Airspace) → S.holds (space_of self.new) a → Aware calls.now replies.items a) }
+            → (a : Airspace) → S.holds (space_of self.new) a → Aware (salt_of self.old) (empty_at n) calls.now replies.items a) }
         ensures numbered { is_shut self.old ≡ false → S.is_sound (space_of self.new) → IfOk result (λ replies. has_stopped replies.items ≡ false → (n : ℕ) → IsContent S.holds (space_of self.old) (empty_at n)
             → (a : Airspace) → S.holds (space_of self.new) a → AllNumbered (salt_of self.old) a) }
     {
