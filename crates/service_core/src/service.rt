@@ -162,7 +162,8 @@ impl<S: Space + Drop> Service<S> {
         ensures shuts { is_shut self.old ≡ false → is_shut self.new ≡ is_stopped result }
         ensures early { is_shut self.old ≡ false → (a : Airspace) (t : ℕ) → IfSome (find (breaks a t call.now) early_rules) (λ p. (result ≡ Reply.Denied p nothing_missing) × (self.new ≡ self.old)) }
         ensures answers { is_shut self.old ≡ false → Answers S.holds S.is_sound S.refusals S.is_broken (salt_of self.old) now call.now (space_of self.old) (space_of self.new) result }
-        ensures stale { is_shut self.old ≡ false → S.is_sound (space_of self.new) → (a : Airspace) → IsContent S.holds (space_of self.old) a
+        ensures stale { is_shut self.old ≡ false → S.is_sound (space_of self.new)
+            → (a : Airspace) → IsContent S.holds (space_of self.old) a
             → (kind : Kind) (y : Entity) → IsStale (salt_of self.old) kind a call.now y → FailsOrIsRefused kind a call.now y result }
     {
         if self.stopped {
@@ -196,9 +197,14 @@ impl<S: Space + Drop> Service<S> {
         ensures runs { is_shut self.old ≡ false → S.is_sound (space_of self.new) → IfOk result (λ replies. (a : Airspace) → IsContent S.holds (space_of self.old) a
             → Runs S.holds (salt_of self.old) a calls.now replies.items (space_of self.new)) }
         ensures cause { is_shut self.old ≡ false → IfOk result (λ replies. has_stopped replies.items ≡ true → S.is_broken (space_of self.new) ≡ true) }
-        ensures aware { is_shut self.old ≡ false → S.is_sound (space_of self.new) → IfOk result (λ replies. has_stopped replies.items ≡ false → (n : ℕ) → IsContent S.holds (space_of self.old) (empty_at n)
-            → (a : Airspace) → S.holds (space_of self.new) a → Aware (salt_of self.old) (empty_at n) calls.now replies.items a) }
-        ensures numbered { is_shut self.old ≡ false → S.is_sound (space_of self.new) → IfOk result (λ replies. has_stopped replies.items ≡ false → (n : ℕ) → IsContent S.holds (space_of self.old) (empty_at n)
+        ensures aware { is_shut self.old ≡ false → S.is_sound (space_of self.new)
+            → IfOk result (λ replies. has_stopped replies.items ≡ false
+            → (n : ℕ) → IsContent S.holds (space_of self.old) (empty_at n)
+            → (a : Airspace) → S.holds (space_of self.new) a
+            → Aware (salt_of self.old) (empty_at n) calls.now replies.items a) }
+        ensures numbered { is_shut self.old ≡ false → S.is_sound (space_of self.new)
+            → IfOk result (λ replies. has_stopped replies.items ≡ false
+            → (n : ℕ) → IsContent S.holds (space_of self.old) (empty_at n)
             → (a : Airspace) → S.holds (space_of self.new) a → AllNumbered (salt_of self.old) a) }
     {
         let mut replies = Vec::with_capacity(alloc, calls.len())?;

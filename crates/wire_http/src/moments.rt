@@ -90,7 +90,8 @@ impl Moments for Listed {
 
     /// The next moment of the list. Only where none is left there is a fault.
     fn next(&mut self) -> Result<u64, ClockFault>
-        ensures moment { IfOk result (λ moment. moments_left self.old ≡ moment ∷ moments_left self.new) }
+        ensures moment { IfOk result (λ moment.
+            moments_left self.old ≡ moment ∷ moments_left self.new) }
         ensures ok { OnOk result (faults_of self.new ≡ faults_of self.old) }
         ensures err { OnErr result (faults_of self.new ≡ one_more (faults_of self.old)) }
         ensures ended { OnErr result (moments_left self.old ≡ []) }

@@ -40,7 +40,8 @@ const REQUESTS: u32 = 100;
 
 // The reply to a call, asked for once.
 fn reply_to<S: Space + Drop>(alloc: Global, service: &mut Service<S>, pending: &Pending) -> Reply
-    ensures reply { IsReplyTo S.holds S.is_sound S.refusals S.is_broken service.old service.new pending.now.moment pending.now.call result }
+    ensures reply { IsReplyTo S.holds S.is_sound S.refusals S.is_broken service.old service.new
+        pending.now.moment pending.now.call result }
     ensures salt { salt_of service.new ≡ salt_of service.old }
     ensures shut { is_shut service.old ≡ true → service.new ≡ service.old }
     ensures sound { S.is_sound (space_of service.new) → S.is_sound (space_of service.old) }

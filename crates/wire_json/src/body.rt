@@ -27,7 +27,8 @@ pub struct PathWords<'a> {
 /// The JSON value that the bytes are.
 fn json_of(alloc: Global, body: &[u8]) -> Result<Value, BodyFault>
     ensures ok { IfOk result (λ v. IsJson body.now (view v)) }
-    ensures malformed { IfErr result (λ e. e ≡ BodyFault.Malformed → (d : Data) → IsJson body.now d → ⊥) }
+    ensures malformed { IfErr result (λ e. e ≡ BodyFault.Malformed
+        → (d : Data) → IsJson body.now d → ⊥) }
 {
     match Value::from_slice(alloc, body) {
         Ok(value) => Ok(value),
@@ -141,7 +142,8 @@ pub fn read_body(
     body: &[u8],
 ) -> Result<Operation, BodyFault>
     ensures ok { IfOk result (λ op. IsBody kind (words_of words.now) body.now op) }
-    ensures malformed { IfErr result (λ e. e ≡ BodyFault.Malformed → (op : Operation) → IsBody kind (words_of words.now) body.now op → ⊥) }
+    ensures malformed { IfErr result (λ e. e ≡ BodyFault.Malformed
+        → (op : Operation) → IsBody kind (words_of words.now) body.now op → ⊥) }
 {
     match kind {
         OpKind::Query(kind) => query_of(alloc, kind, words, &json_of(alloc, body)?),

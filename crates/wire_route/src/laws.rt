@@ -16,16 +16,26 @@ pub fn one_route()
 /// What some paths lead to: `quer` and `queryx` name entities, and `query` may stand where an OVN
 /// stands.
 pub fn sample_paths()
-    ensures intents { IsRoute (codes "/dss/v1/operational_intent_references/query") (Query Intent) (one_word (codes "query")) }
-    ensures intent { IsRoute (codes "/dss/v1/operational_intent_references/a1") (Entity Intent) (one_word (codes "a1")) }
-    ensures intent_at { IsRoute (codes "/dss/v1/operational_intent_references/a1/o1") (EntityAtOvn Intent) (two_words (codes "a1") (codes "o1")) }
-    ensures constraints { IsRoute (codes "/dss/v1/constraint_references/query") (Query Constraint) (one_word (codes "query")) }
-    ensures constraint { IsRoute (codes "/dss/v1/constraint_references/c1") (Entity Constraint) (one_word (codes "c1")) }
-    ensures constraint_at { IsRoute (codes "/dss/v1/constraint_references/c1/o1") (EntityAtOvn Constraint) (two_words (codes "c1") (codes "o1")) }
-    ensures supplier { IsRoute (codes "/dss/v1/uss_availability/query") Availability (one_word (codes "query")) }
-    ensures shorter { IsRoute (codes "/dss/v1/operational_intent_references/quer") (Entity Intent) (one_word (codes "quer")) }
-    ensures longer { IsRoute (codes "/dss/v1/operational_intent_references/queryx") (Entity Intent) (one_word (codes "queryx")) }
-    ensures as_ovn { IsRoute (codes "/dss/v1/operational_intent_references/a1/query") (EntityAtOvn Intent) (two_words (codes "a1") (codes "query")) }
+    ensures intents { IsRoute (codes "/dss/v1/operational_intent_references/query")
+        (Query Intent) (one_word (codes "query")) }
+    ensures intent { IsRoute (codes "/dss/v1/operational_intent_references/a1")
+        (Entity Intent) (one_word (codes "a1")) }
+    ensures intent_at { IsRoute (codes "/dss/v1/operational_intent_references/a1/o1")
+        (EntityAtOvn Intent) (two_words (codes "a1") (codes "o1")) }
+    ensures constraints { IsRoute (codes "/dss/v1/constraint_references/query")
+        (Query Constraint) (one_word (codes "query")) }
+    ensures constraint { IsRoute (codes "/dss/v1/constraint_references/c1")
+        (Entity Constraint) (one_word (codes "c1")) }
+    ensures constraint_at { IsRoute (codes "/dss/v1/constraint_references/c1/o1")
+        (EntityAtOvn Constraint) (two_words (codes "c1") (codes "o1")) }
+    ensures supplier { IsRoute (codes "/dss/v1/uss_availability/query")
+        Availability (one_word (codes "query")) }
+    ensures shorter { IsRoute (codes "/dss/v1/operational_intent_references/quer")
+        (Entity Intent) (one_word (codes "quer")) }
+    ensures longer { IsRoute (codes "/dss/v1/operational_intent_references/queryx")
+        (Entity Intent) (one_word (codes "queryx")) }
+    ensures as_ovn { IsRoute (codes "/dss/v1/operational_intent_references/a1/query")
+        (EntityAtOvn Intent) (two_words (codes "a1") (codes "query")) }
 {}
 
 /// Some paths that lead nowhere.
