@@ -1,0 +1,50 @@
+"""The files of requests in examples/, each with the answers that stand beside it.
+
+The answers were written from the rules and formats that docs/POLICY.md states, their OVNs by another program's
+SHA-256."""
+import json
+import re
+
+import wire
+from program import BUILT, TOP, run
+
+FOLDER = TOP / "examples"
+COMMAND = [BUILT, "run", "--tokens", "examples/tokens.toml", "--now", "1000", "-"]
+
+
+def requests():
+    return sorted(FOLDER.glob("*.http"))
+
+
+def answered(file):
+    """How what is written of a file of requests differs from the answers beside it."""
+    wanted = (0, file.with_suffix(".answers").read_bytes(), b"")
+    got = run(COMMAND, file.read_bytes())
+    return [f"\n    wanted {wanted!r}\n    got    {got!r}"] if got != wanted else []
+
+
+def in_pairs():
+    """No answers stand without requests, and no file of requests leaves its connection open."""
+    alone = {it.stem for it in FOLDER.glob("*.answers")} - {it.stem for it in requests()}
+    found = [f"{it}.answers has no requests" for it in sorted(alone)]
+    for file in requests():
+        closing = file.read_bytes().count(b"\r\nConnection: close\r\n")
+        found += [f"{file.name} closes {closing} times"] if closing != 1 else []
+    return found
+
+
+def bodies_for_clients():
+    """Of the two bodies in docs/CLIENTS.md, that of a usual supplier is refused, and what stands for it is taken."""
+    bodies = re.findall(r"```json\n(.*?)```", (TOP / "docs" / "CLIENTS.md").read_text(), re.DOTALL)
+    target = f"{wire.INTENTS}/00000000-0000-4000-8000-0000000000a1"
+    given = b"".join(wire.request("PUT", target, "Bearer tok-a", it.encode()) for it in bodies)
+    status, output, error = run(COMMAND, given)
+    said = [json.loads(it.partition(b"\r\n\r\n")[2]) for it in wire.answers_of(output)]
+    right = [it.get("message", it.get("operational_intent_reference", {}).get("ovn")) for it in said]
+    return [f"{status}, {output!r}, {error!r}"] if (status, right, error) != (0, ["P5 FORM", wire.ovn(1)], b"") else []
+
+
+CASES = {f"example-{it.stem}": lambda it=it: answered(it) for it in requests()} | {
+    "examples-in-pairs": in_pairs,
+    "bodies-for-clients": bodies_for_clients,
+}

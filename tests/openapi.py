@@ -1,0 +1,486 @@
+"""The document of the interface, docs/openapi.yaml, beside the program: the document is one of OpenAPI 3.0, every
+example in it comes true, each operation takes the scopes that stand with it, and its schemas refuse what the program
+refuses, at each bound."""
+import json
+import pathlib
+import re
+
+import jsonschema
+import yaml
+
+import drawn_calls
+import openapi_bodies
+import wire
+import without_memory
+from plain_policy import RULES
+from program import BUILT, TOP, first_difference, run, serve
+
+NOW = 1000
+DOCUMENT = TOP / "docs" / "openapi.yaml"
+# of Debian's package openapi-specification
+SCHEMA = pathlib.Path("/usr/share/openapi-specification/schemas/v3.0/schema.json")
+METHODS = ("get", "put", "post", "delete", "options", "head", "patch", "trace")
+
+# The suppliers of the worked examples, and another one of constraints.
+TOKENS = drawn_calls.ALL_TOKENS
+ID_A, ID_B, ID_C = ("00000000-0000-4000-8000-0000000000" + end for end in ("a1", "b1", "c1"))
+
+DENIALS = {f"P{number} {name}": status for number, (status, name) in RULES.items()} | {
+    "P15 LIMIT": 503, "H1 HEAD": 400, "H2 HEADSIZE": 431, "H3 TRANSFER": 501, "H4 LENGTH": 400, "H5 BODYSIZE": 413,
+    "fault": 500, "stopped": 503,
+}
+# What no list of requests brings about in a service that began empty: the greatest serial, and a space that broke.
+UNREACHED = {"P15", "stopped"}
+
+
+def whole(value, document):
+    """A part of the document with what its references name in their place."""
+    if isinstance(value, list):
+        return [whole(it, document) for it in value]
+    if not isinstance(value, dict):
+        return value
+    if "$ref" in value:
+        part = document
+        for name in value["$ref"].removeprefix("#/").split("/"):
+            part = part[name]
+        return whole(part, document)
+    return {name: whole(it, document) for name, it in value.items()}
+
+
+def of_json_schema(schema):
+    """A schema of OpenAPI 3.0 as one of JSON Schema: null by its type, and the `$` of ECMA 262 as Python writes it."""
+    if isinstance(schema, list):
+        return [of_json_schema(it) for it in schema]
+    if not isinstance(schema, dict):
+        return schema
+    made = {name: of_json_schema(it) for name, it in schema.items()}
+    if made.pop("nullable", False) is True:
+        made["type"] = [made["type"], "null"]
+    if isinstance(made.get("pattern"), str):
+        made["pattern"] = re.sub(r"\$$", r"\\Z", made["pattern"])
+    return made
+
+
+class Document:
+    """The document, and its operations by their names."""
+
+    def __init__(self, file=DOCUMENT):
+        self.text = yaml.safe_load(file.read_text())
+        self.parts = whole(self.text, self.text)
+        self.operations = {}
+        for path, item in self.parts["paths"].items():
+            for method in METHODS:
+                if method in item:
+                    operation = Operation(path, method.upper(), item)
+                    self.operations[operation.name] = operation
+
+
+class Operation:
+    """What the document says of a method of a path."""
+
+    def __init__(self, path, method, item):
+        said = item[method.lower()]
+        self.name, self.path, self.method = said["operationId"], path, method
+        self.words = {it["name"]: it for it in item.get("parameters", ())}
+        self.scopes = {scope for one in said["security"] for scope in one}
+        self.body, self.bodies = None, {}
+        if "requestBody" in said:
+            self.body, self.bodies = schema_and_examples(said["requestBody"])
+        self.answers = {}
+        for status, response in said["responses"].items():
+            fields = fields_of(response)
+            schema, examples = schema_and_examples(response)
+            self.answers |= {f"{status} {name}": (int(status), it, schema, fields) for name, it in examples.items()}
+
+    def target(self, words=()):
+        """The path with the words given, else with the examples of its parameters."""
+        words = {name: it["example"] for name, it in self.words.items()} | dict(words)
+        return self.path.format(**words)
+
+    def request(self, token, body=None, words=(), fields=()):
+        authorization = None if token is None else f"Bearer {token}"
+        if body is None and self.bodies:
+            body = self.first()
+        text = body_of(self.bodies[body] if isinstance(body, str) else body)
+        return wire.request(self.method, self.target(words), authorization, text, fields)
+
+    def first(self):
+        """The first example of a body."""
+        return next(iter(self.bodies.values()))
+
+    def answer(self, example, closes=False):
+        status, value, _, fields = self.answers[example]
+        return wire.answer(status, wire.compact(value), fields, closes)
+
+
+def schema_and_examples(holder):
+    content = holder["content"]["application/json"]
+    examples = {name: it["value"] for name, it in content["examples"].items()}
+    return jsonschema.Draft4Validator(of_json_schema(content["schema"])), examples
+
+
+def fields_of(response):
+    """The header fields of a response that has but one value for each."""
+    enums = {name: it["schema"]["enum"] for name, it in response.get("headers", {}).items()}
+    return [f"{name}: {enum[0]}" for name, enum in enums.items() if len(enum) == 1]
+
+
+def body_of(value):
+    return value if value is None or isinstance(value, bytes) else json.dumps(value, ensure_ascii=False).encode()
+
+
+def served(requests):
+    """The answers of a stream, or why there are none."""
+    status, output, error = serve(b"".join(requests), NOW, wire.token_file(TOKENS))
+    if (status, error) != (0, b""):
+        raise ValueError(f"status {status}, {error!r}")
+    return wire.answers_of(output)
+
+
+# ---- the document itself
+
+
+def is_document():
+    """The document has the form of OpenAPI 3.0, and its examples that of their schemas and rules."""
+    document = Document()
+    validator = jsonschema.Draft4Validator(json.loads(SCHEMA.read_text()))
+    found = [f"{list(it.absolute_path)}: {it.message[:300]}" for it in validator.iter_errors(document.text)]
+    used = set(re.findall(r"#/components/[^']*", DOCUMENT.read_text())) | {
+        f"#/components/{it}" for it in ("responses/NoRoute", "responses/NoMethod")
+    }
+    for kind, parts in document.text["components"].items():
+        unused = {f"#/components/{kind}/{it}" for it in parts} - used
+        found += [f"{it} is not used" for it in sorted(unused) if kind != "securitySchemes"]
+    for operation in document.operations.values():
+        words = set(re.findall(r"{(\w+)}", operation.path))
+        found += [f"{operation.name}: other words than {words}"] if words != set(operation.words) else []
+        found += examples_that_fail(operation)
+    return found
+
+
+def examples_that_fail(operation):
+    """The examples of an operation that its schemas refuse, or whose rule has another status."""
+    found = []
+    for name, value in operation.bodies.items():
+        found += [f"{operation.name}, {name}: {it.message}" for it in operation.body.iter_errors(value)]
+    for name, word in operation.words.items():
+        if not validator_of(word["schema"]).is_valid(word["example"]):
+            found += [f"{operation.name}: the example of {name} is refused"]
+    for name, (status, value, schema, _) in operation.answers.items():
+        found += [f"{operation.name}, {name}: {it.message}" for it in schema.iter_errors(value)]
+        if "message" in value and DENIALS.get(value["message"]) != status:
+            found += [f"{operation.name}, {name}: {value['message']} has another status"]
+    return found
+
+
+def validator_of(schema):
+    return jsonschema.Draft4Validator(of_json_schema(schema))
+
+
+# ---- every example comes true
+
+# Streams of steps: the operation, the token, the example of the answer, and where it is not the first example of a
+# body the name of another or members other than its, and words where they are not the examples of the path's.
+ANOTHER, THIRD = {"entityid": ID_B}, {"entityid": ID_B[:-1] + "2"}
+AT = {serial: {"ovn": wire.ovn(serial)} for serial in range(1, 4)}
+SCENES = [
+    [
+        ("createIntent", "tok-a", "201 created"),
+        ("createIntent", "tok-a", "409 P8"),
+        ("createIntent", "tok-b", "409 missing-intent", "keyless", ANOTHER),
+        ("createIntent", "tok-b", "201 with-key", "keyed", ANOTHER),
+        ("readIntent", "tok-a", "200 own"),
+        ("readIntent", "tok-b", "200 of-another"),
+        ("queryIntents", "tok-b", "200 two", "cells"),
+        ("queryIntents", "tok-b", "200 none", "bounded"),
+        ("queryIntents", "tok-b", "413 P6", {"area_of_interest": {"cells": ["1"]}}),
+        ("createIntent", "tok-bm", "403 P11", "first", THIRD),
+        ("updateIntent", "tok-a", "200 updated"),
+        ("updateIntent", "tok-a", "409 P10"),
+        ("updateIntent", "tok-a", "400 P12", {"state": "Accepted"}, AT[3]),
+        ("updateIntent", "tok-b", "409 missing-intent", "activated", ANOTHER | AT[2]),
+        ("updateIntent", "tok-b", "403 P9", "activated", AT[3]),
+        ("updateIntent", "tok-bm", "403 P11", "activated", ANOTHER | AT[2]),
+        ("readIntent", "tok-a", "404 P7", None, THIRD),
+        ("updateIntent", "tok-a", "404 P7", "activated", THIRD),
+        ("deleteIntent", "tok-a", "404 P7", None, THIRD),
+        ("deleteIntent", "tok-b", "403 P9", None, AT[3]),
+        ("deleteIntent", "tok-a", "409 P10"),
+        ("deleteIntent", "tok-a", "200 deleted", None, AT[3]),
+    ],
+    [
+        ("createConstraint", "tok-c", "201 created"),
+        ("createConstraint", "tok-c", "409 P8"),
+        ("createIntent", "tok-bc", "409 missing-constraint", "keyless"),
+        ("readConstraint", "tok-c", "200 own"),
+        ("readConstraint", "tok-bc", "200 of-another"),
+        ("queryConstraints", "tok-bc", "200 one", "cells"),
+        ("queryConstraints", "tok-bc", "200 none", "later"),
+        ("queryConstraints", "tok-bc", "413 P6", {"area_of_interest": {"cells": ["1"]}}),
+        ("updateConstraint", "tok-c", "200 updated"),
+        ("updateConstraint", "tok-c", "409 P10"),
+        ("updateConstraint", "tok-d", "403 P9", "longer", AT[2]),
+        ("readConstraint", "tok-c", "404 P7", None, THIRD),
+        ("updateConstraint", "tok-c", "404 P7", "longer", THIRD),
+        ("deleteConstraint", "tok-c", "404 P7", None, THIRD),
+        ("deleteConstraint", "tok-d", "403 P9", None, AT[2]),
+        ("deleteConstraint", "tok-c", "409 P10"),
+        ("deleteConstraint", "tok-c", "200 deleted", None, AT[2]),
+    ],
+    [
+        ("readAvailability", "tok-a", "200 never-set"),
+        ("setAvailability", "tok-v", "200 set", "first"),
+        ("setAvailability", "tok-v", "409 P10", "first"),
+        ("setAvailability", "tok-v", "200 set-again", "again"),
+        ("readAvailability", "tok-a", "200 was-set"),
+    ],
+]
+# A token whose scopes open each operation.
+OPENED_BY = {
+    **dict.fromkeys(("queryIntents", "readIntent", "createIntent", "updateIntent", "deleteIntent"), "tok-a"),
+    **dict.fromkeys(("queryConstraints", "readConstraint"), "tok-c"),
+    **dict.fromkeys(("createConstraint", "updateConstraint", "deleteConstraint"), "tok-c"),
+    **dict.fromkeys(("readAvailability", "setAvailability"), "tok-v"),
+}
+# What makes a request break a rule of the wire.
+WIRES = {"H1": ["no field"], "H2": ["X: y"] * 65, "H3": ["Transfer-Encoding: chunked"], "H4": ["Content-Length: 4x"],
+         "H5": ["Content-Length: 1048577"]}
+
+
+def scenes(document):
+    """The steps as requests, with the operation and the example of the answer of each."""
+    for steps in SCENES:
+        stream = []
+        for name, token, example, *more in steps:
+            operation, (body, words) = document.operations[name], (*more, None, None)[:2]
+            body = operation.first() | body if isinstance(body, dict) else body
+            stream.append((operation.request(token, body, words or ()), name, example))
+        yield stream
+
+
+def with_volume(operation, **members):
+    """The first example of a put with other members of its volume."""
+    put = operation.first()
+    return put | {"extents": [put["extents"][0] | members]}
+
+
+def early(operation):
+    """Requests of an operation that are denied whatever is kept."""
+    token = OPENED_BY[operation.name]
+    yield operation.request(None), "401 P3"
+    yield operation.request("tok-n"), "403 P4"
+    if operation.body is None:
+        yield operation.request(token, words={next(iter(operation.words)): "+"}), "400 P5"
+        return
+    yield operation.request(token, b"["), "400 P5"
+    if "extents" in operation.first():
+        yield operation.request(token, with_volume(operation, cells=["1"])), "413 P6"
+        # of a creation alone: what is to be updated must be there
+        if operation.name.startswith("create"):
+            yield operation.request(token, with_volume(operation, time_end=NOW)), "400 P13"
+
+
+def ended(document, name, creation):
+    """An update by which an entity would have ended."""
+    operation, created = document.operations[name], document.operations[creation]
+    request = operation.request(OPENED_BY[name], with_volume(operation, time_end=NOW))
+    first = next(it for it in created.answers if it.startswith("201"))
+    return [(created.request(OPENED_BY[creation]), creation, first), (request, name, "400 P13")]
+
+
+def all_streams(document):
+    yield from scenes(document)
+    for name, operation in document.operations.items():
+        yield [(request, name, example) for request, example in early(operation)]
+    yield ended(document, "updateIntent", "createIntent")
+    yield ended(document, "updateConstraint", "createConstraint")
+
+
+def is_valid_answer(operation, example, text):
+    """Whether the body of an answer is one of the schema that stands with its status."""
+    _, _, schema, _ = operation.answers[example]
+    return schema.is_valid(json.loads(text.partition(b"\r\n\r\n")[2]))
+
+
+def come_true():
+    """Every example is sent, and the answer is the example and fits its schema. No example is left out."""
+    document, found, seen = Document(), [], set()
+    for stream in all_streams(document):
+        wanted = [document.operations[name].answer(example) for _, name, example in stream]
+        got = served([request for request, _, _ in stream])
+        why = first_difference(wanted, got)
+        found += [f"{stream[0][1]} and what follows: {why}"] if why else []
+        for (_, name, example), text in zip(stream, got):
+            if not is_valid_answer(document.operations[name], example, text):
+                found += [f"{name}, {example}: {text!r} does not fit the schema"]
+        seen |= {(name, example) for _, name, example in stream}
+        seen |= {(name, request) for request, name, _ in stream}
+    for name, operation in document.operations.items():
+        for rule, fields in WIRES.items():
+            example = next(it for it in operation.answers if it.endswith(f" {rule}"))
+            bears = f"Bearer {OPENED_BY[name]}"
+            got = served([wire.request(operation.method, operation.target(), bears, fields=fields)])
+            found += [f"{name}, {rule}: {got!r}"] if got != [operation.answer(example, closes=True)] else []
+            seen.add((name, example))
+        found += left_out(operation, seen)
+    return found + faults(document)
+
+
+def left_out(operation, seen):
+    """The examples of an operation that no stream has."""
+    answers = {it for it in operation.answers if (operation.name, it) not in seen}
+    left = [it for it in answers if it.partition(" ")[2] not in UNREACHED | {"fault"}]
+    sent = b"".join(request for name, request in seen if name == operation.name and isinstance(request, bytes))
+    left += [name for name, it in operation.bodies.items() if body_of(it) not in sent]
+    return [f"{operation.name}: {it} is not sent" for it in sorted(left)]
+
+
+def faults(document):
+    """Where a growth of memory is refused, the answer is the example of a fault, which all operations share."""
+    operation = document.operations["readAvailability"]
+    request = operation.request("tok-a", fields=["Connection: close"])
+    wanted = operation.answer("500 fault", closes=True)
+    command = [BUILT, "run", "--tokens", str(TOP / "examples" / "tokens.toml"), "--now", str(NOW), "-"]
+    came = any(got == (0, wanted, b"") for _, got, _ in without_memory.each_refused(command, request))
+    shared = [it.name for it in document.operations.values() if it.answer("500 fault", closes=True) != wanted]
+    return [f"{it}: another fault" for it in shared] + ([] if came else [f"no answer is {wanted!r}"])
+
+
+def others_denied():
+    """A path of no route is P1, and a method that a path does not take is P2, with the path's methods."""
+    document, found, requests, wanted = Document(), [], [], []
+    responses = document.parts["components"]["responses"]
+    (schema, no_route), (_, no_method) = (schema_and_examples(responses[it]) for it in ("NoRoute", "NoMethod"))
+    allow = responses["NoMethod"]["headers"]["Allow"]["schema"]["enum"]
+    for path, item in document.parts["paths"].items():
+        target = re.sub(r"{\w+}", "x", path)
+        taken = ", ".join(it.upper() for it in METHODS if it in item)
+        found += [] if taken in allow else [f"{taken} is no value of Allow"]
+        for method in METHODS:
+            if method not in item:
+                requests.append(wire.request(method.upper(), target))
+                wanted.append(wire.answer(405, wire.compact(no_method["P2"]), [f"Allow: {taken}"]))
+        requests.append(wire.request("GET", f"{target}/y/z"))
+        wanted.append(wire.answer(404, wire.compact(no_route["P1"])))
+    bodies = [it for responses in (no_route, no_method) for it in responses.values()]
+    found += [] if all(map(schema.is_valid, bodies)) else ["P1 or P2 does not fit its schema"]
+    why = first_difference(wanted, served(requests))
+    return found + ([why] if why else [])
+
+
+def scopes_open():
+    """A token with one scope alone is denied by P4 exactly where the document does not list it with the operation."""
+    document, found = Document(), []
+    schemes = document.text["components"]["securitySchemes"]
+    tokens = {f"tok-{at}": ("uss-a", {scope}) for at, scope in enumerate(schemes)}
+    cases = [(operation, text) for operation in document.operations.values() for text in tokens]
+    requests = [operation.request(text) for operation, text in cases]
+    status, output, error = serve(b"".join(requests), NOW, wire.token_file(tokens))
+    answers = wire.answers_of(output)
+    if (status, error, len(answers)) != (0, b"", len(cases)):
+        return [f"status {status}, {error!r}, {len(answers)} answers"]
+    for (operation, text), answer in zip(cases, answers):
+        (scope,) = tokens[text][1]
+        if (answer == operation.answer("403 P4")) == (scope in operation.scopes):
+            found += [f"{operation.name} by {scope}: {answer!r}"]
+    return found
+
+
+# ---- what the schemas say of bodies and words
+
+
+def malformed(requests):
+    """Whether each request is P5, in streams of a hundred."""
+    wanted = wire.answer(400, '{"message":"P5 FORM"}')
+    closing = wire.answer(400, '{"message":"P5 FORM"}', closes=True)
+    for at in range(0, len(requests), wire.MOST_REQUESTS):
+        some = requests[at : at + wire.MOST_REQUESTS]
+        got = served(some)
+        if len(got) != len(some):
+            raise ValueError(f"{len(got)} answers to {len(some)} requests")
+        yield from (it in (wanted, closing) for it in got)
+
+
+def judged(operation, cases):
+    """What the schema and what the program say of each body of an operation: whether they refuse it."""
+    token = OPENED_BY[operation.name] if operation.name != "createIntent" else "tok-as"
+    requests = [operation.request(token, body) for _, body in cases]
+    refused = malformed(requests)
+    return [(name, not operation.body.is_valid(json.loads(body)), it) for (name, body), it in zip(cases, refused)]
+
+
+def bounds_of_bodies():
+    """At each bound and form of a body, the schema and the program refuse the same bodies."""
+    document, found, counts = Document(), [], {True: 0, False: 0}
+    for name, bodies in openapi_bodies.BODIES.items():
+        wanted, cases = [], []
+        for is_wrong, case, value in openapi_bodies.each_edit(bodies.body, bodies.edits):
+            wanted.append(is_wrong)
+            cases.append((case, value))
+        for is_wrong, (case, *refused) in zip(wanted, judged(document.operations[name], cases)):
+            counts[is_wrong] += 1
+            if refused != [is_wrong, is_wrong]:
+                found += [f"{name}, {case}: to be refused {is_wrong}, by schema and program {refused}"]
+    print(f"bodies at their bounds: {counts[True]} refused, {counts[False]} let pass")
+    return found + ([] if min(counts.values()) >= 60 else ["under 60 of a kind"])
+
+
+def bounds_of_answers():
+    """At each bound of an answer, the schema refuses what is beyond it. Such answers are made up: none comes."""
+    document, found = Document(), []
+    _, value, schema, _ = document.operations["createIntent"].answers["201 created"]
+    for is_wrong, case, text in openapi_bodies.each_edit(value, openapi_bodies.OF_ANSWER):
+        found += [f"{case}: to be refused {is_wrong}"] if schema.is_valid(json.loads(text)) == is_wrong else []
+    for operation in document.operations.values():
+        for example, (_, value, schema, _) in operation.answers.items():
+            others = openapi_bodies.with_other_members(value)
+            found += [f"{operation.name}, {example}: {it} passes" for it in others if schema.is_valid(it)]
+    return found
+
+
+def beyond_schemas():
+    """What no schema says, as the document tells: the schema lets it pass, and the program refuses it."""
+    document, found = Document(), []
+    for name, bodies in openapi_bodies.UNSAID.items():
+        operation = document.operations[name]
+        for case, *refused in judged(operation, bodies):
+            found += [f"{name}, {case}: by schema and program {refused}"] if refused != [False, True] else []
+    return found
+
+
+def tokens_of_cells():
+    """The pattern of a cell's token is that of the program, for all tokens of up to two digits and some longer ones."""
+    operation = Document().operations["queryIntents"]
+    digits = "0123456789abcdefABCDEF"
+    tokens = [*digits, *(a + b for a in digits for b in digits), *(f"1{it}1" for it in digits), *openapi_bodies.TOKENS]
+    cases = [(it, json.dumps({"area_of_interest": {"cells": [it]}}).encode()) for it in tokens]
+    return [f"{it}: by schema and program {a, b}" for it, a, b in judged(operation, cases) if a != b]
+
+
+def words_of_paths():
+    """At each bound of a path's word, the schema and the program refuse the same words."""
+    document, found = Document(), []
+    for name, word, wrong, right in openapi_bodies.WORDS:
+        operation = document.operations[name]
+        schema = validator_of(operation.words[word]["schema"])
+        values = [(it, True) for it in wrong] + [(it, False) for it in right]
+        requests = [operation.request(OPENED_BY[name], words={word: it}) for it, _ in values]
+        # an empty word is none, and the path another one
+        found += [f"{name}: {word} may be empty"] if schema.is_valid("") else []
+        for (value, wanted), by_program in zip(values, malformed(requests)):
+            if (not schema.is_valid(value), by_program) != (wanted, wanted):
+                found += [f"{name}, {word} {value!r}: to be refused {wanted}, by the program {by_program}"]
+    return found
+
+
+CASES = {
+    "openapi-document": is_document,
+    "openapi-examples": come_true,
+    "openapi-no-operation": others_denied,
+    "openapi-scopes": scopes_open,
+    "openapi-bounds": bounds_of_bodies,
+    "openapi-answers": bounds_of_answers,
+    "openapi-unsaid": beyond_schemas,
+    "openapi-cells": tokens_of_cells,
+    "openapi-words": words_of_paths,
+}
