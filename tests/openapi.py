@@ -1,6 +1,7 @@
 """The document of the interface, docs/openapi.yaml, beside the program: the document is one of OpenAPI 3.0, every
 example in it comes true, each operation takes the scopes that stand with it, and its schemas refuse what the program
 refuses, at each bound."""
+import functools
 import json
 import pathlib
 import re
@@ -19,11 +20,11 @@ NOW = 1000
 DOCUMENT = TOP / "docs" / "openapi.yaml"
 # of Debian's package openapi-specification
 SCHEMA = pathlib.Path("/usr/share/openapi-specification/schemas/v3.0/schema.json")
+DRAWN = range(1, 11)
 METHODS = ("get", "put", "post", "delete", "options", "head", "patch", "trace")
 
 # The suppliers of the worked examples, and another one of constraints.
 TOKENS = drawn_calls.ALL_TOKENS
-ID_A, ID_B, ID_C = ("00000000-0000-4000-8000-0000000000" + end for end in ("a1", "b1", "c1"))
 
 DENIALS = {f"P{number} {name}": status for number, (status, name) in RULES.items()} | {
     "P15 LIMIT": 503, "H1 HEAD": 400, "H2 HEADSIZE": 431, "H3 TRANSFER": 501, "H4 LENGTH": 400, "H5 BODYSIZE": 413,
@@ -64,8 +65,8 @@ def of_json_schema(schema):
 class Document:
     """The document, and its operations by their names."""
 
-    def __init__(self, file=DOCUMENT):
-        self.text = yaml.safe_load(file.read_text())
+    def __init__(self):
+        self.text = yaml.safe_load(DOCUMENT.read_text())
         self.parts = whole(self.text, self.text)
         self.operations = {}
         for path, item in self.parts["paths"].items():
@@ -73,6 +74,20 @@ class Document:
                 if method in item:
                     operation = Operation(path, method.upper(), item)
                     self.operations[operation.name] = operation
+
+    def operation_at(self, method, target):
+        """The operation of a method and a target, or None. A path without words comes before one with them."""
+        path = target.partition("?")[0]
+        for template in sorted(self.parts["paths"], key=lambda it: it.count("{")):
+            if re.fullmatch(re.sub(r"{\w+}", "[^/]+", template), path):
+                there = [it for it in self.operations.values() if (it.path, it.method) == (template, method)]
+                return there[0] if there else None
+        return None
+
+
+@functools.cache
+def the_document():
+    return Document()
 
 
 class Operation:
@@ -142,7 +157,7 @@ def served(requests):
 
 def is_document():
     """The document has the form of OpenAPI 3.0, and its examples that of their schemas and rules."""
-    document = Document()
+    document = the_document()
     validator = jsonschema.Draft4Validator(json.loads(SCHEMA.read_text()))
     found = [f"{list(it.absolute_path)}: {it.message[:300]}" for it in validator.iter_errors(document.text)]
     used = set(re.findall(r"#/components/[^']*", DOCUMENT.read_text())) | {
@@ -181,7 +196,7 @@ def validator_of(schema):
 
 # Streams of steps: the operation, the token, the example of the answer, and where it is not the first example of a
 # body the name of another or members other than its, and words where they are not the examples of the path's.
-ANOTHER, THIRD = {"entityid": ID_B}, {"entityid": ID_B[:-1] + "2"}
+ANOTHER, THIRD = ({"entityid": f"00000000-0000-4000-8000-0000000000{it}"} for it in ("b1", "b2"))
 AT = {serial: {"ovn": wire.ovn(serial)} for serial in range(1, 4)}
 SCENES = [
     [
@@ -304,7 +319,7 @@ def is_valid_answer(operation, example, text):
 
 def come_true():
     """Every example is sent, and the answer is the example and fits its schema. No example is left out."""
-    document, found, seen = Document(), [], set()
+    document, found, seen = the_document(), [], set()
     for stream in all_streams(document):
         wanted = [document.operations[name].answer(example) for _, name, example in stream]
         got = served([request for request, _, _ in stream])
@@ -346,9 +361,28 @@ def faults(document):
     return [f"{it}: another fault" for it in shared] + ([] if came else [f"no answer is {wanted!r}"])
 
 
+def answers_to_drawn_calls():
+    """Each answer to calls that are drawn has its status, its rule and its form in the document."""
+    document, found, count = the_document(), [], 0
+    for seed in DRAWN:
+        for request, outcome in zip(*drawn_calls.stream(seed)):
+            method, target = request.decode().split(" ", 2)[:2]
+            operation, value = document.operation_at(method, target), json.loads(outcome.body)
+            if operation is None:
+                right = outcome.why in (1, 2)
+            else:
+                alike = [it for it in operation.answers.values() if it[0] == outcome.status]
+                rules = [it[1].get("message") for it in alike]
+                right = value.get("message") in rules and alike[0][2].is_valid(value)
+            count += 1
+            found += [] if right else [f"{method} {target}: {outcome.status} {outcome.body}"]
+    print(f"answers to drawn calls: {count}")
+    return found
+
+
 def others_denied():
     """A path of no route is P1, and a method that a path does not take is P2, with the path's methods."""
-    document, found, requests, wanted = Document(), [], [], []
+    document, found, requests, wanted = the_document(), [], [], []
     responses = document.parts["components"]["responses"]
     (schema, no_route), (_, no_method) = (schema_and_examples(responses[it]) for it in ("NoRoute", "NoMethod"))
     allow = responses["NoMethod"]["headers"]["Allow"]["schema"]["enum"]
@@ -370,7 +404,7 @@ def others_denied():
 
 def scopes_open():
     """A token with one scope alone is denied by P4 exactly where the document does not list it with the operation."""
-    document, found = Document(), []
+    document, found = the_document(), []
     schemes = document.text["components"]["securitySchemes"]
     tokens = {f"tok-{at}": ("uss-a", {scope}) for at, scope in enumerate(schemes)}
     cases = [(operation, text) for operation in document.operations.values() for text in tokens]
@@ -411,7 +445,7 @@ def judged(operation, cases):
 
 def bounds_of_bodies():
     """At each bound and form of a body, the schema and the program refuse the same bodies."""
-    document, found, counts = Document(), [], {True: 0, False: 0}
+    document, found, counts = the_document(), [], {True: 0, False: 0}
     for name, bodies in openapi_bodies.BODIES.items():
         wanted, cases = [], []
         for is_wrong, case, value in openapi_bodies.each_edit(bodies.body, bodies.edits):
@@ -427,7 +461,7 @@ def bounds_of_bodies():
 
 def bounds_of_answers():
     """At each bound of an answer, the schema refuses what is beyond it. Such answers are made up: none comes."""
-    document, found = Document(), []
+    document, found = the_document(), []
     _, value, schema, _ = document.operations["createIntent"].answers["201 created"]
     for is_wrong, case, text in openapi_bodies.each_edit(value, openapi_bodies.OF_ANSWER):
         found += [f"{case}: to be refused {is_wrong}"] if schema.is_valid(json.loads(text)) == is_wrong else []
@@ -440,7 +474,7 @@ def bounds_of_answers():
 
 def beyond_schemas():
     """What no schema says, as the document tells: the schema lets it pass, and the program refuses it."""
-    document, found = Document(), []
+    document, found = the_document(), []
     for name, bodies in openapi_bodies.UNSAID.items():
         operation = document.operations[name]
         for case, *refused in judged(operation, bodies):
@@ -450,7 +484,7 @@ def beyond_schemas():
 
 def tokens_of_cells():
     """The pattern of a cell's token is that of the program, for all tokens of up to two digits and some longer ones."""
-    operation = Document().operations["queryIntents"]
+    operation = the_document().operations["queryIntents"]
     digits = "0123456789abcdefABCDEF"
     tokens = [*digits, *(a + b for a in digits for b in digits), *(f"1{it}1" for it in digits), *openapi_bodies.TOKENS]
     cases = [(it, json.dumps({"area_of_interest": {"cells": [it]}}).encode()) for it in tokens]
@@ -459,7 +493,7 @@ def tokens_of_cells():
 
 def words_of_paths():
     """At each bound of a path's word, the schema and the program refuse the same words."""
-    document, found = Document(), []
+    document, found = the_document(), []
     for name, word, wrong, right in openapi_bodies.WORDS:
         operation = document.operations[name]
         schema = validator_of(operation.words[word]["schema"])
@@ -473,9 +507,22 @@ def words_of_paths():
     return found
 
 
-CASES = {
+def told(check):
+    """A check that fails as others do where the document lacks what it looks for, or is no YAML."""
+
+    def checked():
+        try:
+            return check()
+        except (LookupError, TypeError, AttributeError, yaml.YAMLError, jsonschema.SchemaError) as error:
+            return [repr(error)]
+
+    return checked
+
+
+CHECKS = {
     "openapi-document": is_document,
     "openapi-examples": come_true,
+    "openapi-drawn": answers_to_drawn_calls,
     "openapi-no-operation": others_denied,
     "openapi-scopes": scopes_open,
     "openapi-bounds": bounds_of_bodies,
@@ -484,3 +531,4 @@ CASES = {
     "openapi-cells": tokens_of_cells,
     "openapi-words": words_of_paths,
 }
+CASES = {name: told(check) for name, check in CHECKS.items()}

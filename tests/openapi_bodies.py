@@ -30,6 +30,11 @@ def cells(count):
     return [CELL] * count
 
 
+def nested(levels):
+    """Lists in lists."""
+    return [nested(levels - 1)] if levels > 1 else []
+
+
 def edited(body, path, value):
     """The text of a body in which what stands at the path is another value, or absent."""
     body = copy.deepcopy(body)
@@ -138,7 +143,7 @@ BODIES = {
         (("key",), ([[OVN] * 4097, {}, "x", 7, [None]], [None, ABSENT, [], [OVN] * 2, [OVN] * 4096])),
         (("key", 0), (["k" * 15, "k" * 129, *(15 * "k" + it for it in " \n\u007f\u00fc"), *NO_TEXTS],
                       ["k" * 16, "k" * 128, "!" * 16, "~" * 16])),
-        (("more",), ([], [None, 7, "x", [1e3], {"cells": []}])),
+        (("more",), ([], [None, 7, "x", [1e3], {"cells": []}, nested(126)])),
     ]),
     "createConstraint": Bodies(CREATED, [*OF_CONSTRAINT, (("key",), ([], [7, "x"])), (("state",), ([], [1, "x"]))]),
     "queryIntents": Bodies({"area_of_interest": AREA}, OF_QUERY),
@@ -169,7 +174,7 @@ UNSAID = {
         ("times in no order", in_put([VOLUME | {"time_start": 2001}])),
         ("a negative zero", in_put([VOLUME]).replace(b'"altitude_lower": 0', b'"altitude_lower": -0')),
         ("a great number in a member of another name", in_put([VOLUME])[:-1] + b',"more":1e999}'),
-        ("128 levels", in_put([VOLUME])[:-1] + b',"more":' + b"[" * 127 + b"]" * 127 + b"}"),
+        ("128 levels", in_put([VOLUME])[:-1] + b',"more":%s}' % json.dumps(nested(127)).encode()),
     ],
     "queryIntents": [
         ("altitudes in no order", in_query(b'"altitude_lower":2,"altitude_upper":1')),
