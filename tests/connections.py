@@ -149,6 +149,18 @@ def failing_devices():
     return found
 
 
+def cell_not_written():
+    """A cell that cannot be written is told, and what was written is the front of its line."""
+    line = b"89c25904 face=4 level=13 lo=288901920 hi=288901920\n"
+    found = []
+    with Room() as room:
+        for at in range(1, len(line) // 7 + 2):
+            more = {"LD_PRELOAD": room.library, "WRITE_BYTES": "7", "WRITE_FAILS": str(at)}
+            got = run([BUILT, "cell", "89c25904"], more=more)
+            found += [f"write {at}: {got!r}"] if got != (1, line[: 7 * (at - 1)], b"dss: output\n") else []
+    return found
+
+
 def truncated():
     """A put that is cut anywhere gets no answer, and the next stream finds nothing."""
     stream = MEETING[0][0]
@@ -313,6 +325,7 @@ def paths():
 CASES = {
     "connections-in-pieces": in_pieces,
     "devices-that-fail": failing_devices,
+    "cell-that-is-not-written": cell_not_written,
     "put-that-is-cut": truncated,
     "turns-that-end": turns_end,
     "greatest-body": greatest_body,

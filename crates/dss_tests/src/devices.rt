@@ -24,12 +24,9 @@ uss = \"uss-v\"
 scopes = [\"utm.availability_arbitration\"]
 ";
 
-/// A request that reads an availability, and its answer in an empty airspace.
+/// A request that reads an availability.
 pub const GET: &str =
     "GET /dss/v1/uss_availability/uss-b HTTP/1.1\r\nAuthorization: Bearer tok-a\r\nConnection: close\r\n\r\n";
-
-pub const GET_ANSWER: &str =
-    "HTTP/1.1 200 OK\r\nContent-Type: application/json\r\nContent-Length: 64\r\nConnection: close\r\n\r\n{\"status\":{\"availability\":\"Unknown\",\"uss\":\"uss-b\"},\"version\":\"\"}";
 
 /// A request that sets one, and its answer in an empty airspace.
 pub const PUT: &str =

@@ -1,10 +1,8 @@
-//! Tests of the stream and of command lines where a device fails or a serial is the greatest.
+//! Tests of the stream where a device fails or a serial is the greatest.
 #![tactic(auto)]
 
 #[cfg(test)]
 mod clocks;
-#[cfg(test)]
-mod commands;
 #[cfg(test)]
 mod devices;
 #[cfg(test)]
