@@ -13,6 +13,8 @@ import wire
 from program import BUILT, TOP, run
 
 NOW = 1000
+# the bytes that a slow writer takes at once
+PIECE = 9
 CLOSE = b"Connection: close\r\n"
 ID_A, ID_B = ("00000000-0000-4000-8000-0000000000" + end for end in ("a1", "b1"))
 READING = '{"status":{"availability":"Unknown","uss":"uss-b"},"version":""}'
@@ -141,11 +143,12 @@ def failing_devices():
             come = sum(end < at for end in ends)
             got = room.serve(stream, READ_BYTES=1, READ_FAILS=at)
             found += [f"read {at}: {got!r}"] if got != (1, wanted[: sizes[come]], READS) else []
+        # each answer is written by itself, in pieces
+        pieces = [answer[at : at + PIECE] for _, answer in TWO_READINGS for at in range(0, len(answer), PIECE)]
         for fault in "WRITE_FAILS", "WRITE_STOPS":
-            for at in range(1, len(wanted) // 9 + 2):
-                got = room.serve(stream, WRITE_BYTES=9, **{fault: at})
-                right = got[0] == 1 and got[2] == WRITES and wanted.startswith(got[1]) and len(got[1]) < len(wanted)
-                found += [] if right or got == (0, wanted, b"") and at > 2 * (sizes[1] // 9 + 1) else [f"{fault} {at}: {got!r}"]
+            for at in range(1, len(pieces) + 1):
+                got = room.serve(stream, WRITE_BYTES=PIECE, **{fault: at})
+                found += [f"{fault} {at}: {got!r}"] if got != (1, b"".join(pieces[: at - 1]), WRITES) else []
     return found
 
 
@@ -298,7 +301,7 @@ PATHS = [
     ("DELETE", f"/{ID_A}/{'0' * 64}", (404, "P7 FOUND")), ("HEAD", f"/{ID_A}", ALLOW_ENTITY), ("GET", "%2Fquery", P1),
 ]
 OTHERS = [
-    ("GET", "/", P1), ("GET", "dss/v1/uss_availability/a", None), ("GET", "/dss/v1/uss_availability", P1),
+    ("GET", "/", P1), ("GET", "dss/v1/uss_availability/a", P1), ("GET", "/dss/v1/uss_availability", P1),
     ("GET", "/dss/v1/uss_availability/", P1), ("GET", "/dss/v1/uss_availability/a/b", P1), ("GET", "/dss/v2/uss_availability/a", P1),
     ("POST", "/dss/v1/uss_availability/a", ALLOW_ENTITY), ("GET", "/dss/v1/subscriptions/a", P1),
     ("GET", "http://localhost/dss/v1/uss_availability/a", P1), ("GET", "/dss/v1/uss_availability/a%2Fb", P5),
@@ -306,17 +309,13 @@ OTHERS = [
 
 
 def paths():
-    """Each path and method of the table is told what is due to it."""
+    """Each path and method of the tables is told what is due to it, of both kinds of references."""
+    table = [(method, path, "tok-a", it) for method, path, it in OTHERS]
+    for front, token in (wire.INTENTS, "tok-a"), (wire.CONSTRAINTS, "tok-c"):
+        table += [(method, front + path, token, it) for method, path, it in PATHS]
     found = []
-    table = [(method, path, it) for method, path, it in OTHERS if it]
-    table += [(method, front + path, it) for front in (wire.INTENTS,) for method, path, it in PATHS]
     with Room() as room:
-        for method, path, (status, message, *fields) in table:
-            got = room.serve(ask(method, path, "tok-a", closes=True))
-            found += [f"{method} {path}: {got!r}"] if got != (0, refused(status, message, fields), b"") else []
-        for method, path, (status, message, *fields) in PATHS:
-            path, is_update = wire.CONSTRAINTS + path, method == "DELETE" and path.count("/") == 2
-            token = "tok-c"
+        for method, path, token, (status, message, *fields) in table:
             got = room.serve(ask(method, path, token, closes=True))
             found += [f"{method} {path}: {got!r}"] if got != (0, refused(status, message, fields), b"") else []
     return found
