@@ -22,6 +22,7 @@ use Rattle.policy_core.specs.Policy.{first_broken}
 use Rattle.policy_core.proofs.Puts.{puts_know}
 use Rattle.entity_core.proofs.Keys.{key_total, key_exact, one_key}
 use Rattle.space_core.proofs.Maps.{entries-remove}
+use Rattle.space_core.specs.declared.space.Space.{Ghosts}
 use Rattle.service_core.specs.declared.reply.Reply.{Reply}
 use Rattle.service_core.specs.declared.reply.Reply.TheVariants.{Done, Denied, Fault, Stopped}
 use Rattle.service_core.specs.Aware.{MadeCall, is_done, left_by, put_in, last_writer, later_or, Knew, KnewOthers, AllKeyed, SerialsDiffer, Aware}
@@ -267,8 +268,8 @@ numbered_after salt n cs rs told h = (kept_told salt n cs rs told h).numbered
 
 -- ---- what is held after a run
 
-pub held_aware : {S : Type 0} (Holds : S → Airspace → Type 0) (salt : List ℕ) (n : ℕ) (cs : List Timed) (rs : List Reply) (new : S) → Runs Holds salt (empty_at n) cs rs new → has_stopped rs ≡ false → (a : Airspace) → Holds new a → Aware salt (empty_at n) cs rs a
-held_aware Holds salt n cs rs new t h a held = subst (Aware salt (empty_at n) cs rs) (sym ((t.whole h).only a held)) (aware_after salt n cs rs t.replies h)
+pub held_aware : {S : Type 0} (g : Ghosts S) (salt : List ℕ) (n : ℕ) (cs : List Timed) (rs : List Reply) (new : S) → Runs g salt (empty_at n) cs rs new → has_stopped rs ≡ false → (a : Airspace) → g.holds new a → Aware salt (empty_at n) cs rs a
+held_aware g salt n cs rs new t h a held = subst (Aware salt (empty_at n) cs rs) (sym ((t.whole h).only a held)) (aware_after salt n cs rs t.replies h)
 
-pub held_numbered : {S : Type 0} (Holds : S → Airspace → Type 0) (salt : List ℕ) (n : ℕ) (cs : List Timed) (rs : List Reply) (new : S) → Runs Holds salt (empty_at n) cs rs new → has_stopped rs ≡ false → (a : Airspace) → Holds new a → AllNumbered salt a
-held_numbered Holds salt n cs rs new t h a held = subst (AllNumbered salt) (sym ((t.whole h).only a held)) (numbered_after salt n cs rs t.replies h)
+pub held_numbered : {S : Type 0} (g : Ghosts S) (salt : List ℕ) (n : ℕ) (cs : List Timed) (rs : List Reply) (new : S) → Runs g salt (empty_at n) cs rs new → has_stopped rs ≡ false → (a : Airspace) → g.holds new a → AllNumbered salt a
+held_numbered g salt n cs rs new t h a held = subst (AllNumbered salt) (sym ((t.whole h).only a held)) (numbered_after salt n cs rs t.replies h)

@@ -21,6 +21,7 @@ use Rattle.policy_core.specs.Known.{IsListed}
 use Rattle.policy_core.specs.Missing.{in_key, is_asked, key_shown, left_out, needed, needed_put}
 use Rattle.policy_core.proofs.Members.{contained, no_member}
 use Rattle.policy_core.proofs.Puts.{needed_asked}
+use Rattle.space_core.specs.declared.space.Space.{Ghosts}
 use Rattle.service_core.specs.declared.reply.Reply.{Reply}
 use Rattle.service_core.specs.declared.reply.Reply.TheVariants.{Done, Denied, Fault, Stopped}
 use Rattle.service_core.specs.Service.{Leaves}
@@ -91,8 +92,8 @@ stale_step salt a t c kind y s =
 
 -- ---- what a service tells
 
-pub stale_reply : {S : Type 0} (Holds : S → Airspace → Type 0) (salt : List ℕ) (a : Airspace) (t : ℕ) (c : Call) (kind : Kind) (y : Entity) (reply : Reply) (new : S) → IsStale salt kind a c y → Leaves Holds salt a t c reply new → FailsOrIsRefused kind a c y reply
-stale_reply Holds salt a t c kind y Fault new s l = tt
-stale_reply Holds salt a t c kind y Stopped new s l = tt
-stale_reply Holds salt a t c kind y (Done x) new s l = subst (IsRefusedFor kind a c y) l.0 (stale_step salt a t c kind y s)
-stale_reply Holds salt a t c kind y (Denied p m) new s l = subst (IsRefusedFor kind a c y) (ap (λ (z : Airspace × Reply). z.1) l.0) (stale_step salt a t c kind y s)
+pub stale_reply : {S : Type 0} (g : Ghosts S) (salt : List ℕ) (a : Airspace) (t : ℕ) (c : Call) (kind : Kind) (y : Entity) (reply : Reply) (new : S) → IsStale salt kind a c y → Leaves g salt a t c reply new → FailsOrIsRefused kind a c y reply
+stale_reply g salt a t c kind y Fault new s l = tt
+stale_reply g salt a t c kind y Stopped new s l = tt
+stale_reply g salt a t c kind y (Done x) new s l = subst (IsRefusedFor kind a c y) l.0 (stale_step salt a t c kind y s)
+stale_reply g salt a t c kind y (Denied p m) new s l = subst (IsRefusedFor kind a c y) (ap (λ (z : Airspace × Reply). z.1) l.0) (stale_step salt a t c kind y s)

@@ -131,7 +131,7 @@ makes_create salt t c g a caller id put next made who op goes one two first grou
     makes_from salt t c g a made (Some (changes.Put e)) (answers.Created (view_of a caller.uss e))
     (effect_is salt a c caller (Create id put) who op ∙ (ap (λ (k : ℕ). create_effect a caller.uss (kept_as salt k caller.uss 1 id put)) (sym n)
     ∙ ap (λ (r : Reference). (with_entity a e, Done (answers.Created r))) (same_view a caller.uss e e)))
-    one two (record { room = room_of a t c first (ap is_change op); entities = n })
+    one two (record { room = room_of a t c first (ap is_change op); due = n })
 
 pub makes_update : (salt : List ℕ) (t : ℕ) (c : Call) (g : Grounds) (a : Airspace) (caller : Caller) (id : ℕ) (ovn : List ℕ) (put : Put) (old : Entity) (next : ℕ) (made : Made) → c.caller ≡ Some caller → c.op ≡ Update id ovn put → g.found ≡ Some old
     → (g.serial < greatest_serial → next ≡ g.serial + 1)
@@ -145,7 +145,7 @@ makes_update salt t c g a caller id ovn put old next made who op found goes make
     (effect_is salt a c caller (Update id ovn put) who op ∙ (ap (update_effect salt a caller.uss id put) there
     ∙ (ap (λ (k : ℕ). put_effect a caller.uss (kept_as salt k old.manager (old.version + 1) id put)) (sym n)
     ∙ ap (λ (r : Reference). (with_entity a e, Done (answers.Changed r))) (same_view a caller.uss e e))))
-    is.0 is.1 (record { room = room_of a t c first (ap is_change op); entities = n })
+    is.0 is.1 (record { room = room_of a t c first (ap is_change op); due = n })
 
 pub makes_delete : (salt : List ℕ) (t : ℕ) (c : Call) (g : Grounds) (a : Airspace) (caller : Caller) (kind : Kind) (id : ℕ) (ovn : List ℕ) (e : Entity) (made : Made) → c.caller ≡ Some caller → c.op ≡ Delete kind id ovn → g.found ≡ Some e
     → made.0 ≡ Some (changes.Remove kind id) → made.1 ≡ answers.Changed (view_of a caller.uss e) → Prepares salt t c g a made
@@ -153,7 +153,7 @@ makes_delete salt t c g a caller kind id ovn e made who op found one two first g
     let there = found_is a c g (Delete kind id ovn) e op found ground in
     makes_from salt t c g a made (Some (changes.Remove kind id)) (answers.Changed (view_of a caller.uss e))
     (effect_is salt a c caller (Delete kind id ovn) who op ∙ ap (delete_effect a caller.uss (kind, id)) there)
-    one two (record { room = room_of a t c first (ap is_change op); entities = ap is_some there })
+    one two (record { room = room_of a t c first (ap is_change op); due = ap is_some there })
 
 pub makes_set : (salt : List ℕ) (t : ℕ) (c : Call) (g : Grounds) (a : Airspace) (caller : Caller) (uss old : List ℕ) (availability : Availability) (next : ℕ) (made : Made) → c.caller ≡ Some caller → c.op ≡ SetAvail uss old availability
     → (g.serial < greatest_serial → next ≡ g.serial + 1) → made.0 ≡ Some (changes.Avail uss availability (ovn_text salt next)) → made.1 ≡ answers.Avail uss availability (ovn_text salt next) → Prepares salt t c g a made
@@ -162,4 +162,4 @@ makes_set salt t c g a caller uss old availability next made who op goes one two
     makes_from salt t c g a made (Some (changes.Avail uss availability (ovn_text salt next))) (answers.Avail uss availability (ovn_text salt next))
     (effect_is salt a c caller (SetAvail uss old availability) who op
     ∙ ap (λ (k : ℕ). (with_availability a uss (availability, ovn_text salt k), Done (answers.Avail uss availability (ovn_text salt k)))) (sym n))
-    one two (record { room = room_of a t c first (ap is_change op); entities = tt })
+    one two (record { room = room_of a t c first (ap is_change op); due = tt })

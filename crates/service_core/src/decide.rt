@@ -34,7 +34,7 @@ fn missing_by<S: Space>(
     caller: &Caller,
     op: &Operation,
 ) -> Result<Missing, Halt>
-    ensures { Looks S.holds S.is_sound S.refusals S.is_broken space.old space.new result (λ a missing. missing ≡ missing_by a caller.now op.now) }
+    ensures { Looks S.Space space.old space.new result (λ a missing. missing ≡ missing_by a caller.now op.now) }
 {
     match op {
         Operation::Create(id, put) => missing_of(space, alloc, caller, *id, put),
@@ -51,7 +51,7 @@ fn missing_of<S: Space>(
     id: EntityId,
     put: &Put,
 ) -> Result<Missing, Halt>
-    ensures { Looks S.holds S.is_sound S.refusals S.is_broken space.old space.new result (λ a missing. missing ≡ missing_put a caller.now id put.now) }
+    ensures { Looks S.Space space.old space.new result (λ a missing. missing ≡ missing_put a caller.now id put.now) }
 {
     if !needs_key(put.nature) {
         return Ok(Missing::nothing(alloc));
@@ -67,7 +67,7 @@ fn missing_put<S: Space>(
     put: &Put,
 ) -> Result<Missing, Halt>
     requires { needs_key put.now.nature ≡ true }
-    ensures { Looks S.holds S.is_sound S.refusals S.is_broken space.old space.new result (λ a missing. missing ≡ missing_put a caller.now id put.now) }
+    ensures { Looks S.Space space.old space.new result (λ a missing. missing ≡ missing_put a caller.now id put.now) }
 {
     let key = put.key.items();
     let areas = put.volumes.areas(alloc)?;
@@ -112,7 +112,7 @@ fn judge<S: Space>(
 ) -> Result<Option<(Rule, Missing)>, Halt>
     requires caller { call.now.caller ≡ Some caller.now }
     requires early { (a : Airspace) → find (breaks a now call.now) early_rules ≡ None }
-    ensures looks { Looks S.holds S.is_sound S.refusals S.is_broken space.old space.new result (λ a broken. IsGround call.now.op a grounds.now → IsFirst now call.now a broken) }
+    ensures looks { Looks S.Space space.old space.new result (λ a broken. IsGround call.now.op a grounds.now → IsFirst now call.now a broken) }
     ensures ready { result ≡ Ok None → IsReady call.now.op grounds.now.found }
     ensures memory { result ≡ Err Halt.NoMemory → find (breaks_found grounds.now.found grounds.now.kept now call.now) standing_rules ≡ None }
 {
@@ -156,7 +156,7 @@ pub fn decide<S: Space>(
 ) -> Result<Verdict, Halt>
     requires caller { call.now.caller ≡ Some caller.now }
     requires early { (a : Airspace) → find (breaks a now call.now) early_rules ≡ None }
-    ensures looks { Looks S.holds S.is_sound S.refusals S.is_broken space.old space.new result (Judges now call.now) }
+    ensures looks { Looks S.Space space.old space.new result (Judges now call.now) }
     ensures ready { IfOk result (IsReadyIfAllowed call.now.op) }
     ensures memory { result ≡ Err Halt.NoMemory → S.is_sound space.new → (a : Airspace) → S.holds space.old a → find (breaks a now call.now) standing_rules ≡ None }
 {

@@ -75,7 +75,7 @@ pub fn listing<S: Space>(
     kind: Kind,
     area: &Area,
 ) -> Result<(Option<Change>, Answer), Halt>
-    ensures { Looks S.holds S.is_sound S.refusals S.is_broken space.old space.new result
+    ensures { Looks S.Space space.old space.new result
         (λ a made. (made.0 ≡ None) × (made.1 ≡ Answer.Listed kind (map (view_of a uss.now) (meeting_in a.entities kind (area.now ∷ []) None)))) }
 {
     let met = look_meeting(space, kind, from_ref(area), None)?;
@@ -89,7 +89,7 @@ pub fn reading<S: Space>(
     uss: &UssId,
     entity: &Entity,
 ) -> Result<(Option<Change>, Answer), Halt>
-    ensures { Looks S.holds S.is_sound S.refusals S.is_broken space.old space.new result
+    ensures { Looks S.Space space.old space.new result
         (λ a made. (made.0 ≡ None) × (made.1 ≡ Answer.Found (view_of a uss.now entity.now))) }
 {
     let shown = reference(space, uss, entity)?;
@@ -106,7 +106,7 @@ pub fn creation<S: Space>(
     id: EntityId,
     put: &Put,
 ) -> Result<(Option<Change>, Answer), Halt>
-    ensures { Looks S.holds S.is_sound S.refusals S.is_broken space.old space.new result
+    ensures { Looks S.Space space.old space.new result
         (λ a made. (made.0 ≡ Some (Change.Put (kept_as salt.now serial uss.now 1 id put.now))) × (made.1 ≡ Answer.Created (view_of a uss.now (kept_as salt.now serial uss.now 1 id put.now)))) }
 {
     let entity = entity_of(alloc, salt, serial, uss, Version::first(), id, put)?;
@@ -125,7 +125,7 @@ pub fn update<S: Space>(
     put: &Put,
     old: &Entity,
 ) -> Result<(Option<Change>, Answer), Halt>
-    ensures { Looks S.holds S.is_sound S.refusals S.is_broken space.old space.new result
+    ensures { Looks S.Space space.old space.new result
         (λ a made. old.now.version < greatest_version → (made.0 ≡ Some (Change.Put (kept_as salt.now serial old.now.manager (old.now.version + 1) id put.now)))
         × (made.1 ≡ Answer.Changed (view_of a uss.now (kept_as salt.now serial old.now.manager (old.now.version + 1) id put.now)))) }
 {
@@ -143,7 +143,7 @@ pub fn removal<S: Space>(
     id: EntityId,
     entity: &Entity,
 ) -> Result<(Option<Change>, Answer), Halt>
-    ensures { Looks S.holds S.is_sound S.refusals S.is_broken space.old space.new result
+    ensures { Looks S.Space space.old space.new result
         (λ a made. (made.0 ≡ Some (Change.Remove kind id)) × (made.1 ≡ Answer.Changed (view_of a uss.now entity.now))) }
 {
     let shown = reference(space, uss, entity)?;

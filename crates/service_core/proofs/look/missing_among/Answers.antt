@@ -10,7 +10,7 @@ references_at-requires g c =
 
 pub returns : goal.returns
 returns g c =
-    looks_after g.S.Space.holds g.S.Space.is_sound g.S.Space.refusals g.S.Space.is_broken c.args.space.now c.look_meeting.new.space c.references_at.new.space
+    looks_after g.S.Space c.args.space.now c.look_meeting.new.space c.references_at.new.space
     c.in_ok-needed.needed c.references_at.result _ _ _ c.in_ok-needed.ensures c.references_at.ensures
     (λ a rs p q. q ∙ missing_is (view_of a c.args.uss.now) c.args.key.now c.in_ok-needed.needed.items c.deref.result.now c.deref-2.result.now _ c.in_ok-places.places.items c.deref-3.result.now c.deref.ensures.value c.deref-2.ensures.value c.deref-3.ensures.value
     c.in_ok-places.ensures p)
