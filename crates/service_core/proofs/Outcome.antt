@@ -15,6 +15,7 @@ use Rattle.service_core.specs.declared.look.Halt.{Halt}
 use Rattle.service_core.specs.declared.look.Halt.TheVariants.{NoMemory, Space}
 use Rattle.service_core.specs.declared.look.Grounds.{Grounds}
 use Rattle.service_core.specs.declared.decide.Verdict.TheVariants.{Refused, Allowed}
+use Rattle.service_core.specs.declared.made.Made.{Made}
 use Rattle.service_core.specs.declared.reply.Answer.{Answer}
 use Rattle.service_core.specs.declared.reply.Reply.{Reply}
 use Rattle.service_core.specs.declared.reply.Reply.TheVariants.{Done, Denied}
@@ -87,12 +88,12 @@ module _ {S : Type 0} (g : Ghosts S) (salt : List ℕ) (t : ℕ) (c : Call) wher
   }
 
   -- a call that changes nothing
-  pub read_answers : (old new : S) (grounds : Grounds) (made : Option Change × Answer) → made.0 ≡ None → Looks g old new (Ok made) (Prepares salt t c grounds) → (g.is_sound old → (a : Airspace) → g.holds old a → Judges t c a (Allowed grounds))
-      → Answers g salt t c old new (Done made.1)
+  pub read_answers : (old new : S) (grounds : Grounds) (made : Made) → made.change ≡ None → Looks g old new (Ok made) (Prepares salt t c grounds) → (g.is_sound old → (a : Airspace) → g.holds old a → Judges t c a (Allowed grounds))
+      → Answers g salt t c old new (Done made.answer)
   read_answers old new grounds made is looks given = record {
     step = λ s a h.
         let k = given (looks.sound s) a h.held in
-        let e : step salt a t c ≡ (a, Done made.1) = step_done salt a t c k.0 ∙ ((looks.found s a h.held k.0 k.1).effect ∙ ap (λ (o : Option Change). (changed_by o a, Done made.1)) is) in
+        let e : step salt a t c ≡ (a, Done made.answer) = step_done salt a t c k.0 ∙ ((looks.found s a h.held k.0 k.1).effect ∙ ap (λ (o : Option Change). (changed_by o a, Done made.answer)) is) in
         (ap (λ (x : Airspace × Reply). x.1) e, subst (IsContent g.holds new) (ap (λ (x : Airspace × Reply). x.0) (sym e)) (same_content g old new a (looks.stays s) (looks.no_other s) h));
     fails = λ s a h. tt;
     sound = looks.sound;
@@ -103,7 +104,7 @@ module _ {S : Type 0} (g : Ghosts S) (salt : List ℕ) (t : ℕ) (c : Call) wher
   -- a change that was made
   pub change_done : (old new : S) (grounds : Grounds) (change : Change) (answer : Answer) → Changes {T = Unit {0}} g.holds g.is_sound g.is_whole (g.is_broken old) old new (Ok tt) (changed change)
       → Tells {T = Unit {0}} (g.refusals old) (g.refusals new) (g.is_broken old) (g.is_broken new) (Ok tt)
-      → (g.is_sound old → (a : Airspace) → g.holds old a → (first_broken a t c ≡ None) × Makes salt t c grounds a (Some change, answer)) → Answers g salt t c old new (Done answer)
+      → (g.is_sound old → (a : Airspace) → g.holds old a → (first_broken a t c ≡ None) × Makes salt t c grounds a (Some change) answer) → Answers g salt t c old new (Done answer)
   change_done old new grounds change answer changes tells given = record {
     step = λ s a h.
         let k = given (changes.sound s) a h.held in
@@ -117,7 +118,7 @@ module _ {S : Type 0} (g : Ghosts S) (salt : List ℕ) (t : ℕ) (c : Call) wher
 
   -- a change that was not made, or of which nothing is known
   pub change_failed : (old new : S) (grounds : Grounds) (change : Change) (answer : Answer) (e : SpaceFault) → Changes {T = Unit {0}} g.holds g.is_sound g.is_whole (g.is_broken old) old new (Err e) (changed change) → Tells {T = Unit {0}} (g.refusals old) (g.refusals new) (g.is_broken old) (g.is_broken new) (Err e)
-      → ((a : Airspace) → find (breaks a t c) early_rules ≡ None) → (g.is_sound old → (a : Airspace) → g.holds old a → (first_broken a t c ≡ None) × Makes salt t c grounds a (Some change, answer)) → Answers g salt t c old new (reply_of (Space e))
+      → ((a : Airspace) → find (breaks a t c) early_rules ≡ None) → (g.is_sound old → (a : Airspace) → g.holds old a → (first_broken a t c ≡ None) × Makes salt t c grounds a (Some change) answer) → Answers g salt t c old new (reply_of (Space e))
   change_failed old new grounds change answer Unchanged changes tells early given = record {
     step = λ s a h. same_content g old new a (λ b. (changes.refused s refl b).0) (λ b. (changes.refused s refl b).1) h;
     fails = λ s a h. (

@@ -26,6 +26,7 @@ use Rattle.policy_core.specs.declared.reference.Reference.{Reference}
 use Rattle.space_core.specs.Space.{Fits}
 use Rattle.space_core.specs.declared.space.Change as space_change
 use Rattle.space_core.specs.declared.space.Change.TheVariants as changes
+use Rattle.service_core.specs.declared.made.Made.{Made}
 use Rattle.service_core.specs.declared.reply.Answer.{Answer}
 use Rattle.service_core.specs.declared.reply.Answer.TheVariants as answers
 use Rattle.service_core.specs.declared.reply.Reply.TheVariants.{Done}
@@ -99,13 +100,10 @@ has_caller a t None (SetAvail uss old availability) e h = cc
 
 -- ---- the effects
 
-abbrev pub Made : Type 0
-Made = Option space_change.Change × Answer
-
 makes_from : (salt : List ℕ) (t : ℕ) (c : Call) (g : Grounds) (a : Airspace) (made : Made) (change : Option space_change.Change) (answer : Answer)
-    → effect salt a c.caller c.op ≡ (changed_by change a, Done answer) → made.0 ≡ change → made.1 ≡ answer → IfSome change (λ x. Fits x a) → Makes salt t c g a made
+    → effect salt a c.caller c.op ≡ (changed_by change a, Done answer) → made.change ≡ change → made.answer ≡ answer → IfSome change (λ x. Fits x a) → Makes salt t c g a made.change made.answer
 makes_from salt t c g a made change answer e one two fits = record {
-  effect = e ∙ (ap (λ (x : Answer). (changed_by change a, Done x)) (sym two) ∙ ap (λ (x : Option space_change.Change). (changed_by x a, Done made.1)) (sym one));
+  effect = e ∙ (ap (λ (x : Answer). (changed_by change a, Done x)) (sym two) ∙ ap (λ (x : Option space_change.Change). (changed_by x a, Done made.answer)) (sym one));
   fits = subst (λ (x : Option space_change.Change). IfSome x (λ y. Fits y a)) (sym one) fits;
 }
 
@@ -124,7 +122,7 @@ unfolding view_of
 same_view a uss e x = refl
 
 pub makes_create : (salt : List ℕ) (t : ℕ) (c : Call) (g : Grounds) (a : Airspace) (caller : Caller) (id : ℕ) (put : Put) (next : ℕ) (made : Made) → c.caller ≡ Some caller → c.op ≡ Create id put → (g.serial < greatest_serial → next ≡ g.serial + 1)
-    → made.0 ≡ Some (changes.Put (kept_as salt next caller.uss 1 id put)) → made.1 ≡ answers.Created (view_of a caller.uss (kept_as salt next caller.uss 1 id put)) → Prepares salt t c g a made
+    → made.change ≡ Some (changes.Put (kept_as salt next caller.uss 1 id put)) → made.answer ≡ answers.Created (view_of a caller.uss (kept_as salt next caller.uss 1 id put)) → Prepares salt t c g a made
 makes_create salt t c g a caller id put next made who op goes one two first ground =
     let n = next_is a t c g next first (ap is_change op) ground goes in
     let e = kept_as salt next caller.uss 1 id put in
@@ -135,7 +133,7 @@ makes_create salt t c g a caller id put next made who op goes one two first grou
 
 pub makes_update : (salt : List ℕ) (t : ℕ) (c : Call) (g : Grounds) (a : Airspace) (caller : Caller) (id : ℕ) (ovn : List ℕ) (put : Put) (old : Entity) (next : ℕ) (made : Made) → c.caller ≡ Some caller → c.op ≡ Update id ovn put → g.found ≡ Some old
     → (g.serial < greatest_serial → next ≡ g.serial + 1)
-    → (old.version < greatest_version → (made.0 ≡ Some (changes.Put (kept_as salt next old.manager (old.version + 1) id put))) × (made.1 ≡ answers.Changed (view_of a caller.uss (kept_as salt next old.manager (old.version + 1) id put)))) → Prepares salt t c g a made
+    → (old.version < greatest_version → (made.change ≡ Some (changes.Put (kept_as salt next old.manager (old.version + 1) id put))) × (made.answer ≡ answers.Changed (view_of a caller.uss (kept_as salt next old.manager (old.version + 1) id put)))) → Prepares salt t c g a made
 makes_update salt t c g a caller id ovn put old next made who op found goes makes first ground =
     let n = next_is a t c g next first (ap is_change op) ground goes in
     let there = found_is a c g (Update id ovn put) old op found ground in
@@ -148,7 +146,7 @@ makes_update salt t c g a caller id ovn put old next made who op found goes make
     is.0 is.1 (record { room = room_of a t c first (ap is_change op); due = n })
 
 pub makes_delete : (salt : List ℕ) (t : ℕ) (c : Call) (g : Grounds) (a : Airspace) (caller : Caller) (kind : Kind) (id : ℕ) (ovn : List ℕ) (e : Entity) (made : Made) → c.caller ≡ Some caller → c.op ≡ Delete kind id ovn → g.found ≡ Some e
-    → made.0 ≡ Some (changes.Remove kind id) → made.1 ≡ answers.Changed (view_of a caller.uss e) → Prepares salt t c g a made
+    → made.change ≡ Some (changes.Remove kind id) → made.answer ≡ answers.Changed (view_of a caller.uss e) → Prepares salt t c g a made
 makes_delete salt t c g a caller kind id ovn e made who op found one two first ground =
     let there = found_is a c g (Delete kind id ovn) e op found ground in
     makes_from salt t c g a made (Some (changes.Remove kind id)) (answers.Changed (view_of a caller.uss e))
@@ -156,7 +154,7 @@ makes_delete salt t c g a caller kind id ovn e made who op found one two first g
     one two (record { room = room_of a t c first (ap is_change op); due = ap is_some there })
 
 pub makes_set : (salt : List ℕ) (t : ℕ) (c : Call) (g : Grounds) (a : Airspace) (caller : Caller) (uss old : List ℕ) (availability : Availability) (next : ℕ) (made : Made) → c.caller ≡ Some caller → c.op ≡ SetAvail uss old availability
-    → (g.serial < greatest_serial → next ≡ g.serial + 1) → made.0 ≡ Some (changes.Avail uss availability (ovn_text salt next)) → made.1 ≡ answers.Avail uss availability (ovn_text salt next) → Prepares salt t c g a made
+    → (g.serial < greatest_serial → next ≡ g.serial + 1) → made.change ≡ Some (changes.Avail uss availability (ovn_text salt next)) → made.answer ≡ answers.Avail uss availability (ovn_text salt next) → Prepares salt t c g a made
 makes_set salt t c g a caller uss old availability next made who op goes one two first ground =
     let n = next_is a t c g next first (ap is_change op) ground goes in
     makes_from salt t c g a made (Some (changes.Avail uss availability (ovn_text salt next))) (answers.Avail uss availability (ovn_text salt next))

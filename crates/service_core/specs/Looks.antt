@@ -16,6 +16,7 @@ use Rattle.service_core.specs.declared.look.Halt.TheVariants.{NoMemory, Space}
 use Rattle.service_core.specs.declared.look.Grounds.{Grounds}
 use Rattle.service_core.specs.declared.decide.Verdict.{Verdict}
 use Rattle.service_core.specs.declared.decide.Verdict.TheVariants as verdicts
+use Rattle.service_core.specs.declared.made.Made.{Made}
 use Rattle.service_core.specs.declared.reply.Answer.{Answer}
 use Rattle.service_core.specs.declared.reply.Reply.TheVariants.{Done}
 use Rattle.policy_core.specs.Policy.{first_broken}
@@ -77,10 +78,10 @@ changed_by None a = a
 changed_by (Some change) a = changed change a
 
 -- A change and an answer are the effect of a call that breaks no rule, and the change can be made.
-pub record Makes (salt : List ℕ) (now : ℕ) (c : Call) (g : Grounds) (a : Airspace) (made : Option Change × Answer) : Type 0 where
-  pub effect : effect salt a c.caller c.op ≡ (changed_by made.0 a, Done made.1)
-  pub fits : IfSome made.0 (λ change. Fits change a)
+pub record Makes (salt : List ℕ) (now : ℕ) (c : Call) (g : Grounds) (a : Airspace) (change : Option Change) (answer : Answer) : Type 0 where
+  pub effect : effect salt a c.caller c.op ≡ (changed_by change a, Done answer)
+  pub fits : IfSome change (λ change. Fits change a)
 
 -- for each airspace in which the call breaks no rule
-abbrev pub Prepares : List ℕ → ℕ → Call → Grounds → Airspace → Option Change × Answer → Type 0
-Prepares salt now c g a made = first_broken a now c ≡ None → IsGround c.op a g → Makes salt now c g a made
+abbrev pub Prepares : List ℕ → ℕ → Call → Grounds → Airspace → Made → Type 0
+Prepares salt now c g a made = first_broken a now c ≡ None → IsGround c.op a g → Makes salt now c g a made.change made.answer

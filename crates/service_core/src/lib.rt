@@ -7,5 +7,6 @@ pub mod effects;
 pub mod entity_effects;
 pub mod laws;
 pub mod look;
+pub mod made;
 pub mod reply;
 pub mod service;

@@ -18,6 +18,7 @@ ghost use Rattle.service_core.specs.Held.{space_of, salt_of, is_shut, with_space
 use crate::decide::{Verdict, decide};
 use crate::effects::prepared;
 use crate::look::{Grounds, Halt};
+use crate::made::Made;
 use crate::reply::{Answer, Reply};
 use entity_core::salt::Salt;
 use policy_core::call::Call;
@@ -74,7 +75,7 @@ fn allowed<S: Space>(
     requires given { S.is_sound space.old → (a : Airspace) → S.holds space.old a → Judges now call.now a (Verdict.Allowed grounds.now) }
     ensures { Answers S.Space salt.now now call.now space.old space.new result }
 {
-    let (change, answer) = match prepared(space, alloc, salt, now, call, caller, grounds) {
+    let Made { change, answer } = match prepared(space, alloc, salt, now, call, caller, grounds) {
         Ok(made) => made,
         Err(halt) => return gave_up(halt),
     };
@@ -95,7 +96,7 @@ fn changed<S: Space>(
     answer: Answer,
 ) -> Reply
     requires early { (a : Airspace) → find (breaks a now call.now) early_rules ≡ None }
-    requires given { S.is_sound space.old → (a : Airspace) → S.holds space.old a → (first_broken a now call.now ≡ None) × Makes salt.now now call.now grounds.now a (Some change, answer) }
+    requires given { S.is_sound space.old → (a : Airspace) → S.holds space.old a → (first_broken a now call.now ≡ None) × Makes salt.now now call.now grounds.now a (Some change) answer }
     ensures { Answers S.Space salt.now now call.now space.old space.new result }
 {
     let (_salt, _now, _call, _grounds) = (salt, now, call, grounds);
