@@ -12,24 +12,6 @@ use Rattle.entity_core.specs.Airspace.{Entities, EntityKey, key_cmp}
 use Rattle.entity_core.specs.declared.entity.Entity.{Entity}
 use Rattle.entity_core.proofs.Keys.{key_total}
 
--- ---- by keys
-
--- what is found after an insertion is what was put, or was there
-pub got : (m : Entities) (k : EntityKey) (e : Entity) (q : EntityKey) (x : Entity) → get (insert m k e) q ≡ Some x → ((eq_by_cmp key_cmp q k ≡ true) × (e ≡ x)) ⊎ ((eq_by_cmp key_cmp q k ≡ false) × (get m q ≡ Some x))
-got m k e q x h =
-    elim (eq_by_cmp key_cmp q k) as (λ b. eq_by_cmp key_cmp q k ≡ b → cond b (Some e) (get m q) ≡ Some x → ((eq_by_cmp key_cmp q k ≡ true) × (e ≡ x)) ⊎ ((eq_by_cmp key_cmp q k ≡ false) × (get m q ≡ Some x))) [
-      | true ↦ λ t s. inl (t, same_Some e x s)
-      | false ↦ λ t s. inr (t, s)
-    ] refl (sym (get-insert key_total m k e q) ∙ h)
-
--- what is found after a removal was there
-pub stayed : (m : Entities) (k q : EntityKey) (x : Entity) → get (remove m k) q ≡ Some x → get m q ≡ Some x
-stayed m k q x h =
-    elim (eq_by_cmp key_cmp q k) as (λ b. cond b None (get m q) ≡ Some x → get m q ≡ Some x) [
-      | true ↦ λ s. cc
-      | false ↦ λ s. s
-    ] (sym (get-remove key_total m k q) ∙ h)
-
 -- ---- by entries
 
 pub all_found : (P : Entity → Type 0) (es : List (EntityKey × Entity)) (q : EntityKey) (x : Entity) → AllByRecursion (λ e. P e.1) es → maps.find key_cmp q es ≡ Some x → P x

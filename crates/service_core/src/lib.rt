@@ -5,6 +5,7 @@ pub mod availability_effects;
 pub mod decide;
 pub mod effects;
 pub mod entity_effects;
+pub mod first;
 pub mod laws;
 pub mod look;
 pub mod made;
