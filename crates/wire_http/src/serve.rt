@@ -23,7 +23,6 @@ use crate::request::{Next, next_request};
 use crate::rest::HEAD_LIMIT;
 use crate::write::write_whole;
 use httparse::spans::EMPTY_HEADER_SPAN;
-use service_core::reply::Reply;
 use service_core::service::Service;
 use space_core::space::Space;
 use std::alloc::Global;
