@@ -18,7 +18,7 @@ use Rattle.service_core.specs.declared.decide.Verdict.TheVariants as verdicts
 use Rattle.service_core.specs.declared.reply.Answer.{Answer}
 use Rattle.service_core.specs.declared.reply.Reply.TheVariants.{Done}
 use Rattle.policy_core.specs.Policy.{first_broken}
-use Rattle.policy_core.specs.Standing.{Regards}
+use Rattle.policy_core.specs.Standing.{Facts, Regards}
 use Rattle.service_core.specs.Step.{effect, told_missing}
 
 -- P, but where the space broke
@@ -41,9 +41,12 @@ pub record Looks {S T : Type 0} (Holds : S → Airspace → Type 0) (IsSound : S
   pub found : IsSound new → IfOk result (λ x. (a : Airspace) → Holds old a → P a x)
   pub told : MatchResult result (λ _. (refusals new ≡ refusals old) × (is_broken new ≡ is_broken old)) (λ h. ToldBy h (refusals old) (refusals new) (is_broken new))
 
+abbrev pub facts_in : Grounds → Facts
+facts_in g = record { found = g.found; kept = g.kept; serial = g.serial }
+
 -- what was looked up is what the airspace has for the operation
 abbrev pub IsGround : Operation → Airspace → Grounds → Type 0
-IsGround op a g = Regards a op g.found g.kept g.serial
+IsGround op a g = Regards a op (facts_in g)
 
 -- what is to be read, updated or deleted was found
 abbrev pub IsReady : Operation → Option Entity → Type 0
