@@ -55,7 +55,7 @@ all_asked P false xs all = tt
 needed_numbered : (salt : List ℕ) (kind : Kind) (a : Airspace) (caller : Option Caller) (id : ℕ) (put : Put) → AllNumbered salt a → AllByRecursion (IsNumbered salt a.serial) (needed_put kind a caller id put)
 unfolding meeting_in
 needed_numbered salt kind a caller id put n =
-    all_asked (IsNumbered salt a.serial) (is_asked kind caller put.nature) _ (all_sought (IsNumbered salt a.serial) (is_sought kind (map region_of put.volumes) (left_out kind id)) (entries a.entities) n)
+    all_asked (IsNumbered salt a.serial) (is_asked kind caller put) _ (all_sought (IsNumbered salt a.serial) (is_sought kind (map region_of put.volumes) (left_out kind id)) (entries a.entities) n)
 
 not_known : (salt : List ℕ) (a : Airspace) (y : Entity) (key : List (List ℕ)) → DifferUpTo salt a.serial → IsNumbered salt a.serial y → AllByRecursion (IsOfAnother salt a y) key → in_key key y.ovn ≡ false
 not_known salt a y [] differ n old = refl

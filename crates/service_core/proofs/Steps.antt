@@ -20,7 +20,7 @@ use Rattle.policy_core.specs.declared.rule.Rule.TheVariants.{Scope, Form, Key, L
 use Rattle.policy_core.specs.Scope.{is_open}
 use Rattle.policy_core.specs.Call.{is_change}
 use Rattle.policy_core.specs.Policy.{breaks, early_rules, standing_rules, last_rules, first_broken, has_last_version, is_spent}
-use Rattle.policy_core.specs.Standing.{found_of}
+use Rattle.policy_core.specs.Standing.{Facts, found_of}
 use Rattle.policy_core.specs.View.{view_of}
 use Rattle.policy_core.specs.declared.reference.Reference.{Reference}
 use Rattle.space_core.specs.Space.{Fits}
@@ -112,10 +112,10 @@ effect_is salt a c caller op who is = ap (λ (o : Option Caller). effect salt a 
 
 next_is : (a : Airspace) (t : ℕ) (c : Call) (g : Grounds) (next : ℕ) → first_broken a t c ≡ None → is_change c.op ≡ true → IsGround c.op a g → (g.serial < greatest_serial → next ≡ g.serial + 1) → next ≡ a.serial + 1
 next_is a t c g next first is ground goes =
-    goes (subst (λ (k : ℕ). k < greatest_serial) (sym ground.count) (room_of a t c first is)) ∙ ap (λ (k : ℕ). k + 1) ground.count
+    goes (subst (λ (k : ℕ). k < greatest_serial) (sym (ap (λ (f : Facts). f.serial) ground)) (room_of a t c first is)) ∙ ap (λ (f : Facts). f.serial + 1) ground
 
 found_is : (a : Airspace) (c : Call) (g : Grounds) (op : Operation) (e : Entity) → c.op ≡ op → g.found ≡ Some e → IsGround c.op a g → found_of a op ≡ Some e
-found_is a c g op e is found ground = ap (found_of a) (sym is) ∙ (sym ground.entity ∙ found)
+found_is a c g op e is found ground = ap (found_of a) (sym is) ∙ (sym (ap (λ (f : Facts). f.found) ground) ∙ found)
 
 same_view : (a : Airspace) (uss : List ℕ) (e x : Entity) → view_of (with_entity a e) uss x ≡ view_of a uss x
 unfolding view_of

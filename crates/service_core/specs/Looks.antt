@@ -20,7 +20,7 @@ use Rattle.service_core.specs.declared.made.Made.{Made}
 use Rattle.service_core.specs.declared.reply.Answer.{Answer}
 use Rattle.service_core.specs.declared.reply.Reply.TheVariants.{Done}
 use Rattle.policy_core.specs.Policy.{first_broken}
-use Rattle.policy_core.specs.Standing.{Regards}
+use Rattle.policy_core.specs.Standing.{Facts, Regards}
 use Rattle.service_core.specs.Step.{effect, told_missing}
 
 -- P, but where the space broke
@@ -44,9 +44,12 @@ pub record Looks {S T : Type 0} (g : Ghosts S) (old new : S) (result : Result T 
   pub found : g.is_sound new → IfOk result (λ x. (a : Airspace) → g.holds old a → P a x)
   pub told : MatchResult result (λ _. (g.refusals new ≡ g.refusals old) × (g.is_broken new ≡ g.is_broken old)) (λ h. ToldBy h (g.refusals old) (g.refusals new) (g.is_broken old) (g.is_broken new))
 
+abbrev pub facts_in : Grounds → Facts
+facts_in g = record { found = g.found; kept = g.kept; serial = g.serial }
+
 -- what was looked up is what the airspace has for the operation
 abbrev pub IsGround : Operation → Airspace → Grounds → Type 0
-IsGround op a g = Regards a op g.found g.kept g.serial
+IsGround op a g = Regards a op (facts_in g)
 
 -- what is to be read, updated or deleted was found
 abbrev pub IsReady : Operation → Option Entity → Type 0

@@ -2,8 +2,8 @@
 ghost use Rattle.std.specs.Prelude.{◌≡◌, ℕ, true, Ok, Err, Some, None, find, IfOk};
 ghost use Rattle.entity_core.specs.Airspace.{Airspace};
 ghost use Rattle.policy_core.specs.Missing.{missing_by, missing_put, needs_key};
-ghost use Rattle.policy_core.specs.Policy.{breaks, breaks_found, early_rules, standing_rules};
-ghost use Rattle.service_core.specs.Looks.{Looks, IsGround, IsFirst, IsReady, IsReadyIfAllowed, Judges, verdict_of};
+ghost use Rattle.policy_core.specs.Policy.{breaks, breaks_given, early_rules, standing_rules};
+ghost use Rattle.service_core.specs.Looks.{Looks, facts_in, IsGround, IsFirst, IsReady, IsReadyIfAllowed, Judges, verdict_of};
 
 use crate::look::{Grounds, Halt, look, missing_among};
 use entity_core::entity_id::EntityId;
@@ -114,7 +114,7 @@ fn judge<S: Space>(
     requires early { (a : Airspace) → find (breaks a now call.now) early_rules ≡ None }
     ensures looks { Looks S.Space space.old space.new result (λ a broken. IsGround call.now.op a grounds.now → IsFirst now call.now a broken) }
     ensures ready { result ≡ Ok None → IsReady call.now.op grounds.now.found }
-    ensures memory { result ≡ Err Halt.NoMemory → find (breaks_found grounds.now.found grounds.now.kept now call.now) standing_rules ≡ None }
+    ensures memory { result ≡ Err Halt.NoMemory → find (breaks_given (facts_in grounds.now) now call.now) standing_rules ≡ None }
 {
     let findings = standing(
         now,

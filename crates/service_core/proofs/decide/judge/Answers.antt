@@ -19,7 +19,7 @@ returns-then-findings-clause-looks g c =
     looks_as g.S.Space c.args.space.now c.missing_by.new.space c.in_ok-missing.missing _ _ _ c.in_ok-missing.ensures
     (λ a p ground. (
       last_limit a c.args.now c.args.call.now c.args.grounds.now c.args.caller.now c.in_ok-missing.missing c.standing-findings.result.limit (c.requires.early a) (lent_first c.args.grounds.now _ _ c.args.now c.args.call.now _ c.entity.ensures c.stated.ensures c.standing-findings.ensures.first ∙ c.in_default.is) ground c.requires.caller p (sym c.if-not-is_nothing.ensures)
-          (lent_limit c.args.grounds.now _ c.args.call.now.op c.standing-findings.result.limit c.entity.ensures c.standing-findings.ensures.limit)
+          (lent_limit c.args.grounds.now _ _ c.args.now c.args.call.now c.standing-findings.result.limit c.entity.ensures c.stated.ensures c.standing-findings.ensures.limit)
           ∙ ap (λ (b : Bool). cond b (Some Limit) None) c.if-findings.true,
       c.nothing-then-findings.ensures,
     ))
@@ -29,5 +29,5 @@ returns-clause-looks g c =
     looks_as g.S.Space c.args.space.now c.missing_by.new.space c.in_ok-missing.missing _ _ _ c.in_ok-missing.ensures
     (λ a p ground.
     last_limit a c.args.now c.args.call.now c.args.grounds.now c.args.caller.now c.in_ok-missing.missing c.standing-findings.result.limit (c.requires.early a) (lent_first c.args.grounds.now _ _ c.args.now c.args.call.now _ c.entity.ensures c.stated.ensures c.standing-findings.ensures.first ∙ c.in_default.is) ground c.requires.caller p (sym c.if-not-is_nothing.ensures)
-    (lent_limit c.args.grounds.now _ c.args.call.now.op c.standing-findings.result.limit c.entity.ensures c.standing-findings.ensures.limit)
+    (lent_limit c.args.grounds.now _ _ c.args.now c.args.call.now c.standing-findings.result.limit c.entity.ensures c.stated.ensures c.standing-findings.ensures.limit)
     ∙ ap (λ (b : Bool). cond b (Some Limit) None) c.if-findings.false)
