@@ -103,4 +103,4 @@ def unknown():
     return found
 
 
-CASES = {"names-in-documents": unknown}
+CASES = {"names-in-docs": unknown}
