@@ -150,6 +150,8 @@ AREAS = (
     ("P6: a query of 16,385", (A1,), query(INTENTS, "tok-b", QUARTERS + ONE), denied(6)),
     ("P6: a query of constraints", (), query(CONSTRAINTS, "tok-c", QUARTERS + ONE), denied(6)),
     ("P6 before P7", (), intent("a1", "tok-a", volumes=(volume(QUARTERS + ONE),), over=1), denied(6)),
+    ("P6: an update of 16,385", (A1,), intent("a1", "tok-a", volumes=(volume(QUARTERS + ONE),), over=1), denied(6)),
+    ("P6: an update of a constraint", (C1,), constraint("c1", "tok-c", (volume(QUARTERS + ONE),), over=1), denied(6)),
     ("P6 before P8", (A1,), intent("a1", "tok-a", volumes=(volume(QUARTERS + ONE),)), denied(6)),
 )
 
@@ -170,6 +172,7 @@ ENTITIES = (
         reading(CONSTRAINTS, "a1", "tok-c"),
         found(seen("a1", "uss-c", 2, None)),
     ),
+    ("P9: update", (A1,), intent("a1", "tok-b", over=1), denied(9)),
     ("P9: deletion", (A1,), removal(INTENTS, "a1", "tok-b", 1), denied(9)),
     ("P9 before P10: deletion", (A1,), removal(INTENTS, "a1", "tok-b", "0" * 64), denied(9)),
     ("P9: update of a constraint", (C1,), constraint("c1", "tok-d", over=1), denied(9)),
@@ -186,6 +189,7 @@ ENTITIES = (
     ("P10: in upper case", (A1,), removal(INTENTS, "a1", "tok-a", wire.ovn(1).upper()), denied(10)),
     ("P10: the first digits", (A1,), removal(INTENTS, "a1", "tok-a", wire.ovn(1)[:63]), denied(10)),
     ("P10: update of a constraint", (C1,), constraint("c1", "tok-c", over=2), denied(10)),
+    ("P10: deletion of a constraint", (C1,), removal(CONSTRAINTS, "c1", "tok-c", 2), denied(10)),
     (
         "P10: a version of another supplier",
         (setting("uss-a", "Down"),),
