@@ -13,7 +13,7 @@ use sha2::{Digest, Sha256};
 use std::alloc::{AllocError, Global};
 use std::marker::Model;
 
-/// A version number: 16 to 128 bytes from 0x21 to 0x7E (this project's profile). Contracts see its
+/// An OVN (opaque version number): 16 to 128 bytes from 0x21 to 0x7E (this project's profile). Contracts see its
 /// bytes.
 #[derive(Debug, Drop)]
 pub struct Ovn {

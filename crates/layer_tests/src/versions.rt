@@ -38,7 +38,7 @@ fn versions_of_serials(rt: HostRuntime) {
         ),
     ] {
         let salt = Salt::read(rt.alloc(), salt).ok().expect(&rt, "a salt");
-        let found = ovn_of(rt.alloc(), &salt, serial).expect(&rt, "a version number");
+        let found = ovn_of(rt.alloc(), &salt, serial).expect(&rt, "an OVN");
         assert_eq!(rt; found.text(), version);
     }
 }

@@ -33,7 +33,7 @@ volumes_in d = list_of volume_in d >>= few_volumes
 
 -- ---- keys
 
--- at most 4,096 version numbers
+-- at most 4,096 OVNs
 abbrev pub few_versions : List (List ℕ) → Option (List (List ℕ))
 few_versions vs = if nat_le (length vs) 4096 then Some vs else None
 
