@@ -1,4 +1,4 @@
-//! Version numbers (OVNs).
+//! OVNs (opaque version numbers).
 ghost use Rattle.std.specs.Prelude.{◌≡◌, IfOk, None, length};
 ghost use Rattle.std.specs.String.{string_bytes};
 ghost use Rattle.hex.specs.Hex.{encode_lower};

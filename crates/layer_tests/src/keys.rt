@@ -102,7 +102,7 @@ fn missing_is_as_the_plain_search_says(rt: HostRuntime) {
 }
 
 #[test]
-fn an_index_has_whole_version_numbers(rt: HostRuntime) {
+fn an_index_has_whole_ovns(rt: HostRuntime) {
     let alloc = rt.alloc();
     let mut key = Vec::new(alloc);
     for number in [10, 200, 10] {

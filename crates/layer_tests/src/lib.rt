@@ -9,4 +9,4 @@ mod faults;
 #[cfg(test)]
 mod keys;
 #[cfg(test)]
-mod versions;
+mod ovns;
