@@ -96,7 +96,7 @@ fn three(alloc: Global) -> Option<Vec<(u64, Call)>> {
     Some(calls)
 }
 
-// Whether it tells that uss-b is Down under the version number of serial 1.
+// Whether it tells that uss-b is Down under the OVN of serial 1.
 fn tells_down(reply: &Reply) -> bool {
     let Reply::Done(Answer::Avail(uss, availability, version)) = reply else {
         return false;

@@ -1,11 +1,11 @@
-//! Versions and digests, as another program computed them.
+//! OVNs and digests, as another program computed them.
 use entity_core::ovn::ovn_of;
 use entity_core::salt::Salt;
 use sha2::{Digest, Sha256};
 
 #[test]
-fn versions_of_serials(rt: HostRuntime) {
-    for (salt, serial, version) in [
+fn ovns_of_serials(rt: HostRuntime) {
+    for (salt, serial, ovn) in [
         (
             "demo",
             0,
@@ -38,8 +38,8 @@ fn versions_of_serials(rt: HostRuntime) {
         ),
     ] {
         let salt = Salt::read(rt.alloc(), salt).ok().expect(&rt, "a salt");
-        let found = ovn_of(rt.alloc(), &salt, serial).expect(&rt, "a version number");
-        assert_eq!(rt; found.text(), version);
+        let found = ovn_of(rt.alloc(), &salt, serial).expect(&rt, "an OVN");
+        assert_eq!(rt; found.text(), ovn);
     }
 }
 

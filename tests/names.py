@@ -1,0 +1,106 @@
+"""Each name of code in the documents is one of the repository's.
+
+What stands in backquotes is looked at word by word: a file must be there, the parts of `crate::item` must stand in the
+code of that crate, an edit among its edits, and any other name in some code, outside comments. Words in upper case
+stand for others. Requests, answers and paths of HTTP are looked at by other tests."""
+import functools
+import os
+import pathlib
+import re
+
+from program import TOP
+
+DOCUMENTS = sorted([*TOP.glob("*.md"), *TOP.glob("docs/*.md"), *TOP.glob("bench/*.md")])
+# How a comment begins, by the end of a file's name.
+COMMENTS = {".rt": "//", ".c": "//", ".antt": "--"} | dict.fromkeys(("", ".py", ".bash", ".txt", ".yaml", ".toml"), "#")
+FILE = re.compile(r".+\.(rt|antt|py|bash|c|txt|yaml|toml|md|http|edit|json|answers|any)")
+# What is no name: text of JSON or HTTP, a shell's signs, a rule with its name.
+NO_NAME = re.compile(r"""[{"'=<>|$~!+\\]|^/|:[/ ]|^[PH]\d+( |$)|^\W+$""")
+# Where no name is made: data of cases, and this list.
+OUTSIDE = ("tests/cases/", "tests/names.py")
+# Names of other programs, libraries and formats.
+OTHERS = set(
+    """rattle-kit-13b logic dac8208d650f15bf Intel Xeon Processor 89c25907 89c25909 89c2590b Host Date oauth2 libs2-dev
+    s2geometry S2RegionCoverer RegionCoverer S2CellId CellID set_fixed_level set_max_cells min_level max_level max_cells
+    GetCovering getCovering get_covering Covering region ToToken toToken to_token s2sphere s2-geometry-library-java
+    github.com/golang/geo/s2 outline_polygon outline_circle new_subscription""".split()
+)
+
+
+@functools.cache
+def files():
+    """The files of the repository, by their paths in it."""
+    found = {}
+    for folder, folders, names in os.walk(TOP):
+        folders[:] = set(folders) - {".git", ".dss", "out", "__pycache__"}
+        found |= {os.path.relpath(f"{folder}/{it}", TOP): pathlib.Path(folder, it) for it in names}
+    return found
+
+
+@functools.cache
+def code_in(folder):
+    """The words of code in the files of a folder, and the names of its files."""
+    words = set()
+    for path, file in files().items():
+        if path.startswith(folder) and not path.startswith(OUTSIDE) and file.suffix in COMMENTS:
+            for line in file.read_text(errors="replace").splitlines():
+                words.update(re.findall(r"\w+", re.split(rf"(?:^|\s){COMMENTS[file.suffix]}", line)[0]))
+            words.add(file.stem)
+    return words
+
+
+def is_path(word):
+    """Whether a word is the end of a file's path, or a folder."""
+    return any(f"/{path}/".endswith(f"/{word}/") or f"/{path}".find(f"/{word}/") >= 0 for path in files())
+
+
+def is_edit(word):
+    crate, _, name = word.partition("/")
+    folders = f"crates/{crate}/must-fail/{name}", f"tests/edits/{crate}/{name}"
+    return any(path.startswith(folders) for path in files())
+
+
+def is_for_others(word):
+    """Whether a word, or a part of it, is in upper case and so stands for others."""
+    return any(it.isalpha() and it.isupper() and len(it) > 1 for it in re.split("::|[-/]", word))
+
+
+def is_word(word, folder=""):
+    """Whether a word stands in code, or is of others."""
+    return word in OTHERS or word in code_in(folder)
+
+
+def is_name(word):
+    """Whether a word names something of the repository or of others."""
+    if word in OTHERS or is_for_others(word):
+        return True
+    if "::" in word:
+        first, *parts = word.split("::")
+        if is_path(f"crates/{first}"):
+            return all(is_word(it, f"crates/{first}/") for it in parts)
+    if "/" in word or FILE.fullmatch(word):
+        word = word.removeprefix("./").removeprefix("../").rstrip("/")
+        return is_path(word) or is_edit(word)
+    return all(is_word(it) for it in re.findall(r"\w+", word))
+
+
+def names_in(document):
+    """The words in backquotes outside blocks of code, each with its line."""
+    text = re.sub(r"(?ms)^```.*?^```$|^    .*?$", lambda block: "\n" * block[0].count("\n"), document.read_text())
+    for quoted in re.finditer(r"`([^`]+)`", text):
+        if not NO_NAME.search(quoted[1]):
+            for word in quoted[1].split():
+                yield text.count("\n", 0, quoted.start()) + 1, word.strip("()[],:;*&").rstrip(".")
+
+
+def unknown():
+    """The names in the documents that nothing in the repository has."""
+    found = []
+    for document in DOCUMENTS:
+        for number, name in names_in(document):
+            if name and not is_name(name):
+                found += [f"{document.relative_to(TOP)}:{number}: nothing is named {name}"]
+    return found
+
+
+CASES = {"names-in-docs": unknown}
