@@ -148,17 +148,6 @@ missing_none : {A : Type 0} (f : Entity → A) (key : List (List ℕ)) → [] �
 unfolding missing_from
 missing_none f key = refl
 
--- a caller who does not process constraints needs none
-pub missing_without : (a : Airspace) (caller : Caller) (id : ℕ) (put : Put) (areas : List Region) (key : List (List ℕ)) (intents none : List Reference) → needs_key put.nature ≡ true → has_scope caller.scopes ConstraintProcessing ≡ false
-    → areas ≡ map region_of put.volumes → key ≡ put.key → intents ≡ map (view_of a caller.uss) (missing_from key (meeting_in a.entities kinds.Intent areas (Some id))) → none ≡ [] → ◌≡◌ {A = Missing} (record { intents = intents; constraints = none }) (missing_put a caller id put)
-missing_without a caller id put areas key intents none needs lacks same keys is nil =
-    let met : List Entity = meeting_in a.entities kinds.Intent (map region_of put.volumes) (Some id) in
-    both intents _ none _
-    (is ∙ (ap (λ (k : List (List ℕ)). map (view_of a caller.uss) (missing_from k (meeting_in a.entities kinds.Intent areas (Some id)))) keys ∙ (ap (λ (r : List Region). map (view_of a caller.uss) (missing_from put.key (meeting_in a.entities kinds.Intent r (Some id)))) same
-    ∙ ap (λ (b : Bool). map (view_of a caller.uss) (missing_from put.key (cond b met []))) (sym needs))))
-    (nil ∙ (missing_none (view_of a caller.uss) put.key
-    ∙ (ap (λ (b : Bool). map (view_of a caller.uss) (missing_from put.key (cond b (meeting_in a.entities kinds.Constraint (map region_of put.volumes) None) []))) (sym (ap (λ (b : Bool). b && has_scope caller.scopes ConstraintProcessing) needs ∙ lacks)))))
-
 -- a put without a key needs nothing
 pub needs_nothing : (a : Airspace) (caller : Caller) (id : ℕ) (put : Put) (m : Missing) → needs_key put.nature ≡ false → m ≡ nothing_missing → m ≡ missing_put a caller id put
 needs_nothing a caller id put m lacks none =

@@ -16,12 +16,7 @@ use std::alloc::Global;
 ///
 /// What a service promises is said of any space with a content. Here both are there: the reply and
 /// the content are the policy's, or it is `Fault` and the airspace is still empty.
-pub fn first_call(
-    alloc: Global,
-    salt: Salt,
-    now: u64,
-    call: &Call,
-) -> (Reply, Service<ListSpace>)
+pub fn first_call(alloc: Global, salt: Salt, now: u64, call: &Call) -> (Reply, Service<ListSpace>)
     ensures leaves { Leaves ⟦<ListSpace as Space>⟧ salt (empty_at 0) now call.now
         result.0 (space_of result.1) }
     ensures goes_on { is_stopped result.0 ≡ false }

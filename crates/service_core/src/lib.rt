@@ -9,5 +9,6 @@ pub mod first;
 pub mod laws;
 pub mod look;
 pub mod made;
+pub mod needed;
 pub mod reply;
 pub mod service;

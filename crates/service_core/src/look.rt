@@ -208,20 +208,17 @@ fn references_at<S: Space>(
     Ok(References::from_vec(items))
 }
 
-/// The references of the entities of a kind, but the one of an id, that meet some area and whose OVNs
-/// are not in the key.
-pub fn missing_among<S: Space>(
+/// The references of those entities whose OVNs are not in a key, in their order.
+pub fn missing_from<S: Space>(
     space: &mut S,
     alloc: Global,
     uss: &UssId,
-    kind: Kind,
-    areas: &[Area],
-    except: Option<EntityId>,
     key: &[Ovn],
+    needed: &[Entity],
 ) -> Result<References, Halt>
-    ensures { Looks S.Space space.old space.new result (λ a references. references ≡ map (view_of a uss.now) (missing_from key.now (meeting_in a.entities kind areas.now except))) }
+    ensures { Looks S.Space space.old space.new result
+        (λ a references. references ≡ map (view_of a uss.now) (missing_from key.now needed.now)) }
 {
-    let needed = look_meeting(space, kind, areas, except)?;
-    let places = missing(alloc, key, &needed)?;
-    references_at(space, alloc, uss, &needed, &places)
+    let places = missing(alloc, key, needed)?;
+    references_at(space, alloc, uss, needed, &places)
 }
