@@ -1,4 +1,4 @@
-//! Entities: what is kept of an operational intent or a constraint.
+//! Entities: what is kept of operational intents and constraints.
 ghost use Rattle.std.specs.Prelude.{◌≡◌, IfOk};
 ghost use Rattle.entity_core.specs.Entity.{IsSpan, span_of};
 ghost use Rattle.entity_core.specs.Airspace.{key_cmp, key_of};

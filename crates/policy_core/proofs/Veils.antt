@@ -66,7 +66,7 @@ kept_like a b (SetAvail uss old availability) l = ap (λ (x : Availabilities). g
 
 -- ---- P7 to P13
 
--- whose it is comes before the version, so the version of another's entity is not looked at
+-- whose it is comes before the OVN, so the OVN of another's entity is not looked at
 manager_first : (own : Bool) (ovn present : List ℕ) (rest : Option Rule) → cond (not own) (Some Manager) (cond (not (same_text ovn present)) (Some Version) rest) ≡ cond (not own) (Some Manager) (cond (not (same_text ovn (cond own present []))) (Some Version) rest)
 manager_first true ovn present rest = refl
 manager_first false ovn present rest = refl

@@ -62,7 +62,7 @@ pub enum Operation {
     Delete(Kind, EntityId, Ovn),
     /// What is the availability of the supplier?
     ReadAvail(UssId),
-    /// Set the supplier's availability, which has this version, to this.
+    /// Set the supplier's availability, whose availability version is the text.
     SetAvail(UssId, Text, Availability),
 }
 

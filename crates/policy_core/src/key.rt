@@ -4,8 +4,7 @@ ghost use Rattle.std.specs.Prelude.{◌≡◌};
 use entity_core::ovn::Ovn;
 use std::marker::Model;
 
-/// The key of a put: the OVNs by which a supplier shows what it knows. Contracts see their
-/// list.
+/// The key of a put: the OVNs by which a supplier shows what it knows. Contracts see their list.
 #[derive(Debug, Drop)]
 pub struct Key {
     items: Vec<Ovn>,

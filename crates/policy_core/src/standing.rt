@@ -217,7 +217,8 @@ fn first_standing(
     found: Option<&Entity>,
     kept: Option<(Availability, &Ovn)>,
 ) -> Option<Rule>
-    ensures { (serial : ℕ) → result ≡ find (breaks_given (lent_facts found.entry kept.entry serial) now call.now) standing_rules }
+    ensures { (serial : ℕ) → result
+        ≡ find (breaks_given (lent_facts found.entry kept.entry serial) now call.now) standing_rules }
 {
     if breaks_found(&call.op, found) {
         return Some(Rule::Found);
@@ -253,8 +254,10 @@ pub fn standing(
     kept: Option<(Availability, &Ovn)>,
     serial: u64,
 ) -> Findings
-    ensures first { result.first ≡ find (breaks_given (lent_facts found.entry kept.entry serial) now call.now) standing_rules }
-    ensures limit { result.limit ≡ breaks_given (lent_facts found.entry kept.entry serial) now call.now Rule.Limit }
+    ensures first { result.first
+        ≡ find (breaks_given (lent_facts found.entry kept.entry serial) now call.now) standing_rules }
+    ensures limit { result.limit
+        ≡ breaks_given (lent_facts found.entry kept.entry serial) now call.now Rule.Limit }
     ensures first_in { (a : Airspace) → Regards a call.now.op (lent_facts found.entry kept.entry serial)
         → result.first ≡ find (breaks a now call.now) standing_rules }
     ensures limit_in { (a : Airspace) → Regards a call.now.op (lent_facts found.entry kept.entry serial)
