@@ -1,4 +1,4 @@
-use Rattle.std.proofs.Common.{◌+◌, sym, subst, ℤ, to_z, of_z, w64, arith}
+use Rattle.std.proofs.Common.{◌+◌, sym, subst, List, ℤ, to_z, of_z, w64, arith}
 use Rattle.std.proofs.lemmas.Int.{to_z-of_z}
 use Rattle.space_rows.specs.declared.rows.CellRow.{CellRow}
 use Rattle.space_rows.specs.Cells.{SpellsCells}

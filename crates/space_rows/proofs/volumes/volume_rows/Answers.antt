@@ -1,6 +1,7 @@
 use Rattle.std.proofs.Common.{◌+◌, ◌++◌, [], ◌∷◌, sym, subst, List, ℤ, to_z, of_z, w64, arith}
 use Rattle.std.proofs.lemmas.Int.{to_z-of_z}
 use Rattle.space_rows.specs.declared.rows.VolumeRow.{VolumeRow}
+use Rattle.space_rows.specs.declared.rows.CellRow.{CellRow}
 use Rattle.space_rows.specs.Cells.{SpellsCells}
 use Rattle.space_rows.specs.Volumes.{SpellsVolumes}
 use Rattle.space_rows.proofs.ReadSoFar.{front}
