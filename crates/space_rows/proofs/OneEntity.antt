@@ -1,5 +1,5 @@
 -- Rows spell one entity at most.
-use Rattle.std.specs.Prelude.{◌≡◌, ◌≢◌, ℕ, suc, ℤ, pos, ◌<◌, List, [], ◌∷◌, ◌^◌, map, refl}
+use Rattle.std.specs.Prelude.{◌≡◌, ◌≢◌, ℕ, zero, suc, ℤ, pos, ◌<◌, List, [], ◌∷◌, ◌^◌, map, refl}
 use Rattle.std.specs.List.{AllByRecursion, AllZip, flat_map}
 use Rattle.std.proofs.Common.{sym, ap, ap₂, ◌∙◌, arith}
 use Rattle.grid_core.specs.Cell.{Cell, IsCell}
@@ -16,32 +16,24 @@ use Rattle.space_rows.specs.Rows.{state_number, placed, PlacedCell, cells_at, pl
 use Rattle.space_rows.specs.Laws.{OneEntity}
 use Rattle.space_rows.proofs.Pieces.{Borne, Differ, all_joined, all_turned, one_flat}
 
+-- the nature that a state's number is of
+nature_at : ℤ → Nature
+nature_at (pos zero) = Intent Accepted
+nature_at (pos (suc zero)) = Intent Activated
+nature_at (pos (suc (suc zero))) = Intent Nonconforming
+nature_at (pos (suc (suc (suc zero)))) = Intent Contingent
+nature_at _ = Constraint
+
+nature_again : (n : Nature) → nature_at (state_number n) ≡ n
+unfolding nature_at
+nature_again (Intent Accepted) = refl
+nature_again (Intent Activated) = refl
+nature_again (Intent Nonconforming) = refl
+nature_again (Intent Contingent) = refl
+nature_again Constraint = refl
+
 pub one_state : (a b : Nature) → state_number a ≡ state_number b → a ≡ b
-one_state (Intent Accepted) (Intent Accepted) e = refl
-one_state (Intent Accepted) (Intent Activated) e = cc
-one_state (Intent Accepted) (Intent Nonconforming) e = cc
-one_state (Intent Accepted) (Intent Contingent) e = cc
-one_state (Intent Accepted) Constraint e = cc
-one_state (Intent Activated) (Intent Accepted) e = cc
-one_state (Intent Activated) (Intent Activated) e = refl
-one_state (Intent Activated) (Intent Nonconforming) e = cc
-one_state (Intent Activated) (Intent Contingent) e = cc
-one_state (Intent Activated) Constraint e = cc
-one_state (Intent Nonconforming) (Intent Accepted) e = cc
-one_state (Intent Nonconforming) (Intent Activated) e = cc
-one_state (Intent Nonconforming) (Intent Nonconforming) e = refl
-one_state (Intent Nonconforming) (Intent Contingent) e = cc
-one_state (Intent Nonconforming) Constraint e = cc
-one_state (Intent Contingent) (Intent Accepted) e = cc
-one_state (Intent Contingent) (Intent Activated) e = cc
-one_state (Intent Contingent) (Intent Nonconforming) e = cc
-one_state (Intent Contingent) (Intent Contingent) e = refl
-one_state (Intent Contingent) Constraint e = cc
-one_state Constraint (Intent Accepted) e = cc
-one_state Constraint (Intent Activated) e = cc
-one_state Constraint (Intent Nonconforming) e = cc
-one_state Constraint (Intent Contingent) e = cc
-one_state Constraint Constraint e = refl
+one_state a b e = sym (nature_again a) ∙ (ap nature_at e ∙ nature_again b)
 
 pub one_pos : (m n : ℕ) (x : ℤ) → x ≡ pos m → x ≡ pos n → m ≡ n
 one_pos m n x p q = let e = sym p ∙ q in cc
