@@ -10,7 +10,7 @@ use crate::member::member;
 use crate::put::put_of;
 use crate::setting::{availability_of, old_version_of};
 use crate::volume::area_in;
-use crate::words::{entity_named, first_id, is_query, supplier_named, ovn_named};
+use crate::words::{entity_named, first_id, is_query, ovn_named, supplier_named};
 use entity_core::nature::Kind;
 use policy_core::call::{OpKind, Operation};
 use serde_json::Value;
