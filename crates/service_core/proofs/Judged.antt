@@ -1,7 +1,7 @@
 -- Which rule is the first that is broken, and what is missing.
 use Rattle.std.specs.Prelude.{◌≡◌, ℕ, ◌&&◌, Bool, true, false, List, [], ◌∷◌, ◌++◌, map, Option, Some, None, find, cond, refl, IfSome, not}
 use Rattle.std.proofs.Common.{sym, ap, ◌∙◌, subst}
-use Rattle.grid_core.specs.Extent.{Region, region_of}
+use Rattle.grid_core.specs.Extent.{region_of}
 use Rattle.entity_core.specs.Airspace.{Airspace, Stated}
 use Rattle.entity_core.specs.Search.{meeting_in}
 use Rattle.entity_core.specs.declared.entity.Entity.{Entity}

@@ -1,16 +1,14 @@
 -- What holds of all that is kept, after changes.
-use Rattle.std.specs.Prelude.{◌≡◌, Bool, true, false, List, [], ◌∷◌, Some, None, cond, refl, ◌⊎◌}
-use Rattle.std.proofs.Common.{sym, ◌∙◌, subst, inl, inr}
+use Rattle.std.specs.Prelude.{◌≡◌, Bool, true, false, List, [], ◌∷◌, Some, cond}
+use Rattle.std.proofs.Common.{subst}
 use Rattle.std.proofs.lemmas.Option.{same_Some}
 use Rattle.std.specs.Ordering.{eq_by_cmp}
 use Rattle.std.specs.declared.cmp.Ordering.TheVariants.{Less, Equal, Greater}
 use Rattle.std.specs.List.{AllByRecursion}
 use Rattle.std.specs.FinMap as maps
-use Rattle.std.specs.FinMap.{get, insert, remove, get-insert, get-remove}
 use Rattle.std.specs.FinMap.Entries.{put, where_key, by_order}
-use Rattle.entity_core.specs.Airspace.{Entities, EntityKey, key_cmp}
+use Rattle.entity_core.specs.Airspace.{EntityKey, key_cmp}
 use Rattle.entity_core.specs.declared.entity.Entity.{Entity}
-use Rattle.entity_core.proofs.Keys.{key_total}
 
 -- ---- by entries
 
