@@ -102,6 +102,14 @@ is_missing_for a c caller m who is = is ∙ ap (λ (o : Option Caller). missing_
 key_is : (a : Airspace) (t : ℕ) (c : Call) (m : Missing) (b : Bool) → m ≡ missing_for a c.caller c.op → is_nothing m ≡ b → breaks a t c Key ≡ not b
 key_is a t c m b is h = ap (λ (x : Missing). not (is_nothing x)) (sym is) ∙ ap not h
 
+pub lacks_some : (b : Bool) → true ≡ not b → b ≡ false
+lacks_some true h = h
+lacks_some false h = refl
+
+pub lacks_none : (b : Bool) → false ≡ not b → b ≡ true
+lacks_none true h = refl
+lacks_none false h = h
+
 -- where something is missing, the key is the first
 pub judged_key : (a : Airspace) (t : ℕ) (c : Call) (g : Grounds) (caller : Caller) (m : Missing) → find (breaks a t c) early_rules ≡ None → find (breaks_given (facts_in g) t c) standing_rules ≡ None → IsGround c.op a g
     → c.caller ≡ Some caller → m ≡ missing_by a caller c.op → is_nothing m ≡ false → IsFirst t c a (Some (Key, m))

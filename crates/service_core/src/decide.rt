@@ -1,8 +1,8 @@
 //! What a call is: refused, or allowed.
-ghost use Rattle.std.specs.Prelude.{◌≡◌, ℕ, map, Ok, Err, Some, None, find, IfOk};
+ghost use Rattle.std.specs.Prelude.{◌≡◌, ℕ, map, not, Ok, Err, Some, None, find, IfOk};
 ghost use Rattle.entity_core.specs.Airspace.{Airspace};
 ghost use Rattle.grid_core.specs.Extent.{region_of};
-ghost use Rattle.policy_core.specs.Missing.{missing_by, missing_from, missing_put, needed_put};
+ghost use Rattle.policy_core.specs.Missing.{is_nothing, missing_by, missing_from, missing_put, needed_put};
 ghost use Rattle.policy_core.specs.View.{view_of};
 ghost use Rattle.policy_core.specs.Policy.{breaks, breaks_given, early_rules, standing_rules};
 ghost use Rattle.service_core.specs.Looks.{Looks, facts_in, IsGround, IsFirst, IsReady, IsReadyIfAllowed, Judges, verdict_of};
@@ -101,6 +101,13 @@ fn missing_kind<S: Space>(
     missing_from(space, alloc, &caller.uss, put.key.items(), &needed)
 }
 
+// P14 KEY
+fn breaks_key(missing: &Missing) -> bool
+    ensures { result ≡ not (is_nothing missing.now) }
+{
+    !missing.is_nothing()
+}
+
 // The first broken rule that is not early, and what is missing.
 fn judge<S: Space>(
     space: &mut S,
@@ -127,7 +134,7 @@ fn judge<S: Space>(
         return Ok(Some((broken, Missing::nothing(alloc))));
     }
     let missing = missing_by(space, alloc, caller, &call.op)?;
-    if !missing.is_nothing() {
+    if breaks_key(&missing) {
         return Ok(Some((Rule::Key, missing)));
     }
     if findings.limit {
