@@ -192,7 +192,7 @@ class Drawn:
         return self.draw.of(STATES) if flaw == "state" or not roles else self.draw.of(roles)
 
     def key(self, flaw):
-        """All present OVNs, or where the key is to be wrong some of them, old ones among them."""
+        """All present version numbers, or where the key is to be wrong some of them, old ones among them."""
         key = []
         for entity in self.airspace.entities.values():
             choice = self.draw.below(3) if flaw == "key" else 0

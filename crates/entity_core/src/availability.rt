@@ -3,7 +3,7 @@
 /// Whether a supplier (USS) says that it can be reached, as far as the service was told.
 #[derive(Clone, Copy, Debug, PartialEq, Eq)]
 pub enum Availability {
-    /// Never set, or set to Unknown.
+    /// It was never set, or was set so.
     Unknown,
     Normal,
     Down,

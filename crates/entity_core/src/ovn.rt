@@ -1,4 +1,4 @@
-//! OVNs (opaque version numbers).
+//! Version numbers (OVNs).
 ghost use Rattle.std.specs.Prelude.{◌≡◌, IfOk, None, length};
 ghost use Rattle.std.specs.String.{string_bytes};
 ghost use Rattle.hex.specs.Hex.{encode_lower};
@@ -13,7 +13,7 @@ use sha2::{Digest, Sha256};
 use std::alloc::{AllocError, Global};
 use std::marker::Model;
 
-/// An OVN (opaque version number): 16 to 128 bytes from 0x21 to 0x7E (this project's profile). Contracts see its
+/// A version number: 16 to 128 bytes from 0x21 to 0x7E (this project's profile). Contracts see its
 /// bytes.
 #[derive(Debug, Drop)]
 pub struct Ovn {

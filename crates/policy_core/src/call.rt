@@ -36,7 +36,7 @@ pub struct Put {
     /// Its kind, and the state of an intent.
     pub nature: Nature,
     pub volumes: Volumes,
-    /// The OVNs of what its supplier knows.
+    /// The version numbers of what its supplier knows.
     pub key: Key,
     pub url: BaseUrl,
 }
@@ -54,15 +54,15 @@ pub enum Operation {
     Query(Kind, Area),
     /// What is the entity of the kind and the id?
     Read(Kind, EntityId),
-    /// Create this entity under the id.
+    /// There is to be this entity under the id.
     Create(EntityId, Put),
-    /// Update the entity that has this id and OVN.
+    /// The entity of the id, whose version number is this, is now to be so.
     Update(EntityId, Ovn, Put),
-    /// Delete the entity of the kind that has this id and OVN.
+    /// The entity of the kind and the id, whose version number is this, is not to be any more.
     Delete(Kind, EntityId, Ovn),
     /// What is the availability of the supplier?
     ReadAvail(UssId),
-    /// Set the supplier's availability, which has this version, to this.
+    /// The supplier's availability, whose version is the text, is now this.
     SetAvail(UssId, Text, Availability),
 }
 

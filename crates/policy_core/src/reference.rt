@@ -23,7 +23,7 @@ pub struct Reference {
     /// The manager's availability at that time.
     pub availability: Availability,
     pub version: Version,
-    /// The OVN, which the manager alone sees.
+    /// The version number, which the manager alone sees.
     pub ovn: Option<Ovn>,
     /// When the first of its volumes begins, in seconds since 1970.
     pub time_start: u64,
