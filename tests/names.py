@@ -5,6 +5,7 @@ that crate and those of `Type::call` in one file, an edit must stand among the e
 must be made in some code, outside comments. Words in upper case stand for others. Requests, answers and paths of HTTP
 are looked at by other tests."""
 import functools
+import json
 import os
 import pathlib
 import re
@@ -72,6 +73,13 @@ def is_path(word):
     return any(f"/{path}/".endswith(f"/{word}/") or f"/{path}".find(f"/{word}/") >= 0 for path in files())
 
 
+@functools.cache
+def cases():
+    """The names of the cases by bytes that are data: worked examples, and folders."""
+    examples = json.loads((TOP / "tests" / "worked_examples.json").read_text())
+    return {it["name"] for it in examples} | {it.name for it in (TOP / "tests" / "cases").iterdir()}
+
+
 def is_edit(word):
     crate, _, name = word.partition("/")
     folders = f"crates/{crate}/must-fail/{name}", f"tests/edits/{crate}/{name}"
@@ -95,7 +103,7 @@ def is_member(name, member):
 
 def is_name(word):
     """Whether a word names something of the repository or of others."""
-    if word in OTHERS or is_for_others(word):
+    if word in OTHERS or word in cases() or is_for_others(word):
         return True
     if "::" in word:
         first, *parts = word.split("::")
