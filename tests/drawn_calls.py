@@ -4,7 +4,7 @@ import json
 
 import plain_policy
 import wire
-from plain_policy import CONSTRAINT, INTENT, MAY_BECOME, PATHS, STATES
+from plain_policy import CONSTRAINT, INTENT, NEXT_STATES, PATHS, STATES
 
 NOW = 5_000
 SUPPLIERS = ("uss-a", "uss-b", "uss-c", "uss-v")
@@ -186,13 +186,13 @@ class Drawn:
         return put
 
     def state(self, flaw, token, entity):
-        states = MAY_BECOME[entity.put.state] if entity and entity.kind == INTENT else STATES
+        states = NEXT_STATES[entity.put.state] if entity and entity.kind == INTENT else STATES
         scopes = ALL_TOKENS[token][1]
         roles = [it for it in states if (wire.STRATEGIC if it in STATES[:2] else wire.MONITORING) in scopes]
         return self.draw.of(STATES) if flaw == "state" or not roles else self.draw.of(roles)
 
     def key(self, flaw):
-        """All present version numbers, or where the key is to be wrong some of them, old ones among them."""
+        """All present OVNs, or where the key is to be wrong some of them, old ones among them."""
         key = []
         for entity in self.airspace.entities.values():
             choice = self.draw.below(3) if flaw == "key" else 0

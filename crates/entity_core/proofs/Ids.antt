@@ -5,6 +5,7 @@ use Rattle.std.proofs.lemmas.Nat.{mod_below}
 use Rattle.std.specs.Int.{w128, from_be_bytes, to_be_bytes}
 use Rattle.std.specs.Prelude.{option_map}
 use Rattle.uuid.specs.Text.{lower, parsed, parsed_hyphenated}
+use Rattle.uuid.proofs.TextLemmas.{by_index_length}
 use Rattle.uuid.proofs.OrderLemmas.{from_be_bytes-to_be_bytes_16}
 use Rattle.uuid.proofs.RoundTrips.{parses_hyphenated_text}
 use Rattle.entity_core.specs.EntityId.{printed, spelled}
@@ -38,3 +39,7 @@ printed_spells n text e fits =
     let bytes : List ℕ = to_be_bytes w128 n in
     let back : Some bytes ≡ parsed_hyphenated (printed n) = parses_hyphenated_text lower bytes (inl refl) refl (all_at (λ b. b < 256) bytes (small_bytes n)) in
     ap spelled e ∙ (sym (ap (option_map (from_be_bytes w128)) back) ∙ ap Some (from_be_bytes-to_be_bytes_16 n fits))
+
+-- a printed id has 36 characters
+pub length-printed : (n : ℕ) → length (printed n) ≡ 36
+length-printed n = by_index_length 36 _

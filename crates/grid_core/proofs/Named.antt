@@ -1,5 +1,5 @@
 -- The cell that a text names is the one that it reads as.
-use Rattle.std.specs.Prelude.{◌≡◌, ◌↔◌, if◌then◌else◌, ℕ, ◌-◌, ◌*◌, ◌^◌, ◌/◌, ◌%◌, ◌+◌, ◌≤◌, ◌<◌, ◌&&◌, nat_le, nat_lt, nat_eq, List, [], ◌∷◌, length, Bool, true, false, refl, Option, Some, None, Result, Ok, Err}
+use Rattle.std.specs.Prelude.{◌≡◌, if◌then◌else◌, ℕ, ◌-◌, ◌*◌, ◌^◌, ◌+◌, ◌≤◌, ◌<◌, ◌&&◌, nat_lt, List, [], ◌∷◌, length, Bool, true, refl, Option, Some, None, Ok, Err}
 use Rattle.std.specs.List.{list_all}
 use Rattle.std.specs.Char.{digit_value}
 use Rattle.std.specs.Int.{w64, trailing_zeros}
@@ -9,9 +9,11 @@ use Rattle.std.proofs.lemmas.Bool.{ltb-true, leb-true, eqb-true, lt-ltb, le-leb,
 use Rattle.std.proofs.lemmas.Int.Digits.{digits_value-lt}
 use Rattle.std.proofs.lemmas.Nat.{pow-add, pow_pos}
 use Rattle.std.proofs.Math.Nat.{mul-le-mul_right}
-use Rattle.grid_core.specs.Cell.{Cell, IsCell, number_of}
-use Rattle.grid_core.specs.CellNumber.{cell_of, IsNumber, number-cell_of, IsCell-cell_of, IsNumber-number_of, some_by_place, cell_of-number_of}
-use Rattle.grid_core.specs.Token.{HasTokenLength, IsTokenOf, Parses, NamesCell, cell_named, has_token_form, is_number, token_number}
+use Rattle.grid_core.specs.Cell.{Cell, IsCell}
+use Rattle.grid_core.specs.CellNumber.{cell_of, IsNumber}
+use Rattle.grid_core.specs.CellNumberLaw.{number-cell_of}
+use Rattle.grid_core.proofs.CellNumber.{IsCell-cell_of, IsNumber-number_of, some_by_place, cell_of-number_of}
+use Rattle.grid_core.specs.Token.{IsTokenOf, Parses, NamesCell, cell_named, has_token_form, is_number, token_number}
 use Rattle.grid_core.specs.declared.token.TokenFault.{TokenFault}
 use Rattle.grid_core.specs.declared.token.TokenFault.TheVariants.{Length, Digit, Invalid}
 use Rattle.grid_core.proofs.Tokens.{sixteen}

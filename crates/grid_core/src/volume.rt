@@ -151,7 +151,8 @@ impl Volume {
 
     /// The lower and the upper altitude, in decimetres.
     pub fn altitude(&self) -> (i64, i64)
-        ensures { result ≡ self.now.altitude }
+        ensures bounds { result ≡ self.now.altitude }
+        ensures limits { region_fault (region_of self.now) ≡ None }
     {
         self.altitude
     }
@@ -252,6 +253,7 @@ impl Area {
     pub fn altitude(&self) -> (Option<i64>, Option<i64>)
         ensures lower { result.0 ≡ self.now.lowest }
         ensures upper { result.1 ≡ self.now.highest }
+        ensures limits { region_fault self.now ≡ None }
     {
         self.altitude
     }

@@ -1,0 +1,6 @@
+pub mod Rows
+pub mod Finds
+pub mod Cells
+pub mod Volumes
+pub mod Head
+pub mod Laws

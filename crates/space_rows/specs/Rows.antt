@@ -1,0 +1,115 @@
+-- Which rows of the tables spell an entity.
+use Rattle.std.specs.Prelude.{◌≡◌, ℕ, suc, ℤ, pos, ◌≤◌, ◌<◌, ◌≤ℤ◌, ◌^◌, List, [], ◌∷◌, map, length, None}
+use Rattle.std.specs.List.{AllByRecursion, AllZip, flat_map}
+use Rattle.grid_core.specs.Cell.{Cell, IsCell, lo_of, hi_of}
+use Rattle.grid_core.specs.Extent.{Extent, region_of, region_fault}
+use Rattle.grid_core.specs.Token.{IsShortest}
+use Rattle.entity_core.specs.declared.nature.Kind.{Kind}
+use Rattle.entity_core.specs.declared.nature.Kind.TheVariants as kind
+use Rattle.entity_core.specs.declared.nature.State.TheVariants.{Accepted, Activated, Nonconforming, Contingent}
+use Rattle.entity_core.specs.declared.nature.Nature.{Nature}
+use Rattle.entity_core.specs.declared.nature.Nature.TheVariants as nature
+use Rattle.entity_core.specs.declared.entity.Entity.{Entity}
+use Rattle.entity_core.specs.Entity.{kind_of, greatest_version}
+use Rattle.entity_core.specs.Serial.{greatest_serial}
+use Rattle.entity_core.specs.EntityId.{printed}
+use Rattle.entity_core.specs.IdTexts.{name_fault, ovn_fault, url_fault}
+use Rattle.space_rows.specs.declared.rows.EntityRow.{EntityRow}
+use Rattle.space_rows.specs.declared.rows.VolumeRow.{VolumeRow}
+use Rattle.space_rows.specs.declared.rows.CellRow.{CellRow}
+
+-- the number of a kind
+abbrev pub kind_number : Kind → ℤ
+kind_number kind.Intent = pos 0
+kind_number kind.Constraint = pos 1
+
+-- the number of a state, and 4 for a constraint
+abbrev pub state_number : Nature → ℤ
+state_number (nature.Intent Accepted) = pos 0
+state_number (nature.Intent Activated) = pos 1
+state_number (nature.Intent Nonconforming) = pos 2
+state_number (nature.Intent Contingent) = pos 3
+state_number nature.Constraint = pos 4
+
+-- ---- places
+
+-- the elements of a list with their places, which count from a number
+abbrev pub placed : {X : Type 0} → ℕ → List X → List (ℕ × X)
+placed k [] = []
+placed k (x ∷ xs) = (k, x) ∷ placed (suc k) xs
+
+-- a cell, the place of its volume, and its place in the volume
+pub record PlacedCell : Type 0 where
+  pub volume : ℕ
+  pub place : ℕ
+  pub cell : Cell
+
+-- the cells of the volume at a place, their places counted from a number
+abbrev pub cells_at : ℕ → ℕ → List Cell → List PlacedCell
+cells_at volume k cs = map (λ c. record { volume = volume; place = c.0; cell = c.1 }) (placed k cs)
+
+-- the cells of a volume that has a place
+abbrev pub placed_cells : ℕ × Extent → List PlacedCell
+placed_cells v = cells_at v.0 0 v.1.cells
+
+-- the cells of all volumes, volume by volume
+abbrev pub all_cells : List Extent → List PlacedCell
+all_cells volumes = flat_map placed_cells (placed 0 volumes)
+
+-- ---- what the types of an entity keep
+
+pub record IsVolume (v : Extent) : Type 0 where
+  pub limits : region_fault (region_of v) ≡ None
+  pub cells : AllByRecursion IsCell v.cells
+
+pub record IsEntity (e : Entity) : Type 0 where
+  pub id : e.id < 2 ^ 128
+  pub manager : name_fault e.manager ≡ None
+  pub version : (1 ≤ e.version) × (e.version ≤ greatest_version)
+  pub serial : (1 ≤ e.serial) × (e.serial ≤ greatest_serial)
+  pub ovn : ovn_fault e.ovn ≡ None
+  pub count : (1 ≤ length e.volumes) × (length e.volumes ≤ 32)
+  pub volumes : AllByRecursion IsVolume e.volumes
+  pub url : url_fault e.url ≡ None
+
+-- ---- the rows, column by column
+
+-- the number of the row is from 1 to the serial
+pub record IsEntityRow (row : EntityRow) (e : Entity) : Type 0 where
+  pub least : pos 1 ≤ℤ row.num
+  pub most : row.num ≤ℤ pos e.serial
+  pub kind : row.kind ≡ kind_number (kind_of e.nature)
+  pub id : row.id ≡ printed e.id
+  pub manager : row.manager ≡ e.manager
+  pub state : row.state ≡ state_number e.nature
+  pub version : row.version ≡ pos e.version
+  pub serial : row.serial ≡ pos e.serial
+  pub ovn : row.ovn ≡ e.ovn
+  pub url : row.url ≡ e.url
+
+-- a volume of the entity with this number, and its place
+pub record IsVolumeRow (num : ℤ) (row : VolumeRow) (v : ℕ × Extent) : Type 0 where
+  pub entity : row.entity ≡ num
+  pub place : row.place ≡ pos v.0
+  pub alt_lower : row.alt_lower ≡ v.1.altitude.0
+  pub alt_upper : row.alt_upper ≡ v.1.altitude.1
+  pub time_start : row.time_start ≡ pos v.1.time.0
+  pub time_end : row.time_end ≡ pos v.1.time.1
+
+-- the token is the one that is printed of the cell
+pub record IsCellRow (num : ℤ) (row : CellRow) (c : PlacedCell) : Type 0 where
+  pub entity : row.entity ≡ num
+  pub volume : row.volume ≡ pos c.volume
+  pub place : row.place ≡ pos c.place
+  pub token : IsShortest row.token c.cell
+  pub lo : row.lo ≡ pos (lo_of c.cell)
+  pub hi : row.hi ≡ pos (hi_of c.cell)
+
+-- A row of `entity`, the rows of `volume` by rising places, and those of `cell` by rising volumes and
+-- places, spell an entity: each reads by its types, and places count from 0 without gaps. There is a
+-- volume, and each volume has a cell, as `IsEntity` and `region_fault` say.
+pub record SpellsEntity (row : EntityRow) (volumes : List VolumeRow) (cells : List CellRow) (e : Entity) : Type 0 where
+  pub entity : IsEntityRow row e
+  pub volumes_are : AllZip (IsVolumeRow row.num) volumes (placed 0 e.volumes)
+  pub cells_are : AllZip (IsCellRow row.num) cells (all_cells e.volumes)
+  pub kept : IsEntity e

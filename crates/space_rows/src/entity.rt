@@ -1,0 +1,67 @@
+//! The entity that rows spell, and the rows of an entity.
+ghost use Rattle.std.specs.Prelude.{◌≡◌, ◌≤ℤ◌, pos, IfOk};
+ghost use Rattle.space_rows.specs.Rows.{SpellsEntity};
+ghost use Rattle.space_rows.specs.Finds.{Finds};
+ghost use Rattle.space_rows.specs.Head.{HasVolumes};
+
+use crate::head::{Head, entity_row, head_of};
+use crate::rows::{CellRow, EntityRow, VolumeRow};
+use crate::volumes::{volume_rows, volumes_of};
+use entity_core::entity::Entity;
+use entity_core::volumes::Volumes;
+use grid_core::volume::Volume;
+use std::alloc::{AllocError, Global};
+
+fn joined(head: Head, list: Vec<Volume>) -> Option<Entity>
+    ensures { Finds (HasVolumes head list.items) result }
+{
+    match Volumes::from_vec(list) {
+        Some(volumes) => Some(Entity {
+            nature: head.nature,
+            id: head.id,
+            manager: head.manager,
+            version: head.version,
+            serial: head.serial,
+            ovn: head.ovn,
+            volumes,
+            url: head.url,
+        }),
+        None => None,
+    }
+}
+
+/// The entity that the rows spell, if they spell one. The rows of `volume` come by rising places, and
+/// those of `cell` by rising volumes and then places; in another order they spell none.
+pub fn entity_of(
+    alloc: Global,
+    row: &EntityRow,
+    volumes: &[VolumeRow],
+    cells: &[CellRow],
+) -> Result<Option<Entity>, AllocError>
+    ensures { IfOk result (λ o. Finds (SpellsEntity row.now volumes.now cells.now) o) }
+{
+    let Some(head) = head_of(alloc, row)? else {
+        return Ok(None);
+    };
+    match volumes_of(alloc, row.num, volumes, cells)? {
+        Some(list) => Ok(joined(head, list)),
+        None => Ok(None),
+    }
+}
+
+/// The rows of an entity under a number: that of `entity`, those of `volume` by rising places, and
+/// those of `cell` by rising volumes and then places.
+pub fn rows_of(
+    alloc: Global,
+    entity: &Entity,
+    num: i64,
+) -> Result<(EntityRow, Vec<VolumeRow>, Vec<CellRow>), AllocError>
+    requires least { pos 1 ≤ℤ num }
+    requires most { num ≤ℤ pos entity.now.serial }
+    ensures num { IfOk result (λ r. r.0.num ≡ num) }
+    ensures spells { IfOk result (λ r. SpellsEntity r.0 r.1.items r.2.items entity.now) }
+{
+    let row = entity_row(alloc, entity, num)?;
+    let (volumes, cells) = volume_rows(alloc, num, entity.volumes.items())?;
+    Ok((row, volumes, cells))
+}

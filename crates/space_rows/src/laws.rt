@@ -1,0 +1,7 @@
+//! Laws of rows, each named by a function that does nothing.
+ghost use Rattle.space_rows.specs.Laws.{OneEntity};
+
+/// Rows spell one entity at most.
+pub fn one_entity()
+    ensures { OneEntity }
+{}

@@ -1,0 +1,51 @@
+//! Rows of the tables that keep entities: one field for each column.
+
+use entity_core::text::Text;
+
+/// A row of the table `entity`.
+#[derive(Debug, Drop)]
+pub struct EntityRow {
+    /// The serial of the entity's create, by which the other tables name the entity.
+    pub num: i64,
+    /// 0 for an operational intent, 1 for a constraint.
+    pub kind: i64,
+    /// The id in lower case.
+    pub id: Text,
+    pub manager: Text,
+    /// 0 Accepted, 1 Activated, 2 Nonconforming, 3 Contingent; 4 for a constraint.
+    pub state: i64,
+    pub version: i64,
+    /// The serial of the entity's last put.
+    pub serial: i64,
+    pub ovn: Text,
+    pub url: Text,
+}
+
+/// A row of the table `volume`.
+#[derive(Debug, Drop)]
+pub struct VolumeRow {
+    /// The `num` of its entity.
+    pub entity: i64,
+    /// Its place among the volumes of the entity, from 0.
+    pub place: i64,
+    pub alt_lower: i64,
+    pub alt_upper: i64,
+    pub time_start: i64,
+    pub time_end: i64,
+}
+
+/// A row of the table `cell`.
+#[derive(Debug, Drop)]
+pub struct CellRow {
+    /// The `num` of its entity.
+    pub entity: i64,
+    /// The place of its volume.
+    pub volume: i64,
+    /// Its place among the cells of the volume, from 0.
+    pub place: i64,
+    /// The token that is printed of the cell.
+    pub token: Text,
+    /// The cell's first and last places among the cells of level 13.
+    pub lo: i64,
+    pub hi: i64,
+}
