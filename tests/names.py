@@ -35,7 +35,7 @@ OTHERS = set(
     89c25907 89c25909 89c2590b Host Date oauth2 libs2-dev s2geometry S2RegionCoverer RegionCoverer S2CellId CellID
     set_fixed_level set_max_cells min_level max_level max_cells GetCovering getCovering get_covering Covering region
     ToToken toToken to_token s2sphere s2-geometry-library-java github.com/golang/geo/s2 outline_polygon outline_circle
-    new_subscription R 61""".split()
+    new_subscription 61""".split()
 )
 
 
@@ -92,8 +92,8 @@ def is_for_others(word):
 
 
 def is_word(word, folder=""):
-    """Whether a word is a name that is made in a folder, or one of others."""
-    return word in OTHERS or word in names_in_folder(folder)
+    """Whether a word is a name that is made in a folder, one of others, or a letter that stands for them."""
+    return word in OTHERS or word in names_in_folder(folder) or (len(word) == 1 and word.isupper())
 
 
 def is_member(name, member):
