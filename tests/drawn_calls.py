@@ -247,9 +247,9 @@ class Drawn:
 
 
 # What may come anywhere in a body, and in a target.
-PIECES = [b'"', b"\\", b"{", b"}", b"[", b"]", b",", b":", b"0", b"-", b".", b"e", b"+", b"00", b" ", b"\t", b"\n", b"u"]
-PIECES += [b"\\u0041", b"\\ud800", b"\\u0000", b"\\/", b"9" * 25, b"null", b"true", b"NaN", "é".encode(), "\ufeff".encode()]
-PIECES += [b"\x00", b"\x7f", b"\x80", b"\xff"]
+PIECES = [b'"', b"\\", b"{", b"}", b"[", b"]", b",", b":", b"0", b"-", b".", b"e", b"+", b"00", b" ", b"\t", b"\n"]
+PIECES += [b"\\u0041", b"\\ud800", b"\\u0000", b"\\/", b"9" * 25, b"null", b"true", b"NaN", b"u", "é".encode()]
+PIECES += ["\ufeff".encode(), b"\x00", b"\x7f", b"\x80", b"\xff"]
 MARKS = "/?#%aA0.-_~\"{}+|^`'"
 
 
