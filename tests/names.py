@@ -135,4 +135,12 @@ def unknown():
     return found
 
 
-CASES = {"names-in-docs": unknown}
+def headless():
+    """The sources and definitions whose first line does not say what they have."""
+    begins = {".rt": "//! ", ".antt": "-- "}
+    files = [*TOP.glob("crates/*/src/*.rt"), *TOP.glob("crates/*/specs/*.antt")]
+    texts = ((it, it.read_text()) for it in sorted(files) if it.name != "Lib.antt")
+    return [f"{it.relative_to(TOP)} begins otherwise" for it, text in texts if not text.startswith(begins[it.suffix])]
+
+
+CASES = {"names-in-docs": unknown, "first-lines": headless}
