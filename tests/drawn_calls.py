@@ -246,14 +246,36 @@ class Drawn:
         return self.draw.of(broken)
 
 
-def stream(seed, count=wire.MOST_REQUESTS):
+# What may come anywhere in a body, and in a target.
+PIECES = [b'"', b"\\", b"{", b"}", b"[", b"]", b",", b":", b"0", b"-", b".", b"e", b"+", b"00", b" ", b"\t", b"\n"]
+PIECES += [b"\\u0041", b"\\ud800", b"\\u0000", b"\\/", b"9" * 25, b"null", b"true", b"NaN", b"u", "é".encode()]
+PIECES += ["\ufeff".encode(), b"\x00", b"\x7f", b"\x80", b"\xff"]
+MARKS = "/?#%aA0.-_~\"{}+|^`'"
+
+
+def mangled(draw, call):
+    """The call with a few letters less, more or other ones in its body, and now and then in its target."""
+    method, target, authorization, body = call
+    body = bytearray(body or b"")
+    for _ in range(1 + draw.below(3) // 2 if body and draw.one_in(2) else 0):
+        at = draw.below(len(body) + 1)
+        beyond = at + draw.of((0, 0, 1, 1, 2, 5))
+        copy = draw.below(len(body) + 1)
+        body[at:beyond] = draw.of((b"", draw.of(PIECES), draw.of(PIECES), body[copy : copy + draw.below(12)]))
+    if draw.one_in(8):
+        at = draw.below(len(target) + 1)
+        target = target[:at] + draw.of(MARKS) + target[at + draw.below(2) :]
+    return method, target, authorization, bytes(body) if call[3] is not None else None
+
+
+def stream(seed, count=wire.MOST_REQUESTS, is_mangled=False):
     """The requests of a stream, and the outcomes that the plain policy gives them."""
     draw = Draw(seed)
     airspace = plain_policy.Airspace(NOW, ALL_TOKENS)
     drawn = Drawn(draw, airspace)
     requests, outcomes = [], []
     for _ in range(count):
-        call = drawn.call()
+        call = mangled(draw, drawn.call()) if is_mangled else drawn.call()
         requests.append(wire.request(*call))
         outcomes.append(airspace.ask(*call))
     return requests, outcomes

@@ -95,10 +95,17 @@ def refuse(_):
     raise Malformed
 
 
+def members_of(pairs):
+    """The members of an object. Half of a letter, which an escape can name, is no text."""
+    json.dumps(pairs, default=str, ensure_ascii=False).encode()
+    return dict(pairs)
+
+
 def object_of(body):
     """The members of a body. Where one stands twice, the last counts."""
+    readers = {"parse_int": whole, "parse_float": fraction, "parse_constant": refuse, "object_pairs_hook": members_of}
     try:
-        value = json.loads(body.decode(), parse_int=whole, parse_float=fraction, parse_constant=refuse)
+        value = json.loads(body.decode(), **readers)
     except ValueError as error:
         raise Malformed from error
     need(isinstance(value, dict))
