@@ -10,7 +10,6 @@ use entity_core::version::Version;
 use entity_core::volumes::Volumes;
 use grid_core::token::parse_token;
 use grid_core::volume::Volume;
-use policy_core::key_index::KeyIndex;
 use policy_core::missing::missing;
 use std::alloc::Global;
 
@@ -102,22 +101,23 @@ fn missing_is_as_the_plain_search_says(rt: HostRuntime) {
 }
 
 #[test]
-fn an_index_has_whole_ovns(rt: HostRuntime) {
+fn an_ovn_that_begins_another_is_missing(rt: HostRuntime) {
     let alloc = rt.alloc();
     let mut key = Vec::new(alloc);
     for number in [10, 200, 10] {
         let own = ovn(alloc, number).expect(&rt, "an OVN");
         assert!(rt; key.push(own).is_ok());
     }
-    let index = KeyIndex::of(alloc, key.as_slice()).expect(&rt, "an index");
-    for (number, has) in [
-        (10, true),
-        (200, true),
-        (1, false),
-        (100, false),
-        (20, false),
-    ] {
-        let sought = ovn(alloc, number).expect(&rt, "an OVN");
-        assert!(rt; index.has(&sought) == has, "of {number}");
+    let mut needed = Vec::new(alloc);
+    for number in [1, 10, 20, 100, 200] {
+        let own = ovn(alloc, number).expect(&rt, "an OVN");
+        let item = entity(alloc, own).expect(&rt, "an entity");
+        assert!(rt; needed.push(item).is_ok());
     }
+    let places = missing(alloc, key.as_slice(), needed.as_slice()).expect(&rt, "places");
+    let mut found = places.iter();
+    for place in [0, 2, 3] {
+        assert!(rt; found.next() == Some(&place), "place {place}");
+    }
+    assert!(rt; found.next().is_none());
 }

@@ -44,7 +44,7 @@ breaks_method op = false
 
 -- P3 TOKEN
 
--- nobody is known to call
+-- there is no caller
 abbrev pub breaks_token : Option Caller → Bool
 breaks_token caller = is_none caller
 

@@ -1,0 +1,134 @@
+-- How the tables are made, one statement after the other.
+use Rattle.std.proofs.Common.{◌≡◌, ℕ, pos, List, [], ◌∷◌, map, slice_get, false, Some, None, Ok, Err, Result, OnOk, refl, sym, ap, subst, ◌∙◌}
+use Rattle.std.specs.List.{AllByRecursion}
+use Rattle.sqlite_keyed.proofs.ListLemmas.{all_both, all-append}
+use Rattle.sqlite.specs.declared.types.Value.TheVariants.{Null, Int}
+use Rattle.sqlite.specs.Order.{Row}
+use Rattle.sqlite.specs.Table.{Table}
+use Rattle.sqlite.specs.Schema.{Schema}
+use Rattle.sqlite_schema.specs.declared.schema.Index.{Index}
+use Rattle.sqlite.specs.Command.TheVariants.{CreateTable, CreateIndex}
+use Rattle.sqlite.specs.Compile.{table_defined_by}
+use Rattle.sqlite_resolve.specs.Compile.{index_defined_by}
+use Rattle.sqlite.specs.Change.{created, indexed, next_tree}
+use Rattle.sqlite.specs.Does.{Tally, Does, lacks_sequence}
+use Rattle.sqlite.specs.Tree.{Trees}
+use Rattle.sqlite.specs.declared.error.Error.{Error}
+use Rattle.sqlite.specs.Listing.{understood}
+use Rattle.sqlite.specs.Effect.{Database}
+use Rattle.sqlite.specs.State.{State, mode_of, Writes, Executes}
+use Rattle.sqlite.proofs.Callers.{IsPlain, command_of, statement_of, runs_as}
+use Rattle.sqlite.specs.Edit.{Edit, edit_of, edited}
+use Rattle.sqlite_rules.specs.Edit.{taken_by}
+use Rattle.sqlite_rules.specs.Action.{works, Writes as Acts}
+use Rattle.sqlite.specs.Rowids.TheVariants.{Chosen}
+use Rattle.sqlite_schema.specs.declared.schema.Keys.TheVariants.{Enforced}
+use Rattle.sqlite_trees.specs.Tree.{rowid}
+use Rattle.std.specs.Prelude.{IsPermutation}
+use Rattle.std.proofs.Common.{subst₂, arith}
+use Rattle.std.proofs.lemmas.List.Sorted.{IsPermutation-refl}
+use Rattle.std.specs.FinMap.{entries, empty, len-entries, len-empty}
+use Rattle.std.proofs.Common.{length, Ordering}
+use Rattle.entity_core.specs.Airspace.{empty_at, key_cmp, text_cmp}
+use Rattle.sqlite.proofs.Callers.{one_step}
+use Rattle.space_tables.specs.Tables.{meta, dss_schema}
+use Rattle.space_tables.proofs.Texts.{first_row_text}
+use Rattle.space_tables.specs.Spelling.{Spells, AreApart, IsStated, availability_values, meta_columns, entity_columns, six_columns, three_columns}
+use Rattle.space_tables.proofs.Means.{first_row_is, first_row_plain}
+use Rattle.space_tables.proofs.Steps.{cast_int, cast_null, inserts}
+use Rattle.space_tables.specs.Making.{IsBare}
+use Rattle.space_tables.proofs.Steps.{went, same_value}
+
+-- a table is made beside empty ones
+pub makes : (before after : Schema) (table : Table) (text : List ℕ) (old new : State) (r : Result ℕ Error) → command_of (understood before text) ≡ CreateTable → IsPlain (understood before text)
+    → statement_of text (understood before text) ≡ text → table_defined_by text ≡ Ok table → created before table ≡ after → lacks_sequence after ≡ false
+    → Executes text [] old new r → IsBare before old.now → OnOk r (IsBare after new.now)
+makes before after table text old new (Err e) is plain whole defined after_is counted h bare = tt
+makes before after table text old new (Ok count) is plain whole defined after_is counted h bare =
+    let w = subst (λ t. Writes old new None CreateTable t [] count) whole (runs_as text [] old new before bare.0 CreateTable is plain count h) in
+    let all = went w.changed in
+    let first = went all.1 in
+    let made = first.1 in
+    let both : Ok made.table ≡ Ok table = sym made.defined ∙ defined in
+    let same : made.table ≡ table = cc in
+    let schema : first.0.schema ≡ after = made.is ∙ ap (λ s. created s made.table) bare.0 ∙ ap (created before) same ∙ after_is in
+    let free : lacks_sequence first.0.schema ≡ false = ap lacks_sequence schema ∙ counted in
+    let now : new.now ≡ first.0 = ap (λ (p : Tally × Database). p.1) (same_value all.2) ∙ same_value (rw free at first.2) in
+    let kept = subst (λ (s : Schema). AllByRecursion (λ t. first.0.trees t.tree ≡ old.now.trees t.tree) s.tables) bare.0 made.others in
+    let there = all_both (λ (t : Table). first.0.trees t.tree ≡ old.now.trees t.tree) (λ t. old.now.trees t.tree ≡ []) (λ t. first.0.trees t.tree ≡ []) (λ t p q. p ∙ q) before.tables kept bare.1 in
+    let empty : first.0.trees (next_tree before) ≡ [] = subst (λ s. first.0.trees (next_tree s) ≡ []) bare.0 made.empty in
+    let every = all-append (λ (t : Table). first.0.trees t.tree ≡ []) before.tables (record table { tree = next_tree before } ∷ []) there (empty, tt) in
+    subst (IsBare after) (sym now) (schema, subst (λ (s : Schema). AllByRecursion (λ t. first.0.trees t.tree ≡ []) s.tables) after_is every)
+
+-- so is an index
+pub makes_index : (before after : Schema) (table : Table) (at : ℕ) (index : Index) (text : List ℕ) (old new : State) (r : Result ℕ Error) → command_of (understood before text) ≡ CreateIndex at → IsPlain (understood before text)
+    → statement_of text (understood before text) ≡ text → slice_get before.tables at ≡ Some table → index_defined_by table text ≡ Ok index → indexed before table index ≡ after → after.tables ≡ before.tables
+    → Executes text [] old new r → IsBare before old.now → OnOk r (IsBare after new.now)
+makes_index before after table at index text old new (Err e) is plain whole listed defined after_is tables h bare = tt
+makes_index before after table at index text old new (Ok count) is plain whole listed defined after_is tables h bare =
+    let w = subst (λ t. Writes old new None (CreateIndex at) t [] count) whole (runs_as text [] old new before bare.0 (CreateIndex at) is plain count h) in
+    let at_schema = subst (λ s. Does old.step_limit (mode_of old) [] (record old.now { schema = s }) text None (CreateIndex at) (Ok (w.tally, new.now))) bare.0 w.changed in
+    let all = went (rw listed at at_schema) in
+    let made = all.1 in
+    let both : Ok made.index ≡ Ok index = sym made.defined ∙ defined in
+    let same : made.index ≡ index = cc in
+    let schema : all.0.schema ≡ after = made.is ∙ ap (indexed before table) same ∙ after_is in
+    let now : new.now ≡ all.0 = ap (λ (p : Tally × Database). p.1) (same_value all.2) in
+    let there = all_both (λ (t : Table). all.0.trees t.tree ≡ old.now.trees t.tree) (λ t. old.now.trees t.tree ≡ []) (λ t. all.0.trees t.tree ≡ []) (λ t p q. p ∙ q) before.tables made.rows bare.1 in
+    subst (IsBare after) (sym now) (schema, subst (λ ts. AllByRecursion (λ (t : Table). all.0.trees t.tree ≡ []) ts) (sym tables) there)
+
+abbrev source : Row
+source = Int (pos 1) ∷ Null ∷ Int (pos 1) ∷ Int (pos 0) ∷ []
+
+abbrev first_edit : Trees → Edit
+first_edit db = edit_of db (meta 0) [] Chosen 0 (source ∷ [])
+
+first_stored : (db : Trees) → db 0 ≡ [] → edited db (first_edit db) ≡ source ∷ []
+first_stored db none = rw (none, cast_int (pos 1), cast_null, cast_int (pos 0))
+
+acts_on_none : (db : Trees) → works dss_schema Enforced 0 0 (taken_by db (first_edit db)) (first_edit db).news ≡ []
+acts_on_none db = refl
+
+no_permutation : {X : Type 0} {ys zs : List X} → ys ≡ [] → zs ≡ [] → IsPermutation zs ys
+no_permutation {X} a b = subst₂ (λ l m. IsPermutation {X = X} l m) (sym b) (sym a) (IsPermutation-refl [])
+
+none_apart : (rows : List Row) → rows ≡ [] → AreApart rows
+none_apart rows is = ([], tt, subst (λ rs. IsPermutation [] (map rowid rs)) (sym is) (IsPermutation-refl []))
+
+none_of_length : {X : Type 0} (xs : List X) → length xs ≡ 0 → xs ≡ []
+none_of_length [] e = refl
+none_of_length (x ∷ xs) e = absurd (omega (arith, e))
+
+pub no_entries : {K X : Type 0} (R : K → K → Ordering) → entries (empty {X = X} {R = R}) ≡ []
+no_entries {K} {X} R = none_of_length _ (sym (len-entries (empty {X = X} {R = R})) ∙ len-empty R X)
+
+-- empty tables and the first row of meta spell an empty airspace
+pub spells_empty : (db : Database) → db.schema ≡ dss_schema → db.trees 0 ≡ source ∷ [] → db.trees 1 ≡ [] → db.trees 3 ≡ [] → db.trees 5 ≡ [] → db.trees 8 ≡ [] → Spells db (empty_at 0)
+spells_empty db schema first one three five eight = record {
+  schema = schema;
+  meta = ap (map meta_columns) first;
+  most = omega arith;
+  groups = [];
+  rising = tt;
+  each = tt;
+  entities = no_permutation (ap (map entity_columns) one) refl;
+  volumes = no_permutation (ap (map six_columns) three) refl;
+  cells = no_permutation (ap (map six_columns) five) refl;
+  kept = no_permutation (no_entries key_cmp) refl;
+  availabilities = no_permutation (ap (map three_columns) eight) (ap (map availability_values) (no_entries text_cmp));
+  stated = subst (AllByRecursion IsStated) (sym (no_entries text_cmp)) tt;
+  apart = (none_apart _ three, none_apart _ five, none_apart _ eight);
+}
+
+pub starts : (old new : State) (r : Result ℕ Error) → Executes first_row_text [] old new r → IsBare dss_schema old.now → OnOk r (Spells new.now (empty_at 0))
+starts old new (Err e) h bare = tt
+starts old new (Ok count) h bare =
+    let db = old.now.trees in
+    let w = runs_as first_row_text [] old new dss_schema bare.0 _ first_row_is first_row_plain count h in
+    let u = inserts dss_schema old new [] (meta 0) 0 _ 4 (statement_of first_row_text (understood dss_schema first_row_text)) count bare.0 refl refl w in
+    let rows : u.rows ≡ source ∷ [] = u.given in
+    let wrote = subst (λ rs. Acts dss_schema Enforced db (edit_of db (meta 0) [] Chosen 0 rs) (Ok u.next)) rows u.wrote in
+    let step = one_step dss_schema Enforced db u.next (first_edit db) (acts_on_none db) wrote in
+    let at = λ (t : ℕ). ap (λ (d : Database). d.trees t) u.is in
+    spells_empty new.now (ap (λ (d : Database). d.schema) u.is) (at 0 ∙ step.rows ∙ first_stored db bare.1.0)
+    (at 1 ∙ step.tables.1.0 (λ e. cc) ∙ bare.1.1.0) (at 3 ∙ step.tables.1.1.0 (λ e. cc) ∙ bare.1.1.1.0) (at 5 ∙ step.tables.1.1.1.0 (λ e. cc) ∙ bare.1.1.1.1.0) (at 8 ∙ step.tables.1.1.1.1.0 (λ e. cc) ∙ bare.1.1.1.1.1.0)

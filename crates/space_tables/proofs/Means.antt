@@ -1,0 +1,73 @@
+-- What the statements mean.
+use Rattle.std.proofs.Common.{◌≡◌, Ok, refl, [], ◌∷◌, pos}
+use Rattle.sqlite.specs.declared.types.Value.TheVariants.{Null, Int}
+use Rattle.sqlite.specs.Compile.{table_defined_by}
+use Rattle.sqlite_resolve.specs.Compile.{index_defined_by}
+use Rattle.sqlite_tied.specs.Compute.{everything}
+use Rattle.sqlite.specs.Listing.{understood}
+use Rattle.sqlite_catalog.specs.Change.{created, indexed}
+use Rattle.sqlite.proofs.Callers.{IsPlain, command_of, statement_of}
+use Rattle.sqlite.specs.Command.TheVariants.{Insert, CreateTable, CreateIndex}
+use Rattle.sqlite.specs.Source.TheVariants.{Values}
+use Rattle.sqlite.specs.Term.{lit}
+use Rattle.space_tables.specs.Tables.{meta, entity, volume, cell, availability, cell_range, dss_schema, no_schema, schema_1, schema_2, schema_3, schema_4, schema_5}
+use Rattle.space_tables.proofs.Texts.{meta_text, entity_text, volume_text, cell_text, availability_text, range_text, first_row_text}
+
+pub meta_is : table_defined_by meta_text ≡ Ok (meta 0)
+unfolding everything
+meta_is = refl
+
+pub entity_is : table_defined_by entity_text ≡ Ok (entity 0)
+unfolding everything
+entity_is = refl
+
+pub volume_is : table_defined_by volume_text ≡ Ok (volume 0)
+unfolding everything
+volume_is = refl
+
+pub cell_is : table_defined_by cell_text ≡ Ok (cell 0)
+unfolding everything
+cell_is = refl
+
+pub availability_is : table_defined_by availability_text ≡ Ok (availability 0)
+unfolding everything
+availability_is = refl
+
+pub index_is : index_defined_by (cell 5) range_text ≡ Ok (cell_range 0 5)
+unfolding everything
+index_is = refl
+
+pub schema_is : created (indexed (created (created (created (created no_schema (meta 0)) (entity 0)) (volume 0)) (cell 0)) (cell 5) (cell_range 0 5)) (availability 0) ≡ dss_schema
+schema_is = refl
+
+pub meta_made : (command_of (understood no_schema meta_text) ≡ CreateTable) × IsPlain (understood no_schema meta_text) × (statement_of meta_text (understood no_schema meta_text) ≡ meta_text) × (created no_schema (meta 0) ≡ schema_1)
+unfolding understood everything
+meta_made = (refl, (refl, refl), refl, refl)
+
+pub entity_made : (command_of (understood schema_1 entity_text) ≡ CreateTable) × IsPlain (understood schema_1 entity_text) × (statement_of entity_text (understood schema_1 entity_text) ≡ entity_text) × (created schema_1 (entity 0) ≡ schema_2)
+unfolding understood everything
+entity_made = (refl, (refl, refl), refl, refl)
+
+pub volume_made : (command_of (understood schema_2 volume_text) ≡ CreateTable) × IsPlain (understood schema_2 volume_text) × (statement_of volume_text (understood schema_2 volume_text) ≡ volume_text) × (created schema_2 (volume 0) ≡ schema_3)
+unfolding understood everything
+volume_made = (refl, (refl, refl), refl, refl)
+
+pub cell_made : (command_of (understood schema_3 cell_text) ≡ CreateTable) × IsPlain (understood schema_3 cell_text) × (statement_of cell_text (understood schema_3 cell_text) ≡ cell_text) × (created schema_3 (cell 0) ≡ schema_4)
+unfolding understood everything
+cell_made = (refl, (refl, refl), refl, refl)
+
+pub range_made : (command_of (understood schema_4 range_text) ≡ CreateIndex 3) × IsPlain (understood schema_4 range_text) × (statement_of range_text (understood schema_4 range_text) ≡ range_text) × (indexed schema_4 (cell 5) (cell_range 0 5) ≡ schema_5)
+unfolding understood everything
+range_made = (refl, (refl, refl), refl, refl)
+
+pub availability_made : (command_of (understood schema_5 availability_text) ≡ CreateTable) × IsPlain (understood schema_5 availability_text) × (statement_of availability_text (understood schema_5 availability_text) ≡ availability_text) × (created schema_5 (availability 0) ≡ dss_schema)
+unfolding understood everything
+availability_made = (refl, (refl, refl), refl, refl)
+
+pub first_row_is : command_of (understood dss_schema first_row_text) ≡ Insert 0 (Values (lit (Int (pos 1)) ∷ lit Null ∷ lit (Int (pos 1)) ∷ lit (Int (pos 0)) ∷ []) 4)
+unfolding understood everything
+first_row_is = refl
+
+pub first_row_plain : IsPlain (understood dss_schema first_row_text)
+unfolding understood everything
+first_row_plain = (refl, refl)

@@ -1,0 +1,4 @@
+pub mod Tables
+pub mod Spelling
+pub mod Making
+pub mod Laws
