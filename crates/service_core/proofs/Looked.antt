@@ -4,8 +4,8 @@ use Rattle.std.proofs.Common.{◌∙◌, subst}
 use Rattle.entity_core.specs.Airspace.{Airspace}
 use Rattle.space_core.specs.declared.space.Space.{Ghosts}
 use Rattle.space_core.specs.declared.space.SpaceFault.TheVariants.{Unchanged, Broken}
-use Rattle.service_core.specs.declared.look.Halt.{Halt}
-use Rattle.service_core.specs.declared.look.Halt.TheVariants.{NoMemory, Space}
+use Rattle.service_core.specs.declared.halt.Halt.{Halt}
+use Rattle.service_core.specs.declared.halt.Halt.TheVariants.{NoMemory, Space}
 use Rattle.service_core.specs.Looks.{Looks, UnlessBroke, ToldBy}
 
 pub unless_then : (h : Halt) (P Q : Type 0) → (P → Q) → UnlessBroke h P → UnlessBroke h Q

@@ -11,8 +11,8 @@ use Rattle.space_core.specs.Space.{greatest_count, IsContent, Changes, Tells, ch
 use Rattle.policy_core.specs.declared.call.Call.{Call}
 use Rattle.policy_core.specs.declared.rule.Rule.{Rule}
 use Rattle.policy_core.specs.declared.reference.Missing.{Missing}
-use Rattle.service_core.specs.declared.look.Halt.{Halt}
-use Rattle.service_core.specs.declared.look.Halt.TheVariants.{NoMemory, Space}
+use Rattle.service_core.specs.declared.halt.Halt.{Halt}
+use Rattle.service_core.specs.declared.halt.Halt.TheVariants.{NoMemory, Space}
 use Rattle.service_core.specs.declared.look.Grounds.{Grounds}
 use Rattle.service_core.specs.declared.decide.Verdict.TheVariants.{Refused, Allowed}
 use Rattle.service_core.specs.declared.made.Made.{Made}

@@ -11,8 +11,8 @@ use Rattle.policy_core.specs.declared.reference.Missing.{Missing}
 use Rattle.policy_core.specs.declared.call.Operation.{Operation}
 use Rattle.policy_core.specs.declared.call.Operation.TheVariants.{Read, Update, Delete}
 use Rattle.entity_core.specs.declared.entity.Entity.{Entity}
-use Rattle.service_core.specs.declared.look.Halt.{Halt}
-use Rattle.service_core.specs.declared.look.Halt.TheVariants.{NoMemory, Space}
+use Rattle.service_core.specs.declared.halt.Halt.{Halt}
+use Rattle.service_core.specs.declared.halt.Halt.TheVariants.{NoMemory, Space}
 use Rattle.service_core.specs.declared.look.Grounds.{Grounds}
 use Rattle.service_core.specs.declared.decide.Verdict.{Verdict}
 use Rattle.service_core.specs.declared.decide.Verdict.TheVariants as verdicts

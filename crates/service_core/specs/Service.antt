@@ -8,8 +8,8 @@ use Rattle.service_core.specs.declared.reply.Reply.{Reply}
 use Rattle.service_core.specs.declared.reply.Reply.TheVariants.{Done, Denied, Fault, Stopped}
 use Rattle.policy_core.specs.Policy.{breaks, early_rules, standing_rules}
 use Rattle.space_core.specs.declared.space.SpaceFault.TheVariants.{Unchanged, Broken}
-use Rattle.service_core.specs.declared.look.Halt.{Halt}
-use Rattle.service_core.specs.declared.look.Halt.TheVariants.{NoMemory, Space}
+use Rattle.service_core.specs.declared.halt.Halt.{Halt}
+use Rattle.service_core.specs.declared.halt.Halt.TheVariants.{NoMemory, Space}
 use Rattle.service_core.specs.Step.{step}
 
 -- the reply where a call was given up

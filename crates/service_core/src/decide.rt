@@ -7,7 +7,8 @@ ghost use Rattle.policy_core.specs.View.{view_of};
 ghost use Rattle.policy_core.specs.Policy.{breaks, breaks_given, early_rules, standing_rules};
 ghost use Rattle.service_core.specs.Looks.{Looks, facts_in, IsGround, IsFirst, IsReady, IsReadyIfAllowed, Judges, verdict_of};
 
-use crate::look::{Grounds, Halt, look, missing_from};
+use crate::halt::Halt;
+use crate::look::{Grounds, look, missing_from};
 use crate::needed::needed_put;
 use entity_core::entity_id::EntityId;
 use entity_core::nature::Kind;

@@ -6,7 +6,8 @@ ghost use Rattle.service_core.specs.Looks.{Looks, IsReady, Prepares};
 
 use crate::availability_effects::{setting, told};
 use crate::entity_effects::{creation, listing, next_serial, reading, removal, update};
-use crate::look::{Grounds, Halt};
+use crate::halt::Halt;
+use crate::look::Grounds;
 use crate::made::Made;
 use entity_core::salt::Salt;
 use policy_core::call::{Call, Operation};

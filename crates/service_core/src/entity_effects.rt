@@ -7,7 +7,8 @@ ghost use Rattle.policy_core.specs.View.{view_of};
 ghost use Rattle.service_core.specs.Looks.{Looks};
 ghost use Rattle.service_core.specs.Step.{kept_as};
 
-use crate::look::{Halt, look_meeting, reference, references};
+use crate::halt::Halt;
+use crate::look::{look_meeting, reference, references};
 use crate::made::Made;
 use crate::reply::Answer;
 use entity_core::entity::Entity;

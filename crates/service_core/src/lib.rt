@@ -6,6 +6,7 @@ mod decide;
 mod effects;
 mod entity_effects;
 pub mod first;
+mod halt;
 pub mod laws;
 mod look;
 mod made;

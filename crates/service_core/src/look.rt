@@ -9,6 +9,7 @@ ghost use Rattle.policy_core.specs.Standing.{found_of, kept_of};
 ghost use Rattle.policy_core.specs.View.{view_of};
 ghost use Rattle.service_core.specs.Looks.{Looks, IsGround};
 
+use crate::halt::Halt;
 use entity_core::availability::Availability;
 use entity_core::entity::Entity;
 use entity_core::entity_id::EntityId;
@@ -19,48 +20,8 @@ use grid_core::volume::Area;
 use policy_core::call::Operation;
 use policy_core::missing::missing;
 use policy_core::reference::{Reference, References, view};
-use space_core::space::{Space, SpaceFault};
-use std::alloc::{AllocError, AllocFailed, Global};
-
-/// Why a call was given up.
-#[derive(Debug, Drop)]
-pub enum Halt {
-    NoMemory,
-    Space(SpaceFault),
-}
-
-impl From<AllocError> for Halt {
-    ghost use Rattle.service_core.specs.declared.look.Halt.TheVariants.{NoMemory};
-    ghost use Rattle.std.specs.Prelude.{◌≡◌};
-
-    ghost from_gives = { λ _ h. h ≡ NoMemory };
-
-    fn from(_refused: AllocError) -> Halt {
-        Halt::NoMemory
-    }
-}
-
-impl<T: Drop> From<AllocFailed<T>> for Halt {
-    ghost use Rattle.service_core.specs.declared.look.Halt.TheVariants.{NoMemory};
-    ghost use Rattle.std.specs.Prelude.{◌≡◌};
-
-    ghost from_gives = { λ _ h. h ≡ NoMemory };
-
-    fn from(_refused: AllocFailed<T>) -> Halt {
-        Halt::NoMemory
-    }
-}
-
-impl From<SpaceFault> for Halt {
-    ghost use Rattle.service_core.specs.declared.look.Halt.TheVariants.{Space};
-    ghost use Rattle.std.specs.Prelude.{◌≡◌};
-
-    ghost from_gives = { λ fault h. h ≡ Space fault };
-
-    fn from(fault: SpaceFault) -> Halt {
-        Halt::Space(fault)
-    }
-}
+use space_core::space::Space;
+use std::alloc::Global;
 
 /// What was looked up for an operation.
 #[derive(Debug, Drop)]
@@ -165,8 +126,8 @@ fn look_availability<S: Space>(space: &mut S, uss: &UssId) -> Result<Availabilit
     Ok(availability_in(space.availability(uss)?))
 }
 
-#[tactic(auto, unfolding(policy_core::specs::View::view_of))]
 /// The reference of an entity as a supplier sees it now.
+#[tactic(auto, unfolding(policy_core::specs::View::view_of))]
 pub fn reference<S: Space>(space: &mut S, uss: &UssId, entity: &Entity) -> Result<Reference, Halt>
     ensures { Looks S.Space space.old space.new result (λ a reference. reference ≡ view_of a uss.now entity.now) }
 {

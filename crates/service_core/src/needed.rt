@@ -4,7 +4,8 @@ ghost use Rattle.grid_core.specs.Extent.{region_of};
 ghost use Rattle.policy_core.specs.Missing.{is_asked, left_out, needed_put};
 ghost use Rattle.service_core.specs.Looks.{Looks};
 
-use crate::look::{Halt, look_meeting};
+use crate::halt::Halt;
+use crate::look::look_meeting;
 use entity_core::entity::Entity;
 use entity_core::entity_id::EntityId;
 use entity_core::nature::Kind;

@@ -17,7 +17,8 @@ ghost use Rattle.service_core.specs.Held.{space_of, salt_of, is_shut, with_space
 
 use crate::decide::{Verdict, decide};
 use crate::effects::prepared;
-use crate::look::{Grounds, Halt};
+use crate::halt::Halt;
+use crate::look::Grounds;
 use crate::made::Made;
 use crate::reply::{Answer, Reply};
 use entity_core::salt::Salt;

@@ -11,8 +11,8 @@ use Rattle.httparse.specs.declared.spans.RequestSpans.{RequestSpans}
 use Rattle.httparse.specs.Grammar.{RequestHead, print_request}
 use Rattle.httparse.specs.Spans.{IsRequestWithin, IsHeaderWithin, IsWithin, header_bytes, span_bytes}
 use Rattle.wire_http.specs.declared.end.End.TheVariants as ends
-use Rattle.wire_http.specs.declared.end.WireRule.{WireRule}
-use Rattle.wire_http.specs.declared.end.WireRule.TheVariants as rules
+use Rattle.wire_http.specs.declared.rule.WireRule.{WireRule}
+use Rattle.wire_http.specs.declared.rule.WireRule.TheVariants as rules
 use Rattle.wire_http.specs.declared.rest.Found.{Found}
 use Rattle.wire_http.specs.declared.rest.Found.TheVariants as found
 use Rattle.wire_http.specs.declared.request.Next.TheVariants.{Request, Stop}

@@ -4,8 +4,8 @@ use Rattle.std.proofs.lemmas.List.{length-take}
 use Rattle.httparse.specs.Grammar.{RequestHead}
 use Rattle.wire_http.specs.declared.end.End.{End}
 use Rattle.wire_http.specs.declared.end.End.TheVariants as ends
-use Rattle.wire_http.specs.declared.end.WireRule.{WireRule}
-use Rattle.wire_http.specs.declared.end.WireRule.TheVariants as rules
+use Rattle.wire_http.specs.declared.rule.WireRule.{WireRule}
+use Rattle.wire_http.specs.declared.rule.WireRule.TheVariants as rules
 use Rattle.wire_http.specs.Asked.{fields_of}
 use Rattle.wire_http.specs.Length.{length_of}
 use Rattle.wire_http.specs.Rest.{Kind, nothing, cut, bad, large, whole, IsKind, AreSame, after}

@@ -3,8 +3,8 @@ use Rattle.std.specs.Prelude.{ℕ, ◌&&◌, Bool, List, [], ◌∷◌, length, 
 use Rattle.std.specs.List.{list_all}
 use Rattle.std.specs.Char.{is_ascii_digit}
 use Rattle.std.specs.Str.Parse.{digits_value}
-use Rattle.wire_http.specs.declared.end.WireRule.{WireRule}
-use Rattle.wire_http.specs.declared.end.WireRule.TheVariants.{Transfer, Length, BodySize}
+use Rattle.wire_http.specs.declared.rule.WireRule.{WireRule}
+use Rattle.wire_http.specs.declared.rule.WireRule.TheVariants.{Transfer, Length, BodySize}
 use Rattle.wire_http.specs.Fields.{Fields, values_of}
 
 -- a number is one or more decimal digits

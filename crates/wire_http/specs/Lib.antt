@@ -4,7 +4,7 @@ pub mod Body
 pub mod Close
 pub mod Count
 pub mod Counted
-pub mod End
+pub mod Rule
 pub mod Fault
 pub mod Fields
 pub mod Found

@@ -14,7 +14,7 @@ use Rattle.service_core.specs.Held.{space_of, salt_of, is_shut}
 use Rattle.service_core.specs.Run.{Answered, Timed}
 use Rattle.wire_http.specs.declared.fault.StreamFault.{StreamFault}
 use Rattle.wire_http.specs.declared.fault.StreamFault.TheVariants as faults
-use Rattle.wire_http.specs.declared.end.WireRule.{WireRule}
+use Rattle.wire_http.specs.declared.rule.WireRule.{WireRule}
 use Rattle.wire_http.specs.Fault.{IsOfAnswering}
 use Rattle.wire_http.specs.declared.end.End.{End}
 use Rattle.wire_http.specs.declared.end.End.TheVariants as ends

@@ -3,7 +3,7 @@ ghost use Rattle.std.specs.Prelude.{◌≡◌, IfOk};
 ghost use Rattle.std.specs.String.{string_bytes};
 ghost use Rattle.wire_http.specs.Text.{answer_text, reason_of, rule_field, reply_field, status_line, length_line, close_field, front_of, rule_body, rule_text};
 
-use crate::end::WireRule;
+use crate::rule::WireRule;
 use policy_core::rule::Rule;
 use service_core::reply::Reply;
 use std::alloc::{AllocError, Global};

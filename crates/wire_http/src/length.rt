@@ -6,8 +6,8 @@ ghost use Rattle.std.specs.Str.Parse.{digits_value};
 ghost use Rattle.httparse.specs.Spans.{header_bytes, IsHeaderWithin};
 ghost use Rattle.wire_http.specs.Length.{length_of, told_length};
 
-use crate::end::WireRule;
 use crate::fields::{Occurrence, only};
+use crate::rule::WireRule;
 use httparse::spans::HeaderSpan;
 
 /// The most bytes of a body.

@@ -15,13 +15,15 @@ mod length;
 mod moments;
 mod request;
 mod rest;
+mod rule;
 mod serve;
 mod source;
 mod target;
 mod write;
 
 pub use counted::Counted;
-pub use end::{End, Served, WireRule};
+pub use end::{End, Served};
 pub use fault::StreamFault;
 pub use moments::{ClockFault, Fixed, Listed, Moments};
+pub use rule::WireRule;
 pub use serve::serve_stream;

@@ -12,10 +12,11 @@ ghost use Rattle.wire_http.specs.Next.{IsNext, NextFits};
 
 use crate::body::fill;
 use crate::counted::Counted;
-use crate::end::{End, WireRule};
+use crate::end::End;
 use crate::fault::StreamFault;
 use crate::length::length_of;
 use crate::rest::{FIELD_LIMIT, Found, HEAD_LIMIT, find_head};
+use crate::rule::WireRule;
 use httparse::spans::{HeaderSpan, RequestSpans};
 use std::io::Read;
 

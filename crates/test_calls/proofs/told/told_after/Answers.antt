@@ -5,8 +5,8 @@ use Rattle.space_core.specs.Space.{IsContent}
 use Rattle.space_core.specs.declared.list.ListSpace.{ListSpace}
 use Rattle.service_core.specs.Run.{has_stopped}
 use Rattle.service_core.specs.Stale.{IsStale}
-use Rattle.call_tests.specs.Told.{ToldAfter, airspace_told}
-use Rattle.call_tests.proofs.told.told_after.Goals as goal
+use Rattle.test_calls.specs.Told.{ToldAfter, airspace_told}
+use Rattle.test_calls.proofs.told.told_after.Goals as goal
 
 not_stopped : (b c : Bool) → false ≡ (b || c) → b ≡ false
 not_stopped true c h = sym h

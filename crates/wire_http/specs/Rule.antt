@@ -1,7 +1,7 @@
--- How a stream ended.
+-- The rules of the wire: their numbers, names and statuses.
 use Rattle.std.specs.Prelude.{ℕ, List, codes}
-use Rattle.wire_http.specs.declared.end.WireRule.{WireRule}
-use Rattle.wire_http.specs.declared.end.WireRule.TheVariants.{Head, HeadSize, Transfer, Length, BodySize}
+use Rattle.wire_http.specs.declared.rule.WireRule.{WireRule}
+use Rattle.wire_http.specs.declared.rule.WireRule.TheVariants.{Head, HeadSize, Transfer, Length, BodySize}
 
 abbrev pub number_of : WireRule → ℕ
 number_of Head = 1

@@ -1,6 +1,6 @@
 //! What a service in memory tells after a list of calls.
 ghost use Rattle.std.specs.Prelude.{IfOk};
-ghost use Rattle.call_tests.specs.Told.{ToldAfter};
+ghost use Rattle.test_calls.specs.Told.{ToldAfter};
 
 use entity_core::salt::Salt;
 use policy_core::call::Call;
