@@ -1,5 +1,5 @@
 -- What a service keeps.
-use Rattle.std.specs.Prelude.{ℕ, ◌+◌, List, [], unwrap_or}
+use Rattle.std.specs.Prelude.{◌≡◌, ℕ, ◌+◌, List, [], Some, unwrap_or}
 use Rattle.std.specs.Ordering.{nat_cmp, ordering_then}
 use Rattle.std.specs.declared.cmp.Ordering.{Ordering}
 use Rattle.std.specs.Cmp.Lexicographic.{slice_cmp}
@@ -42,6 +42,10 @@ pub record Airspace : Type 0 where
   pub availabilities : Availabilities
   pub serial : ℕ
 
+-- an airspace that may be kept: each entity stands under its own kind and id
+pub record IsAirspace (a : Airspace) : Type 0 where
+  pub keyed : (k : EntityKey) (x : Entity) → get a.entities k ≡ Some x → key_of x ≡ k
+
 -- what is kept of a supplier; of one that has set nothing, `Unknown` under the empty version
 abbrev pub availability_of : Airspace → List ℕ → Stated
 availability_of a uss = unwrap_or (get a.availabilities uss) (Unknown, [])
@@ -50,15 +54,15 @@ availability_of a uss = unwrap_or (get a.availabilities uss) (Unknown, [])
 
 -- with the availability of a supplier under a version
 abbrev pub with_availability : Airspace → List ℕ → Stated → Airspace
-with_availability a uss stated = record { entities = a.entities; availabilities = insert a.availabilities uss stated; serial = a.serial + 1 }
+with_availability a uss stated = record a { availabilities = insert a.availabilities uss stated; serial = a.serial + 1 }
 
 -- with an entity, in the place of the one that has its kind and id
 abbrev pub with_entity : Airspace → Entity → Airspace
-with_entity a e = record { entities = insert a.entities (key_of e) e; availabilities = a.availabilities; serial = a.serial + 1 }
+with_entity a e = record a { entities = insert a.entities (key_of e) e; serial = a.serial + 1 }
 
 -- without the entity of a kind and an id
 abbrev pub without_entity : Airspace → EntityKey → Airspace
-without_entity a k = record { entities = remove a.entities k; availabilities = a.availabilities; serial = a.serial + 1 }
+without_entity a k = record a { entities = remove a.entities k; serial = a.serial + 1 }
 
 -- an airspace in which nothing is kept, at a serial
 abbrev pub empty_at : ℕ → Airspace

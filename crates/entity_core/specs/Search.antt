@@ -1,11 +1,12 @@
 -- What is looked for among the entities of an airspace.
-use Rattle.std.specs.Prelude.{ℕ, ◌&&◌, not, nat_eq, Bool, true, T, List, map, filter, Option, Some, None}
+use Rattle.std.specs.Prelude.{ℕ, ◌&&◌, not, nat_eq, Bool, true, List, map, filter, Option, Some, None}
+use Rattle.std.specs.Ordering.{nat_cmp}
 use Rattle.std.specs.FinMap.{entries}
-use Rattle.std.specs.FinMap.Entries.{is_sorted}
+use Rattle.std.specs.List.Sorted.{IsStrictlySortedBy}
 use Rattle.grid_core.specs.Extent.{Region, any_meet}
 use Rattle.entity_core.specs.declared.nature.Kind.{Kind}
 use Rattle.entity_core.specs.declared.entity.Entity.{Entity}
-use Rattle.entity_core.specs.Airspace.{Entities, EntityKey, key_cmp}
+use Rattle.entity_core.specs.Airspace.{Airspace, Entities, EntityKey}
 use Rattle.entity_core.specs.Entity.{kind_index}
 
 abbrev pub has_kind : Kind → EntityKey → Bool
@@ -27,6 +28,7 @@ meeting_in m kind areas except = map (λ e. e.1) (filter (is_sought kind areas e
 unfoldable pub all_in : Entities → Kind → List Entity
 all_in m kind = map (λ e. e.1) (filter (λ e. has_kind kind e.0) (entries m))
 
--- What is sought comes with rising keys, and so each once.
-abbrev pub FoundInOrder : Type 0
-FoundInOrder = (m : Entities) (kind : Kind) (areas : List Region) (except : Option ℕ) → T (is_sorted key_cmp (filter (is_sought kind areas except) (entries m)))
+-- Of an airspace, what is sought, and all of a kind, comes by rising ids, and so each once.
+pub record FoundInOrder (a : Airspace) : Type 0 where
+  pub meeting : (kind : Kind) (areas : List Region) (except : Option ℕ) → IsStrictlySortedBy nat_cmp (map (λ e. e.id) (meeting_in a.entities kind areas except))
+  pub all : (kind : Kind) → IsStrictlySortedBy nat_cmp (map (λ e. e.id) (all_in a.entities kind))

@@ -4,21 +4,22 @@ use Rattle.std.specs.Ordering.{eq_by_cmp, is_eq, is_lt, ordering_reverse}
 use Rattle.std.specs.declared.cmp.Ordering.{Ordering}
 use Rattle.std.specs.declared.cmp.Ordering.TheVariants.{Less, Equal, Greater}
 use Rattle.std.specs.Cmp.{IsTotalOrder}
-use Rattle.std.specs.FinMap.{FinMap, IsAntisymmetric, get, insert, remove, empty, find, entries, entries_sorted, from_sorted, entries-from_sorted, entries-insert, get-from_sorted, get-remove, get-entries, same_map, same_entries_map, empty_of_len, len-entries}
+use Rattle.std.specs.FinMap.{FinMap, IsAntisymmetric, get, insert, remove, empty, find, entries, entries_sorted, from_sorted, entries-from_sorted, entries-insert, get-from_sorted, get-remove, get-entries, get-from_entries, from_entries, len-empty, same_map, same_entries_map, empty_of_len, len-entries}
 use Rattle.std.specs.FinMap.Entries.{put, where_key, by_order, below_all, is_sorted, is_sorted-put, is_sorted-where_key, find-where_key}
 use Rattle.std.proofs.lemmas.Cmp.{eq_by_cmp_equiv, alike_right}
+use Rattle.std.proofs.lemmas.List.{nil_from_length}
 use Rattle.space_core.specs.Sorted.{keyed, Rise, map_of, AllBelow, StartsAbove}
 use Rattle.std.proofs.Common.{ℕ, suc, zero, ◌<◌, ◌≤◌, get_or, take, drop, arith, sym, ap, ◌∙◌, subst, true≢false}
 
-first : (a b : Bool) → T (a && b) → T a
+pub first : (a b : Bool) → T (a && b) → T a
 first true b p = tt
 first false b p = p
 
-second : (a b : Bool) → T (a && b) → T b
+pub second : (a b : Bool) → T (a && b) → T b
 second true b p = p
 second false b p = absurd p
 
-less : (o : Ordering) → T (is_lt o) → o ≡ Less
+pub less : (o : Ordering) → T (is_lt o) → o ≡ Less
 less Less p = refl
 less Equal p = absurd p
 less Greater p = absurd p
@@ -28,6 +29,18 @@ turned true true x e = refl
 turned false false x e = refl
 turned true false x e = absurd (true≢false e)
 turned false true x e = absurd (true≢false (sym e))
+
+-- an entry below all others is put first
+put_first : {K X : Type 0} (R : K → K → Ordering) (k : K) (x : X) (es : List (K × X)) → T (below_all R k es) → put R k x es ≡ (k, x) ∷ es
+put_first R k x [] h = refl
+put_first R k x (e ∷ es) h = ap (λ (r : Ordering). by_order r ((k, x) ∷ e ∷ es) ((e.0, x) ∷ es) (e ∷ put R k x es)) (less (R k e.0) (first _ _ h))
+
+-- the entries of the map of a list in order
+entries-from_entries : {K X : Type 0} {R : K → K → Ordering} → IsTotalOrder R → (es : List (K × X)) → T (is_sorted R es) → entries (from_entries {R = R} es) ≡ es
+entries-from_entries {R = R} o [] s = nil_from_length (entries (empty {R = R})) (sym (len-entries (empty {R = R})) ∙ len-empty R _)
+entries-from_entries {R = R} o (e ∷ es) s =
+    entries-insert o (from_entries {R = R} es) e.0 e.1
+    ∙ (ap (put R e.0 e.1) (entries-from_entries o es (second (below_all R e.0 es) _ s)) ∙ put_first R e.0 e.1 es (first _ _ s))
 
 module _ {A K X : Type 0} (R : K → K → Ordering) (pair : A → K × X) where
   abbrev key : A → K
@@ -177,11 +190,11 @@ module _ {A K X : Type 0} (R : K → K → Ordering) (pair : A → K × X) where
 
     -- ---- the maps
 
-    pub get_of : (k : K) (xs : List A) → Rise R pair xs → get (map_of R pair xs) k ≡ find R k (keyed pair xs)
-    get_of k xs s = get-from_sorted R (keyed pair xs) k s
+    pub get_of : (k : K) (xs : List A) → get (map_of R pair xs) k ≡ find R k (keyed pair xs)
+    get_of k xs = get-from_entries o (keyed pair xs) k
 
     pub entries_of : (xs : List A) → Rise R pair xs → entries (map_of R pair xs) ≡ keyed pair xs
-    entries_of xs s = entries-from_sorted R (keyed pair xs) s
+    entries_of xs s = entries-from_entries o (keyed pair xs) s
 
     -- the values that pass a test, in order
     pub values_of_kept : (p : K × X → Bool) (xs : List A) → Rise R pair xs → map (λ e. e.1) (filter p (entries (map_of R pair xs))) ≡ map val (filter (λ x. p (pair x)) xs)
@@ -200,7 +213,7 @@ module _ {A K X : Type 0} (R : K → K → Ordering) (pair : A → K × X) where
         subst (λ (es : List (K × X)). T (is_sorted R es)) (sym (kept_keyed (λ q. not (eq_by_cmp R k q)) xs)) (is_sorted-where_key R (λ q. not (eq_by_cmp R k q)) (keyed pair xs) s))
 
 pub map_of_none : {A K X : Type 0} (R : K → K → Ordering) (pair : A → K × X) → map_of R pair [] ≡ empty
-map_of_none R pair = empty_of_len (map_of R pair []) (len-entries (map_of R pair []) ∙ ap length (entries-from_sorted R (keyed pair []) tt))
+map_of_none R pair = refl
 
 -- the entries of a map without a key
 pub entries-remove : {K X : Type 0} {R : K → K → Ordering} → IsTotalOrder R → IsAntisymmetric R → (m : FinMap R X) (k : K) → entries (remove m k) ≡ where_key R (λ x. not (eq_by_cmp R k x)) (entries m)

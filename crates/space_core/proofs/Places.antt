@@ -92,7 +92,7 @@ module _ {A K X : Type 0} (R : K → K → Ordering) (pair : A → K × X) where
     pub get_answer : {E : Type 0} (r : Result (Option X) E) (d xs : List A) (k : K) → d ≡ xs → Rise R pair xs
         → IfOk r (λ f. f ≡ find R k (keyed pair d)) → IfOk r (λ f. f ≡ get (map_of R pair xs) k)
     get_answer r d xs k e s h = if_ok r (λ f. f ≡ find R k (keyed pair d)) (λ f. f ≡ get (map_of R pair xs) k)
-        (λ f g. g ∙ (ap (λ (x : List A). find R k (keyed pair x)) e ∙ sym (get_of R pair o k xs s))) h
+        (λ f g. g ∙ (ap (λ (x : List A). find R k (keyed pair x)) e ∙ sym (get_of R pair o k xs))) h
 
     -- ---- puts
 

@@ -2,7 +2,7 @@
 use Rattle.std.specs.Prelude.{◌≡◌, ℕ, suc, ◌<◌, ◌≤◌, T, List, [], ◌∷◌, ◌++◌, map, length, take, drop, slice_get, Some}
 use Rattle.std.specs.declared.cmp.Ordering.{Ordering}
 use Rattle.std.specs.declared.cmp.Ordering.TheVariants.{Less, Equal, Greater}
-use Rattle.std.specs.FinMap.{FinMap, from_sorted}
+use Rattle.std.specs.FinMap.{FinMap, from_entries}
 use Rattle.std.specs.FinMap.Entries.{is_sorted}
 
 -- the pairs of a list
@@ -13,9 +13,9 @@ keyed pair xs = map pair xs
 abbrev pub Rise : {A K X : Type 0} → (K → K → Ordering) → (A → K × X) → List A → Type 0
 Rise R pair xs = T (is_sorted R (keyed pair xs))
 
--- the map of a list in order
+-- the map of a list
 abbrev pub map_of : {A K X : Type 0} (R : K → K → Ordering) → (A → K × X) → List A → FinMap R X
-map_of R pair xs = from_sorted {R = R} (keyed pair xs)
+map_of R pair xs = from_entries {R = R} (keyed pair xs)
 
 -- each stands below k
 abbrev pub AllBelow : {A K X : Type 0} (R : K → K → Ordering) (pair : A → K × X) → K → List A → Type 0

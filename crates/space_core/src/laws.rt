@@ -1,7 +1,8 @@
 //! Laws of spaces, each named by a function that does nothing.
+ghost use Rattle.entity_core.specs.Airspace.{Airspace, IsAirspace};
 ghost use Rattle.entity_core.specs.Search.{FoundInOrder};
 
-/// What is sought among entities comes with rising kinds and ids, and so each once.
+/// What is sought among entities, and all of a kind, comes by rising ids, and so each once.
 pub fn found_in_order()
-    ensures { FoundInOrder }
+    ensures { (a : Airspace) → IsAirspace a → FoundInOrder a }
 {}

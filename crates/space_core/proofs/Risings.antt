@@ -1,0 +1,102 @@
+-- What is found among the entities of an airspace comes by rising ids.
+use Rattle.std.specs.Prelude.{◌≡◌, ℕ, ◌&&◌, Bool, true, false, cond, T, List, [], ◌∷◌, map, filter, Option, Some, None, refl}
+use Rattle.std.proofs.Common.{sym, ap, ◌∙◌, subst}
+use Rattle.std.specs.Cmp.{Equal-is}
+use Rattle.std.specs.List.{AllByRecursion}
+use Rattle.std.specs.List.Sorted.{IsStrictlySortedBy}
+use Rattle.std.specs.Ordering.{eq_by_cmp, is_eq, is_lt, nat_cmp, ordering_reverse}
+use Rattle.std.specs.declared.cmp.Ordering.{Ordering}
+use Rattle.std.specs.declared.cmp.Ordering.TheVariants.{Less, Equal, Greater}
+use Rattle.std.specs.FinMap as maps
+use Rattle.std.specs.FinMap.{entries, entries_sorted, get, get-entries}
+use Rattle.std.specs.FinMap.Entries.{below_all, is_sorted}
+use Rattle.std.proofs.lemmas.Cmp.{eq_by_cmp_equiv}
+use Rattle.grid_core.specs.Extent.{Region, any_meet}
+use Rattle.entity_core.specs.Airspace.{Airspace, EntityKey, IsAirspace, key_cmp, key_of}
+use Rattle.entity_core.specs.declared.entity.Entity.{Entity}
+use Rattle.entity_core.specs.declared.nature.Kind.{Kind}
+use Rattle.entity_core.specs.declared.nature.Kind.TheVariants.{Intent, Constraint}
+use Rattle.entity_core.specs.Search.{FoundInOrder, all_in, has_kind, is_not, is_sought, meeting_in}
+use Rattle.entity_core.proofs.Keys.{key_total, one_key}
+use Rattle.space_core.proofs.Maps.{first, second, less, sorted_kept}
+
+-- an entry bears its own key
+abbrev Own : EntityKey × Entity → Type 0
+Own e = key_of e.1 ≡ e.0
+
+none_below : (q : EntityKey) (es : List (EntityKey × Entity)) → T (below_all key_cmp q es) → maps.find key_cmp q es ≡ None
+none_below q [] h = refl
+none_below q (e ∷ es) h =
+    ap (λ (r : Ordering). cond (is_eq r) (Some e.1) (maps.find key_cmp q es)) (less (key_cmp q e.0) (first _ _ h))
+    ∙ none_below q es (second (is_lt (key_cmp q e.0)) _ h)
+
+own_entries : (es : List (EntityKey × Entity)) → T (is_sorted key_cmp es) → ((k : EntityKey) (x : Entity) → maps.find key_cmp k es ≡ Some x → key_of x ≡ k) → AllByRecursion Own es
+own_entries [] s own = tt
+own_entries (e ∷ es) s own =
+    let later : (k : EntityKey) (x : Entity) → maps.find key_cmp k es ≡ Some x → eq_by_cmp key_cmp k e.0 ≡ false = λ k x h.
+    elim (eq_by_cmp key_cmp k e.0) as (λ b. eq_by_cmp key_cmp k e.0 ≡ b → b ≡ false) [
+      | true ↦ λ t. let n : None ≡ Some x = sym (none_below e.0 es (first _ _ s)) ∙ (ap (λ (q : EntityKey). maps.find key_cmp q es) (sym (one_key k e.0 t)) ∙ h) in cc
+      | false ↦ λ t. refl
+    ] refl in
+    (
+      own e.0 e.1 (ap (λ (b : Bool). cond b (Some e.1) (maps.find key_cmp e.0 es)) ((eq_by_cmp_equiv key_total).refl e.0)),
+      own_entries es (second (below_all key_cmp e.0 es) _ s) (λ k x h. own k x (ap (λ (b : Bool). cond b (Some e.1) (maps.find key_cmp k es)) (later k x h) ∙ h)),
+    )
+
+id_below : (kind k l : Kind) (i j : ℕ) → has_kind kind (k, i) ≡ true → has_kind kind (l, j) ≡ true → key_cmp (k, i) (l, j) ≡ Less → nat_cmp i j ≡ Less
+id_below Intent Intent Intent i j a b h = h
+id_below Constraint Constraint Constraint i j a b h = h
+id_below Intent Intent Constraint i j a b h = cc
+id_below Intent Constraint Intent i j a b h = cc
+id_below Intent Constraint Constraint i j a b h = cc
+id_below Constraint Constraint Intent i j a b h = cc
+id_below Constraint Intent Constraint i j a b h = cc
+id_below Constraint Intent Intent i j a b h = cc
+
+ids_below : (kind : Kind) (e : EntityKey × Entity) (es : List (EntityKey × Entity)) → T (below_all key_cmp e.0 es) → Own e → has_kind kind e.0 ≡ true → AllByRecursion Own es → AllByRecursion (λ f. has_kind kind f.0 ≡ true) es
+    → AllByRecursion (λ n. nat_cmp e.1.id n ≡ Less) (map (λ f. f.id) (map (λ f. f.1) es))
+ids_below kind e [] s own is all kinds = tt
+ids_below kind e (f ∷ es) s own is all kinds =
+    let below = id_below kind e.0.0 f.0.0 e.0.1 f.0.1 is kinds.0 (less (key_cmp e.0 f.0) (first _ _ s)) in
+    (
+      ap (λ (n : ℕ). nat_cmp n f.1.id) (ap (λ (q : EntityKey). q.1) own) ∙ (ap (λ (n : ℕ). nat_cmp e.0.1 n) (ap (λ (q : EntityKey). q.1) all.0) ∙ below),
+      ids_below kind e es (second (is_lt (key_cmp e.0 f.0)) _ s) own is all.1 kinds.1,
+    )
+
+rising : (kind : Kind) (es : List (EntityKey × Entity)) → T (is_sorted key_cmp es) → AllByRecursion Own es → AllByRecursion (λ e. has_kind kind e.0 ≡ true) es → IsStrictlySortedBy nat_cmp (map (λ e. e.id) (map (λ e. e.1) es))
+unfolding IsStrictlySortedBy
+rising kind [] s own kinds = tt
+rising kind (e ∷ es) s own kinds =
+    (ids_below kind e es (first _ _ s) own.0 kinds.0 own.1 kinds.1, rising kind es (second (below_all key_cmp e.0 es) _ s) own.1 kinds.1)
+
+-- those that pass a test
+all_kept : (P : EntityKey × Entity → Type 0) (test : EntityKey × Entity → Bool) (es : List (EntityKey × Entity)) → AllByRecursion P es → AllByRecursion P (filter test es)
+all_kept P test [] all = tt
+all_kept P test (e ∷ es) all =
+    elim (test e) as (λ b. AllByRecursion P (cond b (e ∷ filter test es) (filter test es))) [ true ↦ (all.0, all_kept P test es all.1) | false ↦ all_kept P test es all.1 ]
+
+all_pass : (P : EntityKey × Entity → Type 0) (test : EntityKey × Entity → Bool) → ((e : EntityKey × Entity) → test e ≡ true → P e) → (es : List (EntityKey × Entity)) → AllByRecursion P (filter test es)
+all_pass P test f [] = tt
+all_pass P test f (e ∷ es) =
+    elim (test e) as (λ b. test e ≡ b → AllByRecursion P (cond b (e ∷ filter test es) (filter test es))) [ true ↦ λ t. (f e t, all_pass P test f es) | false ↦ λ t. all_pass P test f es ] refl
+
+first_true : (a b : Bool) → (a && b) ≡ true → a ≡ true
+first_true true b h = refl
+first_true false b h = cc
+
+-- of entries that bear their own keys, those of a kind that pass a test come by rising ids
+filtered : (kind : Kind) (test : EntityKey × Entity → Bool) → ((e : EntityKey × Entity) → test e ≡ true → has_kind kind e.0 ≡ true) → (a : Airspace) → IsAirspace a
+    → IsStrictlySortedBy nat_cmp (map (λ e. e.id) (map (λ e. e.1) (filter test (entries a.entities))))
+filtered kind test f a proper =
+    let es = entries a.entities in
+    let sorted = entries_sorted a.entities in
+    rising kind (filter test es) (sorted_kept key_cmp test es sorted)
+    (all_kept Own test es (own_entries es sorted (λ k x h. proper.keyed k x (get-entries a.entities k ∙ h))))
+    (all_pass (λ e. has_kind kind e.0 ≡ true) test f es)
+
+pub found_in_order : (a : Airspace) → IsAirspace a → FoundInOrder a
+unfolding meeting_in all_in
+found_in_order a proper = record {
+  meeting = λ kind areas except. filtered kind (is_sought kind areas except) (λ e t. first_true (has_kind kind e.0) (is_not except e.0 && any_meet e.1.volumes areas) t) a proper;
+  all = λ kind. filtered kind (λ e. has_kind kind e.0) (λ e t. t) a proper;
+}
