@@ -332,7 +332,7 @@ def changes_of_state():
 
 
 def versions():
-    """Version numbers that another program computed."""
+    """OVNs that another program computed, as versions of availabilities."""
     tokens = {"tok-v": wire.TOKENS["tok-v"]}
     scenes = []
     for salt, serial, version in (

@@ -4,7 +4,7 @@ import json
 
 import plain_policy
 import wire
-from plain_policy import CONSTRAINT, INTENT, MAY_BECOME, PATHS, STATES
+from plain_policy import CONSTRAINT, INTENT, NEXT_STATES, PATHS, STATES
 
 NOW = 5_000
 SUPPLIERS = ("uss-a", "uss-b", "uss-c", "uss-v")
@@ -186,13 +186,13 @@ class Drawn:
         return put
 
     def state(self, flaw, token, entity):
-        states = MAY_BECOME[entity.put.state] if entity and entity.kind == INTENT else STATES
+        states = NEXT_STATES[entity.put.state] if entity and entity.kind == INTENT else STATES
         scopes = ALL_TOKENS[token][1]
         roles = [it for it in states if (wire.STRATEGIC if it in STATES[:2] else wire.MONITORING) in scopes]
         return self.draw.of(STATES) if flaw == "state" or not roles else self.draw.of(roles)
 
     def key(self, flaw):
-        """All present version numbers, or where the key is to be wrong some of them, old ones among them."""
+        """All present OVNs, or where the key is to be wrong some of them, old ones among them."""
         key = []
         for entity in self.airspace.entities.values():
             choice = self.draw.below(3) if flaw == "key" else 0
@@ -246,14 +246,36 @@ class Drawn:
         return self.draw.of(broken)
 
 
-def stream(seed, count=wire.MOST_REQUESTS):
+# What may come anywhere in a body, and in a target.
+PIECES = [b'"', b"\\", b"{", b"}", b"[", b"]", b",", b":", b"0", b"-", b".", b"e", b"+", b"00", b" ", b"\t", b"\n"]
+PIECES += [b"\\u0041", b"\\ud800", b"\\u0000", b"\\/", b"9" * 25, b"null", b"true", b"NaN", b"u", "é".encode()]
+PIECES += ["\ufeff".encode(), b"\x00", b"\x7f", b"\x80", b"\xff"]
+MARKS = "/?#%aA0.-_~\"{}+|^`'"
+
+
+def mangled(draw, call):
+    """The call with a few letters less, more or other ones in its body, and now and then in its target."""
+    method, target, authorization, body = call
+    body = bytearray(body or b"")
+    for _ in range(1 + draw.below(3) // 2 if body and draw.one_in(2) else 0):
+        at = draw.below(len(body) + 1)
+        beyond = at + draw.of((0, 0, 1, 1, 2, 5))
+        copy = draw.below(len(body) + 1)
+        body[at:beyond] = draw.of((b"", draw.of(PIECES), draw.of(PIECES), body[copy : copy + draw.below(12)]))
+    if draw.one_in(8):
+        at = draw.below(len(target) + 1)
+        target = target[:at] + draw.of(MARKS) + target[at + draw.below(2) :]
+    return method, target, authorization, bytes(body) if call[3] is not None else None
+
+
+def stream(seed, count=wire.MOST_REQUESTS, is_mangled=False):
     """The requests of a stream, and the outcomes that the plain policy gives them."""
     draw = Draw(seed)
     airspace = plain_policy.Airspace(NOW, ALL_TOKENS)
     drawn = Drawn(draw, airspace)
     requests, outcomes = [], []
     for _ in range(count):
-        call = drawn.call()
+        call = mangled(draw, drawn.call()) if is_mangled else drawn.call()
         requests.append(wire.request(*call))
         outcomes.append(airspace.ask(*call))
     return requests, outcomes

@@ -10,7 +10,7 @@ from wire import ARBITRATION, MANAGEMENT, MONITORING, PROCESSING, STRATEGIC
 INTENT, CONSTRAINT = "operational_intent", "constraint"
 PATHS = {INTENT: wire.INTENTS, CONSTRAINT: wire.CONSTRAINTS}
 STATES = ("Accepted", "Activated", "Nonconforming", "Contingent")
-MAY_BECOME = {
+NEXT_STATES = {
     "Accepted": STATES,
     "Activated": STATES[1:],
     "Nonconforming": STATES[1:],
@@ -43,14 +43,6 @@ RULES = {
 
 class Malformed(Exception):
     """A word or a body that has not its form."""
-
-
-class Denied(Exception):
-    """The first rule that a request breaks, and what goes with it."""
-
-    def __init__(self, rule, fields=(), missing=None):
-        super().__init__(rule)
-        self.rule, self.fields, self.missing = rule, fields, missing
 
 
 # ---- words and bodies
@@ -103,10 +95,17 @@ def refuse(_):
     raise Malformed
 
 
+def members_of(pairs):
+    """The members of an object. Half of a letter, which an escape can name, is no text."""
+    json.dumps(pairs, default=str, ensure_ascii=False).encode()
+    return dict(pairs)
+
+
 def object_of(body):
     """The members of a body. Where one stands twice, the last counts."""
+    readers = {"parse_int": whole, "parse_float": fraction, "parse_constant": refuse, "object_pairs_hook": members_of}
     try:
-        value = json.loads(body.decode(), parse_int=whole, parse_float=fraction, parse_constant=refuse)
+        value = json.loads(body.decode(), **readers)
     except ValueError as error:
         raise Malformed from error
     need(isinstance(value, dict))
@@ -232,11 +231,12 @@ class Entity:
     put: Put
 
 
-# What a target asks for: the kind of entities or None, the words of its path, and its methods.
+# ---- what is asked
+
+
 def route_of(target):
+    """The kind of entities or None, the words of the path, and what each method asks there; None is no route."""
     path = target.partition("?")[0]
-    if not path.startswith("/"):
-        raise Denied(1)
     for kind, prefix in PATHS.items():
         if path.startswith(prefix + "/"):
             words = path[len(prefix) + 1 :].split("/")
@@ -249,10 +249,11 @@ def route_of(target):
         words = path[len(wire.AVAILABILITY) + 1 :].split("/")
         if len(words) == 1 and words[0]:
             return None, words, {"GET": "read", "PUT": "set"}
-    raise Denied(1)
+    return None
 
 
-def opening_scopes(kind, work):
+def openers(kind, work):
+    """The scopes of which any one opens the work."""
     if kind == INTENT:
         return {STRATEGIC, MONITORING}
     if kind == CONSTRAINT:
@@ -266,6 +267,160 @@ def token_in(authorization):
         return None
     scheme, _, token = authorization.strip(" \t").partition(" ")
     return token.lstrip(" ") if scheme.lower() == "bearer" else None
+
+
+@dataclasses.dataclass(frozen=True)
+class Asked:
+    """What the words of a path and a body say, each where its work has it."""
+
+    id: str = None
+    ovn: str = None
+    put: Put = None
+    area: Extent = None
+    uss: str = None
+    availability: str = None
+    old_version: str = None
+
+    def extents(self):
+        return self.put.extents if self.put else (self.area,) if self.area else ()
+
+    def state(self):
+        """The state of an intent that is put."""
+        return self.put and self.put.state
+
+
+def asked_of(kind, work, words, body):
+    """What is asked, with all its forms read."""
+    if kind is None:
+        uss = uss_of(words[0])
+        availability, old = setting_of(body) if work == "set" else (None, None)
+        return Asked(uss=uss, availability=availability, old_version=old)
+    if work == "query":
+        return Asked(area=extent_of(object_of(body).get("area_of_interest"), False))
+    id_ = id_of(words[0])
+    ovn = ovn_of(words[1]) if len(words) == 2 else None
+    return Asked(id=id_, ovn=ovn, put=put_of(kind, body) if work in ("create", "update") else None)
+
+
+@dataclasses.dataclass(frozen=True)
+class Call:
+    """What is asked, and by whom. What could not be made out is None."""
+
+    methods: dict
+    kind: str
+    work: str
+    uss: str
+    scopes: frozenset
+    asked: Asked
+
+
+def call_of(tokens, method, target, authorization, body):
+    kind, words, methods = route_of(target) or (None, (), None)
+    work = (methods or {}).get(method)
+    uss, scopes = tokens.get(token_in(authorization)) or (None, None)
+    try:
+        asked = asked_of(kind, work, words, body) if work else None
+    except Malformed:
+        asked = None
+    return Call(methods, kind, work, uss, scopes, asked)
+
+
+# ---- the rules, each asked of a call that breaks none before it
+
+# P1 ROUTE
+def breaks_route(_airspace, call):
+    return call.methods is None
+
+
+# P2 METHOD
+def breaks_method(_airspace, call):
+    return call.work is None
+
+
+# P3 TOKEN
+def breaks_token(_airspace, call):
+    return call.uss is None
+
+
+# P4 SCOPE
+def breaks_scope(_airspace, call):
+    return not openers(call.kind, call.work) & call.scopes
+
+
+# P5 FORM
+def breaks_form(_airspace, call):
+    return call.asked is None
+
+
+# P6 AREA
+def breaks_area(_airspace, call):
+    return sum(it.covered() for it in call.asked.extents()) > MOST_COVERED
+
+
+# P7 FOUND
+def breaks_found(airspace, call):
+    return call.kind is not None and call.work in ("read", "update", "delete") and airspace.found(call) is None
+
+
+# P8 FRESH
+def breaks_fresh(airspace, call):
+    return call.work == "create" and airspace.found(call) is not None
+
+
+# P9 MANAGER
+def breaks_manager(airspace, call):
+    return call.work in ("update", "delete") and airspace.found(call).manager != call.uss
+
+
+# P10 VERSION
+def breaks_version(airspace, call):
+    if call.work in ("update", "delete"):
+        return airspace.ovn(airspace.found(call)) != call.asked.ovn
+    return call.work == "set" and airspace.setting(call.asked.uss)[1] != call.asked.old_version
+
+
+# P11 ROLE
+def breaks_role(_airspace, call):
+    state = call.asked.state()
+    return state is not None and (STRATEGIC if state in STATES[:2] else MONITORING) not in call.scopes
+
+
+# P12 CHANGE
+def breaks_change(airspace, call):
+    state = call.asked.state()
+    return call.work == "update" and state is not None and state not in NEXT_STATES[airspace.found(call).put.state]
+
+
+# P13 ENDED
+def breaks_ended(airspace, call):
+    put = call.asked.put
+    return put is not None and max(it.times[1] for it in put.extents) <= airspace.now
+
+
+# P14 KEY
+def breaks_key(airspace, call):
+    return any(airspace.missing(call).values())
+
+
+BREAKS = {
+    1: breaks_route,
+    2: breaks_method,
+    3: breaks_token,
+    4: breaks_scope,
+    5: breaks_form,
+    6: breaks_area,
+    7: breaks_found,
+    8: breaks_fresh,
+    9: breaks_manager,
+    10: breaks_version,
+    11: breaks_role,
+    12: breaks_change,
+    13: breaks_ended,
+    14: breaks_key,
+}
+
+
+# ---- answers
 
 
 @dataclasses.dataclass
@@ -291,45 +446,50 @@ class Airspace:
 
     def ask(self, method, target, authorization=None, body=b""):
         """Answers a request, and keeps what it changes."""
-        try:
-            why, status, value = self.allowed(method, target, authorization, body or b"")
-            return Outcome(status, wire.compact(value), (), why)
-        except Denied as denied:
-            status, name = RULES[denied.rule]
-            value = {"message": f"P{denied.rule} {name}", **(denied.missing or {})}
-            return Outcome(status, wire.compact(value), denied.fields, denied.rule)
+        call = call_of(self.tokens, method, target, authorization, body or b"")
+        for rule, breaks in BREAKS.items():
+            if breaks(self, call):
+                return self.denial(rule, call)
+        status, value = getattr(self, f"{call.work}_{'entity' if call.kind else 'availability'}")(call)
+        return Outcome(status, wire.compact(value), (), (call.kind, call.work))
 
-    def allowed(self, method, target, authorization, body):
-        kind, words, methods = route_of(target)
-        if method not in methods:
-            raise Denied(2, (f"Allow: {', '.join(methods)}",))
-        caller = self.tokens.get(token_in(authorization))
-        if caller is None:
-            raise Denied(3, ("WWW-Authenticate: Bearer",))
-        work = methods[method]
-        if not opening_scopes(kind, work) & caller[1]:
-            raise Denied(4)
-        try:
-            asked = self.read(kind, work, words, body)
-        except Malformed as error:
-            raise Denied(5) from error
-        return (kind, work), *getattr(self, f"{work}_{'entity' if kind else 'availability'}")(kind, caller, *asked)
+    def denial(self, rule, call):
+        status, name = RULES[rule]
+        value = {"message": f"P{rule} {name}"}
+        if rule == 14:
+            value |= {f"missing_{kind}s": all_ for kind, all_ in self.missing(call).items()}
+        fields = {2: (f"Allow: {', '.join(call.methods or ())}",), 3: ("WWW-Authenticate: Bearer",)}
+        return Outcome(status, wire.compact(value), fields.get(rule, ()), rule)
 
-    def read(self, kind, work, words, body):
-        """What is asked, with all its forms read."""
-        if kind is None:
-            uss = uss_of(words[0])
-            return (uss, *setting_of(body)) if work == "set" else (uss,)
-        if work == "query":
-            return (extent_of(object_of(body).get("area_of_interest"), False),)
-        asked = (id_of(words[0]), *(ovn_of(it) for it in words[1:]))
-        return (*asked, put_of(kind, body)) if work in ("create", "update") else asked
+    # ---- what is kept
 
-    # ---- entities
+    def found(self, call):
+        """The entity that a call names, or None."""
+        return self.entities.get((call.kind, call.asked.id))
 
-    def next(self):
-        self.serial += 1
-        return self.serial
+    def ovn(self, entity):
+        return wire.ovn(entity.serial, self.salt)
+
+    def setting(self, uss):
+        return self.settings.get(uss, ("Unknown", ""))
+
+    def all_meeting(self, kind, extents):
+        return [
+            it for (_, it) in sorted(self.entities.items()) if it.kind == kind and some_meet(it.put.extents, extents)
+        ]
+
+    def missing(self, call):
+        """What a put needs and its key lacks, as the caller sees it."""
+        needed = {INTENT: [], CONSTRAINT: []}
+        put = call.asked.put
+        if call.asked.state() in STATES[:2]:
+            needed[INTENT] = [it for it in self.all_meeting(INTENT, put.extents) if it.id != call.asked.id]
+            if PROCESSING in call.scopes:
+                needed[CONSTRAINT] = self.all_meeting(CONSTRAINT, put.extents)
+        return {
+            kind: [self.view(call.uss, it) for it in all_ if self.ovn(it) not in put.key]
+            for kind, all_ in needed.items()
+        }
 
     def view(self, uss, entity):
         seen = {
@@ -337,107 +497,52 @@ class Airspace:
             "manager": entity.manager,
             "time_start": min(it.times[0] for it in entity.put.extents),
             "time_end": max(it.times[1] for it in entity.put.extents),
-            "uss_availability": self.settings.get(entity.manager, ("Unknown", ""))[0],
+            "uss_availability": self.setting(entity.manager)[0],
             "uss_base_url": entity.put.url,
             "version": entity.version,
         }
         if entity.manager == uss:
-            seen["ovn"] = wire.ovn(entity.serial, self.salt)
+            seen["ovn"] = self.ovn(entity)
         if entity.kind == INTENT:
             seen |= {"state": entity.put.state, "subscription_id": NO_SUBSCRIPTION}
         return seen
 
-    def found(self, kind, id_):
-        if (kind, id_) not in self.entities:
-            raise Denied(7)
-        return self.entities[kind, id_]
+    # ---- effects
 
-    def own(self, kind, uss, id_, ovn):
-        entity = self.found(kind, id_)
-        if entity.manager != uss:
-            raise Denied(9)
-        if wire.ovn(entity.serial, self.salt) != ovn:
-            raise Denied(10)
-        return entity
+    def next(self):
+        self.serial += 1
+        return self.serial
 
-    def all_meeting(self, kind, extents):
-        return [
-            it for (_, it) in sorted(self.entities.items()) if it.kind == kind and some_meet(it.put.extents, extents)
-        ]
+    def keep(self, call, manager, version):
+        entity = Entity(call.kind, call.asked.id, manager, version, self.next(), call.asked.put)
+        self.entities[call.kind, call.asked.id] = entity
+        return {f"{call.kind}_reference": self.view(call.uss, entity), "subscribers": []}
 
-    def check_put(self, kind, caller, id_, put, old=None):
-        """The rules on what is put, from that on roles on."""
-        uss, scopes = caller
-        if kind == INTENT:
-            if (STRATEGIC if put.state in STATES[:2] else MONITORING) not in scopes:
-                raise Denied(11)
-            if old and put.state not in MAY_BECOME[old.put.state]:
-                raise Denied(12)
-        if max(it.times[1] for it in put.extents) <= self.now:
-            raise Denied(13)
-        if kind == INTENT and put.state in STATES[:2]:
-            self.check_key(uss, scopes, id_, put)
+    def create_entity(self, call):
+        return 201, self.keep(call, call.uss, 1)
 
-    def check_key(self, uss, scopes, id_, put):
-        needed = {
-            INTENT: [it for it in self.all_meeting(INTENT, put.extents) if it.id != id_],
-            CONSTRAINT: self.all_meeting(CONSTRAINT, put.extents) if PROCESSING in scopes else [],
-        }
-        missing = {
-            f"missing_{kind}s": [self.view(uss, it) for it in all_ if wire.ovn(it.serial, self.salt) not in put.key]
-            for kind, all_ in needed.items()
-        }
-        if any(missing.values()):
-            raise Denied(14, missing=missing)
+    def update_entity(self, call):
+        old = self.found(call)
+        return 200, self.keep(call, old.manager, old.version + 1)
 
-    def keep(self, kind, caller, manager, version, id_, put):
-        entity = Entity(kind, id_, manager, version, self.next(), put)
-        self.entities[kind, id_] = entity
-        return {f"{kind}_reference": self.view(caller[0], entity), "subscribers": []}
-
-    def create_entity(self, kind, caller, id_, put):
-        check_covered(put.extents)
-        if (kind, id_) in self.entities:
-            raise Denied(8)
-        self.check_put(kind, caller, id_, put)
-        return 201, self.keep(kind, caller, caller[0], 1, id_, put)
-
-    def update_entity(self, kind, caller, id_, ovn, put):
-        check_covered(put.extents)
-        old = self.own(kind, caller[0], id_, ovn)
-        self.check_put(kind, caller, id_, put, old)
-        return 200, self.keep(kind, caller, old.manager, old.version + 1, id_, put)
-
-    def delete_entity(self, kind, caller, id_, ovn):
-        entity = self.own(kind, caller[0], id_, ovn)
-        seen = self.view(caller[0], entity)
-        del self.entities[kind, id_]
+    def delete_entity(self, call):
+        seen = self.view(call.uss, self.found(call))
+        del self.entities[call.kind, call.asked.id]
         self.next()
-        return 200, {f"{kind}_reference": seen, "subscribers": []}
+        return 200, {f"{call.kind}_reference": seen, "subscribers": []}
 
-    def read_entity(self, kind, caller, id_):
-        return 200, {f"{kind}_reference": self.view(caller[0], self.found(kind, id_))}
+    def read_entity(self, call):
+        return 200, {f"{call.kind}_reference": self.view(call.uss, self.found(call))}
 
-    def query_entity(self, kind, caller, area):
-        check_covered([area])
-        return 200, {f"{kind}_references": [self.view(caller[0], it) for it in self.all_meeting(kind, [area])]}
+    def query_entity(self, call):
+        return 200, {
+            f"{call.kind}_references": [self.view(call.uss, it) for it in self.all_meeting(call.kind, [call.asked.area])]
+        }
 
-    # ---- availabilities
+    def read_availability(self, call):
+        availability, version = self.setting(call.asked.uss)
+        return 200, {"status": {"availability": availability, "uss": call.asked.uss}, "version": version}
 
-    def told(self, uss):
-        availability, version = self.settings.get(uss, ("Unknown", ""))
-        return 200, {"status": {"availability": availability, "uss": uss}, "version": version}
-
-    def read_availability(self, _kind, _caller, uss):
-        return self.told(uss)
-
-    def set_availability(self, _kind, _caller, uss, availability, old):
-        if self.settings.get(uss, ("Unknown", ""))[1] != old:
-            raise Denied(10)
-        self.settings[uss] = availability, wire.ovn(self.next(), self.salt)
-        return self.told(uss)
-
-
-def check_covered(extents):
-    if sum(it.covered() for it in extents) > MOST_COVERED:
-        raise Denied(6)
+    def set_availability(self, call):
+        self.settings[call.asked.uss] = call.asked.availability, wire.ovn(self.next(), self.salt)
+        return self.read_availability(call)

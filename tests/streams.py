@@ -11,6 +11,7 @@ from program import BUILT, TOP, first_difference, run, serve
 
 CLOSE = b"Connection: close\r\n"
 SEEDS = range(1, 31)
+MANGLED_SEEDS = range(101, 131)
 LEAST = 10
 
 
@@ -47,14 +48,23 @@ def worked_examples():
 
 def drawn():
     """Streams of drawn calls are answered as the plain policy says, and each rule and each work comes."""
+    return answered_as_drawn("drawn calls", SEEDS, is_mangled=False)
+
+
+def mangled():
+    """The same of drawn calls in which letters of bodies and targets are others."""
+    return answered_as_drawn("mangled calls", MANGLED_SEEDS, is_mangled=True)
+
+
+def answered_as_drawn(name, seeds, is_mangled):
     found, counts, works = [], collections.Counter(), set()
-    for seed in SEEDS:
-        requests, outcomes = drawn_calls.stream(seed)
+    for seed in seeds:
+        requests, outcomes = drawn_calls.stream(seed, is_mangled=is_mangled)
         wanted = [it.text(closes=at == wire.MOST_REQUESTS) for at, it in enumerate(outcomes, 1)]
         found += served(f"seed {seed}", requests, wanted, drawn_calls.NOW, wire.token_file(drawn_calls.ALL_TOKENS))
         counts.update(it.why for it in outcomes)
         works |= {it.why for it in outcomes if it.why not in RULES}
-    print(f"drawn calls: {counts.total()}, of which are " + ", ".join(f"P{it} {counts[it]}" for it in RULES))
+    print(f"{name}: {counts.total()}, of which are " + ", ".join(f"P{it} {counts[it]}" for it in RULES))
     rare = [it for it in [*RULES, *works] if counts[it] < LEAST]
     return found + ([f"under {LEAST} of {rare}"] if rare or len(works) != 12 else [])
 

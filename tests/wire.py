@@ -55,7 +55,7 @@ def token_file(tokens=None, salt=SALT):
 
 
 def ovn(serial, salt=SALT):
-    """The version number of a serial."""
+    """The OVN of a serial."""
     return hashlib.sha256(f"dss-ovn|{salt}|{serial}".encode()).hexdigest()
 
 

@@ -6,8 +6,8 @@ use wire_json::body_fault::BodyFault;
 
 #[test]
 fn words_of_no_route(rt: HostRuntime) {
-    let body = "{\"area_of_interest\":{\"cells\":[\"89c3\"]}}";
-    let setting = "{\"availability\":\"Down\"}";
+    let body = r#"{"area_of_interest":{"cells":["89c3"]}}"#;
+    let setting = r#"{"availability":"Down"}"#;
     for (kind, first, second, body) in [
         (OpKind::Query(Kind::Intent), "Query", None, body),
         (OpKind::SetAvail, "uss-b", Some("x"), setting),

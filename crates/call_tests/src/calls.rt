@@ -18,7 +18,7 @@ use std::alloc::Global;
 use wire_json::body::{PathWords, read_body};
 
 const PUT: &str =
-    "{\"extents\":[{\"cells\":[\"89c25904\"],\"altitude_lower\":0,\"altitude_upper\":1200,\"time_start\":900,\"time_end\":2000}],\"state\":\"Accepted\",\"uss_base_url\":\"https://a.example\"}";
+    r#"{"extents":[{"cells":["89c25904"],"altitude_lower":0,"altitude_upper":1200,"time_start":900,"time_end":2000}],"state":"Accepted","uss_base_url":"https://a.example"}"#;
 
 // A supplier that may plan and set availabilities.
 fn caller(alloc: Global) -> Option<Caller> {
@@ -87,8 +87,8 @@ fn three(alloc: Global) -> Option<Vec<(u64, Call)>> {
     };
     let mut calls = Vec::new(alloc);
     for (now, kind, body) in [
-        (1000, OpKind::SetAvail, "{\"availability\":\"Down\"}"),
-        (7, OpKind::SetAvail, "{\"availability\":\"Normal\"}"),
+        (1000, OpKind::SetAvail, r#"{"availability":"Down"}"#),
+        (7, OpKind::SetAvail, r#"{"availability":"Normal"}"#),
         (8, OpKind::ReadAvail, ""),
     ] {
         calls.push((now, call(alloc, kind, &words, body)?)).ok()?;
@@ -96,7 +96,7 @@ fn three(alloc: Global) -> Option<Vec<(u64, Call)>> {
     Some(calls)
 }
 
-// Whether it tells that uss-b is Down under the version number of serial 1.
+// Whether it tells that uss-b is Down under the OVN of serial 1.
 fn tells_down(reply: &Reply) -> bool {
     let Reply::Done(Answer::Avail(uss, availability, version)) = reply else {
         return false;

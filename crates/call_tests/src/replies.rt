@@ -34,7 +34,7 @@ const ENDLESS: &str = "{\"operational_intent_reference\":\
 #[test]
 fn texts_of_replies(rt: HostRuntime) {
     for (reply, code, text) in [
-        (Some(Reply::Stopped), 503, "{\"message\":\"stopped\"}"),
+        (Some(Reply::Stopped), 503, r#"{"message":"stopped"}"#),
         (endless(rt.alloc()), 200, ENDLESS),
     ] {
         let reply = reply.expect(&rt, "a reply");

@@ -1,9 +1,9 @@
 -- What is found after a change, and that an airspace may be kept after it.
-use Rattle.std.specs.Prelude.{◌≡◌, ℕ, Bool, true, false, List, Option, Some, None, cond, refl, ◌⊎◌}
+use Rattle.std.specs.Prelude.{◌≡◌, ℕ, true, false, List, Some, None, cond, refl, ◌⊎◌}
 use Rattle.std.proofs.Common.{sym, ap, ◌∙◌, inl, inr}
 use Rattle.std.proofs.lemmas.Option.{same_Some}
 use Rattle.std.specs.Ordering.{eq_by_cmp}
-use Rattle.std.specs.FinMap.{get, insert, remove, empty, get-insert, get-remove, get-empty}
+use Rattle.std.specs.FinMap.{get, insert, remove, get-insert, get-remove, get-empty}
 use Rattle.entity_core.specs.Airspace.{Airspace, Entities, EntityKey, IsAirspace, Stated, empty_at, key_cmp, key_of, with_availability, with_entity, without_entity}
 use Rattle.entity_core.specs.declared.entity.Entity.{Entity}
 use Rattle.entity_core.proofs.Keys.{key_total, one_key}

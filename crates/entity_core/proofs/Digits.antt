@@ -33,7 +33,7 @@ visible_hex (b ∷ rest) h =
     let ih = visible_hex rest (λ k. h (suc k)) in
     rw (digit_visible (b / 16) high, digit_visible (b % 16) low) ih
 
--- the digits of 32 bytes are a version
+-- the digits of 32 bytes are an OVN
 pub hex_is_ovn : (xs : List ℕ) → IsBytes xs → length xs ≡ 32 → ovn_fault (encode_lower xs) ≡ None
 hex_is_ovn xs bytes long =
     let digits : length (encode_lower xs) ≡ 64 = omega (arith, length-encode_with lower_digits xs) in

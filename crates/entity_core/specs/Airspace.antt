@@ -14,7 +14,7 @@ use Rattle.entity_core.specs.Entity.{kind_index, kind_of}
 abbrev pub text_cmp : List ℕ → List ℕ → Ordering
 text_cmp a b = slice_cmp nat_cmp a b
 
--- an availability, and the version that setting it gave
+-- an availability, and its availability version: the OVN that setting it gave
 abbrev pub Stated : Type 0
 Stated = Availability × List ℕ
 
@@ -52,7 +52,7 @@ availability_of a uss = unwrap_or (get a.availabilities uss) (Unknown, [])
 
 -- Each change lets the serial go on by one.
 
--- with the availability of a supplier under a version
+-- with the availability of a supplier under an availability version
 abbrev pub with_availability : Airspace → List ℕ → Stated → Airspace
 with_availability a uss stated = record a { availabilities = insert a.availabilities uss stated; serial = a.serial + 1 }
 

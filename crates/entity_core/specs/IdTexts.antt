@@ -30,7 +30,7 @@ first_fault least most is_right text =
 abbrev pub name_fault : List ℕ → Option IdFault
 name_fault text = first_fault 1 64 is_name_byte text
 
--- a version number
+-- an OVN
 abbrev pub ovn_fault : List ℕ → Option IdFault
 ovn_fault text = first_fault 16 128 is_visible_byte text
 

@@ -1,4 +1,4 @@
-//! Entities: what is kept of an operational intent.
+//! Entities: what is kept of operational intents and constraints.
 ghost use Rattle.std.specs.Prelude.{◌≡◌, IfOk};
 ghost use Rattle.entity_core.specs.Entity.{IsSpan, span_of};
 ghost use Rattle.entity_core.specs.Airspace.{key_cmp, key_of};
@@ -14,7 +14,7 @@ use crate::volumes::Volumes;
 use std::alloc::{AllocError, Global};
 use std::cmp::Ordering;
 
-/// What is kept of an operational intent.
+/// What is kept of an operational intent or a constraint.
 #[derive(Debug, Drop)]
 pub struct Entity {
     pub nature: Nature,
@@ -25,7 +25,7 @@ pub struct Entity {
     pub version: Version,
     /// The serial of its last put.
     pub serial: Serial,
-    /// The version number that goes with that serial.
+    /// The OVN that goes with that serial.
     pub ovn: Ovn,
     pub volumes: Volumes,
     pub url: BaseUrl,

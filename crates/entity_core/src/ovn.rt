@@ -1,4 +1,4 @@
-//! Version numbers (OVNs).
+//! OVNs, opaque version numbers.
 ghost use Rattle.std.specs.Prelude.{◌≡◌, IfOk, None, length};
 ghost use Rattle.std.specs.String.{string_bytes};
 ghost use Rattle.hex.specs.Hex.{encode_lower};
@@ -13,8 +13,7 @@ use sha2::{Digest, Sha256};
 use std::alloc::{AllocError, Global};
 use std::marker::Model;
 
-/// A version number: 16 to 128 bytes from 0x21 to 0x7E (this project's profile). Contracts see its
-/// bytes.
+/// An OVN: 16 to 128 bytes from 0x21 to 0x7E (this project's profile). Contracts see its bytes.
 #[derive(Debug, Drop)]
 pub struct Ovn {
     letters: String,
@@ -34,7 +33,7 @@ impl Model for Ovn {
 }
 
 impl Ovn {
-    /// Reads a version as a caller writes it. The error is the first fault of the text.
+    /// Reads an OVN as a caller writes it. The error is the first fault of the text.
     pub fn read(alloc: Global, text: &str) -> Result<Ovn, IdFault>
         ensures { Reads (ovn_fault text.now) text.now result }
     {
@@ -42,7 +41,7 @@ impl Ovn {
         Ok(Ovn { letters })
     }
 
-    /// The version as it was read or made.
+    /// The OVN as it was read or made.
     pub fn text(&self) -> &str
         ensures same { result.now ≡ self.now }
         ensures reads { ovn_fault self.now ≡ None }
@@ -58,7 +57,7 @@ impl Ovn {
         Text::from_string(letters)
     }
 
-    /// An equal version.
+    /// An equal OVN.
     pub fn clone(&self) -> Result<Ovn, AllocError>
         ensures { IfOk result (λ ovn. ovn ≡ self.now) }
     {
@@ -75,7 +74,7 @@ fn message(alloc: Global, salt: &Salt, serial: u64) -> Result<String, AllocError
     format!(in alloc; "dss-ovn|{salt}|{serial}")
 }
 
-// The version that the digits of a digest are.
+// The OVN that the digits of a digest are.
 fn of_digest(alloc: Global, digest: &[u8]) -> Result<Ovn, AllocError>
     requires { length digest.now ≡ 32 }
     ensures { IfOk result (λ ovn. ovn ≡ encode_lower digest.now) }
@@ -85,7 +84,7 @@ fn of_digest(alloc: Global, digest: &[u8]) -> Result<Ovn, AllocError>
     })
 }
 
-/// The version that goes with a serial: the 64 lower-case hexadecimal digits of SHA-256 (FIPS 180-4)
+/// The OVN that goes with a serial: the 64 lower-case hexadecimal digits of SHA-256 (FIPS 180-4)
 /// of `dss-ovn|`, the salt, `|` and the serial in decimal (this project's profile).
 pub fn ovn_of(alloc: Global, salt: &Salt, serial: u64) -> Result<Ovn, AllocError>
     ensures { IfOk result (λ ovn. ovn ≡ ovn_text salt.now serial) }

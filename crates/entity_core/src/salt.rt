@@ -1,4 +1,4 @@
-//! Salts of versions.
+//! Salts of OVNs.
 ghost use Rattle.std.specs.Prelude.{◌≡◌, IfOk, None};
 ghost use Rattle.entity_core.specs.IdTexts.{Reads, name_fault};
 
@@ -7,7 +7,7 @@ use crate::name::read_name;
 use std::alloc::{AllocError, Global};
 use std::marker::Model;
 
-/// What a service mixes into its versions, so that others cannot compute them: 1 to 64 ASCII letters,
+/// What a service mixes into its OVNs, so that others cannot compute them: 1 to 64 ASCII letters,
 /// digits, `-`, `_` or `.` (this project's profile). Contracts see its bytes.
 #[derive(Debug, Drop)]
 pub struct Salt {

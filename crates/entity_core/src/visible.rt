@@ -1,4 +1,4 @@
-//! Texts of visible ASCII characters: versions and addresses.
+//! Texts of visible ASCII characters: OVNs and addresses.
 ghost use Rattle.std.specs.Prelude.{◌≡◌, MatchResult, None};
 ghost use Rattle.std.specs.List.{list_all};
 ghost use Rattle.std.specs.String.{string_bytes};

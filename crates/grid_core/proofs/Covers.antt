@@ -5,7 +5,7 @@ use Rattle.std.proofs.Math.Nat.{pow-le-pow_right}
 use Rattle.grid_core.specs.declared.volume_fault.VolumeFault.{VolumeFault}
 use Rattle.grid_core.specs.declared.volume_fault.VolumeFault.TheVariants.{Empty, TooMany}
 use Rattle.grid_core.specs.Extent.{Region, region_fault}
-use Rattle.grid_core.specs.CellNumber.{four}
+use Rattle.grid_core.specs.CellNumberLaw.{four}
 
 pub most_covered : (level : ℕ) → 2 ^ (26 - 2 * level) ≤ 67108864
 most_covered level = let p : 2 ^ (26 - 2 * level) ≤ 2 ^ 26 = pow-le-pow_right {n = 2} (omega arith) {i = 26 - 2 * level} {j = 26} (omega arith) in omega (arith, p)

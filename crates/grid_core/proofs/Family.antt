@@ -5,7 +5,9 @@ use Rattle.std.proofs.Common.{arith, sym, ap, ◌∙◌, subst, length-append, l
 use Rattle.std.proofs.lemmas.Nat.{shr-shr, pow-add}
 use Rattle.std.proofs.lemmas.List.{take-append-drop, take_more}
 use Rattle.grid_core.specs.Cell.{Cell, IsCell, Contains, number_of, parent_of, child_of}
-use Rattle.grid_core.specs.CellNumber.{path, path-face, path-append, four, number_of_cell, odd_product, IsNumber, IsNumber-number_of, cell_of, cell_of-number_of, same_cell}
+use Rattle.grid_core.specs.CellNumber.{path, IsNumber, cell_of}
+use Rattle.grid_core.specs.CellNumberLaw.{four, odd_product}
+use Rattle.grid_core.proofs.CellNumber.{path-face, path-append, number_of_cell, IsNumber-number_of, cell_of-number_of, same_cell}
 use Rattle.grid_core.proofs.Intervals.{all_take, all_drop}
 
 -- a number that is a cell's

@@ -8,7 +8,9 @@ use Rattle.std.proofs.lemmas.Bool.{cases_lt}
 use Rattle.std.proofs.lemmas.List.{take-append-drop}
 use Rattle.std.proofs.Common.{length-take, length-drop}
 use Rattle.grid_core.specs.Cell.{Cell, IsCell, number_of, range_min, range_max, lo_of, hi_of, cut, Contains, Touch}
-use Rattle.grid_core.specs.CellNumber.{path, path-face, path-append, one_path, four, number_of_cell}
+use Rattle.grid_core.specs.CellNumber.{path}
+use Rattle.grid_core.specs.CellNumberLaw.{four}
+use Rattle.grid_core.proofs.CellNumber.{path-face, path-append, one_path, number_of_cell}
 
 -- all of a front and of a rest
 pub all_take : (P : ℕ → Type 0) → (n : ℕ) → (xs : List ℕ) → AllByRecursion P xs → AllByRecursion P (take n xs)

@@ -1,3 +1,4 @@
+pub mod CellNumber
 pub mod Intervals
 pub mod Family
 pub mod Tokens

@@ -10,7 +10,9 @@ use Rattle.std.proofs.lemmas.Int.Digits.{digits_value-lt}
 use Rattle.std.proofs.lemmas.Nat.{pow-add, pow_pos}
 use Rattle.std.proofs.Math.Nat.{mul-le-mul_right}
 use Rattle.grid_core.specs.Cell.{Cell, IsCell}
-use Rattle.grid_core.specs.CellNumber.{cell_of, IsNumber, number-cell_of, IsCell-cell_of, IsNumber-number_of, some_by_place, cell_of-number_of}
+use Rattle.grid_core.specs.CellNumber.{cell_of, IsNumber}
+use Rattle.grid_core.specs.CellNumberLaw.{number-cell_of}
+use Rattle.grid_core.proofs.CellNumber.{IsCell-cell_of, IsNumber-number_of, some_by_place, cell_of-number_of}
 use Rattle.grid_core.specs.Token.{IsTokenOf, Parses, NamesCell, cell_named, has_token_form, is_number, token_number}
 use Rattle.grid_core.specs.declared.token.TokenFault.{TokenFault}
 use Rattle.grid_core.specs.declared.token.TokenFault.TheVariants.{Length, Digit, Invalid}

@@ -11,7 +11,8 @@ use Rattle.std.proofs.lemmas.Nat.{shr-shr, pow-add, pow_pos, shr_high}
 use Rattle.std.proofs.lemmas.Bool.{cases_lt}
 use Rattle.std.proofs.Math.Nat.{pow-le-pow_right, mul-le-mul_right, pow-suc, div-add-mod'}
 use Rattle.grid_core.specs.Cell.{Cell, IsCell, number_of}
-use Rattle.grid_core.specs.CellNumber.{number_of_cell, path}
+use Rattle.grid_core.specs.CellNumber.{path}
+use Rattle.grid_core.proofs.CellNumber.{number_of_cell}
 use Rattle.grid_core.specs.Token.{IsShortest, Written, is_lower_digit}
 
 pub sixteen : (k : ℕ) → 16 ^ k ≡ 2 ^ (4 * k)

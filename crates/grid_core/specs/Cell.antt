@@ -1,5 +1,5 @@
 -- Cells of the grid, after the cell ids of S2 Geometry.
-use Rattle.std.specs.Prelude.{◌≡◌, ℕ, zero, suc, ◌+◌, ◌-◌, ◌*◌, ◌^◌, ◌/◌, ◌≤◌, ◌<◌, List, [], ◌∷◌, ◌++◌, ◌⊎◌, length, take}
+use Rattle.std.specs.Prelude.{◌≡◌, ℕ, ◌+◌, ◌-◌, ◌*◌, ◌^◌, ◌/◌, ◌≤◌, ◌<◌, List, [], ◌∷◌, ◌++◌, ◌⊎◌, length, take}
 use Rattle.std.specs.List.{AllByRecursion}
 
 -- a face, and one digit for each level below it, the coarsest level first
@@ -12,16 +12,15 @@ pub record IsCell (c : Cell) : Type 0 where
   pub levels : length c.digits ≤ 30
   pub digits : AllByRecursion (λ d. d < 4) c.digits
 
--- Digits with r levels left: a digit in the two bits of its level, then the rest; behind the last digit a single 1 bit.
--- 4 ^ r is that bit where r levels are left, and 2 * 4 ^ r the lower bit of the level before.
-abbrev pub digits_number : ℕ → List ℕ → ℕ
-digits_number r [] = 4 ^ r
-digits_number zero (d ∷ ds) = 0
-digits_number (suc r) (d ∷ ds) = d * (2 * 4 ^ r) + digits_number r ds
+-- Digits from level i on: each digit in the two bits of its level, and below the last one a single 1 bit.
+abbrev pub digits_sum : ℕ → List ℕ → ℕ
+digits_sum i [] = 2 ^ (60 - 2 * i)
+digits_sum i (d ∷ ds) = d * 2 ^ (61 - 2 * (i + 1)) + digits_sum (i + 1) ds
 
--- a cell's number: the face in the top three bits
+-- A cell's number: the face in the top three bits, the digits below it, the one of level l at
+-- 2 ^ (61 - 2 * l), and for L digits the bit 2 ^ (60 - 2 * L).
 unfoldable pub number_of : Cell → ℕ
-number_of c = c.face * 2 ^ 61 + digits_number 30 c.digits
+number_of c = c.face * 2 ^ 61 + digits_sum 0 c.digits
 
 abbrev pub IsPrefix : List ℕ → List ℕ → Type 0
 IsPrefix xs ys = (rest : List ℕ) × (xs ++ rest ≡ ys)

@@ -1,6 +1,17 @@
--- Laws of the intervals of cells, for an index on them.
-use Rattle.std.specs.Prelude.{◌≡◌, ◌↔◌, ℕ, ◌≤◌, ◌<◌, ◌⊎◌, length}
+-- Laws of cells and extents.
+use Rattle.std.specs.Prelude.{◌≡◌, ◌↔◌, ℕ, ◌≤◌, ◌<◌, ◌⊎◌, List, length, IsTrue}
 use Rattle.grid_core.specs.Cell.{Cell, IsCell, Touch, lo_of, hi_of, parent_of}
+use Rattle.grid_core.specs.Extent.{Extent, Region, Meet, meets, AnyMeet, any_meet}
+
+-- ---- the tests of meetings are the relations
+
+abbrev pub MeetsIsMeet : Type 0
+MeetsIsMeet = (a b : Region) → IsTrue (meets a b) ↔ Meet a b
+
+abbrev pub AnyMeetIsRelation : Type 0
+AnyMeetIsRelation = (es : List Extent) (rs : List Region) → IsTrue (any_meet es rs) ↔ AnyMeet es rs
+
+-- ---- the intervals of cells, for an index on them
 
 -- a number lies in the intervals of both
 abbrev pub ShareNumber : Cell → Cell → Type 0

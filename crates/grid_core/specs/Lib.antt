@@ -1,5 +1,6 @@
 pub mod Cell
 pub mod CellNumber
+pub mod CellNumberLaw
 pub mod Token
 pub mod VolumeFault
 pub mod Extent

@@ -14,7 +14,8 @@ pub struct CellId {
 
 impl Model for CellId {
     ghost use Rattle.grid_core.specs.Cell.{Cell, number_of};
-    ghost use Rattle.grid_core.specs.CellNumber.{cell_of, IsNumber, number-cell_of};
+    ghost use Rattle.grid_core.specs.CellNumber.{cell_of, IsNumber};
+    ghost use Rattle.grid_core.specs.CellNumberLaw.{number-cell_of};
     ghost use Rattle.std.proofs.Common.{ap};
 
     ghost Value = { Cell };

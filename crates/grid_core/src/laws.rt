@@ -1,6 +1,18 @@
-//! Laws of cells, each named by a function that does nothing.
-ghost use Rattle.grid_core.specs.Laws.{TouchByInterval, ApartOrNested, FoundByIndex};
+//! Laws of cells and extents, each named by a function that does nothing.
+ghost use Rattle.grid_core.specs.Laws.{MeetsIsMeet, AnyMeetIsRelation, TouchByInterval, ApartOrNested, FoundByIndex};
 ghost use Rattle.grid_core.specs.Token.{NamesCell};
+
+/// The test `meets` of two areas is the relation `Meet`: a cell of the one touches a cell of the other,
+/// and they share an altitude and a time.
+pub fn meets_is_meet()
+    ensures { MeetsIsMeet }
+{}
+
+/// The test `any_meet` is the relation `AnyMeet`: some volume of the one list meets some area of the
+/// other.
+pub fn any_meet_is_relation()
+    ensures { AnyMeetIsRelation }
+{}
 
 /// Two cells touch exactly where their intervals `lo..=hi` share a number.
 pub fn touch_by_interval()

@@ -194,7 +194,8 @@ impl Volume {
         })
     }
 
-    /// Whether the two share a cell, an altitude and a time. It takes no memory.
+    /// Whether a cell of the one touches a cell of the other, and they share an altitude and a time. It
+    /// takes no memory.
     pub fn meets(&self, area: &Area) -> bool
         ensures test { result ≡ meets (region_of self.now) area.now }
         ensures relation { IsTrue result ↔ Meet (region_of self.now) area.now }
@@ -273,7 +274,8 @@ impl Area {
         covered_by(&self.cells)
     }
 
-    /// Whether the two share a cell, an altitude and a time. It takes no memory.
+    /// Whether a cell of the one touches a cell of the other, and they share an altitude and a time. It
+    /// takes no memory.
     pub fn meets(&self, area: &Area) -> bool
         ensures test { result ≡ meets self.now area.now }
         ensures relation { IsTrue result ↔ Meet self.now area.now }

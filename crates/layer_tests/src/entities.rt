@@ -49,7 +49,7 @@ fn ids_of_entities(rt: HostRuntime) {
 }
 
 #[test]
-fn names_and_versions(rt: HostRuntime) {
+fn names_and_ovns(rt: HostRuntime) {
     let alloc = rt.alloc();
     for (text, fault) in [
         ("a", None),

@@ -10,17 +10,16 @@ use entity_core::version::Version;
 use entity_core::volumes::Volumes;
 use grid_core::token::parse_token;
 use grid_core::volume::Volume;
-use policy_core::key_index::KeyIndex;
 use policy_core::missing::missing;
 use std::alloc::Global;
 
-// A version number: that of 1 begins those of 10 and of 100.
+// An OVN: that of 1 begins those of 10 and of 100.
 fn ovn(alloc: Global, number: u64) -> Option<Ovn> {
     let text = format!(in alloc; "0123456789abcdef{number}").ok()?;
     Ovn::read(alloc, text.as_str()).ok()
 }
 
-// So many version numbers of those below one, in no order, and again from the first when all are used.
+// So many OVNs of those below one, in no order, and again from the first when all are used.
 fn key(alloc: Global, count: u64, below: u32) -> Option<Vec<Ovn>> {
     let mut key = Vec::new(alloc);
     let mut number = 0u32;
@@ -55,7 +54,7 @@ fn entity(alloc: Global, ovn: Ovn) -> Option<Entity> {
     })
 }
 
-// Entities with the version numbers from that of 0 on.
+// Entities with the OVNs from that of 0 on.
 fn entities(alloc: Global, count: u64) -> Option<Vec<Entity>> {
     let mut entities = Vec::new(alloc);
     for number in 0..count {
@@ -64,7 +63,7 @@ fn entities(alloc: Global, count: u64) -> Option<Vec<Entity>> {
     Some(entities)
 }
 
-// Whether a version number is in a key, by a plain search.
+// Whether an OVN is in a key, by a plain search.
 fn is_known(key: &[Ovn], sought: &str) -> bool {
     let mut is_known = false;
     for own in key {
@@ -81,7 +80,7 @@ fn missing_is_as_the_plain_search_says(rt: HostRuntime) {
         (0, 401, 401),
         (1, 401, 400),
         (200, 401, 201),
-        // 50 version numbers, each of them eight times
+        // 50 OVNs, each of them eight times
         (400, 100, 351),
         (401, 401, 0),
         (4096, 4999, 58),
@@ -102,22 +101,23 @@ fn missing_is_as_the_plain_search_says(rt: HostRuntime) {
 }
 
 #[test]
-fn an_index_has_whole_version_numbers(rt: HostRuntime) {
+fn an_ovn_that_begins_another_is_missing(rt: HostRuntime) {
     let alloc = rt.alloc();
     let mut key = Vec::new(alloc);
     for number in [10, 200, 10] {
-        let own = ovn(alloc, number).expect(&rt, "a version number");
+        let own = ovn(alloc, number).expect(&rt, "an OVN");
         assert!(rt; key.push(own).is_ok());
     }
-    let index = KeyIndex::of(alloc, key.as_slice()).expect(&rt, "an index");
-    for (number, has) in [
-        (10, true),
-        (200, true),
-        (1, false),
-        (100, false),
-        (20, false),
-    ] {
-        let sought = ovn(alloc, number).expect(&rt, "a version number");
-        assert!(rt; index.has(&sought) == has, "of {number}");
+    let mut needed = Vec::new(alloc);
+    for number in [1, 10, 20, 100, 200] {
+        let own = ovn(alloc, number).expect(&rt, "an OVN");
+        let item = entity(alloc, own).expect(&rt, "an entity");
+        assert!(rt; needed.push(item).is_ok());
     }
+    let places = missing(alloc, key.as_slice(), needed.as_slice()).expect(&rt, "places");
+    let mut found = places.iter();
+    for place in [0, 2, 3] {
+        assert!(rt; found.next() == Some(&place), "place {place}");
+    }
+    assert!(rt; found.next().is_none());
 }

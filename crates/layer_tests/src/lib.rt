@@ -10,6 +10,6 @@ mod faults;
 #[cfg(test)]
 mod keys;
 #[cfg(test)]
-mod rows;
+mod ovns;
 #[cfg(test)]
-mod versions;
+mod rows;

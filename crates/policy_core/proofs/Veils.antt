@@ -15,7 +15,7 @@ use Rattle.policy_core.specs.declared.call.Operation.{Operation}
 use Rattle.policy_core.specs.declared.call.Operation.TheVariants.{NoRoute, NoMethod, Malformed, Query, Read, Create, Update, Delete, ReadAvail, SetAvail}
 use Rattle.policy_core.specs.declared.rule.Rule.{Rule}
 use Rattle.policy_core.specs.declared.rule.Rule.TheVariants.{Manager, Version}
-use Rattle.policy_core.specs.Policy.{breaks, breaks_found, early_rules, standing_rules}
+use Rattle.policy_core.specs.Policy.{breaks, breaks_given, early_rules, standing_rules}
 use Rattle.policy_core.specs.Standing.{found_of, kept_of}
 use Rattle.policy_core.specs.Blind.{veiled, veiled_entry, IsLike, is_uss}
 use Rattle.policy_core.proofs.Finds.{or_else, find-append}
@@ -66,32 +66,32 @@ kept_like a b (SetAvail uss old availability) l = ap (λ (x : Availabilities). g
 
 -- ---- P7 to P13
 
--- whose it is comes before the version, so the version of another's entity is not looked at
+-- whose it is comes before the OVN, so the OVN of another's entity is not looked at
 manager_first : (own : Bool) (ovn present : List ℕ) (rest : Option Rule) → cond (not own) (Some Manager) (cond (not (same_text ovn present)) (Some Version) rest) ≡ cond (not own) (Some Manager) (cond (not (same_text ovn (cond own present []))) (Some Version) rest)
 manager_first true ovn present rest = refl
 manager_first false ovn present rest = refl
 
-pub standing_veiled : (caller : Caller) (found : Option Entity) (kept : Option Stated) (t : ℕ) (op : Operation)
-    → find (breaks_found found kept t (record { caller = Some caller; op = op })) standing_rules ≡ find (breaks_found (option_map (veiled caller.uss) found) kept t (record { caller = Some caller; op = op })) standing_rules
-standing_veiled caller None kept t op = refl
-standing_veiled caller (Some e) kept t NoRoute = refl
-standing_veiled caller (Some e) kept t NoMethod = refl
-standing_veiled caller (Some e) kept t (Malformed kind) = refl
-standing_veiled caller (Some e) kept t (Query kind area) = refl
-standing_veiled caller (Some e) kept t (Read kind id) = refl
-standing_veiled caller (Some e) kept t (Create id put) = refl
-standing_veiled caller (Some e) kept t (Update id ovn put) = manager_first (same_text e.manager caller.uss) ovn e.ovn _
-standing_veiled caller (Some e) kept t (Delete kind id ovn) = manager_first (same_text e.manager caller.uss) ovn e.ovn _
-standing_veiled caller (Some e) kept t (ReadAvail uss) = refl
-standing_veiled caller (Some e) kept t (SetAvail uss old availability) = refl
+pub standing_veiled : (caller : Caller) (found : Option Entity) (kept : Option Stated) (serial t : ℕ) (op : Operation)
+    → find (breaks_given (record { found = found; kept = kept; serial = serial }) t (record { caller = Some caller; op = op })) standing_rules
+    ≡ find (breaks_given (record { found = option_map (veiled caller.uss) found; kept = kept; serial = serial }) t (record { caller = Some caller; op = op })) standing_rules
+standing_veiled caller None kept serial t op = refl
+standing_veiled caller (Some e) kept serial t NoRoute = refl
+standing_veiled caller (Some e) kept serial t NoMethod = refl
+standing_veiled caller (Some e) kept serial t (Malformed kind) = refl
+standing_veiled caller (Some e) kept serial t (Query kind area) = refl
+standing_veiled caller (Some e) kept serial t (Read kind id) = refl
+standing_veiled caller (Some e) kept serial t (Create id put) = refl
+standing_veiled caller (Some e) kept serial t (Update id ovn put) = manager_first (same_text e.manager caller.uss) ovn e.ovn _
+standing_veiled caller (Some e) kept serial t (Delete kind id ovn) = manager_first (same_text e.manager caller.uss) ovn e.ovn _
+standing_veiled caller (Some e) kept serial t (ReadAvail uss) = refl
+standing_veiled caller (Some e) kept serial t (SetAvail uss old availability) = refl
 
 standing_by : (caller : Caller) (a b : Airspace) (t : ℕ) (op : Operation) → IsLike caller.uss a b → find (breaks a t (record { caller = Some caller; op = op })) standing_rules ≡ find (breaks b t (record { caller = Some caller; op = op })) standing_rules
 standing_by caller a b t op l =
     let c : Call = record { caller = Some caller; op = op } in
-    standing_veiled caller (found_of a op) (kept_of a op) t op
-    ∙ (ap (λ (f : Option Entity). find (breaks_found f (kept_of a op) t c) standing_rules) (found_like caller.uss a b op l)
-    ∙ (ap (λ (k : Option Stated). find (breaks_found (option_map (veiled caller.uss) (found_of b op)) k t c) standing_rules) (kept_like a b op l.availabilities)
-    ∙ sym (standing_veiled caller (found_of b op) (kept_of b op) t op)))
+    standing_veiled caller (found_of a op) (kept_of a op) a.serial t op
+    ∙ ((λ i. find (breaks_given (record { found = found_like caller.uss a b op l i; kept = kept_like a b op l.availabilities i; serial = l.serial i }) t c) standing_rules)
+    ∙ sym (standing_veiled caller (found_of b op) (kept_of b op) b.serial t op))
 
 -- the first of P1 to P13, by who calls
 pub rules_like : (m : List ℕ) (a b : Airspace) (t : ℕ) (caller : Option Caller) (op : Operation) → IsLike m a b → is_uss m caller ≡ true

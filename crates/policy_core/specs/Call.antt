@@ -20,18 +20,6 @@ kind_of (Delete kind id ovn) = Some (kinds.Delete kind)
 kind_of (ReadAvail uss) = Some kinds.ReadAvail
 kind_of (SetAvail uss old availability) = Some kinds.SetAvail
 
-abbrev pub is_no_route : Operation → Bool
-is_no_route NoRoute = true
-is_no_route op = false
-
-abbrev pub is_no_method : Operation → Bool
-is_no_method NoMethod = true
-is_no_method op = false
-
-abbrev pub is_malformed : Operation → Bool
-is_malformed (Malformed kind) = true
-is_malformed op = false
-
 -- whether the operation changes the airspace, where no rule is broken
 abbrev pub is_change : Operation → Bool
 is_change (Create id put) = true

@@ -1,6 +1,6 @@
 -- What a call needs to know, and what is missing from its key.
-use Rattle.std.specs.Prelude.{ℕ, ◌+◌, ◌&&◌, not, Bool, true, false, List, [], ◌∷◌, map, filter, Option, Some, None, if◌then◌else◌}
-use Rattle.std.specs.List.{list_any}
+use Rattle.std.specs.Prelude.{ℕ, ◌&&◌, not, Bool, true, false, List, [], ◌∷◌, map, filter, length, Option, Some, None, option_map, unwrap_or, if◌then◌else◌}
+use Rattle.std.specs.List.{list_any, range_with_len, slice_get}
 use Rattle.grid_core.specs.Extent.{region_of}
 use Rattle.entity_core.specs.IdTexts.{same_text}
 use Rattle.entity_core.specs.Airspace.{Airspace}
@@ -29,12 +29,15 @@ needs_key (Intent Accepted) = true
 needs_key (Intent Activated) = true
 needs_key nature = false
 
--- whether entities of a kind are asked of a put: intents where it needs a key, and constraints where
--- its caller processes them, too
-abbrev pub is_asked : Kind → Option Caller → Nature → Bool
-is_asked kinds.Intent caller nature = needs_key nature
-is_asked kinds.Constraint (Some caller) nature = needs_key nature && has_scope caller.scopes ConstraintProcessing
-is_asked kinds.Constraint None nature = false
+-- whether constraints are needed of a put by a caller: where the caller processes them, too
+abbrev pub needs_constraints : Option Caller → Put → Bool
+needs_constraints (Some caller) put = needs_key put.nature && has_scope caller.scopes ConstraintProcessing
+needs_constraints None put = false
+
+-- whether entities of a kind are needed
+abbrev pub is_asked : Kind → Option Caller → Put → Bool
+is_asked kinds.Intent caller put = needs_key put.nature
+is_asked kinds.Constraint caller put = needs_constraints caller put
 
 -- the id that is left out: an intent does not need itself, but a constraint of the same id
 abbrev pub left_out : Kind → ℕ → Option ℕ
@@ -43,7 +46,7 @@ left_out kinds.Constraint id = None
 
 -- what meets a volume of a put, whoever manages it
 abbrev pub needed_put : Kind → Airspace → Option Caller → ℕ → Put → List Entity
-needed_put kind a caller id put = if is_asked kind caller put.nature then meeting_in a.entities kind (map region_of put.volumes) (left_out kind id) else []
+needed_put kind a caller id put = if is_asked kind caller put then meeting_in a.entities kind (map region_of put.volumes) (left_out kind id) else []
 
 -- What a call needs to know of a kind, by rising ids: whoever makes it, and of other operations than
 -- puts nothing.
@@ -70,10 +73,13 @@ is_missing_from key e = not (in_key key e.ovn)
 unfoldable pub missing_from : List (List ℕ) → List Entity → List Entity
 missing_from key es = filter (is_missing_from key) es
 
--- the places from a number on of what passes a test
-abbrev pub places_from : {X : Type 0} → (X → Bool) → ℕ → List X → List ℕ
-places_from test k [] = []
-places_from test k (x ∷ xs) = if test x then k ∷ places_from test (k + 1) xs else places_from test (k + 1) xs
+-- whether what stands at a place passes a test
+abbrev pub passes_at : {X : Type 0} → (X → Bool) → List X → ℕ → Bool
+passes_at test xs place = unwrap_or (option_map test (slice_get xs place)) false
+
+-- the places of what passes a test, rising
+abbrev pub places_where : {X : Type 0} → (X → Bool) → List X → List ℕ
+places_where test xs = filter (passes_at test xs) (range_with_len 0 (length xs))
 
 abbrev pub nothing_missing : Missing
 nothing_missing = record { intents = []; constraints = [] }

@@ -1,5 +1,6 @@
 -- The written policy: which rules a call breaks, and which of them is the first.
-use Rattle.std.specs.Prelude.{ℕ, ◌&&◌, ◌||◌, not, nat_le, nat_lt, Bool, true, false, List, [], ◌∷◌, ◌++◌, Option, Some, None, is_none, is_some, find, unwrap_or}
+use Rattle.std.specs.Prelude.{ℕ, ◌&&◌, ◌||◌, not, nat_eq, nat_le, nat_lt, Bool, true, false, List, [], ◌∷◌, ◌++◌, Option, Some, None, is_none, is_some, find, unwrap_or}
+use Rattle.std.specs.List.{list_any}
 use Rattle.entity_core.specs.IdTexts.{same_text}
 use Rattle.entity_core.specs.Entity.{greatest_version, span_of}
 use Rattle.entity_core.specs.Airspace.{Airspace, Stated}
@@ -10,46 +11,84 @@ use Rattle.entity_core.specs.declared.nature.State.TheVariants.{Accepted, Activa
 use Rattle.entity_core.specs.declared.nature.Nature.{Nature}
 use Rattle.entity_core.specs.declared.nature.Nature.TheVariants.{Intent, Constraint}
 use Rattle.entity_core.specs.declared.entity.Entity.{Entity}
-use Rattle.policy_core.specs.declared.scope.ScopeSet.{ScopeSet}
+use Rattle.policy_core.specs.Scope.{Scopes}
 use Rattle.policy_core.specs.declared.scope.Scope.TheVariants.{StrategicCoordination, ConformanceMonitoring}
 use Rattle.policy_core.specs.declared.scope.Caller.{Caller}
 use Rattle.policy_core.specs.declared.call.OpKind.{OpKind}
 use Rattle.policy_core.specs.declared.call.Operation.{Operation}
-use Rattle.policy_core.specs.declared.call.Operation.TheVariants.{Read, Create, Update, Delete, SetAvail}
+use Rattle.policy_core.specs.declared.call.Operation.TheVariants.{NoRoute, NoMethod, Malformed, Read, Create, Update, Delete, SetAvail}
 use Rattle.policy_core.specs.declared.call.Call.{Call}
 use Rattle.policy_core.specs.declared.rule.Rule.{Rule}
 use Rattle.policy_core.specs.declared.rule.Rule.TheVariants.{Route, Method, Token, Scope, Form, Area, Found, Fresh, Manager, Version, Role, Change, Ended, Key, Limit}
 use Rattle.policy_core.specs.Scope.{has_scope, is_open}
-use Rattle.policy_core.specs.Call.{kind_of, is_no_route, is_no_method, is_malformed, is_change, covered_of}
-use Rattle.policy_core.specs.Standing.{found_of, kept_of}
+use Rattle.policy_core.specs.Call.{kind_of, is_change, covered_of}
+use Rattle.policy_core.specs.Standing.{Facts, found_of, kept_of}
 use Rattle.policy_core.specs.Missing.{is_nothing, missing_for}
 
--- ---- P4 and P6
+-- Each rule in a section of its own. One that speaks of an entity or of a caller is not broken
+-- where there is none: `found` is the entity that a call names, `kept` what is kept of the supplier.
 
--- There is a caller and a kind of operation, and none of the caller's scopes opens it.
-abbrev pub is_out_of_scope : Option Caller → Option OpKind → Bool
-is_out_of_scope (Some caller) (Some kind) = not (is_open kind caller.scopes)
-is_out_of_scope (Some caller) None = false
-is_out_of_scope None kind = false
+-- P1 ROUTE
+
+-- the path is no route
+abbrev pub breaks_route : Operation → Bool
+breaks_route NoRoute = true
+breaks_route op = false
+
+-- P2 METHOD
+
+-- the route does not take the method
+abbrev pub breaks_method : Operation → Bool
+breaks_method NoMethod = true
+breaks_method op = false
+
+-- P3 TOKEN
+
+-- there is no caller
+abbrev pub breaks_token : Option Caller → Bool
+breaks_token caller = is_none caller
+
+-- P4 SCOPE
+
+-- there is a caller and a kind of operation, and none of the caller's scopes opens it
+abbrev pub breaks_scope : Option Caller → Option OpKind → Bool
+breaks_scope (Some caller) (Some kind) = not (is_open kind caller.scopes)
+breaks_scope (Some caller) None = false
+breaks_scope None kind = false
+
+-- P5 FORM
+
+-- a word of the path or the body has a wrong form
+abbrev pub breaks_form : Operation → Bool
+breaks_form (Malformed kind) = true
+breaks_form op = false
+
+-- P6 AREA
 
 -- how many cells of level 13 a call may count for
 abbrev pub greatest_cover : ℕ
 greatest_cover = 16384
 
--- ---- P7 to P13: the entity that a call names, and what is kept of the supplier, are `found` and
--- `kept`. A rule that speaks of an entity or of a caller is not broken where there is none.
+abbrev pub breaks_area : Operation → Bool
+breaks_area op = nat_lt greatest_cover (covered_of op)
+
+-- P7 FOUND
 
 -- a reading, an update or a deletion of what is not there
-abbrev pub is_unfound : Operation → Option Entity → Bool
-is_unfound (Read kind id) found = is_none found
-is_unfound (Update id ovn put) found = is_none found
-is_unfound (Delete kind id ovn) found = is_none found
-is_unfound op found = false
+abbrev pub breaks_found : Operation → Option Entity → Bool
+breaks_found (Read kind id) found = is_none found
+breaks_found (Update id ovn put) found = is_none found
+breaks_found (Delete kind id ovn) found = is_none found
+breaks_found op found = false
+
+-- P8 FRESH
 
 -- a creation of what is there
-abbrev pub is_taken : Operation → Option Entity → Bool
-is_taken (Create id put) found = is_some found
-is_taken op found = false
+abbrev pub breaks_fresh : Operation → Option Entity → Bool
+breaks_fresh (Create id put) found = is_some found
+breaks_fresh op found = false
+
+-- P9 MANAGER
 
 abbrev pub is_of_another : Option Caller → Option Entity → Bool
 is_of_another (Some caller) (Some e) = not (same_text e.manager caller.uss)
@@ -57,24 +96,32 @@ is_of_another (Some caller) None = false
 is_of_another None found = false
 
 -- an update or a deletion of what another supplier manages
-abbrev pub is_foreign : Option Caller → Operation → Option Entity → Bool
-is_foreign caller (Update id ovn put) found = is_of_another caller found
-is_foreign caller (Delete kind id ovn) found = is_of_another caller found
-is_foreign caller op found = false
+abbrev pub breaks_manager : Option Caller → Operation → Option Entity → Bool
+breaks_manager caller (Update id ovn put) found = is_of_another caller found
+breaks_manager caller (Delete kind id ovn) found = is_of_another caller found
+breaks_manager caller op found = false
 
-abbrev pub has_another_version : Option Entity → List ℕ → Bool
-has_another_version (Some e) ovn = not (same_text ovn e.ovn)
-has_another_version None ovn = false
+-- P10 VERSION
 
--- an update, a deletion or a setting that names another version than the present one
-abbrev pub is_stale : Operation → Option Entity → Option Stated → Bool
-is_stale (Update id ovn put) found kept = has_another_version found ovn
-is_stale (Delete kind id ovn) found kept = has_another_version found ovn
-is_stale (SetAvail uss old availability) found kept = not (same_text old (unwrap_or kept (Unknown, [])).1)
-is_stale op found kept = false
+abbrev pub has_another_ovn : Option Entity → List ℕ → Bool
+has_another_ovn (Some e) ovn = not (same_text ovn e.ovn)
+has_another_ovn None ovn = false
 
--- The scopes lack the one that the state asks for.
-abbrev pub lacks_role : ScopeSet → Nature → Bool
+-- the version of a supplier's availability
+abbrev pub availability_version : Option Stated → List ℕ
+availability_version kept = (unwrap_or kept (Unknown, [])).1
+
+-- an update or a deletion by another OVN than the present one, a setting by another version
+abbrev pub breaks_version : Operation → Option Entity → Option Stated → Bool
+breaks_version (Update id ovn put) found kept = has_another_ovn found ovn
+breaks_version (Delete kind id ovn) found kept = has_another_ovn found ovn
+breaks_version (SetAvail uss old availability) found kept = not (same_text old (availability_version kept))
+breaks_version op found kept = false
+
+-- P11 ROLE
+
+-- the scopes lack the one that the state asks for
+abbrev pub lacks_role : Scopes → Nature → Bool
 lacks_role s (Intent Accepted) = not (has_scope s StrategicCoordination)
 lacks_role s (Intent Activated) = not (has_scope s StrategicCoordination)
 lacks_role s (Intent Nonconforming) = not (has_scope s ConformanceMonitoring)
@@ -86,20 +133,31 @@ is_barred_from (Some caller) nature = lacks_role caller.scopes nature
 is_barred_from None nature = false
 
 -- a put in a state that the caller's scopes do not allow
-abbrev pub is_outside_role : Option Caller → Operation → Bool
-is_outside_role caller (Create id put) = is_barred_from caller put.nature
-is_outside_role caller (Update id ovn put) = is_barred_from caller put.nature
-is_outside_role caller op = false
+abbrev pub breaks_role : Option Caller → Operation → Bool
+breaks_role caller (Create id put) = is_barred_from caller put.nature
+breaks_role caller (Update id ovn put) = is_barred_from caller put.nature
+breaks_role caller op = false
+
+-- P12 CHANGE
+
+abbrev pub state_index : State → ℕ
+state_index Accepted = 0
+state_index Activated = 1
+state_index Nonconforming = 2
+state_index Contingent = 3
+
+abbrev pub same_state : State → State → Bool
+same_state a b = nat_eq (state_index a) (state_index b)
 
 -- the states that may follow a state
+abbrev pub next_states : State → List State
+next_states Accepted = Accepted ∷ Activated ∷ Nonconforming ∷ Contingent ∷ []
+next_states Activated = Activated ∷ Nonconforming ∷ Contingent ∷ []
+next_states Nonconforming = Nonconforming ∷ Activated ∷ Contingent ∷ []
+next_states Contingent = Contingent ∷ []
+
 abbrev pub may_become : State → State → Bool
-may_become Accepted next = true
-may_become Activated Accepted = false
-may_become Activated next = true
-may_become Nonconforming Accepted = false
-may_become Nonconforming next = true
-may_become Contingent Contingent = true
-may_become Contingent next = false
+may_become state next = list_any (same_state next) (next_states state)
 
 abbrev pub may_turn : Nature → Nature → Bool
 may_turn (Intent state) (Intent next) = may_become state next
@@ -110,27 +168,25 @@ turns_wrongly (Some e) next = not (may_turn e.nature next)
 turns_wrongly None next = false
 
 -- an update to a state that may not follow
-abbrev pub is_wrong_change : Operation → Option Entity → Bool
-is_wrong_change (Update id ovn put) found = turns_wrongly found put.nature
-is_wrong_change op found = false
+abbrev pub breaks_change : Operation → Option Entity → Bool
+breaks_change (Update id ovn put) found = turns_wrongly found put.nature
+breaks_change op found = false
+
+-- P13 ENDED
 
 -- a put whose volumes have all ended
-abbrev pub is_ended : ℕ → Operation → Bool
-is_ended now (Create id put) = nat_le (span_of put.volumes).1 now
-is_ended now (Update id ovn put) = nat_le (span_of put.volumes).1 now
-is_ended now op = false
+abbrev pub breaks_ended : ℕ → Operation → Bool
+breaks_ended now (Create id put) = nat_le (span_of put.volumes).1 now
+breaks_ended now (Update id ovn put) = nat_le (span_of put.volumes).1 now
+breaks_ended now op = false
 
-abbrev pub breaks_found : Option Entity → Option Stated → ℕ → Call → Rule → Bool
-breaks_found found kept now c Found = is_unfound c.op found
-breaks_found found kept now c Fresh = is_taken c.op found
-breaks_found found kept now c Manager = is_foreign c.caller c.op found
-breaks_found found kept now c Version = is_stale c.op found kept
-breaks_found found kept now c Role = is_outside_role c.caller c.op
-breaks_found found kept now c Change = is_wrong_change c.op found
-breaks_found found kept now c Ended = is_ended now c.op
-breaks_found found kept now c p = false
+-- P14 KEY
 
--- ---- P15
+-- the key lacks something needed
+abbrev pub breaks_key : Airspace → Option Caller → Operation → Bool
+breaks_key a caller op = not (is_nothing (missing_for a caller op))
+
+-- P15 LIMIT
 
 abbrev pub has_last_version : Option Entity → Bool
 has_last_version (Some e) = nat_le greatest_version e.version
@@ -141,28 +197,41 @@ abbrev pub is_spent : Operation → Option Entity → Bool
 is_spent (Update id ovn put) found = has_last_version found
 is_spent op found = false
 
-abbrev pub breaks_limit : Option Entity → ℕ → Operation → Bool
-breaks_limit found serial op = (is_change op && nat_le greatest_serial serial) || is_spent op found
+-- a change at the greatest serial, or of what has the greatest version
+abbrev pub breaks_limit : Operation → Option Entity → ℕ → Bool
+breaks_limit op found serial = (is_change op && nat_le greatest_serial serial) || is_spent op found
 
 -- ---- the rules
 
 -- Whether a call at a moment breaks a rule: one line a rule, over the whole airspace.
 abbrev pub breaks : Airspace → ℕ → Call → Rule → Bool
-breaks a now c Route = is_no_route c.op
-breaks a now c Method = is_no_method c.op
-breaks a now c Token = is_none c.caller
-breaks a now c Scope = is_out_of_scope c.caller (kind_of c.op)
-breaks a now c Form = is_malformed c.op
-breaks a now c Area = nat_lt greatest_cover (covered_of c.op)
-breaks a now c Found = breaks_found (found_of a c.op) (kept_of a c.op) now c Found
-breaks a now c Fresh = breaks_found (found_of a c.op) (kept_of a c.op) now c Fresh
-breaks a now c Manager = breaks_found (found_of a c.op) (kept_of a c.op) now c Manager
-breaks a now c Version = breaks_found (found_of a c.op) (kept_of a c.op) now c Version
-breaks a now c Role = breaks_found (found_of a c.op) (kept_of a c.op) now c Role
-breaks a now c Change = breaks_found (found_of a c.op) (kept_of a c.op) now c Change
-breaks a now c Ended = breaks_found (found_of a c.op) (kept_of a c.op) now c Ended
-breaks a now c Key = not (is_nothing (missing_for a c.caller c.op))
-breaks a now c Limit = breaks_limit (found_of a c.op) a.serial c.op
+breaks a now c Route = breaks_route c.op
+breaks a now c Method = breaks_method c.op
+breaks a now c Token = breaks_token c.caller
+breaks a now c Scope = breaks_scope c.caller (kind_of c.op)
+breaks a now c Form = breaks_form c.op
+breaks a now c Area = breaks_area c.op
+breaks a now c Found = breaks_found c.op (found_of a c.op)
+breaks a now c Fresh = breaks_fresh c.op (found_of a c.op)
+breaks a now c Manager = breaks_manager c.caller c.op (found_of a c.op)
+breaks a now c Version = breaks_version c.op (found_of a c.op) (kept_of a c.op)
+breaks a now c Role = breaks_role c.caller c.op
+breaks a now c Change = breaks_change c.op (found_of a c.op)
+breaks a now c Ended = breaks_ended now c.op
+breaks a now c Key = breaks_key a c.caller c.op
+breaks a now c Limit = breaks_limit c.op (found_of a c.op) a.serial
+
+-- The same of P7 to P13 and of P15, over what was looked up in place of the airspace.
+abbrev pub breaks_given : Facts → ℕ → Call → Rule → Bool
+breaks_given f now c Found = breaks_found c.op f.found
+breaks_given f now c Fresh = breaks_fresh c.op f.found
+breaks_given f now c Manager = breaks_manager c.caller c.op f.found
+breaks_given f now c Version = breaks_version c.op f.found f.kept
+breaks_given f now c Role = breaks_role c.caller c.op
+breaks_given f now c Change = breaks_change c.op f.found
+breaks_given f now c Ended = breaks_ended now c.op
+breaks_given f now c Limit = breaks_limit c.op f.found f.serial
+breaks_given f now c p = false
 
 -- The rules in their order: those that look at the call alone, those that look at what is kept, and
 -- those that come last.

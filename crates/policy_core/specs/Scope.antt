@@ -1,11 +1,10 @@
 -- Scopes, their names, and what they open.
-use Rattle.std.specs.Prelude.{ℕ, ◌||◌, Bool, true, false, List, codes}
+use Rattle.std.specs.Prelude.{ℕ, ◌||◌, nat_eq, Bool, false, List, [], ◌∷◌, codes}
+use Rattle.std.specs.List.{list_any}
 use Rattle.policy_core.specs.declared.scope.Scope.{Scope}
 use Rattle.policy_core.specs.declared.scope.Scope.TheVariants.{StrategicCoordination, ConformanceMonitoring, ConstraintProcessing, ConstraintManagement, AvailabilityArbitration}
-use Rattle.policy_core.specs.declared.scope.ScopeSet.{ScopeSet}
 use Rattle.policy_core.specs.declared.call.OpKind.{OpKind}
 use Rattle.policy_core.specs.declared.call.OpKind.TheVariants.{Query, Read, Create, Update, Delete, ReadAvail, SetAvail}
-use Rattle.entity_core.specs.declared.nature.Kind.{Kind}
 use Rattle.entity_core.specs.declared.nature.Kind.TheVariants.{Intent, Constraint}
 
 -- the name of a scope in a token file
@@ -16,41 +15,64 @@ scope_name ConstraintProcessing = codes "utm.constraint_processing"
 scope_name ConstraintManagement = codes "utm.constraint_management"
 scope_name AvailabilityArbitration = codes "utm.availability_arbitration"
 
+-- a set of scopes: of each scope, whether it is in the set
+pub record Scopes : Type 0 where
+  pub strategic_coordination : Bool
+  pub conformance_monitoring : Bool
+  pub constraint_processing : Bool
+  pub constraint_management : Bool
+  pub availability_arbitration : Bool
+
 -- whether a set has a scope
-abbrev pub has_scope : ScopeSet → Scope → Bool
+abbrev pub has_scope : Scopes → Scope → Bool
 has_scope s StrategicCoordination = s.strategic_coordination
 has_scope s ConformanceMonitoring = s.conformance_monitoring
 has_scope s ConstraintProcessing = s.constraint_processing
 has_scope s ConstraintManagement = s.constraint_management
 has_scope s AvailabilityArbitration = s.availability_arbitration
 
-abbrev pub no_scopes : ScopeSet
-no_scopes = record { strategic_coordination = false; conformance_monitoring = false; constraint_processing = false; constraint_management = false; availability_arbitration = false }
+-- the set of the scopes that pass a test
+abbrev pub scopes_where : (Scope → Bool) → Scopes
+scopes_where test = record {
+  strategic_coordination = test StrategicCoordination;
+  conformance_monitoring = test ConformanceMonitoring;
+  constraint_processing = test ConstraintProcessing;
+  constraint_management = test ConstraintManagement;
+  availability_arbitration = test AvailabilityArbitration;
+}
+
+abbrev pub no_scopes : Scopes
+no_scopes = scopes_where (λ scope. false)
+
+abbrev pub scope_index : Scope → ℕ
+scope_index StrategicCoordination = 0
+scope_index ConformanceMonitoring = 1
+scope_index ConstraintProcessing = 2
+scope_index ConstraintManagement = 3
+scope_index AvailabilityArbitration = 4
+
+abbrev pub same_scope : Scope → Scope → Bool
+same_scope a b = nat_eq (scope_index a) (scope_index b)
 
 -- the set with one more scope
-abbrev pub with_scope : ScopeSet → Scope → ScopeSet
-with_scope s StrategicCoordination = record s { strategic_coordination = true }
-with_scope s ConformanceMonitoring = record s { conformance_monitoring = true }
-with_scope s ConstraintProcessing = record s { constraint_processing = true }
-with_scope s ConstraintManagement = record s { constraint_management = true }
-with_scope s AvailabilityArbitration = record s { availability_arbitration = true }
+abbrev pub with_scope : Scopes → Scope → Scopes
+with_scope s added = scopes_where (λ scope. same_scope scope added || has_scope s scope)
 
--- whether one of the scopes opens the query and the reading of entities of a kind
-abbrev pub may_see : Kind → ScopeSet → Bool
-may_see Intent s = has_scope s StrategicCoordination || has_scope s ConformanceMonitoring
-may_see Constraint s = has_scope s ConstraintProcessing || has_scope s ConstraintManagement
-
--- and their creation, update and deletion
-abbrev pub may_change : Kind → ScopeSet → Bool
-may_change Intent s = has_scope s StrategicCoordination || has_scope s ConformanceMonitoring
-may_change Constraint s = has_scope s ConstraintManagement
+-- The table of scopes: a kind of operation is open to whoever has one of these.
+abbrev pub openers : OpKind → List Scope
+openers (Query Intent) = StrategicCoordination ∷ ConformanceMonitoring ∷ []
+openers (Read Intent) = StrategicCoordination ∷ ConformanceMonitoring ∷ []
+openers (Create Intent) = StrategicCoordination ∷ ConformanceMonitoring ∷ []
+openers (Update Intent) = StrategicCoordination ∷ ConformanceMonitoring ∷ []
+openers (Delete Intent) = StrategicCoordination ∷ ConformanceMonitoring ∷ []
+openers (Query Constraint) = ConstraintProcessing ∷ ConstraintManagement ∷ []
+openers (Read Constraint) = ConstraintProcessing ∷ ConstraintManagement ∷ []
+openers (Create Constraint) = ConstraintManagement ∷ []
+openers (Update Constraint) = ConstraintManagement ∷ []
+openers (Delete Constraint) = ConstraintManagement ∷ []
+openers ReadAvail = AvailabilityArbitration ∷ StrategicCoordination ∷ ConformanceMonitoring ∷ []
+openers SetAvail = AvailabilityArbitration ∷ []
 
 -- whether one of the scopes opens a kind of operation
-abbrev pub is_open : OpKind → ScopeSet → Bool
-is_open (Query kind) s = may_see kind s
-is_open (Read kind) s = may_see kind s
-is_open (Create kind) s = may_change kind s
-is_open (Update kind) s = may_change kind s
-is_open (Delete kind) s = may_change kind s
-is_open ReadAvail s = has_scope s AvailabilityArbitration || has_scope s StrategicCoordination || has_scope s ConformanceMonitoring
-is_open SetAvail s = has_scope s AvailabilityArbitration
+abbrev pub is_open : OpKind → Scopes → Bool
+is_open kind s = list_any (has_scope s) (openers kind)

@@ -1,6 +1,8 @@
 -- What is looked up for an operation.
-use Rattle.std.specs.Prelude.{◌≡◌, ℕ, Option, None}
+use Rattle.std.specs.Prelude.{◌≡◌, ℕ, List, Option, None, option_map}
+use Rattle.std.specs.Borrow.{Bor}
 use Rattle.std.specs.FinMap.{get}
+use Rattle.entity_core.specs.declared.availability.Availability.{Availability}
 use Rattle.entity_core.specs.declared.entity.Entity.{Entity}
 use Rattle.entity_core.specs.Entity.{kind_of}
 use Rattle.entity_core.specs.Airspace.{Airspace, Stated}
@@ -21,8 +23,26 @@ kept_of a (ReadAvail uss) = get a.availabilities uss
 kept_of a (SetAvail uss old availability) = get a.availabilities uss
 kept_of a op = None
 
+-- all that is looked up
+pub record Facts : Type 0 where
+  pub found : Option Entity
+  pub kept : Option Stated
+  pub serial : ℕ
+
+abbrev pub facts_of : Airspace → Operation → Facts
+facts_of a op = record { found = found_of a op; kept = kept_of a op; serial = a.serial }
+
 -- What was looked up is what the airspace has for the operation.
-pub record Regards (a : Airspace) (op : Operation) (found : Option Entity) (kept : Option Stated) (serial : ℕ) : Type 0 where
-  pub entity : found ≡ found_of a op
-  pub stated : kept ≡ kept_of a op
-  pub count : serial ≡ a.serial
+abbrev pub Regards : Airspace → Operation → Facts → Type 0
+Regards a op facts = facts ≡ facts_of a op
+
+-- ---- what is lent
+
+abbrev pub lent_entity : Option (Bor Entity) → Option Entity
+lent_entity found = option_map (λ e. e.now) found
+
+abbrev pub lent_stated : Option (Availability × Bor (List ℕ)) → Option Stated
+lent_stated kept = option_map (λ x. (x.0, x.1.now)) kept
+
+abbrev pub lent_facts : Option (Bor Entity) → Option (Availability × Bor (List ℕ)) → ℕ → Facts
+lent_facts found kept serial = record { found = lent_entity found; kept = lent_stated kept; serial = serial }

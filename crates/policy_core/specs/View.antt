@@ -7,7 +7,7 @@ use Rattle.entity_core.specs.declared.availability.Availability.{Availability}
 use Rattle.entity_core.specs.declared.entity.Entity.{Entity}
 use Rattle.policy_core.specs.declared.reference.Reference.{Reference}
 
--- its version number, which its manager alone sees
+-- its OVN, which its manager alone sees
 abbrev pub shown_ovn : List ℕ → Entity → Option (List ℕ)
 shown_ovn uss e = if same_text e.manager uss then Some e.ovn else None
 

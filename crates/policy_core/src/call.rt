@@ -36,7 +36,7 @@ pub struct Put {
     /// Its kind, and the state of an intent.
     pub nature: Nature,
     pub volumes: Volumes,
-    /// The version numbers of what its supplier knows.
+    /// The OVNs of what its supplier knows.
     pub key: Key,
     pub url: BaseUrl,
 }
@@ -54,15 +54,15 @@ pub enum Operation {
     Query(Kind, Area),
     /// What is the entity of the kind and the id?
     Read(Kind, EntityId),
-    /// There is to be this entity under the id.
+    /// Create this entity under the id.
     Create(EntityId, Put),
-    /// The entity of the id, whose version number is this, is now to be so.
+    /// Update the entity that has this id and OVN.
     Update(EntityId, Ovn, Put),
-    /// The entity of the kind and the id, whose version number is this, is not to be any more.
+    /// Delete the entity of the kind that has this id and OVN.
     Delete(Kind, EntityId, Ovn),
     /// What is the availability of the supplier?
     ReadAvail(UssId),
-    /// The supplier's availability, whose version is the text, is now this.
+    /// Set the supplier's availability, whose availability version is the text.
     SetAvail(UssId, Text, Availability),
 }
 

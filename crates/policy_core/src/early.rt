@@ -1,56 +1,46 @@
 //! The rules that look at the call alone.
 ghost use Rattle.std.specs.Prelude.{◌≡◌, ℕ, find};
 ghost use Rattle.entity_core.specs.Airspace.{Airspace};
-ghost use Rattle.policy_core.specs.Scope.{is_open, may_change, may_see};
+ghost use Rattle.policy_core.specs.Scope.{is_open, openers};
 ghost use Rattle.policy_core.specs.Call.{covered_of, kind_of};
-ghost use Rattle.policy_core.specs.Policy.{breaks, early_rules};
+ghost use Rattle.policy_core.specs.Policy.{breaks, breaks_route, breaks_method, breaks_token, breaks_scope, breaks_form, breaks_area, early_rules};
 
 use crate::call::{Call, OpKind, Operation};
 use crate::rule::Rule;
-use crate::scope::{Scope, ScopeSet};
+use crate::scope::{Caller, Scope, ScopeSet};
 use entity_core::nature::Kind;
 
 /// How many cells of level 13 the areas of a call may count for (this project's profile).
 pub const GREATEST_COVER: u64 = 16_384;
 
-fn may_see(kind: Kind, scopes: ScopeSet) -> bool
-    ensures { result ≡ may_see kind scopes }
+// P1 ROUTE
+fn breaks_route(op: &Operation) -> bool
+    ensures { result ≡ breaks_route op.now }
 {
-    match kind {
-        Kind::Intent => {
-            scopes.has(Scope::StrategicCoordination) || scopes.has(Scope::ConformanceMonitoring)
-        }
-        Kind::Constraint => {
-            scopes.has(Scope::ConstraintProcessing) || scopes.has(Scope::ConstraintManagement)
-        }
-    }
+    matches!(op, Operation::NoRoute)
 }
 
-fn may_change(kind: Kind, scopes: ScopeSet) -> bool
-    ensures { result ≡ may_change kind scopes }
+// P2 METHOD
+fn breaks_method(op: &Operation) -> bool
+    ensures { result ≡ breaks_method op.now }
 {
-    match kind {
-        Kind::Intent => {
-            scopes.has(Scope::StrategicCoordination) || scopes.has(Scope::ConformanceMonitoring)
-        }
-        Kind::Constraint => scopes.has(Scope::ConstraintManagement),
-    }
+    matches!(op, Operation::NoMethod)
 }
 
-fn is_open(kind: OpKind, scopes: ScopeSet) -> bool
-    ensures { result ≡ is_open kind scopes }
+// P3 TOKEN
+fn breaks_token(caller: &Option<Caller>) -> bool
+    ensures { result ≡ breaks_token caller.now }
 {
-    match kind {
-        OpKind::Query(kind) | OpKind::Read(kind) => may_see(kind, scopes),
-        OpKind::Create(kind) | OpKind::Update(kind) | OpKind::Delete(kind) => {
-            may_change(kind, scopes)
-        }
-        OpKind::ReadAvail => {
-            scopes.has(Scope::AvailabilityArbitration)
-                || scopes.has(Scope::StrategicCoordination)
-                || scopes.has(Scope::ConformanceMonitoring)
-        }
-        OpKind::SetAvail => scopes.has(Scope::AvailabilityArbitration),
+    caller.is_none()
+}
+
+// P4 SCOPE
+fn breaks_scope(caller: &Option<Caller>, kind: Option<OpKind>) -> bool
+    ensures { result ≡ breaks_scope caller.now kind }
+{
+    match (caller, kind) {
+        (Some(caller), Some(kind)) => !is_open(kind, caller.scopes),
+        _ => false,
     }
 }
 
@@ -71,6 +61,53 @@ fn kind_of(op: &Operation) -> Option<OpKind>
     }
 }
 
+// The scopes of which any one opens an operation.
+fn openers(kind: OpKind) -> &'static [Scope]
+    ensures { result.now ≡ openers kind }
+{
+    match kind {
+        OpKind::Query(Kind::Intent)
+        | OpKind::Read(Kind::Intent)
+        | OpKind::Create(Kind::Intent)
+        | OpKind::Update(Kind::Intent)
+        | OpKind::Delete(Kind::Intent) => {
+            &[Scope::StrategicCoordination, Scope::ConformanceMonitoring]
+        }
+        OpKind::Query(Kind::Constraint) | OpKind::Read(Kind::Constraint) => {
+            &[Scope::ConstraintProcessing, Scope::ConstraintManagement]
+        }
+        OpKind::Create(Kind::Constraint)
+        | OpKind::Update(Kind::Constraint)
+        | OpKind::Delete(Kind::Constraint) => &[Scope::ConstraintManagement],
+        OpKind::ReadAvail => &[
+            Scope::AvailabilityArbitration,
+            Scope::StrategicCoordination,
+            Scope::ConformanceMonitoring,
+        ],
+        OpKind::SetAvail => &[Scope::AvailabilityArbitration],
+    }
+}
+
+fn is_open(kind: OpKind, scopes: ScopeSet) -> bool
+    ensures { result ≡ is_open kind scopes }
+{
+    openers(kind).iter().any(|scope| scopes.has(*scope))
+}
+
+// P5 FORM
+fn breaks_form(op: &Operation) -> bool
+    ensures { result ≡ breaks_form op.now }
+{
+    matches!(op, Operation::Malformed(_))
+}
+
+// P6 AREA
+fn breaks_area(op: &Operation) -> bool
+    ensures { result ≡ breaks_area op.now }
+{
+    covered_of(op) > GREATEST_COVER
+}
+
 fn covered_of(op: &Operation) -> u64
     ensures { result ≡ covered_of op.now }
 {
@@ -87,23 +124,22 @@ fn covered_of(op: &Operation) -> u64
 pub fn early(call: &Call) -> Option<Rule>
     ensures { (a : Airspace) (now : ℕ) → result ≡ find (breaks a now call.now) early_rules }
 {
-    match &call.op {
-        Operation::NoRoute => return Some(Rule::Route),
-        Operation::NoMethod => return Some(Rule::Method),
-        _ => {}
+    if breaks_route(&call.op) {
+        return Some(Rule::Route);
     }
-    let Some(caller) = &call.caller else {
+    if breaks_method(&call.op) {
+        return Some(Rule::Method);
+    }
+    if breaks_token(&call.caller) {
         return Some(Rule::Token);
-    };
-    if let Some(kind) = kind_of(&call.op) {
-        if !is_open(kind, caller.scopes) {
-            return Some(Rule::Scope);
-        }
     }
-    if let Operation::Malformed(_) = &call.op {
+    if breaks_scope(&call.caller, kind_of(&call.op)) {
+        return Some(Rule::Scope);
+    }
+    if breaks_form(&call.op) {
         return Some(Rule::Form);
     }
-    if covered_of(&call.op) > GREATEST_COVER {
+    if breaks_area(&call.op) {
         return Some(Rule::Area);
     }
     None

@@ -4,7 +4,7 @@
 pub mod call;
 pub mod early;
 pub mod key;
-pub mod key_index;
+mod key_index;
 pub mod laws;
 pub mod missing;
 pub mod reference;

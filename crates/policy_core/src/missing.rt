@@ -1,6 +1,6 @@
 //! What is missing from a key.
 ghost use Rattle.std.specs.Prelude.{◌≡◌, IfOk};
-ghost use Rattle.policy_core.specs.Missing.{is_missing_from, needs_key, places_from};
+ghost use Rattle.policy_core.specs.Missing.{is_missing_from, needs_key, places_where};
 
 use crate::key_index::KeyIndex;
 use entity_core::entity::Entity;
@@ -18,9 +18,10 @@ pub fn needs_key(nature: Nature) -> bool
     }
 }
 
-/// The places of the entities whose OVNs are not in the key, rising. Where the key has k OVNs, this takes O(k log k) comparisons, and O(log k) more for each entity.
+/// The places of the entities whose OVNs are not in the key, rising. Where the key has k OVNs, this
+/// takes O(k log k) comparisons, and O(log k) more for each entity.
 pub fn missing(alloc: Global, key: &[Ovn], needed: &[Entity]) -> Result<Vec<usize>, AllocError>
-    ensures { IfOk result (λ places. places.items ≡ places_from (is_missing_from key.now) 0 needed.now) }
+    ensures { IfOk result (λ places. places.items ≡ places_where (is_missing_from key.now) needed.now) }
 {
     let index = KeyIndex::of(alloc, key)?;
     let mut places = Vec::new(alloc);

@@ -1,7 +1,8 @@
 //! References: what a supplier sees of entities.
 ghost use Rattle.std.specs.Prelude.{◌≡◌, IfOk, []};
+ghost use Rattle.entity_core.specs.Airspace.{Airspace, availability_of};
 ghost use Rattle.policy_core.specs.Missing.{is_none_of};
-ghost use Rattle.policy_core.specs.View.{shown_ovn, view_with};
+ghost use Rattle.policy_core.specs.View.{shown_ovn, view_of, view_with};
 
 use entity_core::availability::Availability;
 use entity_core::base_url::BaseUrl;
@@ -23,7 +24,7 @@ pub struct Reference {
     /// The manager's availability at that time.
     pub availability: Availability,
     pub version: Version,
-    /// The version number, which the manager alone sees.
+    /// The OVN, which the manager alone sees.
     pub ovn: Option<Ovn>,
     /// When the first of its volumes begins, in seconds since 1970.
     pub time_start: u64,
@@ -43,12 +44,15 @@ fn shown_ovn(uss: &UssId, entity: &Entity) -> Result<Option<Ovn>, AllocError>
 }
 
 /// The reference of an entity as a supplier sees it, where the manager has this availability.
+#[tactic(auto, unfolding(crate::specs::View::view_of))]
 pub fn view(
     uss: &UssId,
     entity: &Entity,
     availability: Availability,
 ) -> Result<Reference, AllocError>
-    ensures { IfOk result (λ reference. reference ≡ view_with uss.now entity.now availability) }
+    ensures value { IfOk result (λ reference. reference ≡ view_with uss.now entity.now availability) }
+    ensures in_airspace { (a : Airspace) → availability ≡ (availability_of a entity.now.manager).0
+        → IfOk result (λ reference. reference ≡ view_of a uss.now entity.now) }
 {
     let (time_start, time_end) = entity.times();
     Ok(Reference {

@@ -23,7 +23,7 @@ pub enum Rule {
     Fresh,
     /// P9: the caller is not the manager.
     Manager,
-    /// P10: the version is not the present one.
+    /// P10: the OVN or the availability version is not the present one.
     Version,
     /// P11: the caller's scopes do not allow the state.
     Role,

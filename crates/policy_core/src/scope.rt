@@ -1,8 +1,9 @@
 //! Scopes: what a token allows.
-ghost use Rattle.std.specs.Prelude.{◌≡◌, MatchOption, false};
+ghost use Rattle.std.specs.Prelude.{◌≡◌, MatchOption};
 ghost use Rattle.policy_core.specs.Scope.{scope_name, has_scope, no_scopes, with_scope};
 
 use entity_core::uss_id::UssId;
+use std::marker::Model;
 
 /// What a token allows its holder to do. The names are those of ASTM F3548's scopes as this project's
 /// profile has them.
@@ -33,7 +34,7 @@ impl Scope {
     }
 }
 
-/// A set of scopes.
+/// A set of scopes. Contracts see of each scope whether it is in the set.
 #[derive(Clone, Copy, Debug, PartialEq, Eq)]
 pub struct ScopeSet {
     strategic_coordination: bool,
@@ -43,13 +44,34 @@ pub struct ScopeSet {
     availability_arbitration: bool,
 }
 
+impl Model for ScopeSet {
+    ghost use Rattle.policy_core.specs.Scope.{Scopes};
+
+    ghost Value = { Scopes };
+
+    ghost view = { λ a. record {
+      strategic_coordination = a.strategic_coordination;
+      conformance_monitoring = a.conformance_monitoring;
+      constraint_processing = a.constraint_processing;
+      constraint_management = a.constraint_management;
+      availability_arbitration = a.availability_arbitration;
+    } };
+
+    ghost inverse = { λ s. record {
+      strategic_coordination = s.strategic_coordination;
+      conformance_monitoring = s.conformance_monitoring;
+      constraint_processing = s.constraint_processing;
+      constraint_management = s.constraint_management;
+      availability_arbitration = s.availability_arbitration;
+    } };
+}
+
 impl ScopeSet {
     ghost use Rattle.policy_core.specs.Scope.{has_scope, no_scopes, with_scope};
 
     /// The set without a scope.
     pub fn empty() -> ScopeSet
-        ensures none { (s : Scope) → has_scope result s ≡ false }
-        ensures value { result ≡ no_scopes }
+        ensures { result ≡ no_scopes }
     {
         ScopeSet {
             strategic_coordination: false,

@@ -1,12 +1,11 @@
 //! The rules that look at what is kept.
-ghost use Rattle.std.specs.Prelude.{◌≡◌, ℕ, cond, find, is_some, not, option_map, nat_le, Some, None, unwrap_or, []};
+ghost use Rattle.std.specs.Prelude.{◌≡◌, ℕ, find};
 ghost use Rattle.entity_core.specs.IdTexts.{same_text};
-ghost use Rattle.entity_core.specs.Entity.{span_of};
 ghost use Rattle.entity_core.specs.Airspace.{Airspace};
-ghost use Rattle.policy_core.specs.Policy.{breaks, breaks_found, breaks_limit, has_last_version, is_barred_from, is_of_another, lacks_role, may_become, may_turn, standing_rules};
-ghost use Rattle.policy_core.specs.Standing.{Regards};
+ghost use Rattle.policy_core.specs.Policy.{availability_version, breaks, breaks_given, breaks_found, breaks_fresh, breaks_manager, breaks_version, breaks_role, breaks_change, breaks_ended, breaks_limit, has_another_ovn, has_last_version, is_barred_from, is_of_another, lacks_role, may_become, may_turn, next_states, standing_rules};
+ghost use Rattle.policy_core.specs.Standing.{Regards, lent_entity, lent_facts, lent_stated};
 
-use crate::call::{Call, Operation, Put};
+use crate::call::{Call, Operation};
 use crate::rule::Rule;
 use crate::scope::{Caller, Scope, ScopeSet};
 use entity_core::availability::Availability;
@@ -26,12 +25,91 @@ pub struct Findings {
     pub limit: bool,
 }
 
-fn is_of_another(caller: &Option<Caller>, entity: &Entity) -> bool
-    ensures { result ≡ is_of_another caller.now (Some entity.now) }
+// P7 FOUND
+fn breaks_found(op: &Operation, found: Option<&Entity>) -> bool
+    ensures { result ≡ breaks_found op.now (lent_entity found.entry) }
 {
-    match caller {
-        Some(caller) => entity.manager.text() != caller.uss.text(),
+    match op {
+        Operation::Read(_, _) | Operation::Update(_, _, _) | Operation::Delete(_, _, _) => {
+            found.is_none()
+        }
+        _ => false,
+    }
+}
+
+// P8 FRESH
+fn breaks_fresh(op: &Operation, found: Option<&Entity>) -> bool
+    ensures { result ≡ breaks_fresh op.now (lent_entity found.entry) }
+{
+    match op {
+        Operation::Create(_, _) => found.is_some(),
+        _ => false,
+    }
+}
+
+// P9 MANAGER
+fn breaks_manager(call: &Call, found: Option<&Entity>) -> bool
+    ensures { result ≡ breaks_manager call.now.caller call.now.op (lent_entity found.entry) }
+{
+    match &call.op {
+        Operation::Update(_, _, _) | Operation::Delete(_, _, _) => {
+            is_of_another(&call.caller, found)
+        }
+        _ => false,
+    }
+}
+
+fn is_of_another(caller: &Option<Caller>, found: Option<&Entity>) -> bool
+    ensures { result ≡ is_of_another caller.now (lent_entity found.entry) }
+{
+    match (caller, found) {
+        (Some(caller), Some(entity)) => entity.manager.text() != caller.uss.text(),
+        _ => false,
+    }
+}
+
+// P10 VERSION
+fn breaks_version(
+    op: &Operation,
+    found: Option<&Entity>,
+    kept: Option<(Availability, &Ovn)>,
+) -> bool
+    ensures { result ≡ breaks_version op.now (lent_entity found.entry) (lent_stated kept.entry) }
+{
+    match op {
+        Operation::Update(_, ovn, _) | Operation::Delete(_, _, ovn) => has_another_ovn(found, ovn),
+        Operation::SetAvail(_, old, _) => !is_present(kept, old),
+        _ => false,
+    }
+}
+
+fn has_another_ovn(found: Option<&Entity>, ovn: &Ovn) -> bool
+    ensures { result ≡ has_another_ovn (lent_entity found.entry) ovn.now }
+{
+    match found {
+        Some(entity) => ovn.text() != entity.ovn.text(),
         None => false,
+    }
+}
+
+fn is_present(kept: Option<(Availability, &Ovn)>, old: &Text) -> bool
+    ensures { result ≡ same_text old.now (availability_version (lent_stated kept.entry)) }
+{
+    match kept {
+        Some((_, version)) => old.text() == version.text(),
+        None => old.text() == "",
+    }
+}
+
+// P11 ROLE
+fn breaks_role(call: &Call) -> bool
+    ensures { result ≡ breaks_role call.now.caller call.now.op }
+{
+    match &call.op {
+        Operation::Create(_, put) | Operation::Update(_, _, put) => {
+            is_barred_from(&call.caller, put.nature)
+        }
+        _ => false,
     }
 }
 
@@ -58,16 +136,37 @@ fn is_barred_from(caller: &Option<Caller>, nature: Nature) -> bool
     }
 }
 
+// P12 CHANGE
+fn breaks_change(op: &Operation, found: Option<&Entity>) -> bool
+    ensures { result ≡ breaks_change op.now (lent_entity found.entry) }
+{
+    match (op, found) {
+        (Operation::Update(_, _, put), Some(entity)) => !may_turn(entity.nature, put.nature),
+        _ => false,
+    }
+}
+
+// The states that may follow a state.
+fn next_states(state: State) -> &'static [State]
+    ensures { result.now ≡ next_states state }
+{
+    match state {
+        State::Accepted => &[
+            State::Accepted,
+            State::Activated,
+            State::Nonconforming,
+            State::Contingent,
+        ],
+        State::Activated => &[State::Activated, State::Nonconforming, State::Contingent],
+        State::Nonconforming => &[State::Nonconforming, State::Activated, State::Contingent],
+        State::Contingent => &[State::Contingent],
+    }
+}
+
 fn may_become(state: State, next: State) -> bool
     ensures { result ≡ may_become state next }
 {
-    match (state, next) {
-        (State::Accepted, _) => true,
-        (State::Activated | State::Nonconforming, State::Accepted) => false,
-        (State::Activated | State::Nonconforming, _) => true,
-        (State::Contingent, State::Contingent) => true,
-        (State::Contingent, _) => false,
-    }
+    next_states(state).contains(&next)
 }
 
 fn may_turn(nature: Nature, next: Nature) -> bool
@@ -79,131 +178,19 @@ fn may_turn(nature: Nature, next: Nature) -> bool
     }
 }
 
-fn is_ended(now: u64, put: &Put) -> bool
-    ensures { result ≡ nat_le (span_of put.now.volumes).1 now }
+// P13 ENDED
+fn breaks_ended(now: u64, op: &Operation) -> bool
+    ensures { result ≡ breaks_ended now op.now }
 {
-    put.volumes.times().1 <= now
-}
-
-// The first rule that a creation breaks.
-fn first_of_creation(
-    now: u64,
-    caller: &Option<Caller>,
-    put: &Put,
-    found: Option<&Entity>,
-) -> Option<Rule>
-    ensures { result ≡ cond (is_some (option_map (λ e. e.now) found.entry)) (Some Rule.Fresh)
-        (cond (is_barred_from caller.now put.now.nature) (Some Rule.Role) (cond (nat_le (span_of put.now.volumes).1 now) (Some Rule.Ended) None)) }
-{
-    if found.is_some() {
-        return Some(Rule::Fresh);
-    }
-    if is_barred_from(caller, put.nature) {
-        return Some(Rule::Role);
-    }
-    if is_ended(now, put) {
-        return Some(Rule::Ended);
-    }
-    None
-}
-
-// The first rule that a deletion of what was found breaks; an update breaks it, too.
-fn first_of_deletion(caller: &Option<Caller>, ovn: &Ovn, entity: &Entity) -> Option<Rule>
-    ensures { result ≡ cond (is_of_another caller.now (Some entity.now)) (Some Rule.Manager) (cond (not (same_text ovn.now entity.now.ovn)) (Some Rule.Version) None) }
-{
-    if is_of_another(caller, entity) {
-        return Some(Rule::Manager);
-    }
-    if ovn.text() != entity.ovn.text() {
-        return Some(Rule::Version);
-    }
-    None
-}
-
-// The first rule that an update of what was found breaks.
-fn first_of_update(
-    now: u64,
-    caller: &Option<Caller>,
-    ovn: &Ovn,
-    put: &Put,
-    entity: &Entity,
-) -> Option<Rule>
-    ensures { result ≡ cond (is_of_another caller.now (Some entity.now)) (Some Rule.Manager) (cond (not (same_text ovn.now entity.now.ovn)) (Some Rule.Version)
-        (cond (is_barred_from caller.now put.now.nature) (Some Rule.Role) (cond (not (may_turn entity.now.nature put.now.nature)) (Some Rule.Change)
-        (cond (nat_le (span_of put.now.volumes).1 now) (Some Rule.Ended) None)))) }
-{
-    if let Some(broken) = first_of_deletion(caller, ovn, entity) {
-        return Some(broken);
-    }
-    if is_barred_from(caller, put.nature) {
-        return Some(Rule::Role);
-    }
-    if !may_turn(entity.nature, put.nature) {
-        return Some(Rule::Change);
-    }
-    if is_ended(now, put) {
-        return Some(Rule::Ended);
-    }
-    None
-}
-
-fn is_present(kept: Option<(Availability, &Ovn)>, old: &Text) -> bool
-    ensures { result ≡ same_text old.now (unwrap_or (option_map (λ x. x.1.now) kept.entry) []) }
-{
-    match kept {
-        Some((_, version)) => old.text() == version.text(),
-        None => old.text() == "",
+    match op {
+        Operation::Create(_, put) | Operation::Update(_, _, put) => put.volumes.times().1 <= now,
+        _ => false,
     }
 }
 
-// The first broken rule of P7 to P13.
-fn first_found(
-    now: u64,
-    call: &Call,
-    found: Option<&Entity>,
-    kept: Option<(Availability, &Ovn)>,
-) -> Option<Rule>
-    ensures { result ≡ find (breaks_found (option_map (λ e. e.now) found.entry) (option_map (λ x. (x.0, x.1.now)) kept.entry) now call.now) standing_rules }
-{
-    match &call.op {
-        Operation::Read(_, _) => {
-            if found.is_none() {
-                Some(Rule::Found)
-            } else {
-                None
-            }
-        }
-        Operation::Create(_, put) => first_of_creation(now, &call.caller, put, found),
-        Operation::Update(_, ovn, put) => match found {
-            Some(entity) => first_of_update(now, &call.caller, ovn, put, entity),
-            None => Some(Rule::Found),
-        },
-        Operation::Delete(_, _, ovn) => match found {
-            Some(entity) => first_of_deletion(&call.caller, ovn, entity),
-            None => Some(Rule::Found),
-        },
-        Operation::SetAvail(_, old, _) => {
-            if is_present(kept, old) {
-                None
-            } else {
-                Some(Rule::Version)
-            }
-        }
-        _ => None,
-    }
-}
-
-fn has_last_version(found: Option<&Entity>) -> bool
-    ensures { result ≡ has_last_version (option_map (λ e. e.now) found.entry) }
-{
-    match found {
-        Some(entity) => entity.version.number() >= GREATEST_VERSION,
-        None => false,
-    }
-}
-
-fn is_at_limit(op: &Operation, found: Option<&Entity>, serial: u64) -> bool
-    ensures { result ≡ breaks_limit (option_map (λ e. e.now) found.entry) serial op.now }
+// P15 LIMIT
+fn breaks_limit(op: &Operation, found: Option<&Entity>, serial: u64) -> bool
+    ensures { result ≡ breaks_limit op.now (lent_entity found.entry) serial }
 {
     match op {
         Operation::Update(_, _, _) => serial >= GREATEST_SERIAL || has_last_version(found),
@@ -212,6 +199,49 @@ fn is_at_limit(op: &Operation, found: Option<&Entity>, serial: u64) -> bool
         }
         _ => false,
     }
+}
+
+fn has_last_version(found: Option<&Entity>) -> bool
+    ensures { result ≡ has_last_version (lent_entity found.entry) }
+{
+    match found {
+        Some(entity) => entity.version.number() >= GREATEST_VERSION,
+        None => false,
+    }
+}
+
+// The first broken rule of P7 to P13.
+fn first_standing(
+    now: u64,
+    call: &Call,
+    found: Option<&Entity>,
+    kept: Option<(Availability, &Ovn)>,
+) -> Option<Rule>
+    ensures { (serial : ℕ) → result
+        ≡ find (breaks_given (lent_facts found.entry kept.entry serial) now call.now) standing_rules }
+{
+    if breaks_found(&call.op, found) {
+        return Some(Rule::Found);
+    }
+    if breaks_fresh(&call.op, found) {
+        return Some(Rule::Fresh);
+    }
+    if breaks_manager(call, found) {
+        return Some(Rule::Manager);
+    }
+    if breaks_version(&call.op, found, kept) {
+        return Some(Rule::Version);
+    }
+    if breaks_role(call) {
+        return Some(Rule::Role);
+    }
+    if breaks_change(&call.op, found) {
+        return Some(Rule::Change);
+    }
+    if breaks_ended(now, &call.op) {
+        return Some(Rule::Ended);
+    }
+    None
 }
 
 /// What a call at a moment (in seconds since 1970) breaks, where this is found under the kind and the
@@ -224,12 +254,16 @@ pub fn standing(
     kept: Option<(Availability, &Ovn)>,
     serial: u64,
 ) -> Findings
-    ensures first { result.first ≡ find (breaks_found (option_map (λ e. e.now) found.entry) (option_map (λ x. (x.0, x.1.now)) kept.entry) now call.now) standing_rules }
-    ensures limit { result.limit ≡ breaks_limit (option_map (λ e. e.now) found.entry) serial call.now.op }
-    ensures first_in { (a : Airspace) → Regards a call.now.op (option_map (λ e. e.now) found.entry) (option_map (λ x. (x.0, x.1.now)) kept.entry) serial → result.first ≡ find (breaks a now call.now) standing_rules }
-    ensures limit_in { (a : Airspace) → Regards a call.now.op (option_map (λ e. e.now) found.entry) (option_map (λ x. (x.0, x.1.now)) kept.entry) serial → result.limit ≡ breaks a now call.now Rule.Limit }
+    ensures first { result.first
+        ≡ find (breaks_given (lent_facts found.entry kept.entry serial) now call.now) standing_rules }
+    ensures limit { result.limit
+        ≡ breaks_given (lent_facts found.entry kept.entry serial) now call.now Rule.Limit }
+    ensures first_in { (a : Airspace) → Regards a call.now.op (lent_facts found.entry kept.entry serial)
+        → result.first ≡ find (breaks a now call.now) standing_rules }
+    ensures limit_in { (a : Airspace) → Regards a call.now.op (lent_facts found.entry kept.entry serial)
+        → result.limit ≡ breaks a now call.now Rule.Limit }
 {
-    let first = first_found(now, call, found, kept);
-    let limit = is_at_limit(&call.op, found, serial);
+    let first = first_standing(now, call, found, kept);
+    let limit = breaks_limit(&call.op, found, serial);
     Findings { first, limit }
 }

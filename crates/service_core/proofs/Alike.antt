@@ -264,7 +264,7 @@ needed_like : (m : List ℕ) (kind : Kind) (a b : Airspace) (caller : Option Cal
     → map (veiled m) (missing_from put.key (needed_put kind a caller id put)) ≡ map (veiled m) (missing_from put.key (needed_put kind b caller id put))
 needed_like m kind a b caller id put l k =
     let areas : List Region = map region_of put.volumes in
-    asked_like m (is_asked kind caller put.nature) put.key (meeting_in a.entities kind areas (left_out kind id)) (meeting_in b.entities kind areas (left_out kind id)) (met_missing_like m a b kind areas (left_out kind id) put.key l k)
+    asked_like m (is_asked kind caller put) put.key (meeting_in a.entities kind areas (left_out kind id)) (meeting_in b.entities kind areas (left_out kind id)) (met_missing_like m a b kind areas (left_out kind id) put.key l k)
 
 missing_put_like : (a b : Airspace) (caller : Caller) (id : ℕ) (put : Put) → IsLike caller.uss a b
     → map (λ e. same_text e.1.manager caller.uss || in_key put.key e.1.ovn) (entries a.entities) ≡ map (λ e. same_text e.1.manager caller.uss || in_key put.key e.1.ovn) (entries b.entities)
@@ -320,7 +320,7 @@ nothing_like m a b caller (SetAvail uss old availability) l k = refl
 
 -- ---- P14 and P15
 
-limit-veiled : (m : List ℕ) (o : Option Entity) (n : ℕ) (op : Operation) → breaks_limit o n op ≡ breaks_limit (option_map (veiled m) o) n op
+limit-veiled : (m : List ℕ) (o : Option Entity) (n : ℕ) (op : Operation) → breaks_limit op o n ≡ breaks_limit op (option_map (veiled m) o) n
 limit-veiled m None n op = refl
 limit-veiled m (Some e) n NoRoute = refl
 limit-veiled m (Some e) n NoMethod = refl
@@ -333,10 +333,10 @@ limit-veiled m (Some e) n (Delete kind id ovn) = refl
 limit-veiled m (Some e) n (ReadAvail uss) = refl
 limit-veiled m (Some e) n (SetAvail uss old availability) = refl
 
-limit_like : (m : List ℕ) (a b : Airspace) (op : Operation) → IsLike m a b → breaks_limit (found_of a op) a.serial op ≡ breaks_limit (found_of b op) b.serial op
+limit_like : (m : List ℕ) (a b : Airspace) (op : Operation) → IsLike m a b → breaks_limit op (found_of a op) a.serial ≡ breaks_limit op (found_of b op) b.serial
 limit_like m a b op l =
     limit-veiled m (found_of a op) a.serial op
-    ∙ ((λ i. breaks_limit (found_like m a b op l i) (l.serial i) op)
+    ∙ ((λ i. breaks_limit op (found_like m a b op l i) (l.serial i))
     ∙ sym (limit-veiled m (found_of b op) b.serial op))
 
 pub last_like : (m : List ℕ) (a b : Airspace) (t : ℕ) (caller : Caller) (op : Operation) → IsLike m a b → known m op a ≡ known m op b

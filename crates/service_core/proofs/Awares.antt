@@ -6,7 +6,7 @@ use Rattle.std.specs.Ordering.{eq_by_cmp}
 use Rattle.std.specs.List.{AllByRecursion}
 use Rattle.std.specs.FinMap.{get, entries, empty, get-entries, get-empty, len-entries, len-empty, entries-insert}
 use Rattle.grid_core.specs.Extent.{region_of, any_meet}
-use Rattle.entity_core.specs.Airspace.{Airspace, EntityKey, key_cmp, key_of, with_availability, with_entity, without_entity, empty_at, Stated}
+use Rattle.entity_core.specs.Airspace.{Airspace, IsAirspace, EntityKey, key_cmp, key_of, with_availability, with_entity, without_entity, empty_at, Stated}
 use Rattle.entity_core.specs.Entity.{kind_of}
 use Rattle.entity_core.specs.Ovn.{ovn_text}
 use Rattle.entity_core.specs.declared.entity.Entity.{Entity}
@@ -22,18 +22,20 @@ use Rattle.policy_core.specs.Policy.{first_broken}
 use Rattle.policy_core.proofs.Puts.{puts_know}
 use Rattle.entity_core.proofs.Keys.{key_total, key_exact, one_key}
 use Rattle.space_core.proofs.Maps.{entries-remove}
+use Rattle.space_core.specs.declared.space.Space.{Ghosts}
 use Rattle.service_core.specs.declared.reply.Reply.{Reply}
 use Rattle.service_core.specs.declared.reply.Reply.TheVariants.{Done, Denied, Fault, Stopped}
-use Rattle.service_core.specs.Aware.{MadeCall, is_done, left_by, put_in, last_writer, later_or, Knew, KnewOthers, AllKeyed, SerialsDiffer, Aware}
+use Rattle.service_core.specs.Aware.{MadeCall, is_done, left_by, put_in, last_writer, later_or, Knew, KnewOthers, SerialsDiffer, Aware}
 use Rattle.service_core.specs.Run.{Timed, Runs, replies_of, airspace_after, answered_calls, told_replies, has_stopped}
 use Rattle.service_core.specs.Stale.{IsNumbered, AllNumbered}
 use Rattle.service_core.specs.Step.{step, step_by, effect, created, updated, update_effect, delete_effect, read_effect}
-use Rattle.service_core.proofs.Kept.{got, stayed, all_found, all_put, all_where, all_turned}
+use Rattle.entity_core.proofs.Changes.{got, stayed, proper_with, proper_without, proper_stated, proper_empty}
+use Rattle.service_core.proofs.Kept.{all_found, all_put, all_where, all_turned}
 
 -- ---- what holds all along
 
 pub record Kept (salt : List ℕ) (last : EntityKey → Option MadeCall) (a : Airspace) : Type 0 where
-  pub keyed : AllKeyed a
+  pub proper : IsAirspace a
   pub numbered : AllNumbered salt a
   pub serials : SerialsDiffer a
   pub knew : KnewOthers last a
@@ -52,10 +54,7 @@ kept_with : (salt : List ℕ) (last : EntityKey → Option MadeCall) (a : Airspa
     → Kept salt (λ k. later_or (cond (eq_by_cmp key_cmp k (key_of e)) (Some (record { before = a; call = c })) None) (last k)) (with_entity a e)
 kept_with salt last a c e s new text knows =
     record {
-      keyed = λ k x h. elim (got a.entities (key_of e) e k x h) [
-        | inl p ↦ ap key_of (sym p.1) ∙ sym (one_key k (key_of e) p.0)
-        | inr p ↦ s.keyed k x p.1
-      ];
+      proper = proper_with a e s.proper;
       numbered = subst (AllByRecursion (λ x. IsNumbered salt (a.serial + 1) x.1)) (sym (entries-insert key_total a.entities (key_of e) e)) (
           all_put (IsNumbered salt (a.serial + 1)) (key_of e) e (entries a.entities) (record { positive = omega (arith, new); within = omega (arith, new); ovn = text })
           (all_turned (IsNumbered salt a.serial) (IsNumbered salt (a.serial + 1)) (raised salt a.serial) (entries a.entities) s.numbered));
@@ -82,7 +81,7 @@ kept_with salt last a c e s new text knows =
               let two : y.serial ≡ e.serial = ap (λ (z : Entity). z.serial) (sym q.1) in
               absurd (omega (arith, one, two, older))
           | inr q ↦
-              let at : key_of y ≡ l = s.keyed l y q.1 in
+              let at : key_of y ≡ l = s.proper.keyed l y q.1 in
               record {
                 made = record { before = a; call = c };
                 last = ap (λ (b : Bool). later_or (cond b (Some (record { before = a; call = c })) None) (last k)) p.0;
@@ -103,7 +102,7 @@ kept_with salt last a c e s new text knows =
 -- without an entity
 kept_without : (salt : List ℕ) (last : EntityKey → Option MadeCall) (a : Airspace) (k : EntityKey) → Kept salt last a → Kept salt last (without_entity a k)
 kept_without salt last a k s = record {
-  keyed = λ q x h. s.keyed q x (stayed a.entities k q x h);
+  proper = proper_without a k s.proper;
   numbered = subst (AllByRecursion (λ x. IsNumbered salt (a.serial + 1) x.1)) (sym (entries-remove key_total key_exact a.entities k)) (
       all_where (IsNumbered salt (a.serial + 1)) (λ q. not (eq_by_cmp key_cmp k q)) (entries a.entities)
       (all_turned (IsNumbered salt a.serial) (IsNumbered salt (a.serial + 1)) (raised salt a.serial) (entries a.entities) s.numbered));
@@ -114,7 +113,7 @@ kept_without salt last a k s = record {
 -- with an availability
 kept_stated : (salt : List ℕ) (last : EntityKey → Option MadeCall) (a : Airspace) (uss : List ℕ) (stated : Stated) → Kept salt last a → Kept salt last (with_availability a uss stated)
 kept_stated salt last a uss stated s = record {
-  keyed = s.keyed;
+  proper = proper_stated a uss stated s.proper;
   numbered = all_turned (IsNumbered salt a.serial) (IsNumbered salt (a.serial + 1)) (raised salt a.serial) (entries a.entities) s.numbered;
   serials = s.serials;
   knew = s.knew;
@@ -235,7 +234,7 @@ kept_empty salt n =
     let no_entity : (k : EntityKey) (x : Entity) → get (empty {X = Entity} {R = key_cmp}) k ≡ Some x → ⊥ = λ k x h. let e : None ≡ Some x = sym (get-empty key_cmp k) ∙ h in cc in
     let no_entries : entries (empty {X = Entity} {R = key_cmp}) ≡ [] = nil_from_length (entries (empty {X = Entity} {R = key_cmp})) (sym (len-entries (empty {X = Entity} {R = key_cmp})) ∙ len-empty key_cmp Entity) in
     record {
-      keyed = λ k x h. absurd (no_entity k x h);
+      proper = proper_empty n;
       numbered = subst (AllByRecursion (λ x. IsNumbered salt n x.1)) (sym no_entries) tt;
       serials = λ k l x y hx hy same. absurd (no_entity k x hx);
       knew = λ k l x y hx hy older needs meet. absurd (no_entity k x hx);
@@ -260,15 +259,15 @@ kept_told salt n cs rs told h =
 
 pub aware_after : (salt : List ℕ) (n : ℕ) (cs : List Timed) (rs : List Reply) → told_replies rs ≡ replies_of salt (empty_at n) (answered_calls cs rs) → has_stopped rs ≡ false
     → Aware salt (empty_at n) cs rs (airspace_after salt (empty_at n) (answered_calls cs rs))
-aware_after salt n cs rs told h = let k = kept_told salt n cs rs told h in record { keyed = k.keyed; serials = k.serials; knew = k.knew }
+aware_after salt n cs rs told h = let k = kept_told salt n cs rs told h in record { proper = k.proper; serials = k.serials; knew = k.knew }
 
 pub numbered_after : (salt : List ℕ) (n : ℕ) (cs : List Timed) (rs : List Reply) → told_replies rs ≡ replies_of salt (empty_at n) (answered_calls cs rs) → has_stopped rs ≡ false → AllNumbered salt (airspace_after salt (empty_at n) (answered_calls cs rs))
 numbered_after salt n cs rs told h = (kept_told salt n cs rs told h).numbered
 
 -- ---- what is held after a run
 
-pub held_aware : {S : Type 0} (Holds : S → Airspace → Type 0) (salt : List ℕ) (n : ℕ) (cs : List Timed) (rs : List Reply) (new : S) → Runs Holds salt (empty_at n) cs rs new → has_stopped rs ≡ false → (a : Airspace) → Holds new a → Aware salt (empty_at n) cs rs a
-held_aware Holds salt n cs rs new t h a held = subst (Aware salt (empty_at n) cs rs) (sym ((t.whole h).only a held)) (aware_after salt n cs rs t.replies h)
+pub held_aware : {S : Type 0} (g : Ghosts S) (salt : List ℕ) (n : ℕ) (cs : List Timed) (rs : List Reply) (new : S) → Runs g salt (empty_at n) cs rs new → has_stopped rs ≡ false → (a : Airspace) → g.holds new a → Aware salt (empty_at n) cs rs a
+held_aware g salt n cs rs new t h a held = subst (Aware salt (empty_at n) cs rs) (sym ((t.whole h).only a held)) (aware_after salt n cs rs t.replies h)
 
-pub held_numbered : {S : Type 0} (Holds : S → Airspace → Type 0) (salt : List ℕ) (n : ℕ) (cs : List Timed) (rs : List Reply) (new : S) → Runs Holds salt (empty_at n) cs rs new → has_stopped rs ≡ false → (a : Airspace) → Holds new a → AllNumbered salt a
-held_numbered Holds salt n cs rs new t h a held = subst (AllNumbered salt) (sym ((t.whole h).only a held)) (numbered_after salt n cs rs t.replies h)
+pub held_numbered : {S : Type 0} (g : Ghosts S) (salt : List ℕ) (n : ℕ) (cs : List Timed) (rs : List Reply) (new : S) → Runs g salt (empty_at n) cs rs new → has_stopped rs ≡ false → (a : Airspace) → g.holds new a → AllNumbered salt a
+held_numbered g salt n cs rs new t h a held = subst (AllNumbered salt) (sym ((t.whole h).only a held)) (numbered_after salt n cs rs t.replies h)

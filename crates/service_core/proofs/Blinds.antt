@@ -16,7 +16,7 @@ use Rattle.policy_core.specs.declared.call.Operation.TheVariants.{NoRoute, NoMet
 use Rattle.policy_core.specs.declared.rule.Rule.{Rule}
 use Rattle.policy_core.specs.declared.rule.Rule.TheVariants.{Found, Fresh, Manager, Version, Role, Change, Ended}
 use Rattle.policy_core.specs.Blind.{veiled, veiled_entry, IsLike, is_by, known, named}
-use Rattle.policy_core.specs.Policy.{breaks, early_rules, standing_rules, last_rules, first_broken, is_unfound, is_taken, is_foreign, is_stale, is_outside_role, is_wrong_change, is_ended, has_another_version}
+use Rattle.policy_core.specs.Policy.{breaks, early_rules, standing_rules, last_rules, first_broken, breaks_found, breaks_fresh, breaks_manager, breaks_version, breaks_role, breaks_change, breaks_ended, has_another_ovn}
 use Rattle.policy_core.specs.Standing.{found_of, kept_of}
 use Rattle.policy_core.proofs.Finds.{or_else, find-append}
 use Rattle.policy_core.proofs.Veils.{found_like}
@@ -38,25 +38,25 @@ another_of m ovn k [] bs = false
 another_of m ovn k (x ∷ xs) [] = false
 another_of m ovn k (x ∷ xs) (b ∷ bs) = cond (eq_by_cmp key_cmp k x.0) (not (cond (same_text x.1.manager m) (same_text ovn x.1.ovn) b)) (another_of m ovn k xs bs)
 
-another-veiled : (m ovn : List ℕ) (k : EntityKey) (es : List (EntityKey × Entity)) → has_another_version (maps.find key_cmp k es) ovn ≡ another_of m ovn k (map (veiled_entry m) es) (map (λ e. same_text e.1.manager m || same_text ovn e.1.ovn) es)
+another-veiled : (m ovn : List ℕ) (k : EntityKey) (es : List (EntityKey × Entity)) → has_another_ovn (maps.find key_cmp k es) ovn ≡ another_of m ovn k (map (veiled_entry m) es) (map (λ e. same_text e.1.manager m || same_text ovn e.1.ovn) es)
 another-veiled m ovn k [] = refl
 another-veiled m ovn k (x ∷ es) =
-    elim (eq_by_cmp key_cmp k x.0) as (λ b. has_another_version (cond b (Some x.1) (maps.find key_cmp k es)) ovn
+    elim (eq_by_cmp key_cmp k x.0) as (λ b. has_another_ovn (cond b (Some x.1) (maps.find key_cmp k es)) ovn
     ≡ cond b (not (cond (same_text x.1.manager m) (same_text ovn (cond (same_text x.1.manager m) x.1.ovn [])) (same_text x.1.manager m || same_text ovn x.1.ovn))) (another_of m ovn k (map (veiled_entry m) es) (map (λ e. same_text e.1.manager m || same_text ovn e.1.ovn) es))) [
       | true ↦ ap not (seen_path (same_text x.1.manager m) ovn x.1.ovn)
       | false ↦ another-veiled m ovn k es
     ]
 
 another_like : (m ovn : List ℕ) (a b : Airspace) (k : EntityKey) → IsLike m a b → map (λ e. same_text e.1.manager m || same_text ovn e.1.ovn) (entries a.entities) ≡ map (λ e. same_text e.1.manager m || same_text ovn e.1.ovn) (entries b.entities)
-    → has_another_version (get a.entities k) ovn ≡ has_another_version (get b.entities k) ovn
+    → has_another_ovn (get a.entities k) ovn ≡ has_another_ovn (get b.entities k) ovn
 another_like m ovn a b k l n =
-    ap (λ (o : Option Entity). has_another_version o ovn) (get-entries a.entities k)
+    ap (λ (o : Option Entity). has_another_ovn o ovn) (get-entries a.entities k)
     ∙ (another-veiled m ovn k (entries a.entities)
     ∙ ((λ i. another_of m ovn k (l.entities i) (n i))
     ∙ (sym (another-veiled m ovn k (entries b.entities))
-    ∙ ap (λ (o : Option Entity). has_another_version o ovn) (sym (get-entries b.entities k)))))
+    ∙ ap (λ (o : Option Entity). has_another_ovn o ovn) (sym (get-entries b.entities k)))))
 
-stale_like : (m : List ℕ) (a b : Airspace) (op : Operation) → IsLike m a b → named m op a ≡ named m op b → is_stale op (found_of a op) (kept_of a op) ≡ is_stale op (found_of b op) (kept_of b op)
+stale_like : (m : List ℕ) (a b : Airspace) (op : Operation) → IsLike m a b → named m op a ≡ named m op b → breaks_version op (found_of a op) (kept_of a op) ≡ breaks_version op (found_of b op) (kept_of b op)
 stale_like m a b NoRoute l n = refl
 stale_like m a b NoMethod l n = refl
 stale_like m a b (Malformed kind) l n = refl
@@ -73,8 +73,8 @@ stale_like m a b (SetAvail uss old availability) l n = λ i. not (same_text old 
 -- P7 to P13, where it is known whether P10 is broken
 abbrev rules_with : Option Caller → Option Entity → ℕ → Operation → Bool → Option Rule
 rules_with caller found t op stale =
-    cond (is_unfound op found) (Some Found) (cond (is_taken op found) (Some Fresh) (cond (is_foreign caller op found) (Some Manager) (cond stale (Some Version)
-    (cond (is_outside_role caller op) (Some Role) (cond (is_wrong_change op found) (Some Change) (cond (is_ended t op) (Some Ended) None))))))
+    cond (breaks_found op found) (Some Found) (cond (breaks_fresh op found) (Some Fresh) (cond (breaks_manager caller op found) (Some Manager) (cond stale (Some Version)
+    (cond (breaks_role caller op) (Some Role) (cond (breaks_change op found) (Some Change) (cond (breaks_ended t op) (Some Ended) None))))))
 
 rules-veiled : (m : List ℕ) (caller : Caller) (found : Option Entity) (t : ℕ) (op : Operation) (stale : Bool) → rules_with (Some caller) found t op stale ≡ rules_with (Some caller) (option_map (veiled m) found) t op stale
 rules-veiled m caller None t op stale = refl
@@ -92,9 +92,9 @@ rules-veiled m caller (Some e) t (SetAvail uss old availability) stale = refl
 standing_like : (m : List ℕ) (a b : Airspace) (t : ℕ) (caller : Caller) (op : Operation) → IsLike m a b → named m op a ≡ named m op b
     → find (breaks a t (record { caller = Some caller; op = op })) standing_rules ≡ find (breaks b t (record { caller = Some caller; op = op })) standing_rules
 standing_like m a b t caller op l n =
-    rules-veiled m caller (found_of a op) t op (is_stale op (found_of a op) (kept_of a op))
+    rules-veiled m caller (found_of a op) t op (breaks_version op (found_of a op) (kept_of a op))
     ∙ ((λ i. rules_with (Some caller) (found_like m a b op l i) t op (stale_like m a b op l n i))
-    ∙ sym (rules-veiled m caller (found_of b op) t op (is_stale op (found_of b op) (kept_of b op))))
+    ∙ sym (rules-veiled m caller (found_of b op) t op (breaks_version op (found_of b op) (kept_of b op))))
 
 -- a call without a caller breaks P1, P2 or P3, whatever is kept
 no_caller : (a b : Airspace) (t : ℕ) (op : Operation) → first_broken a t (record { caller = None; op = op }) ≡ first_broken b t (record { caller = None; op = op })

@@ -1,7 +1,7 @@
 -- Which rule is the first that is broken, and what is missing.
 use Rattle.std.specs.Prelude.{◌≡◌, ℕ, ◌&&◌, Bool, true, false, List, [], ◌∷◌, ◌++◌, map, Option, Some, None, find, cond, refl, IfSome, not}
 use Rattle.std.proofs.Common.{sym, ap, ◌∙◌, subst}
-use Rattle.grid_core.specs.Extent.{Region, region_of}
+use Rattle.grid_core.specs.Extent.{region_of}
 use Rattle.entity_core.specs.Airspace.{Airspace, Stated}
 use Rattle.entity_core.specs.Search.{meeting_in}
 use Rattle.entity_core.specs.declared.entity.Entity.{Entity}
@@ -18,13 +18,13 @@ use Rattle.policy_core.specs.declared.reference.Missing.{Missing}
 use Rattle.policy_core.specs.declared.reference.Reference.{Reference}
 use Rattle.policy_core.specs.Scope.{has_scope}
 use Rattle.policy_core.specs.Missing.{is_nothing, missing_from, missing_by, missing_for, missing_put, needs_key, nothing_missing}
-use Rattle.policy_core.specs.Policy.{breaks, breaks_found, breaks_limit, early_rules, standing_rules, last_rules, first_broken}
-use Rattle.policy_core.specs.Standing.{found_of}
+use Rattle.policy_core.specs.Policy.{breaks, breaks_given, early_rules, standing_rules, last_rules, first_broken}
+use Rattle.policy_core.specs.Standing.{Facts}
 use Rattle.policy_core.specs.View.{view_of}
 use Rattle.policy_core.proofs.Finds.{find_has, find_rest}
 use Rattle.service_core.specs.declared.look.Grounds.{Grounds}
 use Rattle.service_core.specs.Step.{told_missing}
-use Rattle.service_core.specs.Looks.{IsGround, IsFirst, IsReady}
+use Rattle.service_core.specs.Looks.{facts_in, IsGround, IsFirst, IsReady}
 
 find_front : {X : Type 0} (p : X → Bool) (xs ys : List X) (x : X) → find p xs ≡ Some x → find p (xs ++ ys) ≡ Some x
 find_front p [] ys x h = cc
@@ -75,19 +75,22 @@ told_standing a t c r h = find_has (λ (p : Rule). told_missing a c p ≡ nothin
 -- ---- what was looked up
 
 -- what is first where what was looked up was lent
-pub lent_first : (g : Grounds) (found : Option Entity) (kept : Option Stated) (t : ℕ) (c : Call) (r : Option Rule) → found ≡ g.found → kept ≡ g.kept → r ≡ find (breaks_found found kept t c) standing_rules → find (breaks_found g.found g.kept t c) standing_rules ≡ r
-lent_first g found kept t c r one two is =
-    sym (is ∙ (ap (λ (f : Option Entity). find (breaks_found f kept t c) standing_rules) one ∙ ap (λ (k : Option Stated). find (breaks_found g.found k t c) standing_rules) two))
+lent_is : (g : Grounds) (found : Option Entity) (kept : Option Stated) → found ≡ g.found → kept ≡ g.kept → ◌≡◌ {A = Facts} (record { found = found; kept = kept; serial = g.serial }) (facts_in g)
+lent_is g found kept one two = λ i. record { found = one i; kept = two i; serial = g.serial }
 
-pub lent_limit : (g : Grounds) (found : Option Entity) (op : Operation) (limit : Bool) → found ≡ g.found → limit ≡ breaks_limit found g.serial op → limit ≡ breaks_limit g.found g.serial op
-lent_limit g found op limit one is = is ∙ ap (λ (f : Option Entity). breaks_limit f g.serial op) one
+pub lent_first : (g : Grounds) (found : Option Entity) (kept : Option Stated) (t : ℕ) (c : Call) (r : Option Rule) → found ≡ g.found → kept ≡ g.kept → r ≡ find (breaks_given (record { found = found; kept = kept; serial = g.serial }) t c) standing_rules
+    → find (breaks_given (facts_in g) t c) standing_rules ≡ r
+lent_first g found kept t c r one two is = sym (is ∙ ap (λ (f : Facts). find (breaks_given f t c) standing_rules) (lent_is g found kept one two))
 
-pub standing_from : (a : Airspace) (t : ℕ) (c : Call) (g : Grounds) → IsGround c.op a g → find (breaks_found g.found g.kept t c) standing_rules ≡ find (breaks a t c) standing_rules
-standing_from a t c g is =
-    ap (λ (f : Option Entity). find (breaks_found f g.kept t c) standing_rules) is.entity ∙ ap (λ (k : Option Stated). find (breaks_found (found_of a c.op) k t c) standing_rules) is.stated
+pub lent_limit : (g : Grounds) (found : Option Entity) (kept : Option Stated) (t : ℕ) (c : Call) (limit : Bool) → found ≡ g.found → kept ≡ g.kept → limit ≡ breaks_given (record { found = found; kept = kept; serial = g.serial }) t c Limit
+    → limit ≡ breaks_given (facts_in g) t c Limit
+lent_limit g found kept t c limit one two is = is ∙ ap (λ (f : Facts). breaks_given f t c Limit) (lent_is g found kept one two)
+
+pub standing_from : (a : Airspace) (t : ℕ) (c : Call) (g : Grounds) → IsGround c.op a g → find (breaks_given (facts_in g) t c) standing_rules ≡ find (breaks a t c) standing_rules
+standing_from a t c g is = ap (λ (f : Facts). find (breaks_given f t c) standing_rules) is
 
 -- the first of P7 to P13 that is broken is the first of all
-pub judged_standing : (a : Airspace) (t : ℕ) (c : Call) (g : Grounds) (r : Rule) (m : Missing) → find (breaks a t c) early_rules ≡ None → find (breaks_found g.found g.kept t c) standing_rules ≡ Some r → m ≡ nothing_missing → IsGround c.op a g
+pub judged_standing : (a : Airspace) (t : ℕ) (c : Call) (g : Grounds) (r : Rule) (m : Missing) → find (breaks a t c) early_rules ≡ None → find (breaks_given (facts_in g) t c) standing_rules ≡ Some r → m ≡ nothing_missing → IsGround c.op a g
     → IsFirst t c a (Some (r, m))
 judged_standing a t c g r m early is none ground =
     let e : find (breaks a t c) standing_rules ≡ Some r = sym (standing_from a t c g ground) ∙ is in
@@ -99,8 +102,16 @@ is_missing_for a c caller m who is = is ∙ ap (λ (o : Option Caller). missing_
 key_is : (a : Airspace) (t : ℕ) (c : Call) (m : Missing) (b : Bool) → m ≡ missing_for a c.caller c.op → is_nothing m ≡ b → breaks a t c Key ≡ not b
 key_is a t c m b is h = ap (λ (x : Missing). not (is_nothing x)) (sym is) ∙ ap not h
 
+pub lacks_some : (b : Bool) → true ≡ not b → b ≡ false
+lacks_some true h = h
+lacks_some false h = refl
+
+pub lacks_none : (b : Bool) → false ≡ not b → b ≡ true
+lacks_none true h = refl
+lacks_none false h = h
+
 -- where something is missing, the key is the first
-pub judged_key : (a : Airspace) (t : ℕ) (c : Call) (g : Grounds) (caller : Caller) (m : Missing) → find (breaks a t c) early_rules ≡ None → find (breaks_found g.found g.kept t c) standing_rules ≡ None → IsGround c.op a g
+pub judged_key : (a : Airspace) (t : ℕ) (c : Call) (g : Grounds) (caller : Caller) (m : Missing) → find (breaks a t c) early_rules ≡ None → find (breaks_given (facts_in g) t c) standing_rules ≡ None → IsGround c.op a g
     → c.caller ≡ Some caller → m ≡ missing_by a caller c.op → is_nothing m ≡ false → IsFirst t c a (Some (Key, m))
 judged_key a t c g caller m early is ground who missing some =
     let e : find (breaks a t c) standing_rules ≡ None = sym (standing_from a t c g ground) ∙ is in
@@ -108,30 +119,30 @@ judged_key a t c g caller m early is ground who missing some =
     (first_last a t c early e ∙ ap (λ (b : Bool). cond b (Some Key) (cond (breaks a t c Limit) (Some Limit) None)) (key_is a t c m false f some), f)
 
 -- where nothing is missing, the limit is all that is left
-pub last_limit : (a : Airspace) (t : ℕ) (c : Call) (g : Grounds) (caller : Caller) (m : Missing) (limit : Bool) → find (breaks a t c) early_rules ≡ None → find (breaks_found g.found g.kept t c) standing_rules ≡ None → IsGround c.op a g
-    → c.caller ≡ Some caller → m ≡ missing_by a caller c.op → is_nothing m ≡ true → limit ≡ breaks_limit g.found g.serial c.op → first_broken a t c ≡ cond limit (Some Limit) None
+pub last_limit : (a : Airspace) (t : ℕ) (c : Call) (g : Grounds) (caller : Caller) (m : Missing) (limit : Bool) → find (breaks a t c) early_rules ≡ None → find (breaks_given (facts_in g) t c) standing_rules ≡ None → IsGround c.op a g
+    → c.caller ≡ Some caller → m ≡ missing_by a caller c.op → is_nothing m ≡ true → limit ≡ breaks_given (facts_in g) t c Limit → first_broken a t c ≡ cond limit (Some Limit) None
 last_limit a t c g caller m limit early is ground who missing none l =
     let e : find (breaks a t c) standing_rules ≡ None = sym (standing_from a t c g ground) ∙ is in
     let f : m ≡ missing_for a c.caller c.op = is_missing_for a c caller m who missing in
-    let n : limit ≡ breaks a t c Limit = l ∙ (ap (λ (k : ℕ). breaks_limit g.found k c.op) ground.count ∙ ap (λ (k : Option Entity). breaks_limit k a.serial c.op) ground.entity) in
+    let n : limit ≡ breaks a t c Limit = l ∙ ap (λ (f : Facts). breaks_given f t c Limit) ground in
     first_last a t c early e ∙ (ap (λ (b : Bool). cond b (Some Key) (cond (breaks a t c Limit) (Some Limit) None)) (key_is a t c m true f none)
     ∙ ap (λ (b : Bool). cond b (Some Limit) None) (sym n))
 
 -- what breaks none of P7 to P13 has found what it needs
-pub ready_from : (found : Option Entity) (kept : Option Stated) (t : ℕ) (caller : Option Caller) (op : Operation) → find (breaks_found found kept t (record { caller = caller; op = op })) standing_rules ≡ None → IsReady op found
-ready_from found kept t caller NoRoute h = tt
-ready_from found kept t caller NoMethod h = tt
-ready_from found kept t caller (Malformed kind) h = tt
-ready_from found kept t caller (Query kind area) h = tt
-ready_from None kept t caller (Read kind id) h = cc
-ready_from (Some e) kept t caller (Read kind id) h = refl
-ready_from found kept t caller (Create id put) h = tt
-ready_from None kept t caller (Update id ovn put) h = cc
-ready_from (Some e) kept t caller (Update id ovn put) h = refl
-ready_from None kept t caller (Delete kind id ovn) h = cc
-ready_from (Some e) kept t caller (Delete kind id ovn) h = refl
-ready_from found kept t caller (ReadAvail uss) h = tt
-ready_from found kept t caller (SetAvail uss old availability) h = tt
+pub ready_from : (found : Option Entity) (kept : Option Stated) (serial t : ℕ) (caller : Option Caller) (op : Operation) → find (breaks_given (record { found = found; kept = kept; serial = serial }) t (record { caller = caller; op = op })) standing_rules ≡ None → IsReady op found
+ready_from found kept serial t caller NoRoute h = tt
+ready_from found kept serial t caller NoMethod h = tt
+ready_from found kept serial t caller (Malformed kind) h = tt
+ready_from found kept serial t caller (Query kind area) h = tt
+ready_from None kept serial t caller (Read kind id) h = cc
+ready_from (Some e) kept serial t caller (Read kind id) h = refl
+ready_from found kept serial t caller (Create id put) h = tt
+ready_from None kept serial t caller (Update id ovn put) h = cc
+ready_from (Some e) kept serial t caller (Update id ovn put) h = refl
+ready_from None kept serial t caller (Delete kind id ovn) h = cc
+ready_from (Some e) kept serial t caller (Delete kind id ovn) h = refl
+ready_from found kept serial t caller (ReadAvail uss) h = tt
+ready_from found kept serial t caller (SetAvail uss old availability) h = tt
 
 pub some_of_none : (o : Option Rule) (P : Rule → Type 0) → None ≡ o → IfSome o P
 some_of_none o P e = subst (λ (x : Option Rule). IfSome x P) e tt
@@ -144,17 +155,6 @@ both i j k l h g = ap (λ (x : List Reference). record { intents = x; constraint
 missing_none : {A : Type 0} (f : Entity → A) (key : List (List ℕ)) → [] ≡ map f (missing_from key [])
 unfolding missing_from
 missing_none f key = refl
-
--- a caller who does not process constraints needs none
-pub missing_without : (a : Airspace) (caller : Caller) (id : ℕ) (put : Put) (areas : List Region) (key : List (List ℕ)) (intents none : List Reference) → needs_key put.nature ≡ true → has_scope caller.scopes ConstraintProcessing ≡ false
-    → areas ≡ map region_of put.volumes → key ≡ put.key → intents ≡ map (view_of a caller.uss) (missing_from key (meeting_in a.entities kinds.Intent areas (Some id))) → none ≡ [] → ◌≡◌ {A = Missing} (record { intents = intents; constraints = none }) (missing_put a caller id put)
-missing_without a caller id put areas key intents none needs lacks same keys is nil =
-    let met : List Entity = meeting_in a.entities kinds.Intent (map region_of put.volumes) (Some id) in
-    both intents _ none _
-    (is ∙ (ap (λ (k : List (List ℕ)). map (view_of a caller.uss) (missing_from k (meeting_in a.entities kinds.Intent areas (Some id)))) keys ∙ (ap (λ (r : List Region). map (view_of a caller.uss) (missing_from put.key (meeting_in a.entities kinds.Intent r (Some id)))) same
-    ∙ ap (λ (b : Bool). map (view_of a caller.uss) (missing_from put.key (cond b met []))) (sym needs))))
-    (nil ∙ (missing_none (view_of a caller.uss) put.key
-    ∙ (ap (λ (b : Bool). map (view_of a caller.uss) (missing_from put.key (cond b (meeting_in a.entities kinds.Constraint (map region_of put.volumes) None) []))) (sym (ap (λ (b : Bool). b && has_scope caller.scopes ConstraintProcessing) needs ∙ lacks)))))
 
 -- a put without a key needs nothing
 pub needs_nothing : (a : Airspace) (caller : Caller) (id : ℕ) (put : Put) (m : Missing) → needs_key put.nature ≡ false → m ≡ nothing_missing → m ≡ missing_put a caller id put

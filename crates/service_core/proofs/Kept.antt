@@ -1,34 +1,14 @@
 -- What holds of all that is kept, after changes.
-use Rattle.std.specs.Prelude.{◌≡◌, Bool, true, false, List, [], ◌∷◌, Some, None, cond, refl, ◌⊎◌}
-use Rattle.std.proofs.Common.{sym, ◌∙◌, subst, inl, inr}
+use Rattle.std.specs.Prelude.{◌≡◌, Bool, true, false, List, [], ◌∷◌, Some, cond}
+use Rattle.std.proofs.Common.{subst}
 use Rattle.std.proofs.lemmas.Option.{same_Some}
 use Rattle.std.specs.Ordering.{eq_by_cmp}
 use Rattle.std.specs.declared.cmp.Ordering.TheVariants.{Less, Equal, Greater}
 use Rattle.std.specs.List.{AllByRecursion}
 use Rattle.std.specs.FinMap as maps
-use Rattle.std.specs.FinMap.{get, insert, remove, get-insert, get-remove}
 use Rattle.std.specs.FinMap.Entries.{put, where_key, by_order}
-use Rattle.entity_core.specs.Airspace.{Entities, EntityKey, key_cmp}
+use Rattle.entity_core.specs.Airspace.{EntityKey, key_cmp}
 use Rattle.entity_core.specs.declared.entity.Entity.{Entity}
-use Rattle.entity_core.proofs.Keys.{key_total}
-
--- ---- by keys
-
--- what is found after an insertion is what was put, or was there
-pub got : (m : Entities) (k : EntityKey) (e : Entity) (q : EntityKey) (x : Entity) → get (insert m k e) q ≡ Some x → ((eq_by_cmp key_cmp q k ≡ true) × (e ≡ x)) ⊎ ((eq_by_cmp key_cmp q k ≡ false) × (get m q ≡ Some x))
-got m k e q x h =
-    elim (eq_by_cmp key_cmp q k) as (λ b. eq_by_cmp key_cmp q k ≡ b → cond b (Some e) (get m q) ≡ Some x → ((eq_by_cmp key_cmp q k ≡ true) × (e ≡ x)) ⊎ ((eq_by_cmp key_cmp q k ≡ false) × (get m q ≡ Some x))) [
-      | true ↦ λ t s. inl (t, same_Some e x s)
-      | false ↦ λ t s. inr (t, s)
-    ] refl (sym (get-insert key_total m k e q) ∙ h)
-
--- what is found after a removal was there
-pub stayed : (m : Entities) (k q : EntityKey) (x : Entity) → get (remove m k) q ≡ Some x → get m q ≡ Some x
-stayed m k q x h =
-    elim (eq_by_cmp key_cmp q k) as (λ b. cond b None (get m q) ≡ Some x → get m q ≡ Some x) [
-      | true ↦ λ s. cc
-      | false ↦ λ s. s
-    ] (sym (get-remove key_total m k q) ∙ h)
 
 -- ---- by entries
 

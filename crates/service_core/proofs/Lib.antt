@@ -5,6 +5,7 @@ pub mod Judged
 pub mod Steps
 pub mod Alike
 pub mod Blinds
+pub mod Keeps
 pub mod Kept
 pub mod Awares
 pub mod Stales

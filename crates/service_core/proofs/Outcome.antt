@@ -1,8 +1,9 @@
 -- What a call's reply and its space are, from its parts.
-use Rattle.std.specs.Prelude.{◌≡◌, ℕ, Bool, Option, Some, None, Ok, Err, refl, find, is_some, List}
+use Rattle.std.specs.Prelude.{◌≡◌, ◌||◌, ℕ, Bool, Option, Some, None, Ok, Err, refl, find, is_some, List}
 use Rattle.std.proofs.Common.{arith, sym, ap, ◌∙◌, subst, inl, inr}
 use Rattle.std.proofs.lemmas.Bool.{false≢true, cases_lt}
 use Rattle.entity_core.specs.Airspace.{Airspace}
+use Rattle.space_core.specs.declared.space.Space.{Ghosts}
 use Rattle.space_core.specs.declared.space.SpaceFault.{SpaceFault}
 use Rattle.space_core.specs.declared.space.SpaceFault.TheVariants.{Unchanged, Broken}
 use Rattle.space_core.specs.declared.space.Change.{Change}
@@ -14,13 +15,14 @@ use Rattle.service_core.specs.declared.look.Halt.{Halt}
 use Rattle.service_core.specs.declared.look.Halt.TheVariants.{NoMemory, Space}
 use Rattle.service_core.specs.declared.look.Grounds.{Grounds}
 use Rattle.service_core.specs.declared.decide.Verdict.TheVariants.{Refused, Allowed}
+use Rattle.service_core.specs.declared.made.Made.{Made}
 use Rattle.service_core.specs.declared.reply.Answer.{Answer}
 use Rattle.service_core.specs.declared.reply.Reply.{Reply}
 use Rattle.service_core.specs.declared.reply.Reply.TheVariants.{Done, Denied}
 use Rattle.policy_core.specs.Policy.{breaks, early_rules, standing_rules, first_broken}
 use Rattle.service_core.specs.Step.{step, step_by, effect, told_missing}
 use Rattle.service_core.specs.Looks.{Looks, Judges, Makes, Prepares, changed_by}
-use Rattle.service_core.specs.Service.{Answers, MayFail, reply_of}
+use Rattle.service_core.specs.Service.{Answers, MayFail, is_stopped, reply_of}
 
 pub step_denied : (salt : List ℕ) (a : Airspace) (t : ℕ) (c : Call) (p : Rule) (m : Missing) → first_broken a t c ≡ Some p → m ≡ told_missing a c p → step salt a t c ≡ (a, Denied p m)
 unfolding step
@@ -30,8 +32,8 @@ pub step_done : (salt : List ℕ) (a : Airspace) (t : ℕ) (c : Call) → first_
 unfolding step
 step_done salt a t c h = ap (step_by salt a c) h
 
-pub same_content : {S : Type 0} (Holds : S → Airspace → Type 0) (old new : S) (a : Airspace) → ((b : Airspace) → Holds old b → Holds new b) → ((b : Airspace) → Holds new b → Holds old b) → IsContent Holds old a → IsContent Holds new a
-same_content Holds old new a forth back content = record {
+pub same_content : {S : Type 0} (g : Ghosts S) (old new : S) (a : Airspace) → ((b : Airspace) → g.holds old b → g.holds new b) → ((b : Airspace) → g.holds new b → g.holds old b) → IsContent g.holds old a → IsContent g.holds new a
+same_content g old new a forth back content = record {
   held = forth a content.held;
   only = λ b h. content.only b (back b h);
 }
@@ -39,89 +41,98 @@ same_content Holds old new a forth back content = record {
 fails_from : (a : Airspace) (t : ℕ) (c : Call) (reply : Reply) (n m k : ℕ) → m ≡ n → MayFail a t c reply m k → MayFail a t c reply n k
 fails_from a t c reply n m k e h = subst (λ (x : ℕ). MayFail a t c reply x k) e h
 
-module _ {S : Type 0} (Holds : S → Airspace → Type 0) (IsSound : S → Type 0) (refusals : S → ℕ) (is_broken : S → Bool) (salt : List ℕ) (t : ℕ) (c : Call) where
-  pub denied_answers : (old new : S) (p : Rule) (m : Missing) → Looks Holds IsSound refusals is_broken old new (Ok (Refused p m)) (Judges t c) → Answers Holds IsSound refusals is_broken salt t c old new (Denied p m)
+module _ {S : Type 0} (g : Ghosts S) (salt : List ℕ) (t : ℕ) (c : Call) where
+  pub denied_answers : (old new : S) (p : Rule) (m : Missing) → Looks g old new (Ok (Refused p m)) (Judges t c) → Answers g salt t c old new (Denied p m)
   denied_answers old new p m looks = record {
-    step = λ s a h. let f = looks.found s a h.held in (step_denied salt a t c p m f.0 f.1, same_content Holds old new a (looks.stays s) (looks.no_other s) h);
+    step = λ s a h. let f = looks.found s a h.held in (step_denied salt a t c p m f.0 f.1, same_content g old new a (looks.stays s) (looks.no_other s) h);
     fails = λ s a h. tt;
     sound = looks.sound;
-    cause = λ h. cc;
+    whole = looks.whole;
+    breaks = looks.told.1;
   }
 
   -- a halted look, where want of memory comes only where no standing rule is broken
-  pub halted_answers : {X : Type 0} (old new : S) (h : Halt) (P : Airspace → X → Type 0) → Looks Holds IsSound refusals is_broken old new (Err h) P → ((a : Airspace) → find (breaks a t c) early_rules ≡ None)
-      → (h ≡ NoMemory → IsSound new → (a : Airspace) → Holds old a → find (breaks a t c) standing_rules ≡ None) → Answers Holds IsSound refusals is_broken salt t c old new (reply_of h)
+  pub halted_answers : {X : Type 0} (old new : S) (h : Halt) (P : Airspace → X → Type 0) → Looks g old new (Err h) P → ((a : Airspace) → find (breaks a t c) early_rules ≡ None)
+      → (h ≡ NoMemory → g.is_sound new → (a : Airspace) → g.holds old a → find (breaks a t c) standing_rules ≡ None) → Answers g salt t c old new (reply_of h)
   halted_answers old new NoMemory P looks early quiet = record {
-    step = λ s a h. same_content Holds old new a (looks.stays s) (looks.no_other s) h;
+    step = λ s a h. same_content g old new a (looks.stays s) (looks.no_other s) h;
     fails = λ s a h. (ap is_some (early a), λ k. absurd (false≢true (sym (ap is_some (quiet refl s a h.held)) ∙ k)));
     sound = looks.sound;
-    cause = λ h. cc;
+    whole = looks.whole;
+    breaks = looks.told;
   }
   halted_answers old new (Space Unchanged) P looks early quiet = record {
-    step = λ s a h. same_content Holds old new a (looks.stays s) (looks.no_other s) h;
-    fails = λ s a h. (ap is_some (early a), λ k. looks.told);
+    step = λ s a h. same_content g old new a (looks.stays s) (looks.no_other s) h;
+    fails = λ s a h. (ap is_some (early a), λ k. looks.told.0);
     sound = looks.sound;
-    cause = λ h. cc;
+    whole = looks.whole;
+    breaks = looks.told.1;
   }
   halted_answers old new (Space Broken) P looks early quiet = record {
     step = λ s a h b k. inl (h.only b (looks.no_other s b k));
     fails = λ s a h. tt;
     sound = looks.sound;
-    cause = λ h. looks.told;
+    whole = looks.whole;
+    breaks = looks.told;
   }
 
   -- what follows a look
-  pub after_answers : {X : Type 0} (old mid new : S) (x : X) (P : Airspace → X → Type 0) (reply : Reply) → Looks Holds IsSound refusals is_broken old mid (Ok x) P → Answers Holds IsSound refusals is_broken salt t c mid new reply
-      → Answers Holds IsSound refusals is_broken salt t c old new reply
+  pub after_answers : {X : Type 0} (old mid new : S) (x : X) (P : Airspace → X → Type 0) (reply : Reply) → Looks g old mid (Ok x) P → Answers g salt t c mid new reply
+      → Answers g salt t c old new reply
   after_answers old mid new x P reply looks rest = record {
-    step = λ s a h. rest.step s a (same_content Holds old mid a (looks.stays (rest.sound s)) (looks.no_other (rest.sound s)) h);
-    fails = λ s a h. fails_from a t c reply (refusals old) (refusals mid) (refusals new) looks.told.0 (rest.fails s a (same_content Holds old mid a (looks.stays (rest.sound s)) (looks.no_other (rest.sound s)) h));
+    step = λ s a h. rest.step s a (same_content g old mid a (looks.stays (rest.sound s)) (looks.no_other (rest.sound s)) h);
+    fails = λ s a h. fails_from a t c reply (g.refusals old) (g.refusals mid) (g.refusals new) looks.told.0 (rest.fails s a (same_content g old mid a (looks.stays (rest.sound s)) (looks.no_other (rest.sound s)) h));
     sound = λ s. looks.sound (rest.sound s);
-    cause = rest.cause;
+    whole = λ s w. rest.whole s (looks.whole (rest.sound s) w);
+    breaks = rest.breaks ∙ ap (λ (b : Bool). is_stopped reply || b) looks.told.1;
   }
 
   -- a call that changes nothing
-  pub read_answers : (old new : S) (g : Grounds) (made : Option Change × Answer) → made.0 ≡ None → Looks Holds IsSound refusals is_broken old new (Ok made) (Prepares salt t c g) → (IsSound old → (a : Airspace) → Holds old a → Judges t c a (Allowed g))
-      → Answers Holds IsSound refusals is_broken salt t c old new (Done made.1)
-  read_answers old new g made is looks given = record {
+  pub read_answers : (old new : S) (grounds : Grounds) (made : Made) → made.change ≡ None → Looks g old new (Ok made) (Prepares salt t c grounds) → (g.is_sound old → (a : Airspace) → g.holds old a → Judges t c a (Allowed grounds))
+      → Answers g salt t c old new (Done made.answer)
+  read_answers old new grounds made is looks given = record {
     step = λ s a h.
         let k = given (looks.sound s) a h.held in
-        let e : step salt a t c ≡ (a, Done made.1) = step_done salt a t c k.0 ∙ ((looks.found s a h.held k.0 k.1).effect ∙ ap (λ (o : Option Change). (changed_by o a, Done made.1)) is) in
-        (ap (λ (x : Airspace × Reply). x.1) e, subst (IsContent Holds new) (ap (λ (x : Airspace × Reply). x.0) (sym e)) (same_content Holds old new a (looks.stays s) (looks.no_other s) h));
+        let e : step salt a t c ≡ (a, Done made.answer) = step_done salt a t c k.0 ∙ ((looks.found s a h.held k.0 k.1).effect ∙ ap (λ (o : Option Change). (changed_by o a, Done made.answer)) is) in
+        (ap (λ (x : Airspace × Reply). x.1) e, subst (IsContent g.holds new) (ap (λ (x : Airspace × Reply). x.0) (sym e)) (same_content g old new a (looks.stays s) (looks.no_other s) h));
     fails = λ s a h. tt;
     sound = looks.sound;
-    cause = λ h. cc;
+    whole = looks.whole;
+    breaks = looks.told.1;
   }
 
   -- a change that was made
-  pub change_done : (old new : S) (g : Grounds) (change : Change) (answer : Answer) → Changes {T = Unit {0}} Holds IsSound old new (Ok tt) (changed change)
-      → (IsSound old → (a : Airspace) → Holds old a → (first_broken a t c ≡ None) × Makes salt t c g a (Some change, answer)) → Answers Holds IsSound refusals is_broken salt t c old new (Done answer)
-  change_done old new g change answer changes given = record {
+  pub change_done : (old new : S) (grounds : Grounds) (change : Change) (answer : Answer) → Changes {T = Unit {0}} g.holds g.is_sound g.is_whole (g.is_broken old) old new (Ok tt) (changed change)
+      → Tells {T = Unit {0}} (g.refusals old) (g.refusals new) (g.is_broken old) (g.is_broken new) (Ok tt)
+      → (g.is_sound old → (a : Airspace) → g.holds old a → (first_broken a t c ≡ None) × Makes salt t c grounds a (Some change) answer) → Answers g salt t c old new (Done answer)
+  change_done old new grounds change answer changes tells given = record {
     step = λ s a h.
         let k = given (changes.sound s) a h.held in
         let e : step salt a t c ≡ (changed change a, Done answer) = step_done salt a t c k.0 ∙ k.1.effect in
-        (ap (λ (x : Airspace × Reply). x.1) e, subst (IsContent Holds new) (ap (λ (x : Airspace × Reply). x.0) (sym e)) (changes.done s a h.held));
+        (ap (λ (x : Airspace × Reply). x.1) e, subst (IsContent g.holds new) (ap (λ (x : Airspace × Reply). x.0) (sym e)) (changes.done s a h.held));
     fails = λ s a h. tt;
     sound = changes.sound;
-    cause = λ h. cc;
+    whole = changes.whole;
+    breaks = tells.breaks;
   }
 
   -- a change that was not made, or of which nothing is known
-  pub change_failed : (old new : S) (g : Grounds) (change : Change) (answer : Answer) (e : SpaceFault) → Changes {T = Unit {0}} Holds IsSound old new (Err e) (changed change) → Tells {T = Unit {0}} (refusals old) (refusals new) (is_broken old) (is_broken new) (Err e)
-      → ((a : Airspace) → find (breaks a t c) early_rules ≡ None) → (IsSound old → (a : Airspace) → Holds old a → (first_broken a t c ≡ None) × Makes salt t c g a (Some change, answer)) → Answers Holds IsSound refusals is_broken salt t c old new (reply_of (Space e))
-  change_failed old new g change answer Unchanged changes tells early given = record {
-    step = λ s a h. same_content Holds old new a (λ b. (changes.refused s refl b).0) (λ b. (changes.refused s refl b).1) h;
+  pub change_failed : (old new : S) (grounds : Grounds) (change : Change) (answer : Answer) (e : SpaceFault) → Changes {T = Unit {0}} g.holds g.is_sound g.is_whole (g.is_broken old) old new (Err e) (changed change) → Tells {T = Unit {0}} (g.refusals old) (g.refusals new) (g.is_broken old) (g.is_broken new) (Err e)
+      → ((a : Airspace) → find (breaks a t c) early_rules ≡ None) → (g.is_sound old → (a : Airspace) → g.holds old a → (first_broken a t c ≡ None) × Makes salt t c grounds a (Some change) answer) → Answers g salt t c old new (reply_of (Space e))
+  change_failed old new grounds change answer Unchanged changes tells early given = record {
+    step = λ s a h. same_content g old new a (λ b. (changes.refused s refl b).0) (λ b. (changes.refused s refl b).1) h;
     fails = λ s a h. (
       ap is_some (early a),
-      λ k. elim (cases_lt (refusals old) greatest_count) [
+      λ k. elim (cases_lt (g.refusals old) greatest_count) [
         | inl lt ↦ inl (omega (arith, tells.counted, lt))
         | inr ge ↦ inr (omega (arith, tells.counted, ge))
       ],
     );
     sound = changes.sound;
-    cause = λ h. cc;
+    whole = changes.whole;
+    breaks = tells.breaks;
   }
-  change_failed old new g change answer Broken changes tells early given = record {
+  change_failed old new grounds change answer Broken changes tells early given = record {
     step = λ s a h b k.
         let m = given (changes.sound s) a h.held in
         let e : step salt a t c ≡ (changed change a, Done answer) = step_done salt a t c m.0 ∙ m.1.effect in
@@ -131,14 +142,16 @@ module _ {S : Type 0} (Holds : S → Airspace → Type 0) (IsSound : S → Type 
         ];
     fails = λ s a h. tt;
     sound = changes.sound;
-    cause = λ h. tells.breaks;
+    whole = changes.whole;
+    breaks = tells.breaks;
   }
 
   -- an early rule is broken
-  pub early_answers : (old : S) (p : Rule) (m : Missing) → ((a : Airspace) → first_broken a t c ≡ Some p) → ((a : Airspace) → m ≡ told_missing a c p) → Answers Holds IsSound refusals is_broken salt t c old old (Denied p m)
+  pub early_answers : (old : S) (p : Rule) (m : Missing) → ((a : Airspace) → first_broken a t c ≡ Some p) → ((a : Airspace) → m ≡ told_missing a c p) → Answers g salt t c old old (Denied p m)
   early_answers old p m first missing = record {
     step = λ s a h. (step_denied salt a t c p m (first a) (missing a), h);
     fails = λ s a h. tt;
     sound = λ s. s;
-    cause = λ h. cc;
+    whole = λ s w. w;
+    breaks = refl;
   }

@@ -21,6 +21,7 @@ use Rattle.policy_core.specs.Known.{IsListed}
 use Rattle.policy_core.specs.Missing.{in_key, is_asked, key_shown, left_out, needed, needed_put}
 use Rattle.policy_core.proofs.Members.{contained, no_member}
 use Rattle.policy_core.proofs.Puts.{needed_asked}
+use Rattle.space_core.specs.declared.space.Space.{Ghosts}
 use Rattle.service_core.specs.declared.reply.Reply.{Reply}
 use Rattle.service_core.specs.declared.reply.Reply.TheVariants.{Done, Denied, Fault, Stopped}
 use Rattle.service_core.specs.Service.{Leaves}
@@ -54,7 +55,7 @@ all_asked P false xs all = tt
 needed_numbered : (salt : List ℕ) (kind : Kind) (a : Airspace) (caller : Option Caller) (id : ℕ) (put : Put) → AllNumbered salt a → AllByRecursion (IsNumbered salt a.serial) (needed_put kind a caller id put)
 unfolding meeting_in
 needed_numbered salt kind a caller id put n =
-    all_asked (IsNumbered salt a.serial) (is_asked kind caller put.nature) _ (all_sought (IsNumbered salt a.serial) (is_sought kind (map region_of put.volumes) (left_out kind id)) (entries a.entities) n)
+    all_asked (IsNumbered salt a.serial) (is_asked kind caller put) _ (all_sought (IsNumbered salt a.serial) (is_sought kind (map region_of put.volumes) (left_out kind id)) (entries a.entities) n)
 
 not_known : (salt : List ℕ) (a : Airspace) (y : Entity) (key : List (List ℕ)) → DifferUpTo salt a.serial → IsNumbered salt a.serial y → AllByRecursion (IsOfAnother salt a y) key → in_key key y.ovn ≡ false
 not_known salt a y [] differ n old = refl
@@ -91,8 +92,8 @@ stale_step salt a t c kind y s =
 
 -- ---- what a service tells
 
-pub stale_reply : {S : Type 0} (Holds : S → Airspace → Type 0) (salt : List ℕ) (a : Airspace) (t : ℕ) (c : Call) (kind : Kind) (y : Entity) (reply : Reply) (new : S) → IsStale salt kind a c y → Leaves Holds salt a t c reply new → FailsOrIsRefused kind a c y reply
-stale_reply Holds salt a t c kind y Fault new s l = tt
-stale_reply Holds salt a t c kind y Stopped new s l = tt
-stale_reply Holds salt a t c kind y (Done x) new s l = subst (IsRefusedFor kind a c y) l.0 (stale_step salt a t c kind y s)
-stale_reply Holds salt a t c kind y (Denied p m) new s l = subst (IsRefusedFor kind a c y) (ap (λ (z : Airspace × Reply). z.1) l.0) (stale_step salt a t c kind y s)
+pub stale_reply : {S : Type 0} (g : Ghosts S) (salt : List ℕ) (a : Airspace) (t : ℕ) (c : Call) (kind : Kind) (y : Entity) (reply : Reply) (new : S) → IsStale salt kind a c y → Leaves g salt a t c reply new → FailsOrIsRefused kind a c y reply
+stale_reply g salt a t c kind y Fault new s l = tt
+stale_reply g salt a t c kind y Stopped new s l = tt
+stale_reply g salt a t c kind y (Done x) new s l = subst (IsRefusedFor kind a c y) l.0 (stale_step salt a t c kind y s)
+stale_reply g salt a t c kind y (Denied p m) new s l = subst (IsRefusedFor kind a c y) (ap (λ (z : Airspace × Reply). z.1) l.0) (stale_step salt a t c kind y s)

@@ -20,12 +20,13 @@ use Rattle.policy_core.specs.declared.rule.Rule.TheVariants.{Scope, Form, Key, L
 use Rattle.policy_core.specs.Scope.{is_open}
 use Rattle.policy_core.specs.Call.{is_change}
 use Rattle.policy_core.specs.Policy.{breaks, early_rules, standing_rules, last_rules, first_broken, has_last_version, is_spent}
-use Rattle.policy_core.specs.Standing.{found_of}
+use Rattle.policy_core.specs.Standing.{Facts, found_of}
 use Rattle.policy_core.specs.View.{view_of}
 use Rattle.policy_core.specs.declared.reference.Reference.{Reference}
 use Rattle.space_core.specs.Space.{Fits}
 use Rattle.space_core.specs.declared.space.Change as space_change
 use Rattle.space_core.specs.declared.space.Change.TheVariants as changes
+use Rattle.service_core.specs.declared.made.Made.{Made}
 use Rattle.service_core.specs.declared.reply.Answer.{Answer}
 use Rattle.service_core.specs.declared.reply.Answer.TheVariants as answers
 use Rattle.service_core.specs.declared.reply.Reply.TheVariants.{Done}
@@ -99,13 +100,10 @@ has_caller a t None (SetAvail uss old availability) e h = cc
 
 -- ---- the effects
 
-abbrev pub Made : Type 0
-Made = Option space_change.Change × Answer
-
 makes_from : (salt : List ℕ) (t : ℕ) (c : Call) (g : Grounds) (a : Airspace) (made : Made) (change : Option space_change.Change) (answer : Answer)
-    → effect salt a c.caller c.op ≡ (changed_by change a, Done answer) → made.0 ≡ change → made.1 ≡ answer → IfSome change (λ x. Fits x a) → Makes salt t c g a made
+    → effect salt a c.caller c.op ≡ (changed_by change a, Done answer) → made.change ≡ change → made.answer ≡ answer → IfSome change (λ x. Fits x a) → Makes salt t c g a made.change made.answer
 makes_from salt t c g a made change answer e one two fits = record {
-  effect = e ∙ (ap (λ (x : Answer). (changed_by change a, Done x)) (sym two) ∙ ap (λ (x : Option space_change.Change). (changed_by x a, Done made.1)) (sym one));
+  effect = e ∙ (ap (λ (x : Answer). (changed_by change a, Done x)) (sym two) ∙ ap (λ (x : Option space_change.Change). (changed_by x a, Done made.answer)) (sym one));
   fits = subst (λ (x : Option space_change.Change). IfSome x (λ y. Fits y a)) (sym one) fits;
 }
 
@@ -114,28 +112,28 @@ effect_is salt a c caller op who is = ap (λ (o : Option Caller). effect salt a 
 
 next_is : (a : Airspace) (t : ℕ) (c : Call) (g : Grounds) (next : ℕ) → first_broken a t c ≡ None → is_change c.op ≡ true → IsGround c.op a g → (g.serial < greatest_serial → next ≡ g.serial + 1) → next ≡ a.serial + 1
 next_is a t c g next first is ground goes =
-    goes (subst (λ (k : ℕ). k < greatest_serial) (sym ground.count) (room_of a t c first is)) ∙ ap (λ (k : ℕ). k + 1) ground.count
+    goes (subst (λ (k : ℕ). k < greatest_serial) (sym (ap (λ (f : Facts). f.serial) ground)) (room_of a t c first is)) ∙ ap (λ (f : Facts). f.serial + 1) ground
 
 found_is : (a : Airspace) (c : Call) (g : Grounds) (op : Operation) (e : Entity) → c.op ≡ op → g.found ≡ Some e → IsGround c.op a g → found_of a op ≡ Some e
-found_is a c g op e is found ground = ap (found_of a) (sym is) ∙ (sym ground.entity ∙ found)
+found_is a c g op e is found ground = ap (found_of a) (sym is) ∙ (sym (ap (λ (f : Facts). f.found) ground) ∙ found)
 
 same_view : (a : Airspace) (uss : List ℕ) (e x : Entity) → view_of (with_entity a e) uss x ≡ view_of a uss x
 unfolding view_of
 same_view a uss e x = refl
 
 pub makes_create : (salt : List ℕ) (t : ℕ) (c : Call) (g : Grounds) (a : Airspace) (caller : Caller) (id : ℕ) (put : Put) (next : ℕ) (made : Made) → c.caller ≡ Some caller → c.op ≡ Create id put → (g.serial < greatest_serial → next ≡ g.serial + 1)
-    → made.0 ≡ Some (changes.Put (kept_as salt next caller.uss 1 id put)) → made.1 ≡ answers.Created (view_of a caller.uss (kept_as salt next caller.uss 1 id put)) → Prepares salt t c g a made
+    → made.change ≡ Some (changes.Put (kept_as salt next caller.uss 1 id put)) → made.answer ≡ answers.Created (view_of a caller.uss (kept_as salt next caller.uss 1 id put)) → Prepares salt t c g a made
 makes_create salt t c g a caller id put next made who op goes one two first ground =
     let n = next_is a t c g next first (ap is_change op) ground goes in
     let e = kept_as salt next caller.uss 1 id put in
     makes_from salt t c g a made (Some (changes.Put e)) (answers.Created (view_of a caller.uss e))
     (effect_is salt a c caller (Create id put) who op ∙ (ap (λ (k : ℕ). create_effect a caller.uss (kept_as salt k caller.uss 1 id put)) (sym n)
     ∙ ap (λ (r : Reference). (with_entity a e, Done (answers.Created r))) (same_view a caller.uss e e)))
-    one two (record { room = room_of a t c first (ap is_change op); entities = n })
+    one two (record { room = room_of a t c first (ap is_change op); due = n })
 
 pub makes_update : (salt : List ℕ) (t : ℕ) (c : Call) (g : Grounds) (a : Airspace) (caller : Caller) (id : ℕ) (ovn : List ℕ) (put : Put) (old : Entity) (next : ℕ) (made : Made) → c.caller ≡ Some caller → c.op ≡ Update id ovn put → g.found ≡ Some old
     → (g.serial < greatest_serial → next ≡ g.serial + 1)
-    → (old.version < greatest_version → (made.0 ≡ Some (changes.Put (kept_as salt next old.manager (old.version + 1) id put))) × (made.1 ≡ answers.Changed (view_of a caller.uss (kept_as salt next old.manager (old.version + 1) id put)))) → Prepares salt t c g a made
+    → (old.version < greatest_version → (made.change ≡ Some (changes.Put (kept_as salt next old.manager (old.version + 1) id put))) × (made.answer ≡ answers.Changed (view_of a caller.uss (kept_as salt next old.manager (old.version + 1) id put)))) → Prepares salt t c g a made
 makes_update salt t c g a caller id ovn put old next made who op found goes makes first ground =
     let n = next_is a t c g next first (ap is_change op) ground goes in
     let there = found_is a c g (Update id ovn put) old op found ground in
@@ -145,21 +143,21 @@ makes_update salt t c g a caller id ovn put old next made who op found goes make
     (effect_is salt a c caller (Update id ovn put) who op ∙ (ap (update_effect salt a caller.uss id put) there
     ∙ (ap (λ (k : ℕ). put_effect a caller.uss (kept_as salt k old.manager (old.version + 1) id put)) (sym n)
     ∙ ap (λ (r : Reference). (with_entity a e, Done (answers.Changed r))) (same_view a caller.uss e e))))
-    is.0 is.1 (record { room = room_of a t c first (ap is_change op); entities = n })
+    is.0 is.1 (record { room = room_of a t c first (ap is_change op); due = n })
 
 pub makes_delete : (salt : List ℕ) (t : ℕ) (c : Call) (g : Grounds) (a : Airspace) (caller : Caller) (kind : Kind) (id : ℕ) (ovn : List ℕ) (e : Entity) (made : Made) → c.caller ≡ Some caller → c.op ≡ Delete kind id ovn → g.found ≡ Some e
-    → made.0 ≡ Some (changes.Remove kind id) → made.1 ≡ answers.Changed (view_of a caller.uss e) → Prepares salt t c g a made
+    → made.change ≡ Some (changes.Remove kind id) → made.answer ≡ answers.Changed (view_of a caller.uss e) → Prepares salt t c g a made
 makes_delete salt t c g a caller kind id ovn e made who op found one two first ground =
     let there = found_is a c g (Delete kind id ovn) e op found ground in
     makes_from salt t c g a made (Some (changes.Remove kind id)) (answers.Changed (view_of a caller.uss e))
     (effect_is salt a c caller (Delete kind id ovn) who op ∙ ap (delete_effect a caller.uss (kind, id)) there)
-    one two (record { room = room_of a t c first (ap is_change op); entities = ap is_some there })
+    one two (record { room = room_of a t c first (ap is_change op); due = ap is_some there })
 
 pub makes_set : (salt : List ℕ) (t : ℕ) (c : Call) (g : Grounds) (a : Airspace) (caller : Caller) (uss old : List ℕ) (availability : Availability) (next : ℕ) (made : Made) → c.caller ≡ Some caller → c.op ≡ SetAvail uss old availability
-    → (g.serial < greatest_serial → next ≡ g.serial + 1) → made.0 ≡ Some (changes.Avail uss availability (ovn_text salt next)) → made.1 ≡ answers.Avail uss availability (ovn_text salt next) → Prepares salt t c g a made
+    → (g.serial < greatest_serial → next ≡ g.serial + 1) → made.change ≡ Some (changes.Avail uss availability (ovn_text salt next)) → made.answer ≡ answers.Avail uss availability (ovn_text salt next) → Prepares salt t c g a made
 makes_set salt t c g a caller uss old availability next made who op goes one two first ground =
     let n = next_is a t c g next first (ap is_change op) ground goes in
     makes_from salt t c g a made (Some (changes.Avail uss availability (ovn_text salt next))) (answers.Avail uss availability (ovn_text salt next))
     (effect_is salt a c caller (SetAvail uss old availability) who op
     ∙ ap (λ (k : ℕ). (with_availability a uss (availability, ovn_text salt k), Done (answers.Avail uss availability (ovn_text salt k)))) (sym n))
-    one two (record { room = room_of a t c first (ap is_change op); entities = tt })
+    one two (record { room = room_of a t c first (ap is_change op); due = tt })

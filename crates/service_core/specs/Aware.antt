@@ -3,7 +3,7 @@ use Rattle.std.specs.Prelude.{◌≡◌, ℕ, ◌<◌, ◌&&◌, Bool, true, fal
 use Rattle.std.specs.Ordering.{eq_by_cmp}
 use Rattle.std.specs.FinMap.{get}
 use Rattle.grid_core.specs.Extent.{Extent, region_of, any_meet}
-use Rattle.entity_core.specs.Airspace.{Airspace, EntityKey, key_cmp, key_of}
+use Rattle.entity_core.specs.Airspace.{Airspace, IsAirspace, EntityKey, key_cmp, key_of}
 use Rattle.entity_core.specs.Entity.{kind_of}
 use Rattle.entity_core.specs.declared.entity.Entity.{Entity}
 use Rattle.policy_core.specs.declared.call.Call.{Call}
@@ -79,10 +79,6 @@ KnewOthers last a = (k l : EntityKey) (x y : Entity) → get a.entities k ≡ So
 abbrev pub MeetingIsMutual : Type 0
 MeetingIsMutual = (es fs : List Extent) → any_meet es (map region_of fs) ≡ any_meet fs (map region_of es)
 
--- each entity stands under its own kind and id
-abbrev pub AllKeyed : Airspace → Type 0
-AllKeyed a = (k : EntityKey) (x : Entity) → get a.entities k ≡ Some x → key_of x ≡ k
-
 -- no two entities have one serial
 abbrev pub SerialsDiffer : Airspace → Type 0
 SerialsDiffer a = (k l : EntityKey) (x y : Entity) → get a.entities k ≡ Some x → get a.entities l ≡ Some y → x.serial ≡ y.serial → k ≡ l
@@ -91,6 +87,6 @@ SerialsDiffer a = (k l : EntityKey) (x y : Entity) → get a.entities k ≡ Some
 -- serial. Where they meet and it is an intent that is planned or flown as planned, its last put knew the
 -- other.
 pub record Aware (salt : List ℕ) (from : Airspace) (cs : List Timed) (rs : List Reply) (a : Airspace) : Type 0 where
-  pub keyed : AllKeyed a
+  pub proper : IsAirspace a
   pub serials : SerialsDiffer a
   pub knew : KnewOthers (λ k. last_writer salt k from cs rs) a

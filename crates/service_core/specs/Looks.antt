@@ -1,5 +1,6 @@
 -- What the looks at a space tell and leave, before anything is changed.
 use Rattle.std.specs.Prelude.{◌≡◌, ℕ, ◌<◌, Bool, true, List, Option, Some, None, Result, IfOk, MatchResult, ◌⊎◌, IfSome, is_some}
+use Rattle.space_core.specs.declared.space.Space.{Ghosts}
 use Rattle.space_core.specs.declared.space.SpaceFault.TheVariants.{Unchanged, Broken}
 use Rattle.space_core.specs.declared.space.Change.{Change}
 use Rattle.entity_core.specs.Airspace.{Airspace}
@@ -15,10 +16,11 @@ use Rattle.service_core.specs.declared.look.Halt.TheVariants.{NoMemory, Space}
 use Rattle.service_core.specs.declared.look.Grounds.{Grounds}
 use Rattle.service_core.specs.declared.decide.Verdict.{Verdict}
 use Rattle.service_core.specs.declared.decide.Verdict.TheVariants as verdicts
+use Rattle.service_core.specs.declared.made.Made.{Made}
 use Rattle.service_core.specs.declared.reply.Answer.{Answer}
 use Rattle.service_core.specs.declared.reply.Reply.TheVariants.{Done}
 use Rattle.policy_core.specs.Policy.{first_broken}
-use Rattle.policy_core.specs.Standing.{Regards}
+use Rattle.policy_core.specs.Standing.{Facts, Regards}
 use Rattle.service_core.specs.Step.{effect, told_missing}
 
 -- P, but where the space broke
@@ -27,23 +29,27 @@ UnlessBroke NoMemory P = P
 UnlessBroke (Space Unchanged) P = P
 UnlessBroke (Space Broken) P = Unit {0}
 
--- what a halt says of the space
-abbrev pub ToldBy : Halt → ℕ → ℕ → Bool → Type 0
-ToldBy NoMemory refusals refusals' broken = Unit {0}
-ToldBy (Space Unchanged) refusals refusals' broken = (refusals < refusals') ⊎ (refusals' ≡ greatest_count)
-ToldBy (Space Broken) refusals refusals' broken = broken ≡ true
+-- what a halt says of the space: whether it has refused, and whether it is broken
+abbrev pub ToldBy : Halt → ℕ → ℕ → Bool → Bool → Type 0
+ToldBy NoMemory refusals refusals' broken broken' = broken' ≡ broken
+ToldBy (Space Unchanged) refusals refusals' broken broken' = ((refusals < refusals') ⊎ (refusals' ≡ greatest_count)) × (broken' ≡ broken)
+ToldBy (Space Broken) refusals refusals' broken broken' = broken' ≡ true
 
 -- A look leaves what the space holds; what it finds has P of each airspace that was held.
-pub record Looks {S T : Type 0} (Holds : S → Airspace → Type 0) (IsSound : S → Type 0) (refusals : S → ℕ) (is_broken : S → Bool) (old new : S) (result : Result T Halt) (P : Airspace → T → Type 0) : Type 0 where
-  pub sound : IsSound new → IsSound old
-  pub stays : IsSound new → MatchResult result (λ _. (a : Airspace) → Holds old a → Holds new a) (λ h. UnlessBroke h ((a : Airspace) → Holds old a → Holds new a))
-  pub no_other : IsSound new → (a : Airspace) → Holds new a → Holds old a
-  pub found : IsSound new → IfOk result (λ x. (a : Airspace) → Holds old a → P a x)
-  pub told : MatchResult result (λ _. (refusals new ≡ refusals old) × (is_broken new ≡ is_broken old)) (λ h. ToldBy h (refusals old) (refusals new) (is_broken new))
+pub record Looks {S T : Type 0} (g : Ghosts S) (old new : S) (result : Result T Halt) (P : Airspace → T → Type 0) : Type 0 where
+  pub sound : g.is_sound new → g.is_sound old
+  pub whole : g.is_sound new → g.is_whole old → g.is_whole new
+  pub stays : g.is_sound new → MatchResult result (λ _. (a : Airspace) → g.holds old a → g.holds new a) (λ h. UnlessBroke h ((a : Airspace) → g.holds old a → g.holds new a))
+  pub no_other : g.is_sound new → (a : Airspace) → g.holds new a → g.holds old a
+  pub found : g.is_sound new → IfOk result (λ x. (a : Airspace) → g.holds old a → P a x)
+  pub told : MatchResult result (λ _. (g.refusals new ≡ g.refusals old) × (g.is_broken new ≡ g.is_broken old)) (λ h. ToldBy h (g.refusals old) (g.refusals new) (g.is_broken old) (g.is_broken new))
+
+abbrev pub facts_in : Grounds → Facts
+facts_in g = record { found = g.found; kept = g.kept; serial = g.serial }
 
 -- what was looked up is what the airspace has for the operation
 abbrev pub IsGround : Operation → Airspace → Grounds → Type 0
-IsGround op a g = Regards a op g.found g.kept g.serial
+IsGround op a g = Regards a op (facts_in g)
 
 -- what is to be read, updated or deleted was found
 abbrev pub IsReady : Operation → Option Entity → Type 0
@@ -75,10 +81,10 @@ changed_by None a = a
 changed_by (Some change) a = changed change a
 
 -- A change and an answer are the effect of a call that breaks no rule, and the change can be made.
-pub record Makes (salt : List ℕ) (now : ℕ) (c : Call) (g : Grounds) (a : Airspace) (made : Option Change × Answer) : Type 0 where
-  pub effect : effect salt a c.caller c.op ≡ (changed_by made.0 a, Done made.1)
-  pub fits : IfSome made.0 (λ change. Fits change a)
+pub record Makes (salt : List ℕ) (now : ℕ) (c : Call) (g : Grounds) (a : Airspace) (change : Option Change) (answer : Answer) : Type 0 where
+  pub effect : effect salt a c.caller c.op ≡ (changed_by change a, Done answer)
+  pub fits : IfSome change (λ change. Fits change a)
 
 -- for each airspace in which the call breaks no rule
-abbrev pub Prepares : List ℕ → ℕ → Call → Grounds → Airspace → Option Change × Answer → Type 0
-Prepares salt now c g a made = first_broken a now c ≡ None → IsGround c.op a g → Makes salt now c g a made
+abbrev pub Prepares : List ℕ → ℕ → Call → Grounds → Airspace → Made → Type 0
+Prepares salt now c g a made = first_broken a now c ≡ None → IsGround c.op a g → Makes salt now c g a made.change made.answer

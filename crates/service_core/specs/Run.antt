@@ -1,14 +1,15 @@
 -- What a service may answer to a list of calls.
-use Rattle.std.specs.Prelude.{◌≡◌, ℕ, Bool, true, false, List, [], ◌∷◌, ◌⊎◌, All, IfSome, find}
+use Rattle.std.specs.Prelude.{◌≡◌, ℕ, Bool, true, false, List, [], ◌∷◌, ◌⊎◌, ◌||◌, All, IfSome, find, length}
 use Rattle.entity_core.specs.Airspace.{Airspace}
 use Rattle.policy_core.specs.declared.call.Call.{Call}
 use Rattle.policy_core.specs.Missing.{nothing_missing}
 use Rattle.policy_core.specs.Policy.{breaks, early_rules}
 use Rattle.service_core.specs.declared.service.Service.{Service}
-use Rattle.service_core.specs.Held.{space_of, salt_of, is_shut}
-use Rattle.service_core.specs.Service.{Leaves, MayFail, is_stopped}
+use Rattle.service_core.specs.Held.{space_of, salt_of, is_shut, Stays}
+use Rattle.service_core.specs.Service.{Answers, is_stopped}
 use Rattle.service_core.specs.declared.reply.Reply.{Reply}
 use Rattle.service_core.specs.declared.reply.Reply.TheVariants.{Done, Denied, Fault, Stopped}
+use Rattle.space_core.specs.declared.space.Space.{Ghosts}
 use Rattle.space_core.specs.Space.{IsContent}
 use Rattle.service_core.specs.Step.{step}
 
@@ -16,28 +17,22 @@ use Rattle.service_core.specs.Step.{step}
 abbrev pub Timed : Type 0
 Timed = ℕ × Call
 
--- The service was asked once, and this is its reply: the policy's, or a fault where it may come, or `Stopped`. Where it
--- was shut it stays as it was, and it was sound where it is sound after the call.
-pub record IsReplyTo {S : Type 0} (Holds : S → Airspace → Type 0) (IsSound : S → Type 0) (refusals : S → ℕ) (is_broken : S → Bool) (old new : Service S) (moment : ℕ) (call : Call) (reply : Reply) : Type 0 where
-  pub goes : is_shut old ≡ false → IsSound (space_of new) → (a : Airspace) → IsContent Holds (space_of old) a
-      → Leaves Holds (salt_of old) a moment call reply (space_of new)
-  pub early : is_shut old ≡ false → (a : Airspace) (now : ℕ) → IfSome (find (breaks a now call) early_rules) (λ rule. (reply ≡ Denied rule nothing_missing) × (new ≡ old))
-  pub fails : is_shut old ≡ false → IsSound (space_of new) → (a : Airspace) → IsContent Holds (space_of old) a
-      → MayFail a moment call reply (refusals (space_of old)) (refusals (space_of new))
-  pub shuts : is_shut old ≡ false → is_shut new ≡ is_stopped reply
-  pub cause : is_shut old ≡ false → reply ≡ Stopped → is_broken (space_of new) ≡ true
+-- The service was asked once, and this is its reply. Where it was not shut: what the policy says, or a fault where one
+-- may come, or `Stopped`, which shuts it; a call that breaks an early rule is denied at once.
+pub record IsReplyTo {S : Type 0} (g : Ghosts S) (old new : Service S) (moment : ℕ) (call : Call) (reply : Reply) : Type 0 where
+  pub stays : Stays g old new
   pub shut : is_shut old ≡ true → reply ≡ Stopped
-  pub stays_shut : is_shut old ≡ true → new ≡ old
-  pub sound : IsSound (space_of new) → IsSound (space_of old)
-  pub salt : salt_of new ≡ salt_of old
+  pub shuts : is_shut old ≡ false → is_shut new ≡ is_stopped reply
+  pub early : is_shut old ≡ false → (a : Airspace) (now : ℕ) → IfSome (find (breaks a now call) early_rules) (λ rule. (reply ≡ Denied rule nothing_missing) × (new ≡ old))
+  pub answers : is_shut old ≡ false → Answers g (salt_of old) moment call (space_of old) (space_of new) reply
 
 -- The service was asked the calls in order, each once, and these are its replies.
-abbrev pub AskedInOrder : {S : Type 0} → (S → Airspace → Type 0) → (S → Type 0) → (S → ℕ) → (S → Bool) → Service S → List Timed → List Reply → Service S → Type 0
-AskedInOrder Holds IsSound refusals is_broken old [] [] new = new ≡ old
-AskedInOrder Holds IsSound refusals is_broken old [] (r ∷ rs) new = ⊥
-AskedInOrder Holds IsSound refusals is_broken old (c ∷ cs) [] new = ⊥
-AskedInOrder {S} Holds IsSound refusals is_broken old (c ∷ cs) (r ∷ rs) new =
-    (mid : Service S) × IsReplyTo Holds IsSound refusals is_broken old mid c.0 c.1 r × AskedInOrder Holds IsSound refusals is_broken mid cs rs new
+abbrev pub AskedInOrder : {S : Type 0} → Ghosts S → Service S → List Timed → List Reply → Service S → Type 0
+AskedInOrder g old [] [] new = new ≡ old
+AskedInOrder g old [] (r ∷ rs) new = ⊥
+AskedInOrder g old (c ∷ cs) [] new = ⊥
+AskedInOrder {S} g old (c ∷ cs) (r ∷ rs) new =
+    (mid : Service S) × IsReplyTo g old mid c.0 c.1 r × AskedInOrder g mid cs rs new
 
 -- the policy over a list of calls: the replies, and the airspace after them
 abbrev pub replies_of : List ℕ → Airspace → List Timed → List Reply
@@ -91,7 +86,20 @@ StayStopped (Denied p m ∷ rs) = StayStopped rs
 
 -- The replies are the policy's, but for the calls that failed. Where none is `Stopped`, its airspace is the content;
 -- else nothing is held but that up to the call so answered, or that call's step.
-pub record Runs {S : Type 0} (Holds : S → Airspace → Type 0) (salt : List ℕ) (a : Airspace) (cs : List Timed) (rs : List Reply) (new : S) : Type 0 where
+pub record Runs {S : Type 0} (g : Ghosts S) (salt : List ℕ) (a : Airspace) (cs : List Timed) (rs : List Reply) (new : S) : Type 0 where
   pub replies : told_replies rs ≡ replies_of salt a (answered_calls cs rs)
-  pub whole : has_stopped rs ≡ false → IsContent Holds new (airspace_after salt a (answered_calls cs rs))
-  pub kept : (b : Airspace) → Holds new b → MayHaveStepped salt a cs rs b
+  pub whole : has_stopped rs ≡ false → IsContent g.holds new (airspace_after salt a (answered_calls cs rs))
+  pub kept : (b : Airspace) → g.holds new b → MayHaveStepped salt a cs rs b
+
+-- What is known of the replies to a list of calls: each call was asked once, in order. A service that was shut says
+-- nothing but `Stopped`. Else its replies are the policy's; the first `Stopped` shuts it, exactly where the space
+-- answered `Broken`, and then there is nothing else.
+pub record Answered {S : Type 0} (g : Ghosts S) (old : Service S) (cs : List Timed) (rs : List Reply) (new : Service S) : Type 0 where
+  pub in_order : AskedInOrder g old cs rs new
+  pub one_each : length rs ≡ length cs
+  pub stays : Stays g old new
+  pub shut : is_shut old ≡ true → All (λ r. r ≡ Stopped) rs
+  pub shuts : is_shut old ≡ false → is_shut new ≡ has_stopped rs
+  pub stopped : is_shut old ≡ false → StayStopped rs
+  pub runs : is_shut old ≡ false → g.is_sound (space_of new) → (a : Airspace) → IsContent g.holds (space_of old) a → Runs g (salt_of old) a cs rs (space_of new)
+  pub breaks : is_shut old ≡ false → g.is_broken (space_of new) ≡ (has_stopped rs || g.is_broken (space_of old))

@@ -5,7 +5,7 @@ use Rattle.grid_core.specs.Extent.{Region}
 use Rattle.entity_core.specs.declared.nature.Kind.{Kind}
 use Rattle.entity_core.specs.declared.entity.Entity.{Entity}
 use Rattle.entity_core.specs.Entity.{kind_of}
-use Rattle.entity_core.specs.Airspace.{Airspace, EntityKey, availability_of, with_availability, with_entity, without_entity}
+use Rattle.entity_core.specs.Airspace.{Airspace, IsAirspace, EntityKey, availability_of, with_availability, with_entity, without_entity}
 use Rattle.entity_core.specs.Search.{meeting_in}
 use Rattle.entity_core.specs.Ovn.{ovn_text}
 use Rattle.policy_core.specs.declared.scope.Caller.{Caller}
@@ -105,3 +105,9 @@ step_by salt a c None = effect salt a c.caller c.op
 -- else it has its effect.
 unfoldable pub step : List ℕ → Airspace → ℕ → Call → Airspace × Reply
 step salt a now c = step_by salt a c (first_broken a now c)
+
+-- ---- a law
+
+-- Each step of an airspace that may be kept leaves one.
+abbrev pub StepsKeep : Type 0
+StepsKeep = (salt : List ℕ) (a : Airspace) (now : ℕ) (c : Call) → IsAirspace a → IsAirspace (step salt a now c).0

@@ -2,6 +2,7 @@
 ghost use Rattle.std.specs.Prelude.{◌≡◌, IfOk, Some, None, unwrap_or, []};
 ghost use Rattle.entity_core.specs.Ovn.{ovn_text};
 
+use crate::made::Made;
 use crate::reply::Answer;
 use entity_core::availability::Availability;
 use entity_core::ovn::{Ovn, ovn_of};
@@ -19,16 +20,16 @@ pub fn setting(
     serial: Serial,
     uss: &UssId,
     availability: Availability,
-) -> Result<(Option<Change>, Answer), AllocError>
-    ensures { IfOk result (λ made. (made.0 ≡ Some (Change.Avail uss.now availability (ovn_text salt.now serial))) × (made.1 ≡ Answer.Avail uss.now availability (ovn_text salt.now serial))) }
+) -> Result<Made, AllocError>
+    ensures { IfOk result (λ made. (made.change ≡ Some (Change.Avail uss.now availability (ovn_text salt.now serial))) × (made.answer ≡ Answer.Avail uss.now availability (ovn_text salt.now serial))) }
 {
     let version = ovn_of(alloc, salt, serial.number())?;
     let shown = version.clone()?.into_text();
     let change = Change::Avail(uss.clone()?, availability, version);
-    Ok((
-        Some(change),
-        Answer::Avail(uss.clone()?, availability, shown),
-    ))
+    Ok(Made {
+        change: Some(change),
+        answer: Answer::Avail(uss.clone()?, availability, shown),
+    })
 }
 
 /// What is told of a supplier.
@@ -36,18 +37,21 @@ pub fn told(
     alloc: Global,
     uss: &UssId,
     kept: &Option<(Availability, Ovn)>,
-) -> Result<(Option<Change>, Answer), AllocError>
-    ensures { IfOk result (λ made. (made.0 ≡ None) × (made.1 ≡ Answer.Avail uss.now (unwrap_or kept.now (Availability.Unknown, [])).0 (unwrap_or kept.now (Availability.Unknown, [])).1)) }
+) -> Result<Made, AllocError>
+    ensures { IfOk result (λ made. (made.change ≡ None) × (made.answer ≡ Answer.Avail uss.now (unwrap_or kept.now (Availability.Unknown, [])).0 (unwrap_or kept.now (Availability.Unknown, [])).1)) }
 {
     let uss = uss.clone()?;
     match kept {
         Some((availability, version)) => {
             let shown = version.clone()?.into_text();
-            Ok((None, Answer::Avail(uss, *availability, shown)))
+            Ok(Made {
+                change: None,
+                answer: Answer::Avail(uss, *availability, shown),
+            })
         }
-        None => Ok((
-            None,
-            Answer::Avail(uss, Availability::Unknown, Text::empty(alloc)),
-        )),
+        None => Ok(Made {
+            change: None,
+            answer: Answer::Avail(uss, Availability::Unknown, Text::empty(alloc)),
+        }),
     }
 }

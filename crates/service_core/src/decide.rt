@@ -1,18 +1,22 @@
 //! What a call is: refused, or allowed.
-ghost use Rattle.std.specs.Prelude.{◌≡◌, ℕ, true, Ok, Err, Some, None, find, IfOk};
+ghost use Rattle.std.specs.Prelude.{◌≡◌, ℕ, map, not, Ok, Err, Some, None, find, IfOk};
 ghost use Rattle.entity_core.specs.Airspace.{Airspace};
-ghost use Rattle.policy_core.specs.Missing.{missing_by, missing_put, needs_key};
-ghost use Rattle.policy_core.specs.Policy.{breaks, breaks_found, early_rules, standing_rules};
-ghost use Rattle.service_core.specs.Looks.{Looks, IsGround, IsFirst, IsReady, IsReadyIfAllowed, Judges, verdict_of};
+ghost use Rattle.grid_core.specs.Extent.{region_of};
+ghost use Rattle.policy_core.specs.Missing.{is_nothing, missing_by, missing_from, missing_put, needed_put};
+ghost use Rattle.policy_core.specs.View.{view_of};
+ghost use Rattle.policy_core.specs.Policy.{breaks, breaks_given, early_rules, standing_rules};
+ghost use Rattle.service_core.specs.Looks.{Looks, facts_in, IsGround, IsFirst, IsReady, IsReadyIfAllowed, Judges, verdict_of};
 
-use crate::look::{Grounds, Halt, look, missing_among};
+use crate::look::{Grounds, Halt, look, missing_from};
+use crate::needed::needed_put;
 use entity_core::entity_id::EntityId;
 use entity_core::nature::Kind;
+use grid_core::volume::Area;
 use policy_core::call::{Call, Operation, Put};
 use policy_core::missing::needs_key;
 use policy_core::reference::{Missing, References};
 use policy_core::rule::Rule;
-use policy_core::scope::{Caller, Scope};
+use policy_core::scope::Caller;
 use policy_core::standing::standing;
 use space_core::space::Space;
 use std::alloc::Global;
@@ -34,7 +38,7 @@ fn missing_by<S: Space>(
     caller: &Caller,
     op: &Operation,
 ) -> Result<Missing, Halt>
-    ensures { Looks S.holds S.is_sound S.refusals S.is_broken space.old space.new result (λ a missing. missing ≡ missing_by a caller.now op.now) }
+    ensures { Looks S.Space space.old space.new result (λ a missing. missing ≡ missing_by a caller.now op.now) }
 {
     match op {
         Operation::Create(id, put) => missing_of(space, alloc, caller, *id, put),
@@ -51,7 +55,7 @@ fn missing_of<S: Space>(
     id: EntityId,
     put: &Put,
 ) -> Result<Missing, Halt>
-    ensures { Looks S.holds S.is_sound S.refusals S.is_broken space.old space.new result (λ a missing. missing ≡ missing_put a caller.now id put.now) }
+    ensures { Looks S.Space space.old space.new result (λ a missing. missing ≡ missing_put a caller.now id put.now) }
 {
     if !needs_key(put.nature) {
         return Ok(Missing::nothing(alloc));
@@ -59,6 +63,7 @@ fn missing_of<S: Space>(
     missing_put(space, alloc, caller, id, put)
 }
 
+// What is missing from the key of a put that needs to know others.
 fn missing_put<S: Space>(
     space: &mut S,
     alloc: Global,
@@ -66,39 +71,41 @@ fn missing_put<S: Space>(
     id: EntityId,
     put: &Put,
 ) -> Result<Missing, Halt>
-    requires { needs_key put.now.nature ≡ true }
-    ensures { Looks S.holds S.is_sound S.refusals S.is_broken space.old space.new result (λ a missing. missing ≡ missing_put a caller.now id put.now) }
+    ensures { Looks S.Space space.old space.new result
+        (λ a missing. missing ≡ missing_put a caller.now id put.now) }
 {
-    let key = put.key.items();
     let areas = put.volumes.areas(alloc)?;
-    let intents = missing_among(
-        space,
-        alloc,
-        &caller.uss,
-        Kind::Intent,
-        &areas,
-        Some(id),
-        key,
-    )?;
-    if !caller.scopes.has(Scope::ConstraintProcessing) {
-        return Ok(Missing {
-            intents,
-            constraints: References::new(alloc),
-        });
-    }
-    let constraints = missing_among(
-        space,
-        alloc,
-        &caller.uss,
-        Kind::Constraint,
-        &areas,
-        None,
-        key,
-    )?;
+    let intents = missing_kind(space, alloc, Kind::Intent, caller, id, put, &areas)?;
+    let constraints = missing_kind(space, alloc, Kind::Constraint, caller, id, put, &areas)?;
     Ok(Missing {
         intents,
         constraints,
     })
+}
+
+// What is missing of a kind.
+fn missing_kind<S: Space>(
+    space: &mut S,
+    alloc: Global,
+    kind: Kind,
+    caller: &Caller,
+    id: EntityId,
+    put: &Put,
+    areas: &[Area],
+) -> Result<References, Halt>
+    requires areas { areas.now ≡ map region_of put.now.volumes }
+    ensures { Looks S.Space space.old space.new result (λ a references.
+        references ≡ map (view_of a caller.now.uss) (missing_from put.now.key (needed_put kind a (Some caller.now) id put.now))) }
+{
+    let needed = needed_put(space, alloc, kind, caller, id, put, areas)?;
+    missing_from(space, alloc, &caller.uss, put.key.items(), &needed)
+}
+
+// P14 KEY
+fn breaks_key(missing: &Missing) -> bool
+    ensures { result ≡ not (is_nothing missing.now) }
+{
+    !missing.is_nothing()
 }
 
 // The first broken rule that is not early, and what is missing.
@@ -112,9 +119,9 @@ fn judge<S: Space>(
 ) -> Result<Option<(Rule, Missing)>, Halt>
     requires caller { call.now.caller ≡ Some caller.now }
     requires early { (a : Airspace) → find (breaks a now call.now) early_rules ≡ None }
-    ensures looks { Looks S.holds S.is_sound S.refusals S.is_broken space.old space.new result (λ a broken. IsGround call.now.op a grounds.now → IsFirst now call.now a broken) }
+    ensures looks { Looks S.Space space.old space.new result (λ a broken. IsGround call.now.op a grounds.now → IsFirst now call.now a broken) }
     ensures ready { result ≡ Ok None → IsReady call.now.op grounds.now.found }
-    ensures memory { result ≡ Err Halt.NoMemory → find (breaks_found grounds.now.found grounds.now.kept now call.now) standing_rules ≡ None }
+    ensures memory { result ≡ Err Halt.NoMemory → find (breaks_given (facts_in grounds.now) now call.now) standing_rules ≡ None }
 {
     let findings = standing(
         now,
@@ -127,7 +134,7 @@ fn judge<S: Space>(
         return Ok(Some((broken, Missing::nothing(alloc))));
     }
     let missing = missing_by(space, alloc, caller, &call.op)?;
-    if !missing.is_nothing() {
+    if breaks_key(&missing) {
         return Ok(Some((Rule::Key, missing)));
     }
     if findings.limit {
@@ -156,7 +163,7 @@ pub fn decide<S: Space>(
 ) -> Result<Verdict, Halt>
     requires caller { call.now.caller ≡ Some caller.now }
     requires early { (a : Airspace) → find (breaks a now call.now) early_rules ≡ None }
-    ensures looks { Looks S.holds S.is_sound S.refusals S.is_broken space.old space.new result (Judges now call.now) }
+    ensures looks { Looks S.Space space.old space.new result (Judges now call.now) }
     ensures ready { IfOk result (IsReadyIfAllowed call.now.op) }
     ensures memory { result ≡ Err Halt.NoMemory → S.is_sound space.new → (a : Airspace) → S.holds space.old a → find (breaks a now call.now) standing_rules ≡ None }
 {

@@ -7,14 +7,14 @@ ghost use Rattle.service_core.specs.Looks.{Looks, IsReady, Prepares};
 use crate::availability_effects::{setting, told};
 use crate::entity_effects::{creation, listing, next_serial, reading, removal, update};
 use crate::look::{Grounds, Halt};
-use crate::reply::Answer;
+use crate::made::Made;
 use entity_core::salt::Salt;
 use policy_core::call::{Call, Operation};
 use policy_core::scope::Caller;
-use space_core::space::{Change, Space};
+use space_core::space::Space;
 use std::alloc::Global;
 
-/// The change and the answer of a call that breaks no rule. Nothing is changed yet, and all that the
+/// What is made for a call that breaks no rule. Nothing is changed yet, and all that the
 /// answer holds is made.
 pub fn prepared<S: Space>(
     space: &mut S,
@@ -24,11 +24,11 @@ pub fn prepared<S: Space>(
     call: &Call,
     caller: &Caller,
     grounds: &Grounds,
-) -> Result<(Option<Change>, Answer), Halt>
+) -> Result<Made, Halt>
     requires caller { call.now.caller ≡ Some caller.now }
     requires early { (a : Airspace) → find (breaks a now call.now) early_rules ≡ None }
     requires ready { IsReady call.now.op grounds.now.found }
-    ensures { Looks S.holds S.is_sound S.refusals S.is_broken space.old space.new result (Prepares salt.now now call.now grounds.now) }
+    ensures { Looks S.Space space.old space.new result (Prepares salt.now now call.now grounds.now) }
 {
     let _now = now;
     let serial = next_serial(grounds.serial);

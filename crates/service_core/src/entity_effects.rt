@@ -8,6 +8,7 @@ ghost use Rattle.service_core.specs.Looks.{Looks};
 ghost use Rattle.service_core.specs.Step.{kept_as};
 
 use crate::look::{Halt, look_meeting, reference, references};
+use crate::made::Made;
 use crate::reply::Answer;
 use entity_core::entity::Entity;
 use entity_core::entity_id::EntityId;
@@ -74,26 +75,28 @@ pub fn listing<S: Space>(
     uss: &UssId,
     kind: Kind,
     area: &Area,
-) -> Result<(Option<Change>, Answer), Halt>
-    ensures { Looks S.holds S.is_sound S.refusals S.is_broken space.old space.new result
-        (λ a made. (made.0 ≡ None) × (made.1 ≡ Answer.Listed kind (map (view_of a uss.now) (meeting_in a.entities kind (area.now ∷ []) None)))) }
+) -> Result<Made, Halt>
+    ensures { Looks S.Space space.old space.new result
+        (λ a made. (made.change ≡ None) × (made.answer ≡ Answer.Listed kind (map (view_of a uss.now) (meeting_in a.entities kind (area.now ∷ []) None)))) }
 {
     let met = look_meeting(space, kind, from_ref(area), None)?;
     let shown = references(space, alloc, uss, &met)?;
-    Ok((None, Answer::Listed(kind, shown)))
+    Ok(Made {
+        change: None,
+        answer: Answer::Listed(kind, shown),
+    })
 }
 
 /// The reference of what is read.
-pub fn reading<S: Space>(
-    space: &mut S,
-    uss: &UssId,
-    entity: &Entity,
-) -> Result<(Option<Change>, Answer), Halt>
-    ensures { Looks S.holds S.is_sound S.refusals S.is_broken space.old space.new result
-        (λ a made. (made.0 ≡ None) × (made.1 ≡ Answer.Found (view_of a uss.now entity.now))) }
+pub fn reading<S: Space>(space: &mut S, uss: &UssId, entity: &Entity) -> Result<Made, Halt>
+    ensures { Looks S.Space space.old space.new result
+        (λ a made. (made.change ≡ None) × (made.answer ≡ Answer.Found (view_of a uss.now entity.now))) }
 {
     let shown = reference(space, uss, entity)?;
-    Ok((None, Answer::Found(shown)))
+    Ok(Made {
+        change: None,
+        answer: Answer::Found(shown),
+    })
 }
 
 /// The entity that a creation puts, and its reference.
@@ -105,13 +108,16 @@ pub fn creation<S: Space>(
     uss: &UssId,
     id: EntityId,
     put: &Put,
-) -> Result<(Option<Change>, Answer), Halt>
-    ensures { Looks S.holds S.is_sound S.refusals S.is_broken space.old space.new result
-        (λ a made. (made.0 ≡ Some (Change.Put (kept_as salt.now serial uss.now 1 id put.now))) × (made.1 ≡ Answer.Created (view_of a uss.now (kept_as salt.now serial uss.now 1 id put.now)))) }
+) -> Result<Made, Halt>
+    ensures { Looks S.Space space.old space.new result
+        (λ a made. (made.change ≡ Some (Change.Put (kept_as salt.now serial uss.now 1 id put.now))) × (made.answer ≡ Answer.Created (view_of a uss.now (kept_as salt.now serial uss.now 1 id put.now)))) }
 {
     let entity = entity_of(alloc, salt, serial, uss, Version::first(), id, put)?;
     let shown = reference(space, uss, &entity)?;
-    Ok((Some(Change::Put(entity)), Answer::Created(shown)))
+    Ok(Made {
+        change: Some(Change::Put(entity)),
+        answer: Answer::Created(shown),
+    })
 }
 
 /// The entity that an update puts in the place of another of the supplier's, and its reference.
@@ -124,15 +130,18 @@ pub fn update<S: Space>(
     id: EntityId,
     put: &Put,
     old: &Entity,
-) -> Result<(Option<Change>, Answer), Halt>
-    ensures { Looks S.holds S.is_sound S.refusals S.is_broken space.old space.new result
-        (λ a made. old.now.version < greatest_version → (made.0 ≡ Some (Change.Put (kept_as salt.now serial old.now.manager (old.now.version + 1) id put.now)))
-        × (made.1 ≡ Answer.Changed (view_of a uss.now (kept_as salt.now serial old.now.manager (old.now.version + 1) id put.now)))) }
+) -> Result<Made, Halt>
+    ensures { Looks S.Space space.old space.new result
+        (λ a made. old.now.version < greatest_version → (made.change ≡ Some (Change.Put (kept_as salt.now serial old.now.manager (old.now.version + 1) id put.now)))
+        × (made.answer ≡ Answer.Changed (view_of a uss.now (kept_as salt.now serial old.now.manager (old.now.version + 1) id put.now)))) }
 {
     let version = next_version(old.version);
     let entity = entity_of(alloc, salt, serial, &old.manager, version, id, put)?;
     let shown = reference(space, uss, &entity)?;
-    Ok((Some(Change::Put(entity)), Answer::Changed(shown)))
+    Ok(Made {
+        change: Some(Change::Put(entity)),
+        answer: Answer::Changed(shown),
+    })
 }
 
 /// The removal of an entity, and its reference as it was.
@@ -142,10 +151,13 @@ pub fn removal<S: Space>(
     kind: Kind,
     id: EntityId,
     entity: &Entity,
-) -> Result<(Option<Change>, Answer), Halt>
-    ensures { Looks S.holds S.is_sound S.refusals S.is_broken space.old space.new result
-        (λ a made. (made.0 ≡ Some (Change.Remove kind id)) × (made.1 ≡ Answer.Changed (view_of a uss.now entity.now))) }
+) -> Result<Made, Halt>
+    ensures { Looks S.Space space.old space.new result
+        (λ a made. (made.change ≡ Some (Change.Remove kind id)) × (made.answer ≡ Answer.Changed (view_of a uss.now entity.now))) }
 {
     let shown = reference(space, uss, entity)?;
-    Ok((Some(Change::Remove(kind, id)), Answer::Changed(shown)))
+    Ok(Made {
+        change: Some(Change::Remove(kind, id)),
+        answer: Answer::Changed(shown),
+    })
 }

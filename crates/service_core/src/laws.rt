@@ -2,6 +2,12 @@
 ghost use Rattle.service_core.specs.Aware.{MeetingIsMutual};
 ghost use Rattle.service_core.specs.Blind.{CallIsBlind, RunIsBlind};
 ghost use Rattle.service_core.specs.Stale.{StaleIsRefused};
+ghost use Rattle.service_core.specs.Step.{StepsKeep};
+
+/// After each call, an entity stands under its own kind and id, where each did so before.
+pub fn steps_keep()
+    ensures { StepsKeep }
+{}
 
 /// What a supplier's call is told, and what it leaves, does not depend on the OVNs of what
 /// others manage, where its key knows as much of them.

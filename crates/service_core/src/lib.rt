@@ -1,11 +1,14 @@
 //! The service: one call, and a run of calls, answered as the policy says.
 #![tactic(auto)]
 
-pub mod availability_effects;
-pub mod decide;
-pub mod effects;
-pub mod entity_effects;
+mod availability_effects;
+mod decide;
+mod effects;
+mod entity_effects;
+pub mod first;
 pub mod laws;
-pub mod look;
+mod look;
+mod made;
+mod needed;
 pub mod reply;
 pub mod service;

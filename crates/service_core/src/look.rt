@@ -93,7 +93,7 @@ impl Grounds {
 }
 
 fn look_found<S: Space>(space: &mut S, op: &Operation) -> Result<Option<Entity>, Halt>
-    ensures looks { Looks S.holds S.is_sound S.refusals S.is_broken space.old space.new result (λ a found. found ≡ found_of a op.now) }
+    ensures looks { Looks S.Space space.old space.new result (λ a found. found ≡ found_of a op.now) }
     ensures memory { result ≢ Err Halt.NoMemory }
 {
     match op {
@@ -106,7 +106,7 @@ fn look_found<S: Space>(space: &mut S, op: &Operation) -> Result<Option<Entity>,
 }
 
 fn look_kept<S: Space>(space: &mut S, op: &Operation) -> Result<Option<(Availability, Ovn)>, Halt>
-    ensures looks { Looks S.holds S.is_sound S.refusals S.is_broken space.old space.new result (λ a kept. kept ≡ kept_of a op.now) }
+    ensures looks { Looks S.Space space.old space.new result (λ a kept. kept ≡ kept_of a op.now) }
     ensures memory { result ≢ Err Halt.NoMemory }
 {
     match op {
@@ -117,7 +117,7 @@ fn look_kept<S: Space>(space: &mut S, op: &Operation) -> Result<Option<(Availabi
 }
 
 fn look_serial<S: Space>(space: &mut S) -> Result<u64, Halt>
-    ensures looks { Looks S.holds S.is_sound S.refusals S.is_broken space.old space.new result (λ a serial. serial ≡ a.serial) }
+    ensures looks { Looks S.Space space.old space.new result (λ a serial. serial ≡ a.serial) }
     ensures memory { result ≢ Err Halt.NoMemory }
 {
     Ok(space.serial()?)
@@ -125,7 +125,7 @@ fn look_serial<S: Space>(space: &mut S) -> Result<u64, Halt>
 
 /// Looks up what the rules and the effect of an operation need. It takes no memory of its own.
 pub fn look<S: Space>(space: &mut S, op: &Operation) -> Result<Grounds, Halt>
-    ensures looks { Looks S.holds S.is_sound S.refusals S.is_broken space.old space.new result (IsGround op.now) }
+    ensures looks { Looks S.Space space.old space.new result (IsGround op.now) }
     ensures memory { result ≢ Err Halt.NoMemory }
 {
     let found = look_found(space, op)?;
@@ -145,7 +145,7 @@ pub fn look_meeting<S: Space>(
     areas: &[Area],
     except: Option<EntityId>,
 ) -> Result<Vec<Entity>, Halt>
-    ensures { Looks S.holds S.is_sound S.refusals S.is_broken space.old space.new result (λ a found. found.items ≡ meeting_in a.entities kind areas.now except) }
+    ensures { Looks S.Space space.old space.new result (λ a found. found.items ≡ meeting_in a.entities kind areas.now except) }
 {
     Ok(space.meeting(kind, areas, except)?)
 }
@@ -160,7 +160,7 @@ fn availability_in(kept: Option<(Availability, Ovn)>) -> Availability
 }
 
 fn look_availability<S: Space>(space: &mut S, uss: &UssId) -> Result<Availability, Halt>
-    ensures { Looks S.holds S.is_sound S.refusals S.is_broken space.old space.new result (λ a availability. availability ≡ (availability_of a uss.now).0) }
+    ensures { Looks S.Space space.old space.new result (λ a availability. availability ≡ (availability_of a uss.now).0) }
 {
     Ok(availability_in(space.availability(uss)?))
 }
@@ -168,7 +168,7 @@ fn look_availability<S: Space>(space: &mut S, uss: &UssId) -> Result<Availabilit
 #[tactic(auto, unfolding(policy_core::specs::View::view_of))]
 /// The reference of an entity as a supplier sees it now.
 pub fn reference<S: Space>(space: &mut S, uss: &UssId, entity: &Entity) -> Result<Reference, Halt>
-    ensures { Looks S.holds S.is_sound S.refusals S.is_broken space.old space.new result (λ a reference. reference ≡ view_of a uss.now entity.now) }
+    ensures { Looks S.Space space.old space.new result (λ a reference. reference ≡ view_of a uss.now entity.now) }
 {
     let availability = look_availability(space, &entity.manager)?;
     Ok(view(uss, entity, availability)?)
@@ -181,7 +181,7 @@ pub fn references<S: Space>(
     uss: &UssId,
     entities: &[Entity],
 ) -> Result<References, Halt>
-    ensures { Looks S.holds S.is_sound S.refusals S.is_broken space.old space.new result (λ a references. references ≡ map (view_of a uss.now) entities.now) }
+    ensures { Looks S.Space space.old space.new result (λ a references. references ≡ map (view_of a uss.now) entities.now) }
 {
     let mut items = Vec::new(alloc);
     for entity in entities {
@@ -199,7 +199,7 @@ fn references_at<S: Space>(
     places: &[usize],
 ) -> Result<References, Halt>
     requires { All (λ i. i < length entities.now) places.now }
-    ensures { Looks S.holds S.is_sound S.refusals S.is_broken space.old space.new result (λ a references. references ≡ map (view_of a uss.now) (filter_map (slice_get entities.now) places.now)) }
+    ensures { Looks S.Space space.old space.new result (λ a references. references ≡ map (view_of a uss.now) (filter_map (slice_get entities.now) places.now)) }
 {
     let mut items = Vec::new(alloc);
     for place in places {
@@ -208,20 +208,17 @@ fn references_at<S: Space>(
     Ok(References::from_vec(items))
 }
 
-/// The references of the entities of a kind, but the one of an id, that meet some area and whose OVNs
-/// are not in the key.
-pub fn missing_among<S: Space>(
+/// The references of those entities whose OVNs are not in a key, in their order.
+pub fn missing_from<S: Space>(
     space: &mut S,
     alloc: Global,
     uss: &UssId,
-    kind: Kind,
-    areas: &[Area],
-    except: Option<EntityId>,
     key: &[Ovn],
+    needed: &[Entity],
 ) -> Result<References, Halt>
-    ensures { Looks S.holds S.is_sound S.refusals S.is_broken space.old space.new result (λ a references. references ≡ map (view_of a uss.now) (missing_from key.now (meeting_in a.entities kind areas.now except))) }
+    ensures { Looks S.Space space.old space.new result
+        (λ a references. references ≡ map (view_of a uss.now) (missing_from key.now needed.now)) }
 {
-    let needed = look_meeting(space, kind, areas, except)?;
-    let places = missing(alloc, key, &needed)?;
-    references_at(space, alloc, uss, &needed, &places)
+    let places = missing(alloc, key, needed)?;
+    references_at(space, alloc, uss, needed, &places)
 }

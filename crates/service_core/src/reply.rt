@@ -13,7 +13,7 @@ use policy_core::rule::Rule;
 pub enum Answer {
     /// An entity is kept now: its reference.
     Created(Reference),
-    /// An entity was updated, and this is its reference; or it is not kept any more, and this was it.
+    /// Updated or deleted: its reference after the update, or as it was before the deletion.
     Changed(Reference),
     /// The reference of an entity.
     Found(Reference),

@@ -10,7 +10,7 @@ ghost use Rattle.service_core.specs.contracts.service.Service.{the_row};
 ghost use Rattle.service_core.specs.Looks.{IsReady, Judges, Makes};
 ghost use Rattle.service_core.specs.Service.{Answers, reply_of, is_stopped};
 ghost use Rattle.policy_core.specs.Missing.{nothing_missing};
-ghost use Rattle.service_core.specs.Run.{AskedInOrder, Runs, StayStopped, has_stopped};
+ghost use Rattle.service_core.specs.Run.{Answered, IsReplyTo, has_stopped};
 ghost use Rattle.service_core.specs.Aware.{Aware};
 ghost use Rattle.service_core.specs.Stale.{AllNumbered, IsStale, FailsOrIsRefused};
 ghost use Rattle.service_core.specs.Held.{space_of, salt_of, is_shut, with_space};
@@ -18,6 +18,7 @@ ghost use Rattle.service_core.specs.Held.{space_of, salt_of, is_shut, with_space
 use crate::decide::{Verdict, decide};
 use crate::effects::prepared;
 use crate::look::{Grounds, Halt};
+use crate::made::Made;
 use crate::reply::{Answer, Reply};
 use entity_core::salt::Salt;
 use policy_core::call::Call;
@@ -49,7 +50,7 @@ fn answered<S: Space>(
 ) -> Reply
     requires caller { call.now.caller ≡ Some caller.now }
     requires early { (a : Airspace) → find (breaks a now call.now) early_rules ≡ None }
-    ensures { Answers S.holds S.is_sound S.refusals S.is_broken salt.now now call.now space.old space.new result }
+    ensures { Answers S.Space salt.now now call.now space.old space.new result }
 {
     match decide(space, alloc, now, call, caller) {
         Ok(Verdict::Refused(broken, missing)) => Reply::Denied(broken, missing),
@@ -72,9 +73,9 @@ fn allowed<S: Space>(
     requires early { (a : Airspace) → find (breaks a now call.now) early_rules ≡ None }
     requires ready { IsReady call.now.op grounds.now.found }
     requires given { S.is_sound space.old → (a : Airspace) → S.holds space.old a → Judges now call.now a (Verdict.Allowed grounds.now) }
-    ensures { Answers S.holds S.is_sound S.refusals S.is_broken salt.now now call.now space.old space.new result }
+    ensures { Answers S.Space salt.now now call.now space.old space.new result }
 {
-    let (change, answer) = match prepared(space, alloc, salt, now, call, caller, grounds) {
+    let Made { change, answer } = match prepared(space, alloc, salt, now, call, caller, grounds) {
         Ok(made) => made,
         Err(halt) => return gave_up(halt),
     };
@@ -95,8 +96,8 @@ fn changed<S: Space>(
     answer: Answer,
 ) -> Reply
     requires early { (a : Airspace) → find (breaks a now call.now) early_rules ≡ None }
-    requires given { S.is_sound space.old → (a : Airspace) → S.holds space.old a → (first_broken a now call.now ≡ None) × Makes salt.now now call.now grounds.now a (Some change, answer) }
-    ensures { Answers S.holds S.is_sound S.refusals S.is_broken salt.now now call.now space.old space.new result }
+    requires given { S.is_sound space.old → (a : Airspace) → S.holds space.old a → (first_broken a now call.now ≡ None) × Makes salt.now now call.now grounds.now a (Some change) answer }
+    ensures { Answers S.Space salt.now now call.now space.old space.new result }
 {
     let (_salt, _now, _call, _grounds) = (salt, now, call, grounds);
     match space.apply(change) {
@@ -157,11 +158,7 @@ impl<S: Space + Drop> Service<S> {
     /// A put that needs to know an entity, and whose key has OVNs of other serials alone, is not done:
     /// it is denied by one of P1 to P14, and where it is P14, the entity is listed.
     pub fn call(&mut self, alloc: Global, now: u64, call: &Call) -> Reply
-        ensures salt { salt_of self.new ≡ salt_of self.old }
-        ensures stays_shut { IsTrue (is_shut self.old) → (result ≡ Reply.Stopped) × (self.new ≡ self.old) }
-        ensures shuts { is_shut self.old ≡ false → is_shut self.new ≡ is_stopped result }
-        ensures early { is_shut self.old ≡ false → (a : Airspace) (t : ℕ) → IfSome (find (breaks a t call.now) early_rules) (λ p. (result ≡ Reply.Denied p nothing_missing) × (self.new ≡ self.old)) }
-        ensures answers { is_shut self.old ≡ false → Answers S.holds S.is_sound S.refusals S.is_broken (salt_of self.old) now call.now (space_of self.old) (space_of self.new) result }
+        ensures reply { IsReplyTo S.Space self.old self.new now call.now result }
         ensures stale { is_shut self.old ≡ false → S.is_sound (space_of self.new)
             → (a : Airspace) → IsContent S.holds (space_of self.old) a
             → (kind : Kind) (y : Entity) → IsStale (salt_of self.old) kind a call.now y → FailsOrIsRefused kind a call.now y result }
@@ -188,15 +185,8 @@ impl<S: Space + Drop> Service<S> {
     /// the OVN of the other in its key (that of a constraint, if its caller processes constraints).
     pub fn run(&mut self, alloc: Global, calls: &[(u64, Call)]) -> Result<Vec<Reply>, AllocError>
         ensures none_made { OnErr result (self.new ≡ self.old) }
-        ensures salt { salt_of self.new ≡ salt_of self.old }
-        ensures one_each { IfOk result (λ replies. length replies.items ≡ length calls.now) }
-        ensures in_order { IfOk result (λ replies. AskedInOrder S.holds S.is_sound S.refusals S.is_broken self.old calls.now replies.items self.new) }
-        ensures sound { S.is_sound (space_of self.new) → S.is_sound (space_of self.old) }
-        ensures shut { IsTrue (is_shut self.old) → (self.new ≡ self.old) × IfOk result (λ replies. All (λ r. r ≡ Reply.Stopped) replies.items) }
-        ensures shuts { is_shut self.old ≡ false → IfOk result (λ replies. (is_shut self.new ≡ has_stopped replies.items) × StayStopped replies.items) }
-        ensures runs { is_shut self.old ≡ false → S.is_sound (space_of self.new) → IfOk result (λ replies. (a : Airspace) → IsContent S.holds (space_of self.old) a
-            → Runs S.holds (salt_of self.old) a calls.now replies.items (space_of self.new)) }
-        ensures cause { is_shut self.old ≡ false → IfOk result (λ replies. has_stopped replies.items ≡ true → S.is_broken (space_of self.new) ≡ true) }
+        ensures answered { IfOk result (λ replies.
+            Answered S.Space self.old calls.now replies.items self.new) }
         ensures aware { is_shut self.old ≡ false → S.is_sound (space_of self.new)
             → IfOk result (λ replies. has_stopped replies.items ≡ false
             → (n : ℕ) → IsContent S.holds (space_of self.old) (empty_at n)

@@ -4,7 +4,7 @@ use Rattle.std.specs.Ordering.{eq_by_cmp, is_eq, is_lt, ordering_reverse}
 use Rattle.std.specs.declared.cmp.Ordering.{Ordering}
 use Rattle.std.specs.declared.cmp.Ordering.TheVariants.{Less, Equal, Greater}
 use Rattle.std.specs.Cmp.{IsTotalOrder}
-use Rattle.std.specs.FinMap.{FinMap, IsAntisymmetric, get, insert, remove, empty, find, entries, entries_sorted, from_sorted, entries-from_sorted, entries-insert, get-from_sorted, get-remove, get-entries, get-from_entries, from_entries, len-empty, same_map, same_entries_map, empty_of_len, len-entries}
+use Rattle.std.specs.FinMap.{FinMap, IsAntisymmetric, get, insert, remove, empty, find, entries, entries_sorted, from_sorted, entries-from_sorted, entries-insert, get-from_sorted, get-remove, get-entries, get-from_entries, from_entries, len-empty, same_map, same_entries_map, len-entries}
 use Rattle.std.specs.FinMap.Entries.{put, where_key, by_order, below_all, is_sorted, is_sorted-put, is_sorted-where_key, find-where_key}
 use Rattle.std.proofs.lemmas.Cmp.{eq_by_cmp_equiv, alike_right}
 use Rattle.std.proofs.lemmas.List.{nil_from_length}

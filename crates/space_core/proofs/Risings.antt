@@ -1,17 +1,16 @@
 -- What is found among the entities of an airspace comes by rising ids.
-use Rattle.std.specs.Prelude.{◌≡◌, ℕ, ◌&&◌, Bool, true, false, cond, T, List, [], ◌∷◌, map, filter, Option, Some, None, refl}
-use Rattle.std.proofs.Common.{sym, ap, ◌∙◌, subst}
-use Rattle.std.specs.Cmp.{Equal-is}
+use Rattle.std.specs.Prelude.{◌≡◌, ℕ, ◌&&◌, Bool, true, false, cond, T, List, [], ◌∷◌, map, filter, Some, None, refl}
+use Rattle.std.proofs.Common.{sym, ap, ◌∙◌}
 use Rattle.std.specs.List.{AllByRecursion}
 use Rattle.std.specs.List.Sorted.{IsStrictlySortedBy}
-use Rattle.std.specs.Ordering.{eq_by_cmp, is_eq, is_lt, nat_cmp, ordering_reverse}
+use Rattle.std.specs.Ordering.{eq_by_cmp, is_eq, is_lt, nat_cmp}
 use Rattle.std.specs.declared.cmp.Ordering.{Ordering}
-use Rattle.std.specs.declared.cmp.Ordering.TheVariants.{Less, Equal, Greater}
+use Rattle.std.specs.declared.cmp.Ordering.TheVariants.{Less}
 use Rattle.std.specs.FinMap as maps
-use Rattle.std.specs.FinMap.{entries, entries_sorted, get, get-entries}
+use Rattle.std.specs.FinMap.{entries, entries_sorted, get-entries}
 use Rattle.std.specs.FinMap.Entries.{below_all, is_sorted}
 use Rattle.std.proofs.lemmas.Cmp.{eq_by_cmp_equiv}
-use Rattle.grid_core.specs.Extent.{Region, any_meet}
+use Rattle.grid_core.specs.Extent.{any_meet}
 use Rattle.entity_core.specs.Airspace.{Airspace, EntityKey, IsAirspace, key_cmp, key_of}
 use Rattle.entity_core.specs.declared.entity.Entity.{Entity}
 use Rattle.entity_core.specs.declared.nature.Kind.{Kind}
@@ -37,8 +36,7 @@ own_entries (e ∷ es) s own =
     elim (eq_by_cmp key_cmp k e.0) as (λ b. eq_by_cmp key_cmp k e.0 ≡ b → b ≡ false) [
       | true ↦ λ t. let n : None ≡ Some x = sym (none_below e.0 es (first _ _ s)) ∙ (ap (λ (q : EntityKey). maps.find key_cmp q es) (sym (one_key k e.0 t)) ∙ h) in cc
       | false ↦ λ t. refl
-    ] refl in
-    (
+    ] refl in (
       own e.0 e.1 (ap (λ (b : Bool). cond b (Some e.1) (maps.find key_cmp e.0 es)) ((eq_by_cmp_equiv key_total).refl e.0)),
       own_entries es (second (below_all key_cmp e.0 es) _ s) (λ k x h. own k x (ap (λ (b : Bool). cond b (Some e.1) (maps.find key_cmp k es)) (later k x h) ∙ h)),
     )
@@ -57,8 +55,7 @@ ids_below : (kind : Kind) (e : EntityKey × Entity) (es : List (EntityKey × Ent
     → AllByRecursion (λ n. nat_cmp e.1.id n ≡ Less) (map (λ f. f.id) (map (λ f. f.1) es))
 ids_below kind e [] s own is all kinds = tt
 ids_below kind e (f ∷ es) s own is all kinds =
-    let below = id_below kind e.0.0 f.0.0 e.0.1 f.0.1 is kinds.0 (less (key_cmp e.0 f.0) (first _ _ s)) in
-    (
+    let below = id_below kind e.0.0 f.0.0 e.0.1 f.0.1 is kinds.0 (less (key_cmp e.0 f.0) (first _ _ s)) in (
       ap (λ (n : ℕ). nat_cmp n f.1.id) (ap (λ (q : EntityKey). q.1) own) ∙ (ap (λ (n : ℕ). nat_cmp e.0.1 n) (ap (λ (q : EntityKey). q.1) all.0) ∙ below),
       ids_below kind e es (second (is_lt (key_cmp e.0 f.0)) _ s) own is all.1 kinds.1,
     )

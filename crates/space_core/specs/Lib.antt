@@ -3,3 +3,4 @@ pub mod Sorted
 pub mod Entities
 pub mod Availabilities
 pub mod List
+pub mod Proper

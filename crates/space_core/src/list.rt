@@ -1,11 +1,12 @@
 //! A space in memory: sorted lists of the entities and of what suppliers have set.
-ghost use Rattle.std.specs.Prelude.{◌≡◌, ◌≤◌, ℕ, false, ◌+◌, OnOk, OnErr, min};
-ghost use Rattle.entity_core.specs.Airspace.{empty_at};
+ghost use Rattle.std.specs.Prelude.{◌≡◌, ◌≤◌, ℕ, false, ◌+◌, Ok, OnOk, OnErr, min, IsOk};
+ghost use Rattle.entity_core.specs.Airspace.{Airspace, IsAirspace, empty_at};
 ghost use Rattle.entity_core.specs.Serial.{greatest_serial};
-ghost use Rattle.space_core.specs.List.{airspace_of, content_of};
-ghost use Rattle.space_core.specs.Space.{changed, greatest_count};
+ghost use Rattle.space_core.specs.List.{airspace_of, content_of, refusals_of};
+ghost use Rattle.space_core.specs.Proper.{content_is_proper};
+ghost use Rattle.space_core.specs.Space.{Fits, IsRemoval, Tells, changed, greatest_count};
 ghost use Rattle.space_core.specs.declared.space.SpaceFault.TheVariants.{Unchanged};
-ghost use Rattle.std.proofs.Common.{sym, ◌∙◌};
+ghost use Rattle.std.proofs.Common.{sym, ◌∙◌, refl, subst};
 
 use crate::availabilities::Availabilities;
 use crate::entities::Entities;
@@ -69,11 +70,19 @@ impl Space for ListSpace {
 
     ghost is_sound = { λ _. Unit {0} };
 
-    ghost refusals = { λ s. s.refusals };
+    ghost is_whole = { λ _. Unit {0} };
+
+    ghost refusals = { refusals_of };
 
     ghost is_broken = { λ _. false };
 
-    ghost one = { λ s a b sound whole h k. h ∙ sym k };
+    ghost one = { λ s a b sound unbroken h k. h ∙ sym k };
+
+    ghost certain = { λ s a sound unbroken h. tt };
+
+    ghost some = { λ s sound whole. ∣ (content_of s, refl) ∣₁ };
+
+    ghost proper = { λ s a sound h. subst IsAirspace (sym h) (content_is_proper s) };
 
     fn entity(&mut self, kind: Kind, id: EntityId) -> Result<Option<Entity>, SpaceFault> {
         match self.entities.entity(self.alloc, kind, id) {
@@ -108,11 +117,21 @@ impl Space for ListSpace {
         }
     }
 
-    fn serial(&mut self) -> Result<u64, SpaceFault> {
+    fn serial(&mut self) -> Result<u64, SpaceFault>
+        ensures done { result ≡ Ok (content_of self.old).serial }
+        ensures same { self.new ≡ self.old }
+    {
         Ok(self.serial)
     }
 
-    fn apply(&mut self, change: Change) -> Result<(), SpaceFault> {
+    fn apply(&mut self, change: Change) -> Result<(), SpaceFault>
+        requires fits { (a : Airspace) → a ≡ content_of self.old → Fits change a }
+        ensures done { OnOk result
+            (content_of self.new ≡ changed change (content_of self.old)) }
+        ensures refused { OnErr result (content_of self.new ≡ content_of self.old) }
+        ensures tells { Tells (refusals_of self.old) (refusals_of self.new) false false result }
+        ensures removed { IsRemoval change → IsOk result }
+    {
         match make(&mut self.entities, &mut self.availabilities, change) {
             Ok(()) => {
                 self.serial += 1;
@@ -129,9 +148,12 @@ fn make(
     availabilities: &mut Availabilities,
     change: Change,
 ) -> Result<(), AllocError>
-    ensures ok { OnOk result ((serial : ℕ) → airspace_of entities.new availabilities.new (serial + 1) ≡ changed change (airspace_of entities.old availabilities.old serial)) }
+    ensures ok { OnOk result ((serial : ℕ)
+        → airspace_of entities.new availabilities.new (serial + 1)
+        ≡ changed change (airspace_of entities.old availabilities.old serial)) }
     ensures same_entities { OnErr result (entities.new ≡ entities.old) }
     ensures same_availabilities { OnErr result (availabilities.new ≡ availabilities.old) }
+    ensures removed { IsRemoval change → IsOk result }
 {
     match change {
         Change::Put(entity) => entities.put(entity),

@@ -1,6 +1,6 @@
 //! The trait of spaces: what its calls tell, read and change.
 ghost use Rattle.std.specs.Prelude.{◌≡◌, ℕ, Bool, false};
-ghost use Rattle.entity_core.specs.Airspace.{Airspace};
+ghost use Rattle.entity_core.specs.Airspace.{Airspace, IsAirspace};
 ghost use Rattle.entity_core.specs.Search.{meeting_in, all_in};
 ghost use Rattle.std.specs.FinMap.{get};
 ghost use Rattle.space_core.specs.Space.{Tells, Reads, Changes, Fits, changed};
@@ -45,6 +45,9 @@ pub trait Space {
     /// Whether what is said of its content stands.
     ghost is_sound: { Self → Type 0 };
 
+    /// Whether what it may turn out to hold is an airspace in each case.
+    ghost is_whole: { Self → Type 0 };
+
     /// How often it has answered `Unchanged`; the count stays at the greatest 64-bit number.
     ghost refusals: { Self → ℕ };
 
@@ -53,8 +56,10 @@ pub trait Space {
 
     /// The entity of a kind and an id, if there is one.
     fn entity(&mut self, kind: Kind, id: EntityId) -> Result<Option<Entity>, SpaceFault>
-        ensures tells { Tells (refusals self.old) (refusals self.new) (is_broken self.old) (is_broken self.new) result }
-        ensures reads { Reads holds is_sound self.old self.new result (λ a found. found ≡ get a.entities (kind, id)) };
+        ensures tells { Tells (refusals self.old) (refusals self.new)
+            (is_broken self.old) (is_broken self.new) result }
+        ensures reads { Reads holds is_sound is_whole self.old self.new result
+            (λ a found. found ≡ get a.entities (kind, id)) };
 
     /// The entities of a kind, but the one of an id, of which some volume meets some area: each once,
     /// by rising ids.
@@ -64,30 +69,49 @@ pub trait Space {
         areas: &[Area],
         except: Option<EntityId>,
     ) -> Result<Vec<Entity>, SpaceFault>
-        ensures tells { Tells (refusals self.old) (refusals self.new) (is_broken self.old) (is_broken self.new) result }
-        ensures reads { Reads holds is_sound self.old self.new result (λ a found. found.items ≡ meeting_in a.entities kind areas.now except) };
+        ensures tells { Tells (refusals self.old) (refusals self.new)
+            (is_broken self.old) (is_broken self.new) result }
+        ensures reads { Reads holds is_sound is_whole self.old self.new result
+            (λ a found. found.items ≡ meeting_in a.entities kind areas.now except) };
 
     /// The entities of a kind: each once, by rising ids.
     fn all(&mut self, kind: Kind) -> Result<Vec<Entity>, SpaceFault>
-        ensures tells { Tells (refusals self.old) (refusals self.new) (is_broken self.old) (is_broken self.new) result }
-        ensures reads { Reads holds is_sound self.old self.new result (λ a found. found.items ≡ all_in a.entities kind) };
+        ensures tells { Tells (refusals self.old) (refusals self.new)
+            (is_broken self.old) (is_broken self.new) result }
+        ensures reads { Reads holds is_sound is_whole self.old self.new result
+            (λ a found. found.items ≡ all_in a.entities kind) };
 
     /// What is kept of a supplier, if it has set its availability.
     fn availability(&mut self, uss: &UssId) -> Result<Option<(Availability, Ovn)>, SpaceFault>
-        ensures tells { Tells (refusals self.old) (refusals self.new) (is_broken self.old) (is_broken self.new) result }
-        ensures reads { Reads holds is_sound self.old self.new result (λ a found. found ≡ get a.availabilities uss.now) };
+        ensures tells { Tells (refusals self.old) (refusals self.new)
+            (is_broken self.old) (is_broken self.new) result }
+        ensures reads { Reads holds is_sound is_whole self.old self.new result
+            (λ a found. found ≡ get a.availabilities uss.now) };
 
     /// How many changes there were.
     fn serial(&mut self) -> Result<u64, SpaceFault>
-        ensures tells { Tells (refusals self.old) (refusals self.new) (is_broken self.old) (is_broken self.new) result }
-        ensures reads { Reads holds is_sound self.old self.new result (λ a serial. serial ≡ a.serial) };
+        ensures tells { Tells (refusals self.old) (refusals self.new)
+            (is_broken self.old) (is_broken self.new) result }
+        ensures reads { Reads holds is_sound is_whole self.old self.new result
+            (λ a serial. serial ≡ a.serial) };
 
     /// Makes a change that fits, and the serial goes on by one.
     fn apply(&mut self, change: Change) -> Result<(), SpaceFault>
         requires fits { is_sound self.old → (a : Airspace) → holds self.old a → Fits change a }
-        ensures tells { Tells (refusals self.old) (refusals self.new) (is_broken self.old) (is_broken self.new) result }
-        ensures changes { Changes holds is_sound self.old self.new result (changed change) };
+        ensures tells { Tells (refusals self.old) (refusals self.new)
+            (is_broken self.old) (is_broken self.new) result }
+        ensures changes { Changes holds is_sound is_whole (is_broken self.old) self.old self.new result
+            (changed change) };
 
     /// A sound space that is not broken holds no two airspaces.
     ghost one: { (s : Self) (a b : Airspace) → is_sound s → is_broken s ≡ false → holds s a → holds s b → a ≡ b };
+
+    /// A sound space that is not broken and holds an airspace is whole.
+    ghost certain: { (s : Self) (a : Airspace) → is_sound s → is_broken s ≡ false → holds s a → is_whole s };
+
+    /// A sound space that is whole, also a broken one, holds some airspace.
+    ghost some: { (s : Self) → is_sound s → is_whole s → ∥ ((a : Airspace) × holds s a) ∥₁ };
+
+    /// What a sound space holds is an airspace that may be kept.
+    ghost proper: { (s : Self) (a : Airspace) → is_sound s → holds s a → IsAirspace a };
 }

@@ -8,7 +8,7 @@ use Rattle.std.proofs.lemmas.Bool.{cases_lt}
 use Rattle.std.proofs.lemmas.Nat.{pow_pos}
 use Rattle.std.proofs.Math.Nat.{mul-le-mul_right}
 use Rattle.grid_core.specs.Cell.{Cell, IsCell}
-use Rattle.grid_core.specs.CellNumber.{same_cell}
+use Rattle.grid_core.proofs.CellNumber.{same_cell}
 use Rattle.grid_core.specs.Token.{IsShortest, IsTokenOf, is_lower_digit}
 use Rattle.grid_core.proofs.Tokens.{sixteen}
 use Rattle.space_rows.specs.Cells.{SpellsToken}

@@ -3,7 +3,7 @@ use Rattle.std.specs.Prelude.{◌≡◌, ◌≢◌, ℕ, zero, suc, ℤ, pos, �
 use Rattle.std.specs.List.{AllByRecursion, AllZip, flat_map}
 use Rattle.std.proofs.Common.{sym, ap, ap₂, ◌∙◌, arith}
 use Rattle.grid_core.specs.Cell.{Cell, IsCell}
-use Rattle.grid_core.specs.CellNumber.{same_cell}
+use Rattle.grid_core.proofs.CellNumber.{same_cell}
 use Rattle.grid_core.specs.Extent.{Extent}
 use Rattle.entity_core.specs.declared.nature.State.TheVariants.{Accepted, Activated, Nonconforming, Contingent}
 use Rattle.entity_core.specs.declared.nature.Nature.{Nature}

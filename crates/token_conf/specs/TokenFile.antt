@@ -9,12 +9,10 @@ use Rattle.toml.specs.Parse.{parse_document}
 use Rattle.entity_core.specs.Airspace.{text_cmp}
 use Rattle.entity_core.specs.IdTexts.{first_fault, is_visible_byte, name_fault}
 use Rattle.entity_core.specs.declared.id_fault.IdFault.{IdFault}
-use Rattle.policy_core.specs.Scope.{scope_name, no_scopes, with_scope}
+use Rattle.policy_core.specs.Scope.{Scopes, scope_name, scopes_where}
 use Rattle.policy_core.specs.declared.scope.Caller.{Caller}
 use Rattle.policy_core.specs.contracts.scope.Caller as caller
 use Rattle.policy_core.specs.declared.scope.Scope.{Scope}
-use Rattle.policy_core.specs.declared.scope.Scope.TheVariants.{StrategicCoordination, ConformanceMonitoring, ConstraintProcessing, ConstraintManagement, AvailabilityArbitration}
-use Rattle.policy_core.specs.declared.scope.ScopeSet.{ScopeSet}
 use Rattle.token_conf.specs.declared.conf_fault.ConfFault.{ConfFault}
 use Rattle.token_conf.specs.declared.conf_fault.ConfFault.TheVariants as fault
 
@@ -63,21 +61,12 @@ texts_of (item d ds) = option_and_then (λ text. option_map (λ texts. text ∷ 
 abbrev pub is_name_of : Scope → List ℕ → Bool
 is_name_of s text = pointwise nat_eq (scope_name s) text
 
--- the set, with the scope where it passes the test
-abbrev pub with_passing : (Scope → Bool) → Scope → ScopeSet → ScopeSet
-with_passing test s set = if test s then with_scope set s else set
-
--- the set of the scopes that pass a test
-abbrev pub scope_set : (Scope → Bool) → ScopeSet
-scope_set test =
-    with_passing test StrategicCoordination (with_passing test ConformanceMonitoring (with_passing test ConstraintProcessing (with_passing test ConstraintManagement (with_passing test AvailabilityArbitration no_scopes))))
-
 -- the scopes whose names are among the texts; a text that names none adds none
-unfoldable pub scopes_named : List (List ℕ) → ScopeSet
-scopes_named texts = scope_set (λ s. list_any (is_name_of s) texts)
+unfoldable pub scopes_named : List (List ℕ) → Scopes
+scopes_named texts = scopes_where (λ s. list_any (is_name_of s) texts)
 
 -- the scopes that the member `scopes` of a table names
-abbrev pub scopes_at : Data → Option ScopeSet
+abbrev pub scopes_at : Data → Option Scopes
 scopes_at d = option_map scopes_named (option_and_then texts_of (option_and_then as_array (get (codes "scopes") d)))
 
 infixl 10 ◌>>=◌

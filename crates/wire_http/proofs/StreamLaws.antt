@@ -9,12 +9,11 @@ use Rattle.std.proofs.lemmas.List.Folds.{concat-append}
 use Rattle.std.proofs.Math.Seq.{take-append-add, take-append_seam}
 use Rattle.entity_core.specs.Airspace.{Airspace}
 use Rattle.space_core.specs.Space.{IsContent}
+use Rattle.space_core.specs.declared.space.Space.{Ghosts}
 use Rattle.service_core.specs.declared.service.Service.{Service}
 use Rattle.service_core.specs.declared.reply.Reply.{Reply}
-use Rattle.service_core.specs.Held.{space_of, salt_of, is_shut}
-use Rattle.service_core.specs.Service.{Leaves}
-use Rattle.service_core.specs.Run.{AskedInOrder, IsReplyTo, Runs, Timed, has_stopped}
-use Rattle.service_core.proofs.Runs.{asked_more, runs_more, runs_stopped, stops_more, stopped_more, is_stopped_true, all_more}
+use Rattle.service_core.specs.Run.{AskedInOrder, IsReplyTo, Timed}
+use Rattle.service_core.proofs.Runs.{answered, asked_more}
 use Rattle.token_conf.specs.TokenFile.{Callers}
 use Rattle.wire_http.specs.declared.end.End.{End}
 use Rattle.wire_http.specs.declared.end.End.TheVariants as ends
@@ -24,7 +23,7 @@ use Rattle.wire_http.specs.declared.serve.Turn.TheVariants as turns
 use Rattle.wire_http.specs.Fault.{IsOfAnswering}
 use Rattle.wire_http.specs.Text.{answer_text, rule_text, end_texts}
 use Rattle.wire_http.specs.Turn.{Took, IsTurn, IsTurnPart}
-use Rattle.wire_http.specs.Wire.{Asked, Asks, Answered, Finishes, IsFront, Leads, MayBePart, MayFollow, Serves, ServesPart, answers, left_after, timed}
+use Rattle.wire_http.specs.Wire.{Asked, Asks, Finishes, IsFront, Leads, MayBePart, MayFollow, Serves, ServesPart, answers, left_after, timed}
 use Rattle.wire_http.proofs.KnownBytes.{Appends_more, Appends_nil}
 use Rattle.wire_http.proofs.TurnLaws.{clock_same}
 
@@ -116,57 +115,19 @@ module _ {M : Type 0} (Gives : M → ℕ → M → Type 0) (callers : Callers) w
   leads_more (suc bound) rest clock (b ∷ all) n k left later a next mid (x, y, p, q, h) e asks closing =
       (x, y, p, q, leads_more (left_after bound b.head) x y all n k left later a next mid h e asks closing)
 
-module _ {S M : Type 0} (Holds : S → Airspace → Type 0) (IsSound : S → Type 0) (refusals : S → ℕ) (is_broken : S → Bool) (Gives : M → ℕ → M → Type 0) (callers : Callers) where
+module _ {S M : Type 0} (sp : Ghosts S) (Gives : M → ℕ → M → Type 0) (callers : Callers) where
   -- ---- the calls
 
-  no_run : (salt : List ℕ) (a : Airspace) (s : S) → IsContent Holds s a → Runs Holds salt a [] [] s
-  no_run salt a s content = record {
-    replies = refl;
-    whole = λ _. content;
-    kept = content.only;
-  }
+  -- one request more that was asked
+  asked_next : (old mid new : Service S) (all : List Asked) (rs : List Reply) (a : Asked) (r : Reply)
+      → AskedInOrder sp old (map timed all) rs mid → IsReplyTo sp mid new a.moment a.call r
+      → AskedInOrder sp old (map timed (all ++ a ∷ [])) (rs ++ r ∷ []) new
+  asked_next old mid new all rs a r h is_reply =
+      subst (λ (v : List Timed). AskedInOrder sp old v (rs ++ r ∷ []) new) (sym (map-append timed all (a ∷ [])))
+      (asked_more sp old (map timed all) rs mid new (timed a) r h is_reply)
 
-  none_answered : (s : Service S) → Answered Holds IsSound refusals is_broken s s [] []
-  none_answered s = record {
-    one_each = refl;
-    in_order = refl;
-    runs = λ goes sound a content. no_run (salt_of s) a (space_of s) content;
-    shuts = λ goes. goes;
-    cause = λ goes stopped. absurd (false≢true stopped);
-    shut = λ _. search rules;
-  }
-
-  answered_more : (old mid new : Service S) (all : List Asked) (rs : List Reply) (a : Asked) (r : Reply)
-      → Answered Holds IsSound refusals is_broken old mid all rs
-      → IsReplyTo Holds IsSound refusals is_broken mid new a.moment a.call r
-      → salt_of mid ≡ salt_of old → (is_shut old ≡ true → mid ≡ old)
-      → Answered Holds IsSound refusals is_broken old new (all ++ a ∷ []) (rs ++ r ∷ [])
-  answered_more old mid new all rs a r h is_reply salt stays =
-      let cs : List Timed = map timed all in
-      let d : Timed = timed a in
-      let calls : map timed (all ++ a ∷ []) ≡ cs ++ d ∷ [] = map-append timed all (a ∷ []) in
-      let len : length cs ≡ length rs = length-map all timed ∙ sym h.one_each in
-      record {
-        one_each = length_more rs all r a h.one_each;
-        in_order = subst (λ (v : List Timed). AskedInOrder Holds IsSound refusals is_broken old v (rs ++ r ∷ []) new) (sym calls)
-            (asked_more Holds IsSound refusals is_broken old cs rs mid new d r h.in_order is_reply);
-        runs = λ n s b content. subst (λ (v : List Timed). Runs Holds (salt_of old) b v (rs ++ r ∷ []) (space_of new)) (sym calls) (
-            elim (has_stopped rs) as (λ v. has_stopped rs ≡ v → Runs Holds (salt_of old) b (cs ++ d ∷ []) (rs ++ r ∷ []) (space_of new)) [
-              | true ↦ λ k. subst (λ (v : Service S). Runs Holds (salt_of old) b (cs ++ d ∷ []) (rs ++ r ∷ []) (space_of v)) (sym (is_reply.stays_shut (h.shuts n ∙ k)))
-                  (runs_stopped Holds (salt_of old) b cs rs (space_of mid) d r len k (h.runs n (is_reply.sound s) b content))
-              | false ↦ λ k. runs_more Holds (salt_of old) b cs rs (space_of mid) (space_of new) d r len k (h.runs n (is_reply.sound s) b content)
-                  (λ x held. subst (λ (v : List ℕ). Leaves Holds v x d.0 d.1 r (space_of new)) salt (is_reply.goes (h.shuts n ∙ k) s x held))
-            ] refl);
-        shuts = λ n. elim (has_stopped rs) as (λ v. has_stopped rs ≡ v → is_shut new ≡ has_stopped (rs ++ r ∷ [])) [
-          | true ↦ λ k. ap (λ (v : Service S). is_shut v) (is_reply.stays_shut (h.shuts n ∙ k)) ∙ (h.shuts n ∙ (k ∙ sym (stopped_more rs r k)))
-          | false ↦ λ k. is_reply.shuts (h.shuts n ∙ k) ∙ sym (stops_more rs r k)
-        ] refl;
-        cause = λ n. elim (has_stopped rs) as (λ v. has_stopped rs ≡ v → has_stopped (rs ++ r ∷ []) ≡ true → is_broken (space_of new) ≡ true) [
-          | true ↦ λ k m. subst (λ (v : Service S). is_broken (space_of v) ≡ true) (sym (is_reply.stays_shut (h.shuts n ∙ k))) (h.cause n k)
-          | false ↦ λ k m. is_reply.cause (h.shuts n ∙ k) (is_stopped_true r (sym (stops_more rs r k) ∙ m))
-        ] refl;
-        shut = λ n. all_more rs r (h.shut n) (is_reply.shut (ap (λ (v : Service S). is_shut v) (stays n) ∙ n));
-      }
+  count_of : (old now : Service S) (all : List Asked) (rs : List Reply) → AskedInOrder sp old (map timed all) rs now → length rs ≡ length all
+  count_of old now all rs h = (answered sp old (map timed all) rs now h).one_each ∙ length-map all timed
 
   -- ---- the turns
 
@@ -176,7 +137,7 @@ module _ {S M : Type 0} (Holds : S → Airspace → Type 0) (IsSound : S → Typ
     pub replies : List Reply
     pub left : List ℕ
     pub leads : Leads Gives callers bound input clock all n left later
-    pub answered : Answered Holds IsSound refusals is_broken old now all replies
+    pub in_order : AskedInOrder sp old (map timed all) replies now
     pub count_is : count ≡ length all
     pub written : Appends before text (concat (answers all replies))
     pub unread_is : unread ≡ Some left
@@ -189,7 +150,7 @@ module _ {S M : Type 0} (Holds : S → Airspace → Type 0) (IsSound : S → Typ
     replies = [];
     left = input;
     leads = (refl, refl, refl);
-    answered = none_answered s;
+    in_order = refl;
     count_is = refl;
     written = Appends_nil w;
     unread_is = ap (λ v. Some (v ++ input)) e;
@@ -202,18 +163,17 @@ module _ {S M : Type 0} (Holds : S → Airspace → Type 0) (IsSound : S → Typ
   pub goes_more : (a u u' : Option (List ℕ)) (bound : ℕ) (old now new : Service S) (clock later mid : M) (w0 w1 w2 : Option (List ℕ)) (n k count m : ℕ) (t : Turn)
       → IfSome a (λ input. GoesOn bound input old now clock later w0 w1 u n count)
       → n ≡ suc k → t ≡ turns.Answered m
-      → IfSome u (λ rest. IsTurn Holds IsSound refusals is_broken Gives callers k rest now new later mid w1 w2 u' t)
-      → salt_of now ≡ salt_of old → (is_shut old ≡ true → now ≡ old)
+      → IfSome u (λ rest. IsTurn sp Gives callers k rest now new later mid w1 w2 u' t)
       → IfSome a (λ input. GoesOn bound input old new clock mid w0 w2 u' m (count + 1))
-  goes_more None u u' bound old now new clock later mid w0 w1 w2 n k count m t g e f h salt stays = tt
-  goes_more (Some input) u u' bound old now new clock later mid w0 w1 w2 n k count m t g e f h salt stays =
-      let turn : IsTurn Holds IsSound refusals is_broken Gives callers k g.left now new later mid w1 w2 u' (turns.Answered m) =
-      subst (λ (v : Turn). IsTurn Holds IsSound refusals is_broken Gives callers k g.left now new later mid w1 w2 u' v) f
-      (at_rest u g.left (λ rest. IsTurn Holds IsSound refusals is_broken Gives callers k rest now new later mid w1 w2 u' t) g.unread_is h) in
+  goes_more None u u' bound old now new clock later mid w0 w1 w2 n k count m t g e f h = tt
+  goes_more (Some input) u u' bound old now new clock later mid w0 w1 w2 n k count m t g e f h =
+      let turn : IsTurn sp Gives callers k g.left now new later mid w1 w2 u' (turns.Answered m) =
+      subst (λ (v : Turn). IsTurn sp Gives callers k g.left now new later mid w1 w2 u' v) f
+      (at_rest u g.left (λ rest. IsTurn sp Gives callers k rest now new later mid w1 w2 u' t) g.unread_is h) in
       let asked : Asked = turn.0 in
       let reply : Reply = turn.1 in
       let next : List ℕ = turn.2 in
-      let took : Took Holds IsSound refusals is_broken Gives callers k g.left now new later mid w1 w2 asked reply m next = turn.3 in
+      let took : Took sp Gives callers k g.left now new later mid w1 w2 asked reply m next = turn.3 in
       let closing : asked.closing ≡ (left_after k asked.head == 0) = took.closing ∙ ap (λ v. v == 0) took.n_is in
       record {
         all = g.all ++ asked ∷ [];
@@ -221,17 +181,17 @@ module _ {S M : Type 0} (Holds : S → Airspace → Type 0) (IsSound : S → Typ
         left = next;
         leads = subst (λ (v : ℕ). Leads Gives callers bound input clock (g.all ++ asked ∷ []) v next mid) (sym took.n_is)
             (leads_more Gives callers bound input clock g.all n k g.left later asked next mid g.leads e took.asks closing);
-        answered = answered_more old now new g.all g.replies asked reply g.answered took.is_reply salt stays;
+        in_order = asked_next old now new g.all g.replies asked reply g.in_order took.is_reply;
         count_is = omega (arith, g.count_is, length-append g.all (asked ∷ []));
         written = subst (λ (v : List ℕ). Appends w0 w2 v)
-            (sym (concat_more (answers g.all g.replies) (answer_text asked.place asked.closing reply)) ∙ ap concat (sym (answers_more g.all g.replies asked reply g.answered.one_each)))
+            (sym (concat_more (answers g.all g.replies) (answer_text asked.place asked.closing reply)) ∙ ap concat (sym (answers_more g.all g.replies asked reply (count_of old now g.all g.replies g.in_order))))
             (Appends_more w0 w1 w2 _ _ g.written turn.5);
         unread_is = turn.4;
       }
 
   pub goes_close : (a u : Option (List ℕ)) (bound : ℕ) (old now : Service S) (clock later : M) (w0 w1 : Option (List ℕ)) (n count : ℕ)
       → IfSome a (λ input. GoesOn bound input old now clock later w0 w1 u n count) → n ≡ 0
-      → IfSome a (λ input. Serves Holds IsSound refusals is_broken Gives callers bound input old now clock later w0 w1 (record { count = count; end = ends.Close }))
+      → IfSome a (λ input. Serves sp Gives callers bound input old now clock later w0 w1 (record { count = count; end = ends.Close }))
   goes_close None u bound old now clock later w0 w1 n count g e = tt
   goes_close (Some input) u bound old now clock later w0 w1 n count g e = record {
     all = g.all;
@@ -240,7 +200,7 @@ module _ {S M : Type 0} (Holds : S → Airspace → Type 0) (IsSound : S → Typ
     left = g.left;
     leads = g.leads;
     finishes = subst (λ (v : ℕ). Finishes v g.left ends.Close) (sym e) refl;
-    answered = g.answered;
+    answered = answered sp old (map timed g.all) g.replies now g.in_order;
     count = g.count_is;
     written = subst (λ (v : List (List ℕ)). Appends w0 w1 (concat v)) (sym (append-nil (answers g.all g.replies))) g.written;
   }
@@ -248,13 +208,13 @@ module _ {S M : Type 0} (Holds : S → Airspace → Type 0) (IsSound : S → Typ
   pub goes_stop : (a u u' : Option (List ℕ)) (bound : ℕ) (old now new : Service S) (clock later mid : M) (w0 w1 w2 : Option (List ℕ)) (n k count : ℕ) (end : End) (t : Turn)
       → IfSome a (λ input. GoesOn bound input old now clock later w0 w1 u n count)
       → n ≡ suc k → t ≡ turns.Ended end
-      → IfSome u (λ rest. IsTurn Holds IsSound refusals is_broken Gives callers k rest now new later mid w1 w2 u' t)
-      → IfSome a (λ input. Serves Holds IsSound refusals is_broken Gives callers bound input old new clock mid w0 w2 (record { count = count; end = end }))
+      → IfSome u (λ rest. IsTurn sp Gives callers k rest now new later mid w1 w2 u' t)
+      → IfSome a (λ input. Serves sp Gives callers bound input old new clock mid w0 w2 (record { count = count; end = end }))
   goes_stop None u u' bound old now new clock later mid w0 w1 w2 n k count end t g e f h = tt
   goes_stop (Some input) u u' bound old now new clock later mid w0 w1 w2 n k count end t g e f h =
-      let turn : IsTurn Holds IsSound refusals is_broken Gives callers k g.left now new later mid w1 w2 u' (turns.Ended end) =
-      subst (λ (v : Turn). IsTurn Holds IsSound refusals is_broken Gives callers k g.left now new later mid w1 w2 u' v) f
-      (at_rest u g.left (λ rest. IsTurn Holds IsSound refusals is_broken Gives callers k rest now new later mid w1 w2 u' t) g.unread_is h) in
+      let turn : IsTurn sp Gives callers k g.left now new later mid w1 w2 u' (turns.Ended end) =
+      subst (λ (v : Turn). IsTurn sp Gives callers k g.left now new later mid w1 w2 u' v) f
+      (at_rest u g.left (λ rest. IsTurn sp Gives callers k rest now new later mid w1 w2 u' t) g.unread_is h) in
       record {
         all = g.all;
         replies = g.replies;
@@ -262,7 +222,7 @@ module _ {S M : Type 0} (Holds : S → Airspace → Type 0) (IsSound : S → Typ
         left = g.left;
         leads = subst (λ (v : M). Leads Gives callers bound input clock g.all n g.left v) (sym turn.2) g.leads;
         finishes = subst (λ (v : ℕ). Finishes v g.left end) (sym e) turn.0;
-        answered = subst (λ (v : Service S). Answered Holds IsSound refusals is_broken old v g.all g.replies) (sym turn.1) g.answered;
+        answered = answered sp old (map timed g.all) g.replies new (subst (λ (v : Service S). AskedInOrder sp old (map timed g.all) g.replies v) (sym turn.1) g.in_order);
         count = g.count_is;
         written = subst (λ (v : List ℕ). Appends w0 w2 v) (sym (concat-append (answers g.all g.replies) (end_texts end))) (Appends_more w0 w1 w2 _ _ g.written turn.3);
       }
@@ -270,16 +230,15 @@ module _ {S M : Type 0} (Holds : S → Airspace → Type 0) (IsSound : S → Typ
   pub goes_part : (a u : Option (List ℕ)) (bound : ℕ) (old now new : Service S) (clock later mid : M) (w0 w1 w2 : Option (List ℕ)) (n k count : ℕ) (fault : StreamFault)
       → IfSome a (λ input. GoesOn bound input old now clock later w0 w1 u n count)
       → n ≡ suc k
-      → IfSome u (λ rest. IsTurnPart Holds IsSound refusals is_broken Gives callers k rest now new later mid w1 w2 fault)
-      → salt_of now ≡ salt_of old → (is_shut old ≡ true → now ≡ old)
-      → IfSome a (λ input. ServesPart Holds IsSound refusals is_broken Gives callers bound input old new clock mid w0 w2 fault)
-  goes_part None u bound old now new clock later mid w0 w1 w2 n k count fault g e h salt stays = tt
-  goes_part (Some input) u bound old now new clock later mid w0 w1 w2 n k count fault g e h salt stays =
-      elim (at_rest u g.left (λ rest. IsTurnPart Holds IsSound refusals is_broken Gives callers k rest now new later mid w1 w2 fault) g.unread_is h) [
+      → IfSome u (λ rest. IsTurnPart sp Gives callers k rest now new later mid w1 w2 fault)
+      → IfSome a (λ input. ServesPart sp Gives callers bound input old new clock mid w0 w2 fault)
+  goes_part None u bound old now new clock later mid w0 w1 w2 n k count fault g e h = tt
+  goes_part (Some input) u bound old now new clock later mid w0 w1 w2 n k count fault g e h =
+      elim (at_rest u g.left (λ rest. IsTurnPart sp Gives callers k rest now new later mid w1 w2 fault) g.unread_is h) [
         | inl (asked, reply, m, next, size, answering, took, wrote) ↦
             let closing : asked.closing ≡ (left_after k asked.head == 0) = took.closing ∙ ap (λ v. v == 0) took.n_is in
             let texts : answers (g.all ++ asked ∷ []) (g.replies ++ reply ∷ []) ≡ answers g.all g.replies ++ answer_text asked.place asked.closing reply ∷ [] =
-            answers_more g.all g.replies asked reply g.answered.one_each in
+            answers_more g.all g.replies asked reply (count_of old now g.all g.replies g.in_order) in
             record {
               all = g.all ++ asked ∷ [];
               replies = g.replies ++ reply ∷ [];
@@ -288,7 +247,7 @@ module _ {S M : Type 0} (Holds : S → Airspace → Type 0) (IsSound : S → Typ
               later = mid;
               leads = leads_more Gives callers bound input clock g.all n k g.left later asked next mid g.leads e took.asks closing;
               clock_is = clock_same Gives callers fault next mid;
-              answered = answered_more old now new g.all g.replies asked reply g.answered took.is_reply salt stays;
+              answered = answered sp old (map timed (g.all ++ asked ∷ [])) (g.replies ++ reply ∷ []) new (asked_next old now new g.all g.replies asked reply g.in_order took.is_reply);
               tail = [];
               follows = none_follows (left_after k asked.head) next;
               bytes = concat (answers g.all g.replies) ++ take size (answer_text asked.place asked.closing reply);
@@ -306,7 +265,7 @@ module _ {S M : Type 0} (Holds : S → Airspace → Type 0) (IsSound : S → Typ
           later = later;
           leads = g.leads;
           clock_is = clock_is;
-          answered = subst (λ (v : Service S). Answered Holds IsSound refusals is_broken old v g.all g.replies) (sym same) g.answered;
+          answered = answered sp old (map timed g.all) g.replies new (subst (λ (v : Service S). AskedInOrder sp old (map timed g.all) g.replies v) (sym same) g.in_order);
           tail = tail;
           follows = subst (λ (v : ℕ). MayFollow v g.left tail) (sym e) follows;
           bytes = concat (answers g.all g.replies) ++ take size (concat tail);
@@ -317,9 +276,9 @@ module _ {S M : Type 0} (Holds : S → Airspace → Type 0) (IsSound : S → Typ
       ]
 
   pub none_served : (a : Option (List ℕ)) (bound : ℕ) (s : Service S) (clock : M) (w : Option (List ℕ)) (fault : StreamFault)
-      → IfSome a (λ input. ServesPart Holds IsSound refusals is_broken Gives callers bound input s s clock clock w w fault)
+      → IfSome a (λ input. ServesPart sp Gives callers bound input s s clock clock w w fault)
   none_served a bound s clock w fault =
-      always a (λ input. ServesPart Holds IsSound refusals is_broken Gives callers bound input s s clock clock w w fault) (λ input. record {
+      always a (λ input. ServesPart sp Gives callers bound input s s clock clock w w fault) (λ input. record {
         all = [];
         replies = [];
         n = bound;
@@ -327,7 +286,7 @@ module _ {S M : Type 0} (Holds : S → Airspace → Type 0) (IsSound : S → Typ
         later = clock;
         leads = (refl, refl, refl);
         clock_is = clock_same Gives callers fault input clock;
-        answered = none_answered s;
+        answered = answered sp s [] [] s refl;
         tail = [];
         follows = none_follows bound input;
         bytes = [];

@@ -10,6 +10,7 @@ use Rattle.httparse.specs.Grammar.{RequestHead, print_request}
 use Rattle.httparse.specs.Spans.{header_bytes}
 use Rattle.entity_core.specs.Airspace.{Airspace}
 use Rattle.policy_core.specs.declared.call.Call.{Call}
+use Rattle.space_core.specs.declared.space.Space.{Ghosts}
 use Rattle.service_core.specs.declared.service.Service.{Service}
 use Rattle.service_core.specs.declared.reply.Reply.{Reply}
 use Rattle.service_core.specs.Run.{IsReplyTo}
@@ -96,38 +97,38 @@ follows_end k rest ends.Cut x = inl refl
 follows_end k rest ends.Close x = inl refl
 follows_end k rest (ends.Wire rule) x = inr (rule, x, refl)
 
-module _ {S M : Type 0} (Holds : S → Airspace → Type 0) (IsSound : S → Type 0) (refusals : S → ℕ) (is_broken : S → Bool) (Gives : M → ℕ → M → Type 0) (callers : Callers) (k : ℕ) where
+module _ {S M : Type 0} (sp : Ghosts S) (Gives : M → ℕ → M → Type 0) (callers : Callers) (k : ℕ) where
   -- ---- no request
 
   pub part_none : (u : Option (List ℕ)) (s : Service S) (clock : M) (w : Option (List ℕ)) (fault : StreamFault)
-      → IfSome u (λ rest. IsTurnPart Holds IsSound refusals is_broken Gives callers k rest s s clock clock w w fault)
+      → IfSome u (λ rest. IsTurnPart sp Gives callers k rest s s clock clock w w fault)
   part_none u s clock w fault =
-      always u (λ rest. IsTurnPart Holds IsSound refusals is_broken Gives callers k rest s s clock clock w w fault)
+      always u (λ rest. IsTurnPart sp Gives callers k rest s s clock clock w w fault)
       (λ rest. inr ([], 0, inr refl, refl, clock_same Gives callers fault rest clock, inl refl, Appends_nil w))
 
   pub part_end : (u : Option (List ℕ)) (buffer : List ℕ) (fields : List HeaderSpan) (n : Next) (end : End) (s : Service S) (clock : M) (w v : Option (List ℕ)) (fault : StreamFault) (f f' : ℕ)
       → n ≡ Stop end → IfSome u (λ rest. IsNext rest buffer fields n) → GaveUpAnswering fault f f'
       → (size : ℕ) × Appends w v (take size (concat (end_texts end)))
-      → IfSome u (λ rest. IsTurnPart Holds IsSound refusals is_broken Gives callers k rest s s clock clock w v fault)
+      → IfSome u (λ rest. IsTurnPart sp Gives callers k rest s s clock clock w v fault)
   part_end u buffer fields n end s clock w v fault f f' e h g (size, written) =
-      if_some u (λ rest. IsNext rest buffer fields (Stop end)) (λ rest. IsTurnPart Holds IsSound refusals is_broken Gives callers k rest s s clock clock w v fault)
+      if_some u (λ rest. IsNext rest buffer fields (Stop end)) (λ rest. IsTurnPart sp Gives callers k rest s s clock clock w v fault)
       (known_next u buffer fields n (Stop end) e h)
       (λ rest x. inr (end_texts end, size, inl (of_answering fault f f' g), refl, clock_same Gives callers fault rest clock, follows_end k rest end x, written))
 
   pub part_ask : (u : Option (List ℕ)) (buffer : List ℕ) (fields : List HeaderSpan) (n : Next) (spans : RequestSpans) (size : ℕ) (s : Service S) (clock clock' : M) (w : Option (List ℕ)) (fault : StreamFault) (f f' : ℕ)
       → n ≡ Request spans size → IfSome u (λ rest. IsNext rest buffer fields n)
       → GaveUpAsking fault f f' → (fault ≡ faults.Memory → (moment : ℕ) × Gives clock moment clock')
-      → IfSome u (λ rest. IsTurnPart Holds IsSound refusals is_broken Gives callers k rest s s clock clock' w w fault)
+      → IfSome u (λ rest. IsTurnPart sp Gives callers k rest s s clock clock' w w fault)
   part_ask u buffer fields n spans size s clock clock' w fault f f' e h g t =
-      if_some u (λ rest. IsNext rest buffer fields (Request spans size)) (λ rest. IsTurnPart Holds IsSound refusals is_broken Gives callers k rest s s clock clock' w w fault)
+      if_some u (λ rest. IsNext rest buffer fields (Request spans size)) (λ rest. IsTurnPart sp Gives callers k rest s s clock clock' w w fault)
       (known_next u buffer fields n (Request spans size) e h)
       (λ rest x. inr ([], 0, inr refl, refl, clock_asked Gives callers fault f f' rest x.0 (body_at buffer spans.len size) clock clock' x.1 g t, inl refl, Appends_nil w))
 
   pub turn_stopped : (u : Option (List ℕ)) (unread : Option (List ℕ)) (buffer : List ℕ) (fields : List HeaderSpan) (n : Next) (end : End) (s : Service S) (clock : M) (w v : Option (List ℕ))
       → n ≡ Stop end → IfSome u (λ rest. IsNext rest buffer fields n) → Appends w v (concat (end_texts end))
-      → IfSome u (λ rest. IsTurn Holds IsSound refusals is_broken Gives callers k rest s s clock clock w v unread (Ended end))
+      → IfSome u (λ rest. IsTurn sp Gives callers k rest s s clock clock w v unread (Ended end))
   turn_stopped u unread buffer fields n end s clock w v e h written =
-      if_some u (λ rest. IsNext rest buffer fields (Stop end)) (λ rest. IsTurn Holds IsSound refusals is_broken Gives callers k rest s s clock clock w v unread (Ended end))
+      if_some u (λ rest. IsNext rest buffer fields (Stop end)) (λ rest. IsTurn sp Gives callers k rest s s clock clock w v unread (Ended end))
       (known_next u buffer fields n (Stop end) e h)
       (λ rest x. (x, refl, refl, written))
 
@@ -150,9 +151,9 @@ module _ {S M : Type 0} (Holds : S → Airspace → Type 0) (IsSound : S → Typ
   took : (rest buffer bytes next : List ℕ) (fields : List HeaderSpan) (spans : RequestSpans) (size : ℕ) (place : Option Place) (moment : ℕ) (call : Call) (n : ℕ)
       (old new : Service S) (clock later : M) (before text : Option (List ℕ)) (reply : Reply)
       → bytes ≡ buffer → (x : IsNext rest buffer fields (Request spans size)) → Makes bytes fields spans size place call → Leaves bytes fields spans n
-      → Gives clock moment later → IsReplyTo Holds IsSound refusals is_broken old new moment call reply
+      → Gives clock moment later → IsReplyTo sp old new moment call reply
       → next ≡ drop (length (body_at buffer spans.len size)) (after x.0 rest)
-      → Took Holds IsSound refusals is_broken Gives callers k rest old new clock later before text
+      → Took sp Gives callers k rest old new clock later before text
       (record { head = x.0; place = place; moment = moment; call = call; closing = n == 0 }) reply n next
   took rest buffer bytes next fields spans size place moment call n old new clock later before text reply g x made leaves gives is_reply after_it =
       let made_at : Makes buffer fields spans size place call = subst (λ (v : List ℕ). Makes v fields spans size place call) g made in
@@ -175,8 +176,8 @@ module _ {S M : Type 0} (Holds : S → Airspace → Type 0) (IsSound : S → Typ
       → m ≡ Request spans size → bytes ≡ buffer → Consumes u b buffer → IfSome u (λ rest. IsNext rest buffer fields m)
       → spans.len + size ≤ length buffer → left ≡ drop (spans.len + size) buffer
       → Makes bytes fields spans size place call → Leaves bytes fields spans n → Gives clock moment later
-      → Replies Holds IsSound refusals is_broken old new moment call place (n == 0) before text
-      → IfSome u (λ rest. IsTurn Holds IsSound refusals is_broken Gives callers k rest old new clock later before text (prepend_known left b) (Answered n))
+      → Replies sp old new moment call place (n == 0) before text
+      → IfSome u (λ rest. IsTurn sp Gives callers k rest old new clock later before text (prepend_known left b) (Answered n))
   turn_answered None b buffer bytes left fields m spans size place moment call n old new clock later before text e g p h fits d made leaves gives r = tt
   turn_answered (Some rest) None buffer bytes left fields m spans size place moment call n old new clock later before text e g p h fits d made leaves gives r = absurd p
   turn_answered (Some rest) (Some t) buffer bytes left fields m spans size place moment call n old new clock later before text e g p h fits d made leaves gives r =
@@ -194,10 +195,10 @@ module _ {S M : Type 0} (Holds : S → Airspace → Type 0) (IsSound : S → Typ
       (old new : Service S) (clock later : M) (before text : Option (List ℕ)) (fault : StreamFault) (f f' : ℕ)
       → m ≡ Request spans size → bytes ≡ buffer → GaveUpAnswering fault f f' → IfSome u (λ rest. IsNext rest buffer fields m)
       → Makes bytes fields spans size place call → Leaves bytes fields spans n → Gives clock moment later
-      → RepliesPart Holds IsSound refusals is_broken old new moment call place (n == 0) before text
-      → IfSome u (λ rest. IsTurnPart Holds IsSound refusals is_broken Gives callers k rest old new clock later before text fault)
+      → RepliesPart sp old new moment call place (n == 0) before text
+      → IfSome u (λ rest. IsTurnPart sp Gives callers k rest old new clock later before text fault)
   part_answered u buffer bytes fields m spans size place moment call n old new clock later before text fault f f' e g gave h made leaves gives r =
-      if_some u (λ rest. IsNext rest buffer fields (Request spans size)) (λ rest. IsTurnPart Holds IsSound refusals is_broken Gives callers k rest old new clock later before text fault)
+      if_some u (λ rest. IsNext rest buffer fields (Request spans size)) (λ rest. IsTurnPart sp Gives callers k rest old new clock later before text fault)
       (known_next u buffer fields m (Request spans size) e h)
       (λ rest x. inl (
         record { head = x.0; place = place; moment = moment; call = call; closing = n == 0 },

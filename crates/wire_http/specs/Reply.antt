@@ -3,6 +3,7 @@ use Rattle.std.specs.Prelude.{ℕ, Bool, List, Option, take}
 use Rattle.std.specs.Io.KnownBytes.{Appends}
 use Rattle.entity_core.specs.Airspace.{Airspace}
 use Rattle.policy_core.specs.declared.call.Call.{Call}
+use Rattle.space_core.specs.declared.space.Space.{Ghosts}
 use Rattle.service_core.specs.declared.service.Service.{Service}
 use Rattle.service_core.specs.declared.reply.Reply.{Reply}
 use Rattle.service_core.specs.Run.{IsReplyTo}
@@ -10,14 +11,14 @@ use Rattle.wire_route.specs.declared.place.Place.{Place}
 use Rattle.wire_http.specs.Text.{answer_text}
 
 -- a reply was made, and its text was written
-pub record Replies {S : Type 0} (Holds : S → Airspace → Type 0) (IsSound : S → Type 0) (refusals : S → ℕ) (is_broken : S → Bool) (old new : Service S) (moment : ℕ) (call : Call) (place : Option Place) (closing : Bool) (before text : Option (List ℕ)) : Type 0 where
+pub record Replies {S : Type 0} (g : Ghosts S) (old new : Service S) (moment : ℕ) (call : Call) (place : Option Place) (closing : Bool) (before text : Option (List ℕ)) : Type 0 where
   pub reply : Reply
-  pub is_reply : IsReplyTo Holds IsSound refusals is_broken old new moment call reply
+  pub is_reply : IsReplyTo g old new moment call reply
   pub written : Appends before text (answer_text place closing reply)
 
 -- a reply was made, and the first bytes of its text were written
-pub record RepliesPart {S : Type 0} (Holds : S → Airspace → Type 0) (IsSound : S → Type 0) (refusals : S → ℕ) (is_broken : S → Bool) (old new : Service S) (moment : ℕ) (call : Call) (place : Option Place) (closing : Bool) (before text : Option (List ℕ)) : Type 0 where
+pub record RepliesPart {S : Type 0} (g : Ghosts S) (old new : Service S) (moment : ℕ) (call : Call) (place : Option Place) (closing : Bool) (before text : Option (List ℕ)) : Type 0 where
   pub reply : Reply
-  pub is_reply : IsReplyTo Holds IsSound refusals is_broken old new moment call reply
+  pub is_reply : IsReplyTo g old new moment call reply
   pub size : ℕ
   pub written : Appends before text (take size (answer_text place closing reply))

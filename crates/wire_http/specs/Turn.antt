@@ -3,6 +3,7 @@ use Rattle.std.specs.Prelude.{◌≡◌, ◌<◌, ◌≤◌, ◌==◌, ◌⊎◌
 use Rattle.std.specs.List.{concat}
 use Rattle.std.specs.Io.KnownBytes.{Appends}
 use Rattle.entity_core.specs.Airspace.{Airspace}
+use Rattle.space_core.specs.declared.space.Space.{Ghosts}
 use Rattle.service_core.specs.declared.service.Service.{Service}
 use Rattle.service_core.specs.declared.reply.Reply.{Reply}
 use Rattle.service_core.specs.Run.{IsReplyTo}
@@ -20,13 +21,13 @@ abbrev pub MayGoOn : ℕ → List ℕ → Turn → Type 0
 MayGoOn count buffer (Answered n) = (n < count) × (length buffer ≤ 8192)
 MayGoOn count buffer (Ended end) = Unit {0}
 
-module _ {S M : Type 0} (Holds : S → Airspace → Type 0) (IsSound : S → Type 0) (refusals : S → ℕ) (is_broken : S → Bool) (Gives : M → ℕ → M → Type 0) (callers : Callers) (bound : ℕ) (rest : List ℕ) (old new : Service S) (clock clock' : M) (before text : Option (List ℕ)) where
+module _ {S M : Type 0} (g : Ghosts S) (Gives : M → ℕ → M → Type 0) (callers : Callers) (bound : ℕ) (rest : List ℕ) (old new : Service S) (clock clock' : M) (before text : Option (List ℕ)) where
   -- a request of the rest was asked, and this is the reply; after it so many may come, from next on
   pub record Took (asked : Asked) (reply : Reply) (n : ℕ) (next : List ℕ) : Type 0 where
     pub asks : Asks Gives callers rest clock asked next clock'
     pub n_is : n ≡ left_after bound asked.head
     pub closing : asked.closing ≡ (n == 0)
-    pub is_reply : IsReplyTo Holds IsSound refusals is_broken old new asked.moment asked.call reply
+    pub is_reply : IsReplyTo g old new asked.moment asked.call reply
 
   -- a request was answered, and these bytes are unread then; or the stream ended
   abbrev pub IsTurn : Option (List ℕ) → Turn → Type 0

@@ -6,11 +6,12 @@ use Rattle.httparse.specs.Grammar.{RequestHead}
 use Rattle.entity_core.specs.Airspace.{Airspace}
 use Rattle.space_core.specs.Space.{IsContent}
 use Rattle.policy_core.specs.declared.call.Call.{Call}
+use Rattle.space_core.specs.declared.space.Space.{Ghosts}
 use Rattle.service_core.specs.declared.service.Service.{Service}
 use Rattle.service_core.specs.declared.reply.Reply.{Reply}
 use Rattle.service_core.specs.declared.reply.Reply.TheVariants.{Stopped}
 use Rattle.service_core.specs.Held.{space_of, salt_of, is_shut}
-use Rattle.service_core.specs.Run.{AskedInOrder, Timed, Runs, has_stopped}
+use Rattle.service_core.specs.Run.{Answered, Timed}
 use Rattle.wire_http.specs.declared.fault.StreamFault.{StreamFault}
 use Rattle.wire_http.specs.declared.fault.StreamFault.TheVariants as faults
 use Rattle.wire_http.specs.declared.end.WireRule.{WireRule}
@@ -107,21 +108,10 @@ pub record IsFront (texts : List (List ℕ)) (bytes : List ℕ) : Type 0 where
 abbrev pub MayBePart : StreamFault → List (List ℕ) → List ℕ → Type 0
 MayBePart fault texts bytes = IsOfAnswering fault ⊎ (bytes ≡ concat texts)
 
--- The service answered the calls in order, each once: as the policy says, or `Stopped` where it was shut. It is shut by a
--- call that it answered `Stopped`, and only a broken space makes it do so.
-pub record Answered {S : Type 0} (Holds : S → Airspace → Type 0) (IsSound : S → Type 0) (refusals : S → ℕ) (is_broken : S → Bool) (old new : Service S) (all : List Asked) (replies : List Reply) : Type 0 where
-  pub one_each : length replies ≡ length all
-  pub in_order : AskedInOrder Holds IsSound refusals is_broken old (map timed all) replies new
-  pub runs : is_shut old ≡ false → IsSound (space_of new) → (a : Airspace) → IsContent Holds (space_of old) a
-      → Runs Holds (salt_of old) a (map timed all) replies (space_of new)
-  pub shuts : is_shut old ≡ false → is_shut new ≡ has_stopped replies
-  pub cause : is_shut old ≡ false → has_stopped replies ≡ true → is_broken (space_of new) ≡ true
-  pub shut : is_shut old ≡ true → All (λ r. r ≡ Stopped) replies
-
 -- What was served of an input: the calls of its requests were answered, and the answers were written, and then the text
 -- of the rule of the wire where one ended the stream.
 pub record Serves
-    {S M : Type 0} (Holds : S → Airspace → Type 0) (IsSound : S → Type 0) (refusals : S → ℕ) (is_broken : S → Bool) (Gives : M → ℕ → M → Type 0) (callers : Callers) (bound : ℕ) (input : List ℕ)
+    {S M : Type 0} (g : Ghosts S) (Gives : M → ℕ → M → Type 0) (callers : Callers) (bound : ℕ) (input : List ℕ)
     (old new : Service S) (clock clock' : M) (before text : Option (List ℕ)) (served : Served) : Type 0 where
   pub all : List Asked
   pub replies : List Reply
@@ -129,13 +119,13 @@ pub record Serves
   pub left : List ℕ
   pub leads : Leads Gives callers bound input clock all n left clock'
   pub finishes : Finishes n left served.end
-  pub answered : Answered Holds IsSound refusals is_broken old new all replies
+  pub answered : Answered g old (map timed all) replies new
   pub count : served.count ≡ length all
   pub written : Appends before text (concat (answers all replies ++ end_texts served.end))
 
 -- What was served before a fault: the first requests, whose answers were written, but for a part of the last text.
 pub record ServesPart
-    {S M : Type 0} (Holds : S → Airspace → Type 0) (IsSound : S → Type 0) (refusals : S → ℕ) (is_broken : S → Bool) (Gives : M → ℕ → M → Type 0) (callers : Callers) (bound : ℕ) (input : List ℕ)
+    {S M : Type 0} (g : Ghosts S) (Gives : M → ℕ → M → Type 0) (callers : Callers) (bound : ℕ) (input : List ℕ)
     (old new : Service S) (clock clock' : M) (before text : Option (List ℕ)) (fault : StreamFault) : Type 0 where
   pub all : List Asked
   pub replies : List Reply
@@ -144,7 +134,7 @@ pub record ServesPart
   pub later : M
   pub leads : Leads Gives callers bound input clock all n left later
   pub clock_is : ClockAfter Gives callers fault left later clock'
-  pub answered : Answered Holds IsSound refusals is_broken old new all replies
+  pub answered : Answered g old (map timed all) replies new
   pub tail : List (List ℕ)
   pub follows : MayFollow n left tail
   pub bytes : List ℕ

@@ -3,11 +3,10 @@ ghost use Rattle.std.specs.Prelude.{◌≡◌, ◌<◌, ◌≤◌, ◌+◌, ◌-
 ghost use Rattle.std.specs.List.{concat};
 ghost use Rattle.std.specs.Io.KnownBytes.{Appends, prepend_known};
 ghost use Rattle.token_conf.specs.TokenFile.{callers_of};
-ghost use Rattle.service_core.specs.Held.{space_of, salt_of, is_shut};
+ghost use Rattle.service_core.specs.Held.{Stays};
 ghost use Rattle.wire_http.specs.Counted.{inner_of, calls_of, failures_of};
 ghost use Rattle.wire_http.specs.Count.{HasRisen, IsGreatest, Spends, most_reads, most_requests};
 ghost use Rattle.wire_http.specs.Fault.{GaveUpAnswering};
-ghost use Rattle.service_core.specs.Run.{IsReplyTo};
 ghost use Rattle.wire_http.specs.Reply.{Replies, RepliesPart};
 ghost use Rattle.wire_http.specs.Text.{end_texts};
 ghost use Rattle.wire_http.specs.Turn.{IsTurn, IsTurnPart, MayGoOn};
@@ -24,7 +23,6 @@ use crate::request::{Next, next_request};
 use crate::rest::HEAD_LIMIT;
 use crate::write::write_whole;
 use httparse::spans::EMPTY_HEADER_SPAN;
-use service_core::reply::Reply;
 use service_core::service::Service;
 use space_core::space::Space;
 use std::alloc::Global;
@@ -38,17 +36,6 @@ const TURNS: u32 = 1_000_000;
 // The most requests of a stream.
 const REQUESTS: u32 = 100;
 
-// The reply to a call, asked for once.
-fn reply_to<S: Space + Drop>(alloc: Global, service: &mut Service<S>, pending: &Pending) -> Reply
-    ensures reply { IsReplyTo S.holds S.is_sound S.refusals S.is_broken service.old service.new
-        pending.now.moment pending.now.call result }
-    ensures salt { salt_of service.new ≡ salt_of service.old }
-    ensures shut { is_shut service.old ≡ true → service.new ≡ service.old }
-    ensures sound { S.is_sound (space_of service.new) → S.is_sound (space_of service.old) }
-{
-    service.call(alloc, pending.moment, &pending.call)
-}
-
 // The reply to a call, asked for once, and its text written.
 fn answer<S: Space + Drop, W: Write>(
     alloc: Global,
@@ -57,20 +44,18 @@ fn answer<S: Space + Drop, W: Write>(
     pending: &Pending,
     closing: bool,
 ) -> Result<(), StreamFault>
-    ensures replies { OnOk result (Replies S.holds S.is_sound S.refusals S.is_broken service.old service.new
+    ensures replies { OnOk result (Replies S.Space service.old service.new
         pending.now.moment pending.now.call pending.now.place closing
         (W.contents (inner_of writer.old)) (W.contents (inner_of writer.new))) }
-    ensures part { OnErr result (RepliesPart S.holds S.is_sound S.refusals S.is_broken service.old service.new
+    ensures part { OnErr result (RepliesPart S.Space service.old service.new
         pending.now.moment pending.now.call pending.now.place closing
         (W.contents (inner_of writer.old)) (W.contents (inner_of writer.new))) }
     ensures good { OnOk result (failures_of writer.new ≡ failures_of writer.old) }
     ensures err { IfErr result (λ e.
         GaveUpAnswering e (failures_of writer.old) (failures_of writer.new)) }
-    ensures salt { salt_of service.new ≡ salt_of service.old }
-    ensures shut { is_shut service.old ≡ true → service.new ≡ service.old }
-    ensures sound { S.is_sound (space_of service.new) → S.is_sound (space_of service.old) }
+    ensures stays { Stays S.Space service.old service.new }
 {
-    let reply = reply_to(alloc, service, pending);
+    let reply = service.call(alloc, pending.moment, &pending.call);
     let Ok(text) = answer_text(alloc, pending.place, closing, &reply) else {
         return Err(StreamFault::Memory);
     };
@@ -129,13 +114,13 @@ fn serve_one<S: Space + Drop, M: Moments, R: Read, W: Write>(
     requires short { length buffer.old.items ≤ HEAD_LIMIT }
     ensures turn { IfOk result (λ turn.
         IfSome (prepend_known buffer.old.items (R.remaining (inner_of reader.old))) (λ rest.
-        IsTurn S.holds S.is_sound S.refusals S.is_broken M.gives (callers_of tokens.now) (count - 1) rest
+        IsTurn S.Space M.gives (callers_of tokens.now) (count - 1) rest
         service.old service.new moments.old moments.new
         (W.contents (inner_of writer.old)) (W.contents (inner_of writer.new))
         (prepend_known buffer.new.items (R.remaining (inner_of reader.new))) turn)) }
     ensures part { IfErr result (λ fault.
         IfSome (prepend_known buffer.old.items (R.remaining (inner_of reader.old))) (λ rest.
-        IsTurnPart S.holds S.is_sound S.refusals S.is_broken M.gives (callers_of tokens.now) (count - 1) rest
+        IsTurnPart S.Space M.gives (callers_of tokens.now) (count - 1) rest
         service.old service.new moments.old moments.new
         (W.contents (inner_of writer.old)) (W.contents (inner_of writer.new)) fault)) }
     ensures goes_on { IfOk result (MayGoOn count buffer.new.items) }
@@ -155,9 +140,7 @@ fn serve_one<S: Space + Drop, M: Moments, R: Read, W: Write>(
     ensures good_clock { (result ≡ Err StreamFault.Clock)
         ⊎ (M.failures moments.new ≡ M.failures moments.old) }
 
-    ensures salt { salt_of service.new ≡ salt_of service.old }
-    ensures shut { is_shut service.old ≡ true → service.new ≡ service.old }
-    ensures sound { S.is_sound (space_of service.new) → S.is_sound (space_of service.old) }
+    ensures stays { Stays S.Space service.old service.new }
 {
     let mut fields = [EMPTY_HEADER_SPAN; 64];
     let (spans, size) = match next_request(reader, turns, buffer, &mut fields)? {
@@ -201,11 +184,11 @@ pub fn serve_stream<S: Space + Drop, M: Moments, R: Read, W: Write>(
     // Of a reader whose bytes are known, whatever the pieces were in which they came: what the
     // input spells was asked and answered.
     ensures serves { IfOk result (λ served. IfSome (R.remaining (inner_of reader.old)) (λ input.
-        Serves S.holds S.is_sound S.refusals S.is_broken M.gives (callers_of tokens.now) most_requests input
+        Serves S.Space M.gives (callers_of tokens.now) most_requests input
         service.old service.new moments.old moments.new
         (W.contents (inner_of writer.old)) (W.contents (inner_of writer.new)) served)) }
     ensures part { IfErr result (λ fault. IfSome (R.remaining (inner_of reader.old)) (λ input.
-        ServesPart S.holds S.is_sound S.refusals S.is_broken M.gives (callers_of tokens.now) most_requests input
+        ServesPart S.Space M.gives (callers_of tokens.now) most_requests input
         service.old service.new moments.old moments.new
         (W.contents (inner_of writer.old)) (W.contents (inner_of writer.new)) fault)) }
 
@@ -228,10 +211,8 @@ pub fn serve_stream<S: Space + Drop, M: Moments, R: Read, W: Write>(
     ensures reads { (calls_of reader.new ≤ calls_of reader.old + most_reads)
         ⊎ IsGreatest (calls_of reader.new) }
 
-    // What stays.
-    ensures salt { salt_of service.new ≡ salt_of service.old }
-    ensures shut { is_shut service.old ≡ true → service.new ≡ service.old }
-    ensures sound { S.is_sound (space_of service.new) → S.is_sound (space_of service.old) }
+    // What stays, whatever came.
+    ensures stays { Stays S.Space service.old service.new }
 {
     let Ok(routes) = Routes::new(alloc) else {
         return Err(StreamFault::Memory);

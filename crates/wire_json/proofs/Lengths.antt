@@ -9,7 +9,7 @@ use Rattle.serde_json.specs.View.{view, items_view}
 use Rattle.serde_json.specs.declared.value.Value.{Value}
 use Rattle.grid_core.specs.Extent.{Extent}
 use Rattle.wire_json.specs.Member.{◌>>=◌, each}
-use Rattle.wire_json.specs.Put.{text_in, few_volumes, few_versions, volumes_in, key_in}
+use Rattle.wire_json.specs.Put.{text_in, few_volumes, few_ovns, volumes_in, key_in}
 use Rattle.wire_json.specs.Volume.{volume_in}
 
 each_length : {A : Type 0} (read : Data → Option A) (vs : List Value) (xs : List A) → each read (items_view vs) ≡ Some xs → length xs ≡ length vs
@@ -23,15 +23,15 @@ each_length read (v ∷ vs) xs e = by (read (view v)) (each read (items_view vs)
     by (Some x) (Some ys) e ih = let n = ih ys refl in let same : x ∷ ys ≡ xs = cc in omega (arith, ap length same, n)
 
 -- a key that is too long
-long_key : (read : Data → Option (List ℕ)) (vs : List Value) → 4096 < length vs → (each read (items_view vs) >>= few_versions) ≡ None
+long_key : (read : Data → Option (List ℕ)) (vs : List Value) → 4096 < length vs → (each read (items_view vs) >>= few_ovns) ≡ None
 long_key read vs l = by (each read (items_view vs)) (each_length read vs)
   where
-    by : (t : Option (List (List ℕ))) → ((xs : List (List ℕ)) → t ≡ Some xs → length xs ≡ length vs) → (t >>= few_versions) ≡ None
+    by : (t : Option (List (List ℕ))) → ((xs : List (List ℕ)) → t ≡ Some xs → length xs ≡ length vs) → (t >>= few_ovns) ≡ None
     by None ih = refl
     by (Some xs) ih = let n = ih xs refl in let over : nat_le (length xs) 4096 ≡ false = grind (arith, nat_tests) in rw over refl
 
 short_key : (read : Data → Option (List ℕ)) (vs : List Value) (xs : List (List ℕ)) → length vs ≤ 4096 → each read (items_view vs) ≡ Some xs
-    → (each read (items_view vs) >>= few_versions) ≡ Some xs
+    → (each read (items_view vs) >>= few_ovns) ≡ Some xs
 short_key read vs xs l e =
     let n = each_length read vs xs e in
     let within : nat_le (length xs) 4096 ≡ true = grind (arith, nat_tests) in

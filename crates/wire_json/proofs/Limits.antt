@@ -20,10 +20,10 @@ use Rattle.policy_core.specs.declared.call.OpKind.TheVariants as kinds
 use Rattle.policy_core.specs.declared.call.Operation.{Operation}
 use Rattle.policy_core.specs.declared.call.Operation.TheVariants.{Query, Read, Create, Update, Delete, ReadAvail, SetAvail}
 use Rattle.policy_core.specs.declared.call.Put.{Put}
-use Rattle.wire_json.specs.Body.{IsBody, Words, only_word, is_query, entity_named, version_named, supplier_named, availability_of, old_version_of, short_text_in, short_text, query_of, read_of, create_of, update_of, delete_of, availability_read_of, setting_of}
+use Rattle.wire_json.specs.Body.{IsBody, Words, only_word, is_query, entity_named, ovn_named, supplier_named, availability_of, old_version_of, short_text_in, short_text, query_of, read_of, create_of, update_of, delete_of, availability_read_of, setting_of}
 use Rattle.wire_json.specs.Laws.{IsPutWithinLimits, IsWithinLimits, KeepsKind, KeepsLimits}
 use Rattle.wire_json.specs.Member.{without_fault, member_of, required, optional, if_there, list_of}
-use Rattle.wire_json.specs.Put.{text_in, are_few_cells, few_volumes, volumes_in, volumes_of, few_versions, key_in, key_of, state_in, nature_of, url_of, put_of}
+use Rattle.wire_json.specs.Put.{text_in, are_few_cells, few_volumes, volumes_in, volumes_of, few_ovns, key_in, key_of, state_in, nature_of, url_of, put_of}
 use Rattle.wire_json.specs.Volume.{volume_in, area_in, altitudes_of, times_of, cells_of, altitude_bounds_of, time_bounds_of}
 use Rattle.wire_json.proofs.Chains.{both_steps, mapped, faultless, passed, let_through, list_holds}
 
@@ -78,7 +78,7 @@ record HasFewVersions (vs : List (List ℕ)) : Type 0 where
 few_in : (d : Data) (vs : List (List ℕ)) → key_in d ≡ Some vs → HasFewVersions vs
 unfolding key_in
 few_in d vs is =
-    let read = both_steps (list_of (text_in ovn_fault) d) few_versions vs is in
+    let read = both_steps (list_of (text_in ovn_fault) d) few_ovns vs is in
     let test = passed (nat_le (length read.0) 4096) read.0 vs read.2 in
     let right : HasFewVersions read.0 = record { entries = leb-true _ _ test.0; key = list_holds (text_in ovn_fault) (λ v. ovn_fault v ≡ None) (text_faultless ovn_fault) d read.0 read.1 } in
     subst HasFewVersions test.1 right
@@ -129,9 +129,9 @@ right_put kind d p is =
 
 -- ---- words
 
-version_faultless : (words : Words) (v : List ℕ) → version_named words ≡ Some v → ovn_fault v ≡ None
-unfolding version_named
-version_faultless words v is =
+ovn_faultless : (words : Words) (v : List ℕ) → ovn_named words ≡ Some v → ovn_fault v ≡ None
+unfolding ovn_named
+ovn_faultless words v is =
     let word = both_steps words.second (λ s. without_fault (ovn_fault s) s) v is in
     let none = faultless (ovn_fault word.0) word.0 v word.2 in
     subst (λ (s : List ℕ). ovn_fault s ≡ None) none.1 none.0
@@ -195,20 +195,20 @@ right_update : (kind : Kind) (words : Words) (d : Data) (op : Operation) → upd
 unfolding update_of
 right_update kind words d op is =
     let id = both_steps (spelled words.first) _ op is in
-    let version = both_steps (version_named words) _ op id.2 in
-    let put = both_steps (put_of kind d) _ op version.2 in
+    let ovn = both_steps (ovn_named words) _ op id.2 in
+    let put = both_steps (put_of kind d) _ op ovn.2 in
     let p = right_put kind d put.0 put.1 in
-    let same : Update id.0 version.0 put.0 ≡ op = cc in
-    let right : IsRightFor (kinds.Update kind) (Update id.0 version.0 put.0) = record { same_kind = ap (λ k. Some (kinds.Update k)) p.same_kind; limits = (version_faultless words version.0 version.1, p.limits) } in
+    let same : Update id.0 ovn.0 put.0 ≡ op = cc in
+    let right : IsRightFor (kinds.Update kind) (Update id.0 ovn.0 put.0) = record { same_kind = ap (λ k. Some (kinds.Update k)) p.same_kind; limits = (ovn_faultless words ovn.0 ovn.1, p.limits) } in
     subst (IsRightFor (kinds.Update kind)) same right
 
 right_delete : (kind : Kind) (words : Words) (op : Operation) → delete_of kind words ≡ Some op → IsRightFor (kinds.Delete kind) op
 unfolding delete_of
 right_delete kind words op is =
     let id = both_steps (spelled words.first) _ op is in
-    let version = both_steps (version_named words) _ op id.2 in
-    let same : Delete kind id.0 version.0 ≡ op = cc in
-    let right : IsRightFor (kinds.Delete kind) (Delete kind id.0 version.0) = record { same_kind = refl; limits = version_faultless words version.0 version.1 } in
+    let ovn = both_steps (ovn_named words) _ op id.2 in
+    let same : Delete kind id.0 ovn.0 ≡ op = cc in
+    let right : IsRightFor (kinds.Delete kind) (Delete kind id.0 ovn.0) = record { same_kind = refl; limits = ovn_faultless words ovn.0 ovn.1 } in
     subst (IsRightFor (kinds.Delete kind)) same right
 
 right_availability : (words : Words) (op : Operation) → availability_read_of words ≡ Some op → IsRightFor kinds.ReadAvail op

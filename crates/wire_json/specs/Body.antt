@@ -39,13 +39,13 @@ only_word words = unless_second words.first words.second
 abbrev pub is_query : Words → Bool
 is_query words = is_none words.second && bytes_eq words.first (codes "query")
 
--- the entity of a path that has no version
+-- the entity of a path that has no OVN
 unfoldable pub entity_named : Words → Option ℕ
 entity_named words = option_and_then spelled (only_word words)
 
--- the version of an entity
-unfoldable pub version_named : Words → Option (List ℕ)
-version_named words = option_and_then (λ s. without_fault (ovn_fault s) s) words.second
+-- the OVN that a path names
+unfoldable pub ovn_named : Words → Option (List ℕ)
+ovn_named words = option_and_then (λ s. without_fault (ovn_fault s) s) words.second
 
 unfoldable pub supplier_named : Words → Option (List ℕ)
 supplier_named words = option_and_then (λ s. without_fault (name_fault s) s) (only_word words)
@@ -85,15 +85,15 @@ create_of kind words d = do
 unfoldable pub update_of : Kind → Words → Data → Option Operation
 update_of kind words d = do
   id ← spelled words.first
-  version ← version_named words
+  ovn ← ovn_named words
   put ← put_of kind d
-  Some (Update id version put)
+  Some (Update id ovn put)
 
 unfoldable pub delete_of : Kind → Words → Option Operation
 delete_of kind words = do
   id ← spelled words.first
-  version ← version_named words
-  Some (Delete kind id version)
+  ovn ← ovn_named words
+  Some (Delete kind id ovn)
 
 unfoldable pub availability_read_of : Words → Option Operation
 availability_read_of words = option_map ReadAvail (supplier_named words)

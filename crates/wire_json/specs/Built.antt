@@ -21,7 +21,7 @@ use Rattle.wire_json.specs.Availability as availabilities
 use Rattle.wire_json.specs.Reference.{reference_name, references_name, no_subscription}
 use Rattle.wire_json.specs.State as states
 
--- the members, with the version number where the reader is shown it
+-- the members, with the OVN where the reader is shown it
 abbrev pub with_ovn : Option (List ℕ) → Members → Members
 with_ovn None ms = ms
 with_ovn (Some ovn) ms = put (codes "ovn") (string ovn) ms

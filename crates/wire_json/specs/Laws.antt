@@ -41,8 +41,8 @@ IsWithinLimits (Malformed kind) = ⊥
 IsWithinLimits (Query kind area) = region_fault area ≡ None
 IsWithinLimits (Read kind id) = Unit {0}
 IsWithinLimits (Create id put) = IsPutWithinLimits put
-IsWithinLimits (Update id version put) = (ovn_fault version ≡ None) × IsPutWithinLimits put
-IsWithinLimits (Delete kind id version) = ovn_fault version ≡ None
+IsWithinLimits (Update id ovn put) = (ovn_fault ovn ≡ None) × IsPutWithinLimits put
+IsWithinLimits (Delete kind id ovn) = ovn_fault ovn ≡ None
 IsWithinLimits (ReadAvail uss) = name_fault uss ≡ None
 IsWithinLimits (SetAvail uss version availability) = (name_fault uss ≡ None) × (length version ≤ 128)
 

@@ -33,12 +33,12 @@ volumes_in d = list_of volume_in d >>= few_volumes
 
 -- ---- keys
 
--- at most 4,096 version numbers
-abbrev pub few_versions : List (List ℕ) → Option (List (List ℕ))
-few_versions vs = if nat_le (length vs) 4096 then Some vs else None
+-- at most 4,096 OVNs
+abbrev pub few_ovns : List (List ℕ) → Option (List (List ℕ))
+few_ovns ovns = if nat_le (length ovns) 4096 then Some ovns else None
 
 unfoldable pub key_in : Data → Option (List (List ℕ))
-key_in d = list_of (text_in ovn_fault) d >>= few_versions
+key_in d = list_of (text_in ovn_fault) d >>= few_ovns
 
 -- The key of an intent's put. An absent one is empty. A constraint has none.
 unfoldable pub key_of : Kind → Data → Option (List (List ℕ))

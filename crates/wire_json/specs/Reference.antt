@@ -26,7 +26,7 @@ references_name kinds.Constraint = codes "constraint_references"
 abbrev pub no_subscription : List ℕ
 no_subscription = codes "00000000-0000-4000-8000-000000000000"
 
--- the version number, where the reader is shown it
+-- the OVN, where the reader is shown it
 abbrev pub ovn_members : Option (List ℕ) → List (List ℕ × List ℕ)
 ovn_members None = []
 ovn_members (Some ovn) = (codes "ovn", quoted ovn) ∷ []

@@ -10,7 +10,7 @@ use crate::member::member;
 use crate::put::put_of;
 use crate::setting::{availability_of, old_version_of};
 use crate::volume::area_in;
-use crate::words::{entity_named, first_id, is_query, supplier_named, version_named};
+use crate::words::{entity_named, first_id, is_query, ovn_named, supplier_named};
 use entity_core::nature::Kind;
 use policy_core::call::{OpKind, Operation};
 use serde_json::Value;
@@ -95,9 +95,9 @@ fn update_of(
     let Some(id) = first_id(words) else {
         return Err(BodyFault::Malformed);
     };
-    let version = version_named(alloc, words)?;
+    let ovn = ovn_named(alloc, words)?;
     let put = put_of(alloc, kind, value)?;
-    Ok(Operation::Update(id, version, put))
+    Ok(Operation::Update(id, ovn, put))
 }
 
 #[tactic(auto, unfolding(crate::specs::Body::delete_of))]
@@ -107,8 +107,8 @@ fn delete_of(alloc: Global, kind: Kind, words: &PathWords<'_>) -> Result<Operati
     let Some(id) = first_id(words) else {
         return Err(BodyFault::Malformed);
     };
-    let version = version_named(alloc, words)?;
-    Ok(Operation::Delete(kind, id, version))
+    let ovn = ovn_named(alloc, words)?;
+    Ok(Operation::Delete(kind, id, ovn))
 }
 
 #[tactic(auto, unfolding(crate::specs::Body::availability_read_of))]

@@ -4,7 +4,7 @@ ghost use Rattle.serde_json.specs.View.{view, items_view};
 ghost use Rattle.entity_core.specs.IdTexts.{ovn_fault, url_fault};
 ghost use Rattle.wire_json.specs.Given.{Gives, GivesBy};
 ghost use Rattle.wire_json.specs.Member.{each, list_of};
-ghost use Rattle.wire_json.specs.Put.{text_in, are_few_cells, few_volumes, volumes_in, few_versions, key_in, key_of, state_in, nature_of, volumes_of, url_of, put_of};
+ghost use Rattle.wire_json.specs.Put.{text_in, are_few_cells, few_volumes, volumes_in, few_ovns, key_in, key_of, state_in, nature_of, volumes_of, url_of, put_of};
 ghost use Rattle.wire_json.specs.Volume.{volume_in};
 
 use crate::body_fault::BodyFault;
@@ -90,31 +90,31 @@ fn volumes_of(alloc: Global, value: &Value) -> Result<Volumes, BodyFault>
     }
 }
 
-fn version_in(alloc: Global, value: &Value) -> Result<Ovn, BodyFault>
+fn ovn_in(alloc: Global, value: &Value) -> Result<Ovn, BodyFault>
     ensures { Gives result (text_in ovn_fault (view value.now)) }
 {
     let Some(text) = value.as_str() else {
         return Err(BodyFault::Malformed);
     };
     match Ovn::read(alloc, text) {
-        Ok(version) => Ok(version),
+        Ok(ovn) => Ok(ovn),
         Err(IdFault::Memory) => Err(BodyFault::Memory),
         Err(IdFault::Length) => Err(BodyFault::Malformed),
         Err(IdFault::Form) => Err(BodyFault::Malformed),
     }
 }
 
-fn each_version(alloc: Global, items: &[Value]) -> Result<Vec<Ovn>, BodyFault>
+fn each_ovn(alloc: Global, items: &[Value]) -> Result<Vec<Ovn>, BodyFault>
     ensures { GivesBy (λ v. v.items) result (each (text_in ovn_fault) (items_view items.now)) }
 {
-    let mut versions = Vec::new(alloc);
+    let mut ovns = Vec::new(alloc);
     for value in items {
-        let version = version_in(alloc, value)?;
-        if versions.push(version).is_err() {
+        let ovn = ovn_in(alloc, value)?;
+        if ovns.push(ovn).is_err() {
             return Err(BodyFault::Memory);
         }
     }
-    Ok(versions)
+    Ok(ovns)
 }
 
 #[tactic(auto, unfolding(crate::specs::Put::key_in))]
@@ -129,8 +129,8 @@ fn key_in(alloc: Global, value: &Value) -> Result<Key, BodyFault>
     if items.len() > 4096 {
         return Err(BodyFault::Malformed);
     }
-    let versions = each_version(alloc, items)?;
-    Ok(Key::from_vec(versions))
+    let ovns = each_ovn(alloc, items)?;
+    Ok(Key::from_vec(ovns))
 }
 
 #[tactic(auto, unfolding(crate::specs::Put::key_of))]

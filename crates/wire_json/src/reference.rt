@@ -60,7 +60,7 @@ fn put_number(
     put(members, alloc, name, Value::from(value))
 }
 
-// The version number, where the reader is shown it.
+// The OVN, where the reader is shown it.
 fn put_ovn(
     members: &mut Map<String, Value>,
     alloc: Global,

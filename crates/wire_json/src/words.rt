@@ -1,6 +1,6 @@
 //! The words of a path.
 ghost use Rattle.std.specs.Prelude.{◌≡◌, option_map};
-ghost use Rattle.wire_json.specs.Body.{words_of, only_word, is_query, entity_named, version_named, supplier_named};
+ghost use Rattle.wire_json.specs.Body.{words_of, only_word, is_query, entity_named, ovn_named, supplier_named};
 ghost use Rattle.wire_json.specs.Given.{Gives};
 ghost use Rattle.entity_core.specs.EntityId.{spelled};
 
@@ -58,16 +58,16 @@ pub(crate) fn entity_named(words: &PathWords<'_>) -> Option<EntityId>
     }
 }
 
-/// The version that the second word is.
-#[tactic(auto, unfolding(crate::specs::Body::version_named))]
-pub(crate) fn version_named(alloc: Global, words: &PathWords<'_>) -> Result<Ovn, BodyFault>
-    ensures { Gives result (version_named (words_of words.now)) }
+/// The OVN that the second word is.
+#[tactic(auto, unfolding(crate::specs::Body::ovn_named))]
+pub(crate) fn ovn_named(alloc: Global, words: &PathWords<'_>) -> Result<Ovn, BodyFault>
+    ensures { Gives result (ovn_named (words_of words.now)) }
 {
     let Some(word) = words.second else {
         return Err(BodyFault::Malformed);
     };
     match Ovn::read(alloc, word) {
-        Ok(version) => Ok(version),
+        Ok(ovn) => Ok(ovn),
         Err(IdFault::Memory) => Err(BodyFault::Memory),
         Err(IdFault::Length) => Err(BodyFault::Malformed),
         Err(IdFault::Form) => Err(BodyFault::Malformed),

@@ -1,4 +1,4 @@
-use Rattle.std.proofs.Common.{◌≡◌, ◌∙◌, ℕ, true, false, List, sym, subst, refl}
+use Rattle.std.proofs.Common.{◌≡◌, ◌∙◌, ◌||◌, ℕ, Bool, true, false, List, sym, subst, refl}
 use Rattle.entity_core.specs.Airspace.{Airspace, empty_at}
 use Rattle.space_core.specs.List.{content_of}
 use Rattle.space_core.specs.Space.{IsContent}
@@ -7,6 +7,10 @@ use Rattle.service_core.specs.Run.{has_stopped}
 use Rattle.service_core.specs.Stale.{IsStale}
 use Rattle.call_tests.specs.Told.{ToldAfter, airspace_told}
 use Rattle.call_tests.proofs.told.told_after.Goals as goal
+
+not_stopped : (b c : Bool) → false ≡ (b || c) → b ≡ false
+not_stopped true c h = sym h
+not_stopped false c h = refl
 
 pub returns : goal.returns
 returns c =
@@ -17,13 +21,10 @@ returns c =
     let own : List ℕ = c.new-service.result.salt in
     let at : Airspace = airspace_told own cs rs in
     let empty : IsContent (λ (s : ListSpace) (a : Airspace). a ≡ content_of s) c.new-service.result.space (empty_at 0) = rw c.new-service.ensures.space c.new.ensures in
-    let none : has_stopped rs ≡ false = elim (has_stopped rs) as (λ b. has_stopped rs ≡ b → b ≡ false) [
-      | true ↦ λ h. sym (ran.cause goes h)
-      | false ↦ λ h. refl
-    ] refl in
-    let content = (ran.runs goes tt (empty_at 0) empty).whole none in
+    let none : has_stopped rs ≡ false = not_stopped (has_stopped rs) false (ran.answered.breaks goes) in
+    let content = (ran.answered.runs goes tt (empty_at 0) empty).whole none in
     subst (λ (salt : List ℕ). ToldAfter salt cs c.args.call.now rs c.call-reply.result) c.new-service.ensures.salt (record {
       aware = ran.aware goes tt none 0 empty at content.held;
-      stale = λ kind y differ needs old. c.call-reply.ensures.stale ((ran.shuts goes).0 ∙ none) tt at content kind y (
-          subst (λ (salt : List ℕ). IsStale salt kind at c.args.call.now y) (sym ran.salt) (record { numbered = ran.numbered goes tt none 0 empty at content.held; differ = differ; needs = needs; old = old }));
+      stale = λ kind y differ needs old. c.call-reply.ensures.stale (ran.answered.shuts goes ∙ none) tt at content kind y (
+          subst (λ (salt : List ℕ). IsStale salt kind at c.args.call.now y) (sym ran.answered.stays.salt) (record { numbered = ran.numbered goes tt none 0 empty at content.held; differ = differ; needs = needs; old = old }));
     })

@@ -12,7 +12,7 @@ loop-entity-preserved g c =
     let i = c.loop-entity.entity-index in
     let e = c.entity-item.result in
     let more : take (i + 1) es ≡ take i es ++ e ∷ [] = take_more es i e c.loop-entity-test.true ∙ ap (λ (x : Entity). take i es ++ x ∷ []) (sym c.entity-item.is) in
-    looks_then g.S.Space.holds g.S.Space.is_sound g.S.Space.refusals g.S.Space.is_broken c.args.space.now c.loop-entity.space c.reference.new.space
+    looks_then g.S.Space c.args.space.now c.loop-entity.space c.reference.new.space
     c.loop-entity.items.items c.in_ok-reference.field-0 _ _ _ _ c.loop-entity.invariant c.in_ok-reference.ensures (λ a p q.
     c.in_ok-push.ensures.items ∙ (ap (λ (rs : List Reference). rs ++ c.in_ok-reference.field-0 ∷ []) p ∙ (ap (λ (r : Reference). map (view_of a c.args.uss.now) (take i es) ++ r ∷ []) q
     ∙ (sym (map-append (view_of a c.args.uss.now) (take i es) (e ∷ [])) ∙ ap (map (view_of a c.args.uss.now)) (sym more)))))

@@ -5,5 +5,5 @@ use Rattle.service_core.proofs.look.references.Given as goal
 
 abbrev pub invariant-loop-entity : goal.invariant-loop-entity
 invariant-loop-entity g l =
-    Looks g.S.Space.holds g.S.Space.is_sound g.S.Space.refusals g.S.Space.is_broken l.fn.space l.space (Ok l.items.items)
+    Looks g.S.Space l.fn.space l.space (Ok l.items.items)
     (λ a rs. rs ≡ map (view_of a l.uss) (take l.entity-index l.entities))

@@ -6,5 +6,5 @@ use Rattle.service_core.proofs.look.references_at.Given as goal
 
 abbrev pub invariant-loop-place : goal.invariant-loop-place
 invariant-loop-place g l =
-    Looks g.S.Space.holds g.S.Space.is_sound g.S.Space.refusals g.S.Space.is_broken l.fn.space l.space (Ok l.items.items)
+    Looks g.S.Space l.fn.space l.space (Ok l.items.items)
     (λ a rs. rs ≡ map (view_of a l.uss) (filter_map (slice_get l.entities) (take l.place-index l.places)))

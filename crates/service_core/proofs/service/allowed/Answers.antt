@@ -7,11 +7,11 @@ use Rattle.service_core.proofs.service.allowed.Goals as goal
 
 pub returns-in-Err : goal.returns-in-Err
 returns-in-Err g c =
-    subst (λ (r : Reply). Answers g.S.Space.holds g.S.Space.is_sound g.S.Space.refusals g.S.Space.is_broken c.args.salt.now c.args.now c.args.call.now c.args.space.now c.prepared.new.space r) (sym c.gave_up.ensures)
-    (halted_answers g.S.Space.holds g.S.Space.is_sound g.S.Space.refusals g.S.Space.is_broken c.args.salt.now c.args.now c.args.call.now c.args.space.now c.prepared.new.space
+    subst (λ (r : Reply). Answers g.S.Space c.args.salt.now c.args.now c.args.call.now c.args.space.now c.prepared.new.space r) (sym c.gave_up.ensures)
+    (halted_answers g.S.Space c.args.salt.now c.args.now c.args.call.now c.args.space.now c.prepared.new.space
     c.in-Err.halt _ c.in-Err.ensures c.requires.early (λ e s a h. standing_none a c.args.now c.args.call.now (c.requires.given (c.in-Err.ensures.sound s) a h).0))
 
 pub returns-in-None : goal.returns-in-None
 returns-in-None g c =
-    read_answers g.S.Space.holds g.S.Space.is_sound g.S.Space.refusals g.S.Space.is_broken c.args.salt.now c.args.now c.args.call.now c.args.space.now c.prepared.new.space
+    read_answers g.S.Space c.args.salt.now c.args.now c.args.call.now c.args.space.now c.prepared.new.space
     c.args.grounds.now c.in-Ok.made c.in-None.is c.in-Ok.ensures c.requires.given

@@ -4,7 +4,7 @@ use Rattle.token_conf.proofs.Scopes.{with_names, with_names-none, with_names-con
 use Rattle.token_conf.proofs.entry.scopes_in.Goals as goal
 
 pub loop-value-init : goal.loop-value-init
-loop-value-init c = rw c.empty-scopes.ensures.value (with_names-none _)
+loop-value-init c = rw c.empty-scopes.ensures (with_names-none _)
 
 pub loop-value-preserved : goal.loop-value-preserved
 loop-value-preserved c =

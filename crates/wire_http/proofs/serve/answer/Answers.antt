@@ -3,8 +3,8 @@ use Rattle.wire_http.proofs.serve.answer.Goals as goal
 
 pub returns-in_default-clause-part : goal.returns-in_default-clause-part
 returns-in_default-clause-part g c = record {
-  reply = c.reply_to-reply.result;
-  is_reply = c.reply_to-reply.ensures.reply;
+  reply = c.call-reply.result;
+  is_reply = c.call-reply.ensures.reply;
   size = 0;
   written = Appends-none _;
 }

@@ -1,7 +1,6 @@
 use Rattle.std.proofs.Common.{◌≡◌, ◌∙◌, ◌-◌, suc, ap, arith, rules}
 use Rattle.std.proofs.lemmas.Result.{err_from_is_err_and}
-use Rattle.service_core.specs.declared.service.Service.{Service}
-use Rattle.service_core.specs.Held.{is_shut}
+use Rattle.service_core.proofs.Runs.{stays_same, stays_then}
 use Rattle.token_conf.specs.TokenFile.{callers_of}
 use Rattle.wire_http.specs.Count.{most_requests}
 use Rattle.wire_http.proofs.CountLaws.{Spends_more}
@@ -11,12 +10,12 @@ use Rattle.wire_http.proofs.serve.serve_stream.Goals as goal
 
 pub returns-in_default-clause-part : goal.returns-in_default-clause-part
 returns-in_default-clause-part g c =
-    none_served g.S.Space.holds g.S.Space.is_sound g.S.Space.refusals g.S.Space.is_broken g.M.Moments.gives (callers_of c.args.tokens.now)
+    none_served g.S.Space g.M.Moments.gives (callers_of c.args.tokens.now)
     _ most_requests c.args.service.now c.args.moments.now _ _
 
 pub serving-init : goal.serving-init
 serving-init g c = record {
-  goes = goes_init g.S.Space.holds g.S.Space.is_sound g.S.Space.refusals g.S.Space.is_broken g.M.Moments.gives (callers_of c.args.tokens.now)
+  goes = goes_init g.S.Space g.M.Moments.gives (callers_of c.args.tokens.now)
       _ c.new-buffer.result.items most_requests c.args.service.now c.args.moments.now _ c.new-buffer.ensures.items;
   short = search rules;
   bounded = search rules;
@@ -24,9 +23,7 @@ serving-init g c = record {
   good_reader = search rules;
   good_writer = search rules;
   good_clock = search rules;
-  salt = search rules;
-  shut = search rules;
-  sound = search rules;
+  stays = stays_same g.S.Space c.args.service.now;
 }
 
 pub returns-in_err-then-clause-part : goal.returns-in_err-then-clause-part
@@ -35,10 +32,10 @@ returns-in_err-then-clause-part g c =
     let inv = c.serving.invariant in
     let some : c.serving.left ≡ suc (c.serving.left - 1) = omega (arith, c.serving-test.true) in
     rw (p.1, p.2) (
-    goes_part g.S.Space.holds g.S.Space.is_sound g.S.Space.refusals g.S.Space.is_broken g.M.Moments.gives (callers_of c.args.tokens.now)
+    goes_part g.S.Space g.M.Moments.gives (callers_of c.args.tokens.now)
     _ _ most_requests c.args.service.now c.serving.service c.serve_one.new.service c.args.moments.now c.serving.moments c.serve_one.new.moments
     _ _ _ c.serving.left (c.serving.left - 1) c.serving.count _
-    inv.goes some c.in_err-then.ensures.part inv.salt inv.shut)
+    inv.goes some c.in_err-then.ensures.part)
 
 pub serving-preserved : goal.serving-preserved
 serving-preserved g c =
@@ -46,32 +43,39 @@ serving-preserved g c =
     let some : c.serving.left ≡ suc (c.serving.left - 1) = omega (arith, c.serving-test.true) in
     let on = go_on_at c.serving.left c.serve_one.new.buffer.items c.in_ok-then.field-0 c.in-Answered.then c.in-Answered.is c.in_ok-then.ensures.goes_on in
     record {
-      goes = goes_more g.S.Space.holds g.S.Space.is_sound g.S.Space.refusals g.S.Space.is_broken g.M.Moments.gives (callers_of c.args.tokens.now)
+      goes = goes_more g.S.Space g.M.Moments.gives (callers_of c.args.tokens.now)
           _ _ _ most_requests c.args.service.now c.serving.service c.serve_one.new.service c.args.moments.now c.serving.moments c.serve_one.new.moments
           _ _ _ c.serving.left (c.serving.left - 1) c.serving.count c.in-Answered.then c.in_ok-then.field-0
-          inv.goes some c.in-Answered.is c.in_ok-then.ensures.turn inv.salt inv.shut;
+          inv.goes some c.in-Answered.is c.in_ok-then.ensures.turn;
       short = on.1;
       bounded = omega (arith, inv.bounded, on.0);
       turns = Spends_more _ _ _ _ _ _ inv.turns c.serve_one.ensures.turns;
       good_reader = ok_told c.in_ok-then.field-0 _ _ c.in_ok-then.ensures.good_reader ∙ inv.good_reader;
       good_writer = ok_told c.in_ok-then.field-0 _ _ c.in_ok-then.ensures.good_writer ∙ inv.good_writer;
       good_clock = ok_told c.in_ok-then.field-0 _ _ c.in_ok-then.ensures.good_clock ∙ inv.good_clock;
-      salt = c.serve_one.ensures.salt ∙ inv.salt;
-      shut = λ n. c.serve_one.ensures.shut (ap (λ (s : Service g.row.S.Denot). is_shut s) (inv.shut n) ∙ n) ∙ inv.shut n;
-      sound = λ s. inv.sound (c.serve_one.ensures.sound s);
+      stays = stays_then g.S.Space c.args.service.now c.serving.service c.serve_one.new.service inv.stays c.serve_one.ensures.stays;
     }
 
 pub returns-in-Ended-clause-serves : goal.returns-in-Ended-clause-serves
 returns-in-Ended-clause-serves g c =
     let inv = c.serving.invariant in
     let some : c.serving.left ≡ suc (c.serving.left - 1) = omega (arith, c.serving-test.true) in
-    goes_stop g.S.Space.holds g.S.Space.is_sound g.S.Space.refusals g.S.Space.is_broken g.M.Moments.gives (callers_of c.args.tokens.now)
+    goes_stop g.S.Space g.M.Moments.gives (callers_of c.args.tokens.now)
     _ _ _ most_requests c.args.service.now c.serving.service c.serve_one.new.service c.args.moments.now c.serving.moments c.serve_one.new.moments
     _ _ _ c.serving.left (c.serving.left - 1) c.serving.count c.in-Ended.end c.in_ok-then.field-0
     inv.goes some c.in-Ended.is c.in_ok-then.ensures.turn
 
 pub returns-clause-serves : goal.returns-clause-serves
 returns-clause-serves g c =
-    goes_close g.S.Space.holds g.S.Space.is_sound g.S.Space.refusals g.S.Space.is_broken g.M.Moments.gives (callers_of c.args.tokens.now)
+    goes_close g.S.Space g.M.Moments.gives (callers_of c.args.tokens.now)
     _ _ most_requests c.args.service.now c.serving.service c.args.moments.now c.serving.moments _ _ c.serving.left c.serving.count
     c.serving.invariant.goes (omega (arith, c.serving-test.false))
+
+pub returns-in_default-clause-stays : goal.returns-in_default-clause-stays
+returns-in_default-clause-stays g c = stays_same g.S.Space c.args.service.now
+
+pub returns-in_err-then-clause-stays : goal.returns-in_err-then-clause-stays
+returns-in_err-then-clause-stays g c = stays_then g.S.Space c.args.service.now c.serving.service c.serve_one.new.service c.serving.invariant.stays c.in_err-then.ensures.stays
+
+pub returns-in-Ended-clause-stays : goal.returns-in-Ended-clause-stays
+returns-in-Ended-clause-stays g c = stays_then g.S.Space c.args.service.now c.serving.service c.serve_one.new.service c.serving.invariant.stays c.in_ok-then.ensures.stays

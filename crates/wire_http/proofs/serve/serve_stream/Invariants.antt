@@ -1,7 +1,7 @@
-use Rattle.std.proofs.Common.{◌≡◌, ◌+◌, ◌≤◌, true, length, IfSome}
+use Rattle.std.proofs.Common.{◌≡◌, ◌+◌, ◌≤◌, length, IfSome}
 use Rattle.std.specs.Io.KnownBytes.{prepend_known}
 use Rattle.token_conf.specs.TokenFile.{callers_of}
-use Rattle.service_core.specs.Held.{space_of, salt_of, is_shut}
+use Rattle.service_core.specs.Held.{Stays}
 use Rattle.wire_http.specs.Counted.{inner_of, calls_of, failures_of}
 use Rattle.wire_http.specs.Count.{Spends, most_reads, most_requests}
 use Rattle.wire_http.proofs.StreamLaws.{GoesOn}
@@ -10,7 +10,7 @@ use Rattle.wire_http.proofs.serve.serve_stream.Given as goal
 abbrev pub invariant-serving : goal.invariant-serving
 invariant-serving g l = record {
   goes : IfSome (g.R.Read.remaining (inner_of l.fn.reader)) (λ input.
-      GoesOn g.S.Space.holds g.S.Space.is_sound g.S.Space.refusals g.S.Space.is_broken g.M.Moments.gives (callers_of l.tokens) most_requests input
+      GoesOn g.S.Space g.M.Moments.gives (callers_of l.tokens) most_requests input
       l.fn.service l.service l.fn.moments l.moments
       (g.W.Write.contents (inner_of l.fn.writer)) (g.W.Write.contents (inner_of l.writer))
       (prepend_known l.buffer.items (g.R.Read.remaining (inner_of l.reader))) l.left l.count);
@@ -20,9 +20,7 @@ invariant-serving g l = record {
   good_reader : failures_of l.reader ≡ failures_of l.fn.reader;
   good_writer : failures_of l.writer ≡ failures_of l.fn.writer;
   good_clock : g.M.Moments.failures l.moments ≡ g.M.Moments.failures l.fn.moments;
-  salt : salt_of l.service ≡ salt_of l.fn.service;
-  shut : is_shut l.fn.service ≡ true → l.service ≡ l.fn.service;
-  sound : g.S.Space.is_sound (space_of l.service) → g.S.Space.is_sound (space_of l.fn.service);
+  stays : Stays g.S.Space l.fn.service l.service;
 }
 
 abbrev pub decreases-serving : goal.decreases-serving

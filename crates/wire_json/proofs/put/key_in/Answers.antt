@@ -9,6 +9,6 @@ returns-then-items-gt4096 c =
 
 pub returns : goal.returns
 returns c =
-    a_key (view c.args.value.now) c.in-Some.items.now.items c.as_slice-items.result.now c.in_ok-versions.versions.items c.in-Some.ensures
-    c.as_slice-items.ensures.value c.if-items-gt4096.false c.in_ok-versions.ensures
+    a_key (view c.args.value.now) c.in-Some.items.now.items c.as_slice-items.result.now c.in_ok-ovns.ovns.items c.in-Some.ensures
+    c.as_slice-items.ensures.value c.if-items-gt4096.false c.in_ok-ovns.ensures
     ∙ ap (λ v. Some v) (sym c.from_vec.ensures)

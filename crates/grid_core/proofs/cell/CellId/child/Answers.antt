@@ -1,6 +1,8 @@
 use Rattle.std.proofs.Common.{◌≡◌, ◌<◌, ◌≤◌, ◌+◌, ◌*◌, ◌/◌, ◌-◌, ◌^◌, ℕ, length, arith, sym, ap, ◌∙◌, subst}
 use Rattle.grid_core.specs.Cell.{Cell, IsCell, number_of, child_of}
-use Rattle.grid_core.specs.CellNumber.{IsNumber, cell_of, number-cell_of, IsCell-cell_of, number_of_cell}
+use Rattle.grid_core.specs.CellNumber.{IsNumber, cell_of}
+use Rattle.grid_core.specs.CellNumberLaw.{number-cell_of}
+use Rattle.grid_core.proofs.CellNumber.{IsCell-cell_of, number_of_cell}
 use Rattle.grid_core.proofs.Family.{child_number, IsCell-child_of, makes, Makes}
 use Rattle.grid_core.proofs.cell.CellId.child.Goals as goal
 

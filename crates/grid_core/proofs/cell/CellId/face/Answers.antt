@@ -1,6 +1,6 @@
 use Rattle.std.proofs.Common.{sym, ap, ◌∙◌}
 use Rattle.grid_core.specs.Cell.{Cell}
-use Rattle.grid_core.specs.CellNumber.{face-cell_of}
+use Rattle.grid_core.proofs.CellNumber.{face-cell_of}
 use Rattle.grid_core.proofs.cell.CellId.face.Goals as goal
 
 pub returns-clause-face : goal.returns-clause-face

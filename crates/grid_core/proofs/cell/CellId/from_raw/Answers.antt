@@ -1,6 +1,8 @@
 use Rattle.std.proofs.Common.{◌≡◌, subst, arith, ◌≤◌, ◌^◌, ◌/◌, ◌%◌}
 use Rattle.std.specs.Int.{w64, trailing_zeros}
-use Rattle.grid_core.specs.CellNumber.{IsNumber, number-cell_of, IsCell-cell_of, IsNumber-number_of, some_by_place}
+use Rattle.grid_core.specs.CellNumber.{IsNumber}
+use Rattle.grid_core.specs.CellNumberLaw.{number-cell_of}
+use Rattle.grid_core.proofs.CellNumber.{IsCell-cell_of, IsNumber-number_of, some_by_place}
 use Rattle.grid_core.proofs.cell.CellId.from_raw.Goals as goal
 use Rattle.grid_core.proofs.cell.CellId.from_raw.Goals.{else-place-le60-via-then-place-le60+then-place-eq0+else-raw-le5, else-place-le60-via-then-place-le60+else-place-eq0, else-place-le60-via-else-place-le60}
 

@@ -1,7 +1,8 @@
 use Rattle.std.proofs.Common.{◌≡◌, ◌≤◌, ◌+◌, ◌-◌, ◌*◌, ◌%◌, ◌^◌, ℕ, sym, ap, ◌∙◌, subst, length, arith}
 use Rattle.std.specs.Int.{w64, trailing_zeros}
 use Rattle.grid_core.specs.Cell.{Cell, IsCell, number_of}
-use Rattle.grid_core.specs.CellNumber.{number-cell_of, IsCell-cell_of, lowest_one_of}
+use Rattle.grid_core.specs.CellNumberLaw.{number-cell_of}
+use Rattle.grid_core.proofs.CellNumber.{IsCell-cell_of, lowest_one_of}
 use Rattle.grid_core.proofs.cell.CellId.lowest_one.Goals as goal
 
 facts : (n : ℕ) (c : Cell) → number_of c ≡ n → IsCell c → (1 * 2 ^ trailing_zeros w64 n % 2 ^ 64 ≡ 4 ^ (30 - length c.digits)) × (4 ^ (30 - length c.digits) ≤ number_of c) × (number_of c + 4 ^ (30 - length c.digits) ≤ 2 ^ 64)

@@ -1,6 +1,7 @@
 use Rattle.std.proofs.Common.{◌<◌, ◌^◌, arith, sym, ap, ◌∙◌, subst}
 use Rattle.grid_core.specs.Cell.{IsCell, number_of, parent_of}
-use Rattle.grid_core.specs.CellNumber.{number-cell_of, IsCell-cell_of, number_of_cell}
+use Rattle.grid_core.specs.CellNumberLaw.{number-cell_of}
+use Rattle.grid_core.proofs.CellNumber.{IsCell-cell_of, number_of_cell}
 use Rattle.grid_core.proofs.Family.{parent_number, IsCell-parent_of, makes}
 use Rattle.grid_core.proofs.cell.CellId.parent.Goals as goal
 

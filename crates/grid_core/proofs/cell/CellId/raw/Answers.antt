@@ -1,6 +1,7 @@
 use Rattle.std.proofs.Common.{sym, ap, ◌∙◌, subst}
 use Rattle.grid_core.specs.Cell.{IsCell, number_of}
-use Rattle.grid_core.specs.CellNumber.{number-cell_of, IsCell-cell_of}
+use Rattle.grid_core.specs.CellNumberLaw.{number-cell_of}
+use Rattle.grid_core.proofs.CellNumber.{IsCell-cell_of}
 use Rattle.grid_core.proofs.cell.CellId.raw.Goals as goal
 
 pub returns-clause-number : goal.returns-clause-number

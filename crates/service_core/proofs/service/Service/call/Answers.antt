@@ -6,20 +6,47 @@ use Rattle.service_core.specs.declared.reply.Reply.TheVariants.{Denied}
 use Rattle.policy_core.specs.declared.rule.Rule.{Rule}
 use Rattle.service_core.proofs.Outcome.{early_answers}
 use Rattle.service_core.proofs.Judged.{first_early, told_early, some_of_none}
+use Rattle.service_core.proofs.Runs.{stays_same}
 use Rattle.service_core.proofs.Stales.{stale_reply}
 use Rattle.service_core.proofs.Steps.{has_caller}
 use Rattle.service_core.proofs.service.Service.call.Goals as goal
 
-pub returns-in-Some-clause-early : goal.returns-in-Some-clause-early
-returns-in-Some-clause-early g c n a t =
-    subst (λ (e : Option Rule). IfSome e (λ p. (Denied c.in-Some.broken c.nothing.result ≡ Denied p nothing_missing) × (c.args.self.now ≡ c.args.self.now))) (c.in-Some.ensures a t)
-    (ap (Denied c.in-Some.broken) c.nothing.ensures, refl)
+pub returns-then-self-clause-reply : goal.returns-then-self-clause-reply
+returns-then-self-clause-reply g c = record {
+  stays = stays_same g.S.Space c.args.self.now;
+  shut = λ n. refl;
+  shuts = λ n. cc (n, c.if-self.true);
+  early = λ n. cc (n, c.if-self.true);
+  answers = λ n. cc (n, c.if-self.true);
+}
 
-pub returns-in-Some-clause-answers : goal.returns-in-Some-clause-answers
-returns-in-Some-clause-answers g c n =
-    early_answers g.S.Space.holds g.S.Space.is_sound g.S.Space.refusals g.S.Space.is_broken c.args.self.now.salt c.args.now c.args.call.now c.args.self.now.space
-    c.in-Some.broken c.nothing.result (λ a. first_early a c.args.now c.args.call.now c.in-Some.broken (sym (c.in-Some.ensures a c.args.now)))
-    (λ a. c.nothing.ensures ∙ sym (told_early a c.args.now c.args.call.now c.in-Some.broken (sym (c.in-Some.ensures a c.args.now))))
+pub returns-in-Some-clause-reply : goal.returns-in-Some-clause-reply
+returns-in-Some-clause-reply g c = record {
+  stays = stays_same g.S.Space c.args.self.now;
+  shut = λ n. cc (n, c.if-self.false);
+  shuts = λ n. n;
+  early = λ n a t.
+      subst (λ (e : Option Rule). IfSome e (λ p. (Denied c.in-Some.broken c.nothing.result ≡ Denied p nothing_missing) × (c.args.self.now ≡ c.args.self.now))) (c.in-Some.ensures a t)
+      (ap (Denied c.in-Some.broken) c.nothing.ensures, refl);
+  answers = λ n.
+      early_answers g.S.Space c.args.self.now.salt c.args.now c.args.call.now c.args.self.now.space
+      c.in-Some.broken c.nothing.result (λ a. first_early a c.args.now c.args.call.now c.in-Some.broken (sym (c.in-Some.ensures a c.args.now)))
+      (λ a. c.nothing.ensures ∙ sym (told_early a c.args.now c.args.call.now c.in-Some.broken (sym (c.in-Some.ensures a c.args.now))));
+}
+
+pub returns-clause-reply : goal.returns-clause-reply
+returns-clause-reply g c = record {
+  stays = record {
+    salt = refl;
+    shut = λ n. cc (n, c.if-self.false);
+    sound = c.answered-reply.ensures.sound;
+    whole = c.answered-reply.ensures.whole;
+  };
+  shut = λ n. cc (n, c.if-self.false);
+  shuts = λ n. c.is_stopped-self.ensures;
+  early = λ n a t. some_of_none (find (breaks a t c.args.call.now) early_rules) _ (sym c.in_default.is ∙ c.early.ensures a t);
+  answers = λ n. c.answered-reply.ensures;
+}
 
 pub unreachable-requires : goal.unreachable-requires
 unreachable-requires g c =
@@ -28,14 +55,10 @@ unreachable-requires g c =
 pub answered-reply-requires-clause-early : goal.answered-reply-requires-clause-early
 answered-reply-requires-clause-early g c a = sym (c.early.ensures a c.args.now) ∙ c.in_default.is
 
-pub returns-clause-early : goal.returns-clause-early
-returns-clause-early g c n a t =
-    some_of_none (find (breaks a t c.args.call.now) early_rules) _ (sym c.in_default.is ∙ c.early.ensures a t)
-
 pub returns-in-Some-clause-stale : goal.returns-in-Some-clause-stale
 returns-in-Some-clause-stale g c n s a content kind y is =
-    stale_reply g.S.Space.holds c.args.self.now.salt a c.args.now c.args.call.now kind y (Denied c.in-Some.broken c.nothing.result) c.args.self.now.space is ((returns-in-Some-clause-answers g c n).step s a content)
+    stale_reply g.S.Space c.args.self.now.salt a c.args.now c.args.call.now kind y (Denied c.in-Some.broken c.nothing.result) c.args.self.now.space is (((returns-in-Some-clause-reply g c).answers n).step s a content)
 
 pub returns-clause-stale : goal.returns-clause-stale
 returns-clause-stale g c n s a content kind y is =
-    stale_reply g.S.Space.holds c.args.self.now.salt a c.args.now c.args.call.now kind y c.answered-reply.result c.answered-reply.new.space is (c.answered-reply.ensures.step s a content)
+    stale_reply g.S.Space c.args.self.now.salt a c.args.now c.args.call.now kind y c.answered-reply.result c.answered-reply.new.space is (c.answered-reply.ensures.step s a content)

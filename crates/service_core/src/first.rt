@@ -1,0 +1,27 @@
+//! The first call of a service over an empty airspace in memory.
+ghost use Rattle.std.specs.Prelude.{◌≡◌, false};
+ghost use Rattle.entity_core.specs.Airspace.{empty_at};
+ghost use Rattle.service_core.specs.Held.{space_of};
+ghost use Rattle.service_core.specs.Service.{Leaves, is_stopped};
+
+use crate::reply::Reply;
+use crate::service::Service;
+use entity_core::salt::Salt;
+use policy_core::call::Call;
+use space_core::list::ListSpace;
+use space_core::space::Space;
+use std::alloc::Global;
+
+/// Answers a call over a new, empty airspace, and gives the service that did so.
+///
+/// What a service promises is said of any space with a content. Here both are there: the reply and
+/// the content are the policy's, or it is `Fault` and the airspace is still empty.
+pub fn first_call(alloc: Global, salt: Salt, now: u64, call: &Call) -> (Reply, Service<ListSpace>)
+    ensures leaves { Leaves ⟦<ListSpace as Space>⟧ salt (empty_at 0) now call.now
+        result.0 (space_of result.1) }
+    ensures goes_on { is_stopped result.0 ≡ false }
+{
+    let mut service = Service::new(ListSpace::new(alloc), salt);
+    let reply = service.call(alloc, now, call);
+    (reply, service)
+}

@@ -1,0 +1,58 @@
+//! What a put needs to know.
+ghost use Rattle.std.specs.Prelude.{◌≡◌, Some, map};
+ghost use Rattle.grid_core.specs.Extent.{region_of};
+ghost use Rattle.policy_core.specs.Missing.{is_asked, left_out, needed_put};
+ghost use Rattle.service_core.specs.Looks.{Looks};
+
+use crate::look::{Halt, look_meeting};
+use entity_core::entity::Entity;
+use entity_core::entity_id::EntityId;
+use entity_core::nature::Kind;
+use grid_core::volume::Area;
+use policy_core::call::Put;
+use policy_core::missing::needs_key;
+use policy_core::scope::{Caller, Scope};
+use space_core::space::Space;
+use std::alloc::Global;
+
+// Whether entities of a kind are needed.
+fn is_asked(kind: Kind, caller: &Caller, put: &Put) -> bool
+    ensures { result ≡ is_asked kind (Some caller.now) put.now }
+{
+    match kind {
+        Kind::Intent => needs_key(put.nature),
+        Kind::Constraint => {
+            needs_key(put.nature) && caller.scopes.has(Scope::ConstraintProcessing)
+        }
+    }
+}
+
+// The id that is left out of a kind.
+fn left_out(kind: Kind, id: EntityId) -> Option<EntityId>
+    ensures { result ≡ left_out kind id }
+{
+    match kind {
+        Kind::Intent => Some(id),
+        Kind::Constraint => None,
+    }
+}
+
+/// What a put under an id needs to know of a kind, by rising ids. The areas are its volumes'.
+pub fn needed_put<S: Space>(
+    space: &mut S,
+    alloc: Global,
+    kind: Kind,
+    caller: &Caller,
+    id: EntityId,
+    put: &Put,
+    areas: &[Area],
+) -> Result<Vec<Entity>, Halt>
+    requires areas { areas.now ≡ map region_of put.now.volumes }
+    ensures { Looks S.Space space.old space.new result
+        (λ a needed. needed.items ≡ needed_put kind a (Some caller.now) id put.now) }
+{
+    if !is_asked(kind, caller, put) {
+        return Ok(Vec::new(alloc));
+    }
+    look_meeting(space, kind, areas, left_out(kind, id))
+}

@@ -1,0 +1,25 @@
+-- What the lists of a space in memory are is an airspace that may be kept.
+use Rattle.std.specs.Prelude.{◌≡◌, true, false, List, [], ◌∷◌, Some, cond, refl}
+use Rattle.std.proofs.Common.{sym, ap, ◌∙◌}
+use Rattle.std.proofs.lemmas.Option.{same_Some}
+use Rattle.std.specs.Ordering.{eq_by_cmp}
+use Rattle.std.specs.FinMap as maps
+use Rattle.std.specs.FinMap.{get-from_entries}
+use Rattle.entity_core.specs.Airspace.{EntityKey, IsAirspace, key_cmp, key_of}
+use Rattle.entity_core.specs.declared.entity.Entity.{Entity}
+use Rattle.entity_core.proofs.Keys.{key_total, one_key}
+use Rattle.space_core.specs.declared.list.ListSpace.{ListSpace}
+use Rattle.space_core.specs.Entities.{pair_of}
+use Rattle.space_core.specs.List.{content_of}
+use Rattle.space_core.specs.Sorted.{keyed}
+
+own_key : (es : List Entity) (k : EntityKey) (x : Entity) → maps.find key_cmp k (keyed pair_of es) ≡ Some x → key_of x ≡ k
+own_key [] k x h = cc
+own_key (e ∷ es) k x h =
+    elim (eq_by_cmp key_cmp k (key_of e)) as (λ b. eq_by_cmp key_cmp k (key_of e) ≡ b → cond b (Some e) (maps.find key_cmp k (keyed pair_of es)) ≡ Some x → key_of x ≡ k) [
+      | true ↦ λ t s. ap key_of (sym (same_Some e x s)) ∙ sym (one_key k (key_of e) t)
+      | false ↦ λ t s. own_key es k x s
+    ] refl h
+
+pub content_is_proper : (s : ListSpace) → IsAirspace (content_of s)
+content_is_proper s = record { keyed = λ k x h. own_key s.entities k x (sym (get-from_entries key_total (keyed pair_of s.entities) k) ∙ h) }

@@ -1,0 +1,146 @@
+"""Each name of code in the documents is one of the repository's.
+
+What stands in backquotes is looked at word by word: a file must be there, the parts of `crate::item` must be made in
+that crate and those of `Type::call` in one file, an edit must stand among the edits of its crate, and any other name
+must be made in some code, outside comments. Words in upper case stand for others. Requests, answers and paths of HTTP
+are looked at by other tests."""
+import functools
+import json
+import os
+import pathlib
+import re
+
+from program import TOP
+
+DOCUMENTS = sorted([*TOP.glob("*.md"), *TOP.glob("docs/*.md"), *TOP.glob("bench/*.md")])
+# How a comment begins, by the end of a file's name.
+COMMENTS = {".rt": "//", ".c": "//", ".antt": "--"} | dict.fromkeys(("", ".py", ".bash", ".txt", ".yaml", ".toml"), "#")
+FILE = re.compile(r".+\.(rt|antt|py|bash|c|txt|yaml|toml|md|http|edit|json|answers|any)")
+# How a name is made in Rattle and in its definitions: an item, a field, a variant, a clause.
+DECLARED = {
+    ".rt": re.compile(
+        r"\b(?:fn|struct|enum|trait|type|const|static|mod|ghost) (\w+)|^\s+(?:pub(?:\(\w+\))? )?(\w+)\s*(?:[,({:]|$)"
+        r"|\b(?:ensures\*?|requires) (\w+) \{",
+        re.MULTILINE,
+    ),
+    ".antt": re.compile(r"^\s*(?:(?:abbrev|unfoldable|pub|record|data) )*([\w-]+)()\s*[:({]", re.MULTILINE),
+}
+# What is no name: text of JSON or HTTP, a shell's signs, a rule with its name.
+NO_NAME = re.compile(r"""[{"'=<>|$~!+\\]|^/|:[/ ]|^[PH]\d+( |$)|^\W+$""")
+# Where no name is made: data of cases, and this list.
+OUTSIDE = ("tests/cases/", "tests/names.py")
+# Names of other programs, libraries and formats.
+OTHERS = set(
+    """String Vec Option ghost unfolding tactic auto wrote rattle-kit-13b logic dac8208d650f15bf Intel Xeon Processor
+    89c25907 89c25909 89c2590b Host Date oauth2 libs2-dev s2geometry S2RegionCoverer RegionCoverer S2CellId CellID
+    set_fixed_level set_max_cells min_level max_level max_cells GetCovering getCovering get_covering Covering region
+    ToToken toToken to_token s2sphere s2-geometry-library-java github.com/golang/geo/s2 outline_polygon outline_circle
+    new_subscription 61""".split()
+)
+
+
+@functools.cache
+def files():
+    """The files of the repository, by their paths in it."""
+    found = {}
+    for folder, folders, names in os.walk(TOP):
+        folders[:] = set(folders) - {".git", ".dss", "out", "__pycache__"}
+        found |= {os.path.relpath(f"{folder}/{it}", TOP): pathlib.Path(folder, it) for it in names}
+    return found
+
+
+@functools.cache
+def names_of(path):
+    """The names that the code of a file makes. Of a script or a test each word counts, and so does each of a text."""
+    file = files()[path]
+    if path.startswith(OUTSIDE) or file.suffix not in COMMENTS:
+        return frozenset()
+    lines = file.read_text(errors="replace").splitlines()
+    code = "\n".join(re.split(rf"(?:^|\s){COMMENTS[file.suffix]}", it)[0] for it in lines)
+    made = DECLARED.get(file.suffix)
+    words = re.findall(r"\w+", " ".join(re.findall(r'"(?:[^"\\]|\\.)*"', code)) if made else code)
+    return frozenset(words + [it for found in (made.findall(code) if made else ()) for it in found if it] + [file.stem])
+
+
+@functools.cache
+def names_in_folder(folder):
+    """The names that are made in the files of a folder."""
+    return frozenset().union(*(names_of(path) for path in files() if path.startswith(folder)))
+
+
+def is_path(word):
+    """Whether a word is the end of a file's path, or a folder."""
+    return any(f"/{path}/".endswith(f"/{word}/") or f"/{path}".find(f"/{word}/") >= 0 for path in files())
+
+
+@functools.cache
+def cases():
+    """The names of the cases by bytes that are data: worked examples, and folders."""
+    examples = json.loads((TOP / "tests" / "worked_examples.json").read_text())
+    return {it["name"] for it in examples} | {it.name for it in (TOP / "tests" / "cases").iterdir()}
+
+
+def is_edit(word):
+    crate, _, name = word.partition("/")
+    folders = f"crates/{crate}/must-fail/{name}", f"tests/edits/{crate}/{name}"
+    return any(path.startswith(folders) for path in files())
+
+
+def is_for_others(word):
+    """Whether a word, or a part of it, is in upper case and so stands for others."""
+    return any(it.isalpha() and it.isupper() and len(it) > 1 for it in re.split("::|[-/]", word))
+
+
+def is_word(word, folder=""):
+    """Whether a word is a name that is made in a folder, one of others, or a letter that stands for them."""
+    return word in OTHERS or word in names_in_folder(folder) or (len(word) == 1 and word.isupper())
+
+
+def is_member(name, member):
+    """Whether a file of code makes both names."""
+    return any({name, member} <= names_of(path) for path in files() if path.endswith((".rt", ".antt")))
+
+
+def is_name(word):
+    """Whether a word names something of the repository or of others."""
+    if word in OTHERS or word in cases() or is_for_others(word):
+        return True
+    if "::" in word:
+        first, *parts = word.split("::")
+        if is_path(f"crates/{first}"):
+            return all(is_word(it, f"crates/{first}/") for it in parts)
+        return len(parts) == 1 and (first in OTHERS or is_member(first, parts[0]))
+    if "/" in word or FILE.fullmatch(word):
+        word = word.removeprefix("./").removeprefix("../").rstrip("/")
+        return is_path(word) or is_edit(word)
+    return all(is_word(it) for it in re.findall(r"\w+", word))
+
+
+def words_in(document):
+    """The words in backquotes outside blocks of code, each with its line."""
+    text = re.sub(r"(?ms)^```.*?^```$|^    .*?$", lambda block: "\n" * block[0].count("\n"), document.read_text())
+    for quoted in re.finditer(r"`([^`]+)`", text):
+        if not NO_NAME.search(quoted[1]):
+            for word in quoted[1].split():
+                yield text.count("\n", 0, quoted.start()) + 1, word.strip("()[],:;*&").rstrip(".")
+
+
+def unknown():
+    """The names in the documents that nothing in the repository has."""
+    found = []
+    for document in DOCUMENTS:
+        for number, name in words_in(document):
+            if name and not is_name(name):
+                found += [f"{document.relative_to(TOP)}:{number}: nothing is named {name}"]
+    return found
+
+
+def headless():
+    """The sources and definitions whose first line does not say what they have."""
+    begins = {".rt": "//! ", ".antt": "-- "}
+    files = [*TOP.glob("crates/*/src/*.rt"), *TOP.glob("crates/*/specs/*.antt")]
+    texts = ((it, it.read_text()) for it in sorted(files) if it.name != "Lib.antt")
+    return [f"{it.relative_to(TOP)} begins otherwise" for it, text in texts if not text.startswith(begins[it.suffix])]
+
+
+CASES = {"names-in-docs": unknown, "first-lines": headless}
