@@ -4,3 +4,4 @@ pub mod Steps
 pub mod Making
 pub mod Rising
 pub mod OneAirspace
+pub mod Standings

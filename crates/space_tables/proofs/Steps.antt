@@ -1,5 +1,5 @@
 -- What a statement in a transaction leaves.
-use Rattle.std.proofs.Common.{◌≡◌, ◌⊎◌, inl, inr, ℕ, ℤ, List, [], slice_get, Bool, true, false, cond, Option, Some, None, Ok, Err, Result, OnOk, OnErr, refl, sym, ap, subst, ◌∙◌, length, ◌/◌}
+use Rattle.std.proofs.Common.{arith, ◌≡◌, ◌⊎◌, inl, inr, ℕ, ℤ, List, [], slice_get, Bool, true, false, cond, Option, Some, None, Ok, Err, Result, OnOk, OnErr, refl, sym, ap, subst, ◌∙◌, length, ◌/◌}
 use Rattle.std.specs.Prelude.{IsTrue}
 use Rattle.sqlite.specs.declared.types.Value.{Value}
 use Rattle.sqlite.specs.declared.types.Value.TheVariants.{Null, Int}
@@ -21,9 +21,10 @@ use Rattle.sqlite.specs.Rows.{Written, stamped, rowids_for, Task, Counts}
 use Rattle.sqlite.specs.declared.error.Error.{Error}
 use Rattle.sqlite.specs.Effect.{Database, value_rows}
 use Rattle.sqlite.specs.Schema.{Schema}
-use Rattle.sqlite.specs.State.{State, mode_of, Writes, IsUnchanged, IsRolledBack, Executes, ExecutesInside, KeepsCommit}
+use Rattle.sqlite.specs.State.{State, mode_of, Writes, IsUnchanged, IsRolledBack, Executes, ExecutesInside, KeepsCommit, HasCleanDisk, Survives}
 use Rattle.std.proofs.lemmas.Bool.{cases_Bool}
-use Rattle.space_tables.specs.Making.{StepsOn}
+use Rattle.sqlite.proofs.StateLemmas.{survives_then}
+use Rattle.space_tables.specs.Making.{StepsOn, Leads}
 
 pub went : {B E R : Type 0} {b : B} {Stops : E → Type 0} → ((stop : E) × Stops stop × (Ok b ≡ Err stop)) ⊎ R → R
 went (inl stopped) = absurd (let e = stopped.2 in cc)
@@ -115,3 +116,21 @@ on_err (Err e) A a = a
 pub ok_map : {X : Type 0} (r : Result X Error) (A B : Type 0) → OnOk r A → (A → B) → OnOk r B
 ok_map (Ok x) A B a f = f a
 ok_map (Err e) A B a f = tt
+
+-- a statement alone
+pub leads_on : (old new : State) (sql : List ℕ) (params : Row) (r : Result ℕ Error) (X : Type 0) (e : Error) (A B : Database → Type 0) → (old.in_transaction ≡ false → (r ≡ Err e) × X) → (old.in_transaction ≡ false → new ≡ old)
+    → (HasCleanDisk new → IsTrue old.in_transaction → ExecutesInside 0 sql params old new r) → Survives old new (λ _. ⊥) → (Executes sql params old new r → A old.now → OnOk r (B new.now)) → Leads A B old new r
+leads_on old new sql params r X e A B ended off runs survives each = record {
+  done = λ clean. steps_on old new sql params r X e A B ended (runs clean) each;
+  kept = λ clean. keeps old new sql params r off (runs clean);
+  survives = survives;
+}
+
+-- and one after the other
+module _ {X Y Z : Type 0} (A B C : Database → Type 0) (a b d : State) where
+  pub leads_then : (x : X) (y : Y) (z : Z) → Leads A B a b (Ok x) → Leads B C b d (Ok y) → Leads A C a d (Ok z)
+  leads_then x y z p q = record {
+    done = λ clean. steps_then a b d A B C (p.done (omega (arith, q.survives.clean))) (q.done clean);
+    kept = λ clean. keeps_then a b d (p.kept (omega (arith, q.survives.clean))) (q.kept clean);
+    survives = survives_then a b d _ _ (λ _. ⊥) (λ _ db none. none) (λ _ db none. none) p.survives q.survives;
+  }

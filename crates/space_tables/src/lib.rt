@@ -1,5 +1,7 @@
-//! The tables that keep an airspace: their schema, which airspace they spell, and how they are made.
+//! The tables that keep an airspace: their schema, which airspace they spell, how they are made, and
+//! which of them a database has.
 #![tactic(auto)]
 
 pub mod laws;
 pub mod make;
+pub mod standing;

@@ -1,121 +1,93 @@
 //! The tables of format 1 are made, in one transaction.
 ghost use Rattle.std.specs.Prelude.{◌≡◌, false, OnOk, OnErr, IsTrue};
 ghost use Rattle.sqlite.specs.Held.{state};
-ghost use Rattle.sqlite.specs.State.{HasCleanDisk, KeepsCommit, Survives};
-ghost use Rattle.space_tables.specs.Making.{IsBare, IsSettled, IsUndone, MayBeMade, SpellsEmpty, StepsOn};
+ghost use Rattle.sqlite.specs.State.{HasCleanDisk, Survives};
+ghost use Rattle.space_tables.specs.Making.{AreMade, IsBare, IsUndone, Leads, MayBeMade, SpellsEmpty};
 ghost use Rattle.space_tables.specs.Tables.{no_schema, dss_schema, schema_1, schema_2, schema_3, schema_4, schema_5};
 
 use sqlite::{Alter, Connection, Error, Transaction};
 
 fn make_meta<S: Alter>(tx: &mut Transaction<'_, S>) -> Result<usize, Error>
     ensures same_reference { tx.new.conn.ghost_name ≡ tx.old.conn.ghost_name }
-    ensures done { let old = state S.Store tx.old.conn.now in
-        let new = state S.Store tx.new.conn.now in
-        HasCleanDisk new → OnOk result (StepsOn (IsBare no_schema) (IsBare schema_1) old new) }
-    ensures kept { let old = state S.Store tx.old.conn.now in
-        let new = state S.Store tx.new.conn.now in
-        HasCleanDisk new → KeepsCommit old new }
-    ensures survives { let old = state S.Store tx.old.conn.now in
-        Survives old (state S.Store tx.new.conn.now) (λ _. ⊥) }
+    ensures leads { let old = state S.Store tx.old.conn.now in
+        Leads (IsBare no_schema) (IsBare schema_1) old (state S.Store tx.new.conn.now) result }
 {
     tx.execute(
-        "CREATE TABLE meta (one INTEGER PRIMARY KEY NOT NULL CHECK (one = 1), format INTEGER NOT NULL, serial INTEGER NOT NULL CHECK (serial >= 0)) STRICT",
+        "CREATE TABLE meta (one INTEGER PRIMARY KEY NOT NULL CHECK (one = 1), \
+         format INTEGER NOT NULL, serial INTEGER NOT NULL CHECK (serial >= 0)) STRICT",
         &[],
     )
 }
 
 fn make_entity<S: Alter>(tx: &mut Transaction<'_, S>) -> Result<usize, Error>
     ensures same_reference { tx.new.conn.ghost_name ≡ tx.old.conn.ghost_name }
-    ensures done { let old = state S.Store tx.old.conn.now in
-        let new = state S.Store tx.new.conn.now in
-        HasCleanDisk new → OnOk result (StepsOn (IsBare schema_1) (IsBare schema_2) old new) }
-    ensures kept { let old = state S.Store tx.old.conn.now in
-        let new = state S.Store tx.new.conn.now in
-        HasCleanDisk new → KeepsCommit old new }
-    ensures survives { let old = state S.Store tx.old.conn.now in
-        Survives old (state S.Store tx.new.conn.now) (λ _. ⊥) }
+    ensures leads { let old = state S.Store tx.old.conn.now in
+        Leads (IsBare schema_1) (IsBare schema_2) old (state S.Store tx.new.conn.now) result }
 {
     tx.execute(
-        "CREATE TABLE entity (num INTEGER PRIMARY KEY NOT NULL, kind INTEGER NOT NULL CHECK (kind IN (0, 1)), id TEXT NOT NULL, manager TEXT NOT NULL, state INTEGER NOT NULL CHECK (state BETWEEN 0 AND 4), version INTEGER NOT NULL CHECK (version BETWEEN 1 AND 2147483647), serial INTEGER NOT NULL CHECK (serial >= 0), ovn TEXT NOT NULL, url TEXT NOT NULL, UNIQUE (kind, id)) STRICT",
+        "CREATE TABLE entity (num INTEGER PRIMARY KEY NOT NULL, \
+         kind INTEGER NOT NULL CHECK (kind IN (0, 1)), id TEXT NOT NULL, manager TEXT NOT NULL, \
+         state INTEGER NOT NULL CHECK (state BETWEEN 0 AND 4), \
+         version INTEGER NOT NULL CHECK (version BETWEEN 1 AND 2147483647), \
+         serial INTEGER NOT NULL CHECK (serial >= 0), ovn TEXT NOT NULL, url TEXT NOT NULL, \
+         UNIQUE (kind, id)) STRICT",
         &[],
     )
 }
 
 fn make_volume<S: Alter>(tx: &mut Transaction<'_, S>) -> Result<usize, Error>
     ensures same_reference { tx.new.conn.ghost_name ≡ tx.old.conn.ghost_name }
-    ensures done { let old = state S.Store tx.old.conn.now in
-        let new = state S.Store tx.new.conn.now in
-        HasCleanDisk new → OnOk result (StepsOn (IsBare schema_2) (IsBare schema_3) old new) }
-    ensures kept { let old = state S.Store tx.old.conn.now in
-        let new = state S.Store tx.new.conn.now in
-        HasCleanDisk new → KeepsCommit old new }
-    ensures survives { let old = state S.Store tx.old.conn.now in
-        Survives old (state S.Store tx.new.conn.now) (λ _. ⊥) }
+    ensures leads { let old = state S.Store tx.old.conn.now in
+        Leads (IsBare schema_2) (IsBare schema_3) old (state S.Store tx.new.conn.now) result }
 {
     tx.execute(
-        "CREATE TABLE volume (entity INTEGER NOT NULL REFERENCES entity (num) ON DELETE CASCADE, place INTEGER NOT NULL, alt_lower INTEGER NOT NULL, alt_upper INTEGER NOT NULL, time_start INTEGER NOT NULL, time_end INTEGER NOT NULL, PRIMARY KEY (entity, place), CHECK (alt_lower <= alt_upper), CHECK (time_start <= time_end)) STRICT",
+        "CREATE TABLE volume (entity INTEGER NOT NULL REFERENCES entity (num) ON DELETE CASCADE, \
+         place INTEGER NOT NULL, alt_lower INTEGER NOT NULL, alt_upper INTEGER NOT NULL, \
+         time_start INTEGER NOT NULL, time_end INTEGER NOT NULL, PRIMARY KEY (entity, place), \
+         CHECK (alt_lower <= alt_upper), CHECK (time_start <= time_end)) STRICT",
         &[],
     )
 }
 
 fn make_cell<S: Alter>(tx: &mut Transaction<'_, S>) -> Result<usize, Error>
     ensures same_reference { tx.new.conn.ghost_name ≡ tx.old.conn.ghost_name }
-    ensures done { let old = state S.Store tx.old.conn.now in
-        let new = state S.Store tx.new.conn.now in
-        HasCleanDisk new → OnOk result (StepsOn (IsBare schema_3) (IsBare schema_4) old new) }
-    ensures kept { let old = state S.Store tx.old.conn.now in
-        let new = state S.Store tx.new.conn.now in
-        HasCleanDisk new → KeepsCommit old new }
-    ensures survives { let old = state S.Store tx.old.conn.now in
-        Survives old (state S.Store tx.new.conn.now) (λ _. ⊥) }
+    ensures leads { let old = state S.Store tx.old.conn.now in
+        Leads (IsBare schema_3) (IsBare schema_4) old (state S.Store tx.new.conn.now) result }
 {
     tx.execute(
-        "CREATE TABLE cell (entity INTEGER NOT NULL, volume INTEGER NOT NULL, place INTEGER NOT NULL, token TEXT NOT NULL, lo INTEGER NOT NULL, hi INTEGER NOT NULL, PRIMARY KEY (entity, volume, place), FOREIGN KEY (entity, volume) REFERENCES volume (entity, place) ON DELETE CASCADE, CHECK (lo <= hi)) STRICT",
+        "CREATE TABLE cell (entity INTEGER NOT NULL, volume INTEGER NOT NULL, \
+         place INTEGER NOT NULL, token TEXT NOT NULL, lo INTEGER NOT NULL, hi INTEGER NOT NULL, \
+         PRIMARY KEY (entity, volume, place), \
+         FOREIGN KEY (entity, volume) REFERENCES volume (entity, place) ON DELETE CASCADE, \
+         CHECK (lo <= hi)) STRICT",
         &[],
     )
 }
 
 fn make_range<S: Alter>(tx: &mut Transaction<'_, S>) -> Result<usize, Error>
     ensures same_reference { tx.new.conn.ghost_name ≡ tx.old.conn.ghost_name }
-    ensures done { let old = state S.Store tx.old.conn.now in
-        let new = state S.Store tx.new.conn.now in
-        HasCleanDisk new → OnOk result (StepsOn (IsBare schema_4) (IsBare schema_5) old new) }
-    ensures kept { let old = state S.Store tx.old.conn.now in
-        let new = state S.Store tx.new.conn.now in
-        HasCleanDisk new → KeepsCommit old new }
-    ensures survives { let old = state S.Store tx.old.conn.now in
-        Survives old (state S.Store tx.new.conn.now) (λ _. ⊥) }
+    ensures leads { let old = state S.Store tx.old.conn.now in
+        Leads (IsBare schema_4) (IsBare schema_5) old (state S.Store tx.new.conn.now) result }
 {
     tx.execute("CREATE INDEX cell_range ON cell (lo, hi)", &[])
 }
 
 fn make_availability<S: Alter>(tx: &mut Transaction<'_, S>) -> Result<usize, Error>
     ensures same_reference { tx.new.conn.ghost_name ≡ tx.old.conn.ghost_name }
-    ensures done { let old = state S.Store tx.old.conn.now in
-        let new = state S.Store tx.new.conn.now in
-        HasCleanDisk new → OnOk result (StepsOn (IsBare schema_5) (IsBare dss_schema) old new) }
-    ensures kept { let old = state S.Store tx.old.conn.now in
-        let new = state S.Store tx.new.conn.now in
-        HasCleanDisk new → KeepsCommit old new }
-    ensures survives { let old = state S.Store tx.old.conn.now in
-        Survives old (state S.Store tx.new.conn.now) (λ _. ⊥) }
+    ensures leads { let old = state S.Store tx.old.conn.now in
+        Leads (IsBare schema_5) (IsBare dss_schema) old (state S.Store tx.new.conn.now) result }
 {
     tx.execute(
-        "CREATE TABLE availability (uss TEXT NOT NULL PRIMARY KEY, state INTEGER NOT NULL CHECK (state BETWEEN 0 AND 2), version TEXT NOT NULL) STRICT",
+        "CREATE TABLE availability (uss TEXT NOT NULL PRIMARY KEY, \
+         state INTEGER NOT NULL CHECK (state BETWEEN 0 AND 2), version TEXT NOT NULL) STRICT",
         &[],
     )
 }
 
 fn add_first_row<S: Alter>(tx: &mut Transaction<'_, S>) -> Result<usize, Error>
     ensures same_reference { tx.new.conn.ghost_name ≡ tx.old.conn.ghost_name }
-    ensures done { let old = state S.Store tx.old.conn.now in
-        let new = state S.Store tx.new.conn.now in
-        HasCleanDisk new → OnOk result (StepsOn (IsBare dss_schema) SpellsEmpty old new) }
-    ensures kept { let old = state S.Store tx.old.conn.now in
-        let new = state S.Store tx.new.conn.now in
-        HasCleanDisk new → KeepsCommit old new }
-    ensures survives { let old = state S.Store tx.old.conn.now in
-        Survives old (state S.Store tx.new.conn.now) (λ _. ⊥) }
+    ensures leads { let old = state S.Store tx.old.conn.now in
+        Leads (IsBare dss_schema) SpellsEmpty old (state S.Store tx.new.conn.now) result }
 {
     tx.execute(
         "INSERT INTO meta (one, format, serial) VALUES (1, 1, 0)",
@@ -123,48 +95,33 @@ fn add_first_row<S: Alter>(tx: &mut Transaction<'_, S>) -> Result<usize, Error>
     )
 }
 
+// The tables `meta` and `entity`.
 fn make_heads<S: Alter>(tx: &mut Transaction<'_, S>) -> Result<(), Error>
     ensures same_reference { tx.new.conn.ghost_name ≡ tx.old.conn.ghost_name }
-    ensures done { let old = state S.Store tx.old.conn.now in
-        let new = state S.Store tx.new.conn.now in
-        HasCleanDisk new → OnOk result (StepsOn (IsBare no_schema) (IsBare schema_2) old new) }
-    ensures kept { let old = state S.Store tx.old.conn.now in
-        let new = state S.Store tx.new.conn.now in
-        HasCleanDisk new → KeepsCommit old new }
-    ensures survives { let old = state S.Store tx.old.conn.now in
-        Survives old (state S.Store tx.new.conn.now) (λ _. ⊥) }
+    ensures leads { let old = state S.Store tx.old.conn.now in
+        Leads (IsBare no_schema) (IsBare schema_2) old (state S.Store tx.new.conn.now) result }
 {
     make_meta(tx)?;
     make_entity(tx)?;
     Ok(())
 }
 
+// The tables `volume` and `cell`.
 fn make_extents<S: Alter>(tx: &mut Transaction<'_, S>) -> Result<(), Error>
     ensures same_reference { tx.new.conn.ghost_name ≡ tx.old.conn.ghost_name }
-    ensures done { let old = state S.Store tx.old.conn.now in
-        let new = state S.Store tx.new.conn.now in
-        HasCleanDisk new → OnOk result (StepsOn (IsBare schema_2) (IsBare schema_4) old new) }
-    ensures kept { let old = state S.Store tx.old.conn.now in
-        let new = state S.Store tx.new.conn.now in
-        HasCleanDisk new → KeepsCommit old new }
-    ensures survives { let old = state S.Store tx.old.conn.now in
-        Survives old (state S.Store tx.new.conn.now) (λ _. ⊥) }
+    ensures leads { let old = state S.Store tx.old.conn.now in
+        Leads (IsBare schema_2) (IsBare schema_4) old (state S.Store tx.new.conn.now) result }
 {
     make_volume(tx)?;
     make_cell(tx)?;
     Ok(())
 }
 
+// The index on the ranges of cells, and the table `availability`.
 fn make_rest<S: Alter>(tx: &mut Transaction<'_, S>) -> Result<(), Error>
     ensures same_reference { tx.new.conn.ghost_name ≡ tx.old.conn.ghost_name }
-    ensures done { let old = state S.Store tx.old.conn.now in
-        let new = state S.Store tx.new.conn.now in
-        HasCleanDisk new → OnOk result (StepsOn (IsBare schema_4) (IsBare dss_schema) old new) }
-    ensures kept { let old = state S.Store tx.old.conn.now in
-        let new = state S.Store tx.new.conn.now in
-        HasCleanDisk new → KeepsCommit old new }
-    ensures survives { let old = state S.Store tx.old.conn.now in
-        Survives old (state S.Store tx.new.conn.now) (λ _. ⊥) }
+    ensures leads { let old = state S.Store tx.old.conn.now in
+        Leads (IsBare schema_4) (IsBare dss_schema) old (state S.Store tx.new.conn.now) result }
 {
     make_range(tx)?;
     make_availability(tx)?;
@@ -173,14 +130,8 @@ fn make_rest<S: Alter>(tx: &mut Transaction<'_, S>) -> Result<(), Error>
 
 fn make_four<S: Alter>(tx: &mut Transaction<'_, S>) -> Result<(), Error>
     ensures same_reference { tx.new.conn.ghost_name ≡ tx.old.conn.ghost_name }
-    ensures done { let old = state S.Store tx.old.conn.now in
-        let new = state S.Store tx.new.conn.now in
-        HasCleanDisk new → OnOk result (StepsOn (IsBare no_schema) (IsBare schema_4) old new) }
-    ensures kept { let old = state S.Store tx.old.conn.now in
-        let new = state S.Store tx.new.conn.now in
-        HasCleanDisk new → KeepsCommit old new }
-    ensures survives { let old = state S.Store tx.old.conn.now in
-        Survives old (state S.Store tx.new.conn.now) (λ _. ⊥) }
+    ensures leads { let old = state S.Store tx.old.conn.now in
+        Leads (IsBare no_schema) (IsBare schema_4) old (state S.Store tx.new.conn.now) result }
 {
     make_heads(tx)?;
     make_extents(tx)?;
@@ -189,14 +140,8 @@ fn make_four<S: Alter>(tx: &mut Transaction<'_, S>) -> Result<(), Error>
 
 fn make_last<S: Alter>(tx: &mut Transaction<'_, S>) -> Result<(), Error>
     ensures same_reference { tx.new.conn.ghost_name ≡ tx.old.conn.ghost_name }
-    ensures done { let old = state S.Store tx.old.conn.now in
-        let new = state S.Store tx.new.conn.now in
-        HasCleanDisk new → OnOk result (StepsOn (IsBare schema_4) SpellsEmpty old new) }
-    ensures kept { let old = state S.Store tx.old.conn.now in
-        let new = state S.Store tx.new.conn.now in
-        HasCleanDisk new → KeepsCommit old new }
-    ensures survives { let old = state S.Store tx.old.conn.now in
-        Survives old (state S.Store tx.new.conn.now) (λ _. ⊥) }
+    ensures leads { let old = state S.Store tx.old.conn.now in
+        Leads (IsBare schema_4) SpellsEmpty old (state S.Store tx.new.conn.now) result }
 {
     make_rest(tx)?;
     add_first_row(tx)?;
@@ -206,28 +151,22 @@ fn make_last<S: Alter>(tx: &mut Transaction<'_, S>) -> Result<(), Error>
 // All tables, and the first row of meta.
 fn make_all<S: Alter>(tx: &mut Transaction<'_, S>) -> Result<(), Error>
     ensures same_reference { tx.new.conn.ghost_name ≡ tx.old.conn.ghost_name }
-    ensures done { let old = state S.Store tx.old.conn.now in
-        let new = state S.Store tx.new.conn.now in
-        HasCleanDisk new → OnOk result (StepsOn (IsBare no_schema) SpellsEmpty old new) }
-    ensures kept { let old = state S.Store tx.old.conn.now in
-        let new = state S.Store tx.new.conn.now in
-        HasCleanDisk new → KeepsCommit old new }
-    ensures survives { let old = state S.Store tx.old.conn.now in
-        Survives old (state S.Store tx.new.conn.now) (λ _. ⊥) }
+    ensures leads { let old = state S.Store tx.old.conn.now in
+        Leads (IsBare no_schema) SpellsEmpty old (state S.Store tx.new.conn.now) result }
 {
     make_four(tx)?;
     make_last(tx)?;
     Ok(())
 }
 
-/// Makes the tables in a database that has none, and the first row of `meta`, in one transaction. Where
-/// there are tables, it either fails or says nothing of what it made.
+/// Makes the tables and the first row of `meta`, in one transaction. It is for a database that has
+/// no table: of any other it is only told that what an Ok leaves is committed.
 pub fn make_tables<S: Alter>(conn: &mut Connection<S>) -> Result<(), Error>
     requires { conn.old.in_transaction ≡ false }
     ensures ended { conn.new.in_transaction ≡ false }
     ensures done { let old = state S.Store conn.old in
         let new = state S.Store conn.new in
-        HasCleanDisk new → OnOk result ((old.now.schema ≡ no_schema → SpellsEmpty new.now) × IsSettled new) }
+        HasCleanDisk new → OnOk result (AreMade old new) }
     ensures err { let old = state S.Store conn.old in
         let new = state S.Store conn.new in
         HasCleanDisk new → IsTrue new.is_open → OnErr result (IsUndone old new) }

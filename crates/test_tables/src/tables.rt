@@ -1,5 +1,6 @@
 //! The tables over a database in memory. Which rows are refused is by the rules of the formats.
 use space_tables::make::make_tables;
+use space_tables::standing::{Standing, standing_of};
 use sqlite::{Connection, MemStore};
 use std::alloc::Global;
 
@@ -9,8 +10,12 @@ fn database(alloc: Global) -> Option<Connection<MemStore>> {
     Some(conn)
 }
 
-fn is_made_again(conn: &mut Connection<MemStore>) -> bool {
+fn is_made(conn: &mut Connection<MemStore>) -> bool {
     conn.is_autocommit() && make_tables(conn).is_ok()
+}
+
+fn standing(conn: &Connection<MemStore>) -> Standing {
+    standing_of(conn.schema())
 }
 
 fn is_taken(conn: &mut Connection<MemStore>, sql: &str) -> bool {
@@ -26,12 +31,39 @@ fn tables_are_made_once(rt: HostRuntime) {
     let mut conn = database(rt.alloc()).expect(&rt, "a database");
     // five tables, four indexes of their keys, and that on the ranges of cells
     assert!(rt; number(&mut conn, "SELECT count(*) FROM sqlite_schema") == Some(10));
-    assert!(rt; !is_made_again(&mut conn));
+    assert!(rt; !is_made(&mut conn));
     assert!(rt; number(&mut conn, "SELECT count(*) FROM sqlite_schema") == Some(10));
     assert!(rt; number(&mut conn, "SELECT count(*) FROM meta") == Some(1));
     assert!(rt; number(&mut conn, "SELECT one FROM meta") == Some(1));
     assert!(rt; number(&mut conn, "SELECT format FROM meta") == Some(1));
     assert!(rt; number(&mut conn, "SELECT serial FROM meta") == Some(0));
+}
+
+#[test]
+fn which_tables_there_are(rt: HostRuntime) {
+    let mut conn = Connection::open_in_memory(rt.alloc()).expect(&rt, "memory");
+    assert!(rt; standing(&conn) == Standing::Missing);
+    assert!(rt; is_made(&mut conn));
+    assert!(rt; standing(&conn) == Standing::Whole);
+    assert!(rt; is_taken(&mut conn, "CREATE TABLE note (text TEXT) STRICT"));
+    assert!(rt; standing(&conn) == Standing::Whole);
+    assert!(rt; is_taken(&mut conn, "DROP TABLE availability"));
+    assert!(rt; standing(&conn) == Standing::Partial);
+    assert!(rt;
+        is_taken(
+            &mut conn,
+            "CREATE TABLE Availability (USS TEXT, STATE TEXT) STRICT"
+        )
+    );
+    assert!(rt; standing(&conn) == Standing::Partial);
+    assert!(rt; is_taken(&mut conn, "DROP TABLE availability"));
+    assert!(rt;
+        is_taken(
+            &mut conn,
+            "CREATE TABLE Availability (USS TEXT, STATE TEXT, VERSION TEXT) STRICT"
+        )
+    );
+    assert!(rt; standing(&conn) == Standing::Whole);
 }
 
 #[test]

@@ -3,18 +3,14 @@ use Rattle.sqlite.specs.Held.{state}
 use Rattle.space_tables.specs.Tables.{dss_schema, schema_5, availability}
 use Rattle.space_tables.proofs.Texts.{availability_text}
 use Rattle.space_tables.specs.Making.{IsBare}
-use Rattle.space_tables.proofs.Steps.{steps_on, keeps}
+use Rattle.space_tables.proofs.Steps.{leads_on}
 use Rattle.space_tables.proofs.Means.{availability_made, availability_is}
 use Rattle.space_tables.proofs.Making.{makes}
 use Rattle.space_tables.proofs.make.make_availability.Goals as goal
 
-pub returns-clause-done : goal.returns-clause-done
-returns-clause-done g c = λ clean.
+pub returns-clause-leads : goal.returns-clause-leads
+returns-clause-leads g c =
     let old = state g.S.Store c.args.tx.now.conn.now in
     let new = state g.S.Store c.execute.new.self.conn.now in
-    steps_on old new availability_text _ c.execute.result _ _ (IsBare schema_5) (IsBare dss_schema) c.execute.ensures.ended (c.execute.ensures.runs clean)
+    leads_on old new availability_text _ c.execute.result _ _ (IsBare schema_5) (IsBare dss_schema) c.execute.ensures.ended (λ off. ap (state g.S.Store) (c.execute.ensures.ended off).1) c.execute.ensures.runs c.execute.ensures.survives
     (makes schema_5 dss_schema (availability 0) availability_text old new c.execute.result availability_made.0 availability_made.1 availability_made.2 availability_is availability_made.3 refl)
-
-pub returns-clause-kept : goal.returns-clause-kept
-returns-clause-kept g c = λ clean.
-    keeps (state g.S.Store c.args.tx.now.conn.now) (state g.S.Store c.execute.new.self.conn.now) availability_text _ c.execute.result (λ off. ap (state g.S.Store) (c.execute.ensures.ended off).1) (c.execute.ensures.runs clean)

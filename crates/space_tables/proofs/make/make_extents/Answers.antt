@@ -1,22 +1,9 @@
-use Rattle.std.proofs.Common.{arith}
 use Rattle.sqlite.specs.Held.{state}
 use Rattle.space_tables.specs.Tables.{schema_2, schema_3, schema_4}
 use Rattle.space_tables.specs.Making.{IsBare}
-use Rattle.space_tables.proofs.Steps.{steps_then, keeps_then}
-use Rattle.sqlite.proofs.StateLemmas.{survives_then}
+use Rattle.space_tables.proofs.Steps.{leads_then}
 use Rattle.space_tables.proofs.make.make_extents.Goals as goal
 
-pub returns-clause-done : goal.returns-clause-done
-returns-clause-done g c = λ clean.
-    steps_then (state g.S.Store c.args.tx.now.conn.now) (state g.S.Store c.make_volume.new.tx.conn.now) (state g.S.Store c.make_cell.new.tx.conn.now) (IsBare schema_2) (IsBare schema_3) (IsBare schema_4)
-    (c.in_ok-make_volume.ensures.done (omega (arith, c.make_cell.ensures.survives.clean))) (c.in_ok-make_cell.ensures.done clean)
-
-pub returns-clause-survives : goal.returns-clause-survives
-returns-clause-survives g c =
-    survives_then (state g.S.Store c.args.tx.now.conn.now) (state g.S.Store c.make_volume.new.tx.conn.now) (state g.S.Store c.make_cell.new.tx.conn.now) _ _ (λ _. ⊥) (λ _ db none. none) (λ _ db none. none)
-    c.make_volume.ensures.survives c.make_cell.ensures.survives
-
-pub returns-clause-kept : goal.returns-clause-kept
-returns-clause-kept g c = λ clean.
-    keeps_then (state g.S.Store c.args.tx.now.conn.now) (state g.S.Store c.make_volume.new.tx.conn.now) (state g.S.Store c.make_cell.new.tx.conn.now)
-    (c.make_volume.ensures.kept (omega (arith, c.make_cell.ensures.survives.clean))) (c.make_cell.ensures.kept clean)
+pub returns-clause-leads : goal.returns-clause-leads
+returns-clause-leads g c =
+    leads_then (IsBare schema_2) (IsBare schema_3) (IsBare schema_4) (state g.S.Store c.args.tx.now.conn.now) (state g.S.Store c.make_volume.new.tx.conn.now) (state g.S.Store c.make_cell.new.tx.conn.now) _ _ _ c.in_ok-make_volume.ensures.leads c.in_ok-make_cell.ensures.leads

@@ -1,22 +1,9 @@
-use Rattle.std.proofs.Common.{arith}
 use Rattle.sqlite.specs.Held.{state}
 use Rattle.space_tables.specs.Tables.{no_schema, schema_2, schema_4}
 use Rattle.space_tables.specs.Making.{IsBare}
-use Rattle.space_tables.proofs.Steps.{steps_then, keeps_then}
-use Rattle.sqlite.proofs.StateLemmas.{survives_then}
+use Rattle.space_tables.proofs.Steps.{leads_then}
 use Rattle.space_tables.proofs.make.make_four.Goals as goal
 
-pub returns-clause-done : goal.returns-clause-done
-returns-clause-done g c = λ clean.
-    steps_then (state g.S.Store c.args.tx.now.conn.now) (state g.S.Store c.make_heads.new.tx.conn.now) (state g.S.Store c.make_extents.new.tx.conn.now) (IsBare no_schema) (IsBare schema_2) (IsBare schema_4)
-    (c.in_ok-make_heads.ensures.done (omega (arith, c.make_extents.ensures.survives.clean))) (c.in_ok-make_extents.ensures.done clean)
-
-pub returns-clause-survives : goal.returns-clause-survives
-returns-clause-survives g c =
-    survives_then (state g.S.Store c.args.tx.now.conn.now) (state g.S.Store c.make_heads.new.tx.conn.now) (state g.S.Store c.make_extents.new.tx.conn.now) _ _ (λ _. ⊥) (λ _ db none. none) (λ _ db none. none)
-    c.make_heads.ensures.survives c.make_extents.ensures.survives
-
-pub returns-clause-kept : goal.returns-clause-kept
-returns-clause-kept g c = λ clean.
-    keeps_then (state g.S.Store c.args.tx.now.conn.now) (state g.S.Store c.make_heads.new.tx.conn.now) (state g.S.Store c.make_extents.new.tx.conn.now)
-    (c.make_heads.ensures.kept (omega (arith, c.make_extents.ensures.survives.clean))) (c.make_extents.ensures.kept clean)
+pub returns-clause-leads : goal.returns-clause-leads
+returns-clause-leads g c =
+    leads_then (IsBare no_schema) (IsBare schema_2) (IsBare schema_4) (state g.S.Store c.args.tx.now.conn.now) (state g.S.Store c.make_heads.new.tx.conn.now) (state g.S.Store c.make_extents.new.tx.conn.now) _ _ _ c.in_ok-make_heads.ensures.leads c.in_ok-make_extents.ensures.leads

@@ -22,7 +22,7 @@ returns-in_err-make_all-clause-err g c =
     subst (λ h. HasCleanDisk (state g.S.Store h) → IsTrue (state g.S.Store h).is_open → OnErr c.from_residual.result (((state g.S.Store h).now ≡ (state g.S.Store old).committed) × ((state g.S.Store h).committed ≡ (state g.S.Store old).committed))) same
     (λ clean alive. on_err c.from_residual.result _ (
     let back = c.drop-tx.ensures.undone clean in
-    let kept = rw begun at (c.make_all.ensures.kept (omega (arith, c.drop-tx.ensures.survives.clean))) in
+    let kept = rw begun at (c.make_all.ensures.leads.kept (omega (arith, c.drop-tx.ensures.survives.clean))) in
     let last = kept.committed (back.was_open alive) in
     ((back.undone alive).0 ∙ last, (back.undone alive).1 ∙ last)))
 
@@ -32,9 +32,9 @@ returns-clause-crash g c =
     let last = c.make_all.new.tx.conn.now in
     let begun = c.transaction-tx.ensures.begun in
     let P = λ (trees : Trees). (state g.S.Store old).now.schema ≡ no_schema → (db : Database) × (trees ≡ db.trees) × Spells db (empty_at 0) in
-    let ran = λ (clean : HasCleanDisk (state g.S.Store last)). rw begun at (c.in_ok-make_all.ensures.done clean) in
+    let ran = λ (clean : HasCleanDisk (state g.S.Store last)). rw begun at (c.in_ok-make_all.ensures.leads.done clean) in
     let whole = survives_then (state g.S.Store old) (state g.S.Store last) (state g.S.Store c.commit.new.self.0) _ _ P (λ _ db none. absurd none)
-    (λ clean db is has. ((state g.S.Store last).now, is, (ran (omega (arith, c.commit.ensures.survives.clean))).0 (has, tt))) (survives_begin g.S.Store old (state g.S.Store last) _ (rw begun at c.make_all.ensures.survives)) c.commit.ensures.survives in
+    (λ clean db is has. ((state g.S.Store last).now, is, (ran (omega (arith, c.commit.ensures.survives.clean))).0 (has, tt))) (survives_begin g.S.Store old (state g.S.Store last) _ (rw begun at c.make_all.ensures.leads.survives)) c.commit.ensures.survives in
     let same : c.commit.new.self.0 ≡ c.conn-2-1.given.0 = search rules in
     subst (λ h. Survives (state g.S.Store old) (state g.S.Store h) P) same whole
 
@@ -43,7 +43,7 @@ returns-clause-done g c =
     let old = c.args.conn.now in
     let last = c.make_all.new.tx.conn.now in
     let begun = c.transaction-tx.ensures.begun in
-    let ran = λ (clean : HasCleanDisk (state g.S.Store last)). rw begun at (c.in_ok-make_all.ensures.done clean) in
+    let ran = λ (clean : HasCleanDisk (state g.S.Store last)). rw begun at (c.in_ok-make_all.ensures.leads.done clean) in
     let same : c.commit.new.self.0 ≡ c.conn-2-1.given.0 = search rules in
     subst (λ h. HasCleanDisk (state g.S.Store h) → OnOk c.commit.result (((state g.S.Store old).now.schema ≡ no_schema → Spells (state g.S.Store h).now (empty_at 0)) × IsSettled (state g.S.Store h))) same
     (λ clean. ok_map c.commit.result _ _ (c.commit.ensures.ok clean) (λ it.

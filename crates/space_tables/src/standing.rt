@@ -1,0 +1,166 @@
+//! Which of the tables of format 1 a database has.
+ghost use Rattle.std.specs.Prelude.{◌≡◌};
+ghost use Rattle.std.specs.List.{list_any};
+ghost use Rattle.sqlite_schema.specs.Names.{same_name};
+ghost use Rattle.space_tables.specs.Tables.{no_schema, dss_schema, meta, entity, volume, cell, availability};
+ghost use Rattle.space_tables.specs.Standing.{is_named, has_column, stands_for, has_all, has_some, standing_in};
+
+use sqlite_schema::names::same_name;
+use sqlite_schema::schema::{Column, Schema, Table};
+
+/// How a database stands to the tables of format 1.
+#[derive(Clone, Copy, Debug, PartialEq, Eq)]
+pub enum Standing {
+    /// It has none of them.
+    Missing,
+    /// It has some, and lacks others or some of their columns.
+    Partial,
+    /// It has all of them, with their columns.
+    Whole,
+}
+
+fn is_named(table: &Table, name: &[u8]) -> bool
+    ensures { result ≡ is_named name.now table.now }
+{
+    same_name(table.name.as_slice(), name)
+}
+
+fn is_column(column: &Column, name: &[u8]) -> bool
+    ensures { result ≡ same_name column.now.name name.now }
+{
+    same_name(column.name.as_slice(), name)
+}
+
+fn has_column(table: &Table, name: &[u8]) -> bool
+    ensures { result ≡ has_column name.now table.now }
+{
+    table.columns.as_slice().iter().any(|c| is_column(c, name))
+}
+
+fn is_meta(table: &Table) -> bool
+    ensures { result ≡ stands_for (meta 0) table.now }
+{
+    is_named(table, b"meta")
+        && (has_column(table, b"one")
+            && (has_column(table, b"format") && has_column(table, b"serial")))
+}
+
+fn is_entity(table: &Table) -> bool
+    ensures { result ≡ stands_for (entity 1) table.now }
+{
+    is_named(table, b"entity")
+        && (has_column(table, b"num")
+            && (has_column(table, b"kind")
+                && (has_column(table, b"id")
+                    && (has_column(table, b"manager")
+                        && (has_column(table, b"state")
+                            && (has_column(table, b"version")
+                                && (has_column(table, b"serial")
+                                    && (has_column(table, b"ovn")
+                                        && has_column(table, b"url")))))))))
+}
+
+fn is_volume(table: &Table) -> bool
+    ensures { result ≡ stands_for (volume 3) table.now }
+{
+    is_named(table, b"volume")
+        && (has_column(table, b"entity")
+            && (has_column(table, b"place")
+                && (has_column(table, b"alt_lower")
+                    && (has_column(table, b"alt_upper")
+                        && (has_column(table, b"time_start") && has_column(table, b"time_end"))))))
+}
+
+fn is_cell(table: &Table) -> bool
+    ensures { result ≡ stands_for (cell 5) table.now }
+{
+    is_named(table, b"cell")
+        && (has_column(table, b"entity")
+            && (has_column(table, b"volume")
+                && (has_column(table, b"place")
+                    && (has_column(table, b"token")
+                        && (has_column(table, b"lo") && has_column(table, b"hi"))))))
+}
+
+fn is_availability(table: &Table) -> bool
+    ensures { result ≡ stands_for (availability 8) table.now }
+{
+    is_named(table, b"availability")
+        && (has_column(table, b"uss")
+            && (has_column(table, b"state") && has_column(table, b"version")))
+}
+
+fn is_ours(table: &Table) -> bool
+    ensures { result ≡ list_any (λ ours. is_named ours.name table.now) dss_schema.tables }
+{
+    is_named(table, b"meta")
+        || (is_named(table, b"entity")
+            || (is_named(table, b"volume")
+                || (is_named(table, b"cell") || is_named(table, b"availability"))))
+}
+
+fn any_meta(tables: &[Table]) -> bool
+    ensures { result ≡ list_any (stands_for (meta 0)) tables.now }
+{
+    tables.iter().any(|t| is_meta(t))
+}
+
+fn any_entity(tables: &[Table]) -> bool
+    ensures { result ≡ list_any (stands_for (entity 1)) tables.now }
+{
+    tables.iter().any(|t| is_entity(t))
+}
+
+fn any_volume(tables: &[Table]) -> bool
+    ensures { result ≡ list_any (stands_for (volume 3)) tables.now }
+{
+    tables.iter().any(|t| is_volume(t))
+}
+
+fn any_cell(tables: &[Table]) -> bool
+    ensures { result ≡ list_any (stands_for (cell 5)) tables.now }
+{
+    tables.iter().any(|t| is_cell(t))
+}
+
+fn any_availability(tables: &[Table]) -> bool
+    ensures { result ≡ list_any (stands_for (availability 8)) tables.now }
+{
+    tables.iter().any(|t| is_availability(t))
+}
+
+fn has_all(tables: &[Table]) -> bool
+    ensures { result ≡ has_all tables.now }
+{
+    any_meta(tables)
+        && (any_entity(tables)
+            && (any_volume(tables) && (any_cell(tables) && any_availability(tables))))
+}
+
+fn has_some(tables: &[Table]) -> bool
+    ensures { result ≡ has_some tables.now }
+{
+    tables.iter().any(|t| is_ours(t))
+}
+
+fn standing_in(tables: &[Table]) -> Standing
+    ensures { result ≡ standing_in tables.now }
+{
+    if has_all(tables) {
+        Standing::Whole
+    } else if has_some(tables) {
+        Standing::Partial
+    } else {
+        Standing::Missing
+    }
+}
+
+/// How a schema stands to the tables of format 1. Further tables, columns and rules are not looked
+/// for. It takes no memory.
+pub fn standing_of(schema: &Schema) -> Standing
+    ensures exact { result ≡ standing_in schema.now.tables }
+    ensures missing { schema.now ≡ no_schema → result ≡ Standing.Missing }
+    ensures whole { schema.now ≡ dss_schema → result ≡ Standing.Whole }
+{
+    standing_in(schema.tables.as_slice())
+}
