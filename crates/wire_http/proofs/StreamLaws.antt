@@ -1,14 +1,11 @@
 -- From the turns of a stream to what was served of it.
-use Rattle.std.proofs.Common.{◌⊎◌, ◌≡◌, ℕ, zero, suc, ◌+◌, ◌-◌, ◌≤◌, List, [], ◌∷◌, ◌++◌, length, take, map, Bool, true, false, refl, sym, ap, subst, ◌∙◌, Option, Some, None, IfSome, inl, inr, arith, rules}
+use Rattle.std.proofs.Common.{◌⊎◌, ◌≡◌, ℕ, zero, suc, ◌+◌, ◌-◌, ◌≤◌, List, [], ◌∷◌, ◌++◌, length, take, map, refl, sym, ap, subst, ◌∙◌, Option, Some, None, IfSome, inl, inr, arith}
 use Rattle.std.specs.Prelude.{◌==◌}
 use Rattle.std.specs.List.{concat}
 use Rattle.std.specs.Io.KnownBytes.{Appends, prepend_known}
-use Rattle.std.proofs.lemmas.Bool.{false≢true}
 use Rattle.std.proofs.lemmas.List.{append-nil, length-append, length-map, map-append, take_all}
 use Rattle.std.proofs.lemmas.List.Folds.{concat-append}
 use Rattle.std.proofs.Math.Seq.{take-append-add, take-append_seam}
-use Rattle.entity_core.specs.Airspace.{Airspace}
-use Rattle.space_core.specs.Space.{IsContent}
 use Rattle.space_core.specs.declared.space.Space.{Ghosts}
 use Rattle.service_core.specs.declared.service.Service.{Service}
 use Rattle.service_core.specs.declared.reply.Reply.{Reply}

@@ -8,7 +8,6 @@ use Rattle.httparse.specs.declared.spans.HeaderSpan.{HeaderSpan}
 use Rattle.httparse.specs.declared.spans.RequestSpans.{RequestSpans}
 use Rattle.httparse.specs.Grammar.{RequestHead, print_request}
 use Rattle.httparse.specs.Spans.{header_bytes}
-use Rattle.entity_core.specs.Airspace.{Airspace}
 use Rattle.policy_core.specs.declared.call.Call.{Call}
 use Rattle.space_core.specs.declared.space.Space.{Ghosts}
 use Rattle.service_core.specs.declared.service.Service.{Service}

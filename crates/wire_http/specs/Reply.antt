@@ -1,7 +1,6 @@
 -- What is known of the reply to one call.
 use Rattle.std.specs.Prelude.{ℕ, Bool, List, Option, take}
 use Rattle.std.specs.Io.KnownBytes.{Appends}
-use Rattle.entity_core.specs.Airspace.{Airspace}
 use Rattle.policy_core.specs.declared.call.Call.{Call}
 use Rattle.space_core.specs.declared.space.Space.{Ghosts}
 use Rattle.service_core.specs.declared.service.Service.{Service}

@@ -1,16 +1,12 @@
 -- Which calls the bytes of a stream spell, and what is written for them.
-use Rattle.std.specs.Prelude.{◌≡◌, ◌≤◌, ◌-◌, ◌⊎◌, ◌==◌, ℕ, zero, suc, Bool, true, false, if◌then◌else◌, List, [], ◌∷◌, ◌++◌, length, take, drop, map, Option, Ok, All}
+use Rattle.std.specs.Prelude.{◌≡◌, ◌≤◌, ◌-◌, ◌⊎◌, ◌==◌, ℕ, zero, suc, Bool, if◌then◌else◌, List, [], ◌∷◌, ◌++◌, length, take, drop, map, Option, Ok}
 use Rattle.std.specs.List.{concat}
 use Rattle.std.specs.Io.KnownBytes.{Appends}
 use Rattle.httparse.specs.Grammar.{RequestHead}
-use Rattle.entity_core.specs.Airspace.{Airspace}
-use Rattle.space_core.specs.Space.{IsContent}
 use Rattle.policy_core.specs.declared.call.Call.{Call}
 use Rattle.space_core.specs.declared.space.Space.{Ghosts}
 use Rattle.service_core.specs.declared.service.Service.{Service}
 use Rattle.service_core.specs.declared.reply.Reply.{Reply}
-use Rattle.service_core.specs.declared.reply.Reply.TheVariants.{Stopped}
-use Rattle.service_core.specs.Held.{space_of, salt_of, is_shut}
 use Rattle.service_core.specs.Run.{Answered, Timed}
 use Rattle.wire_http.specs.declared.fault.StreamFault.{StreamFault}
 use Rattle.wire_http.specs.declared.fault.StreamFault.TheVariants as faults
