@@ -98,9 +98,9 @@ fn refused<O: Write, E: Write>(fault: LineFault, output: &mut O, error: &mut E) 
     status
 }
 
-/// Runs one command line, whose first word is the program's name, over a reader and two writers, and
-/// answers the exit status: 0 where it is done, 1 after a fault, which is told on one line of `error`,
-/// and 2 for a command line that is refused.
+/// Runs one command line, whose first word is the program's name, over a reader and two writers,
+/// and answers the exit status: 0 where it is done, 1 after a fault, which is told on one line of
+/// `error`, and 2 for a command line that is refused.
 pub fn run_line<'a, N: Files + AllocGlobal, R: Read, O: Write, E: Write>(
     rt: &N,
     words: &'a [&'a str],

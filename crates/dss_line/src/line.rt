@@ -42,7 +42,8 @@ fn option<'a>(alloc: Global, name: &'a str) -> Arg<'a>
 }
 
 fn run_command<'a>(alloc: Global) -> Result<Command<'a>, AllocError>
-    ensures { IfOk result (λ command. (app_of command ≡ run_app) × ((out-Command command).has_globals ≡ false)) }
+    ensures { IfOk result (λ command. (app_of command ≡ run_app)
+        × ((out-Command command).has_globals ≡ false)) }
 {
     let tokens = option(alloc, "tokens")
         .value_name("FILE")
@@ -63,7 +64,8 @@ fn run_command<'a>(alloc: Global) -> Result<Command<'a>, AllocError>
 }
 
 fn cell_command<'a>(alloc: Global) -> Result<Command<'a>, AllocError>
-    ensures { IfOk result (λ command. (app_of command ≡ cell_app) × ((out-Command command).has_globals ≡ false)) }
+    ensures { IfOk result (λ command. (app_of command ≡ cell_app)
+        × ((out-Command command).has_globals ≡ false)) }
 {
     let token = Arg::new(alloc, "token")
         .required(true)
@@ -75,7 +77,8 @@ fn cell_command<'a>(alloc: Global) -> Result<Command<'a>, AllocError>
 }
 
 fn command<'a>(alloc: Global) -> Result<Command<'a>, AllocError>
-    ensures { IfOk result (λ command. (app_of command ≡ dss_app) × ((out-Command command).has_globals ≡ false)) }
+    ensures { IfOk result (λ command. (app_of command ≡ dss_app)
+        × ((out-Command command).has_globals ≡ false)) }
 {
     Command::new(alloc, "dss")
         .about("A discovery and synchronization service for drone suppliers")
@@ -84,10 +87,12 @@ fn command<'a>(alloc: Global) -> Result<Command<'a>, AllocError>
         .subcommand(cell_command(alloc)?)
 }
 
-// What the matches of the subcommand `run` ask for; `None` where a value is not there or out of its range.
+// What the matches of the subcommand `run` ask for; `None` where a value is not there or out of its
+// range.
 fn run_line<'a>(matches: &ArgMatches<'a>) -> Option<Line<'a>>
     ensures some { IfSome result (Asks (Some (codes "run", rows_of (found_of matches.now)))) }
-    ensures none { IfNone result (AsksNothing (Some (codes "run", rows_of (found_of matches.now)))) }
+    ensures none { IfNone result (AsksNothing
+        (Some (codes "run", rows_of (found_of matches.now)))) }
 {
     let now = matches.get_one::<u64>("now")?;
     if now > LAST_MOMENT {
@@ -103,7 +108,8 @@ fn run_line<'a>(matches: &ArgMatches<'a>) -> Option<Line<'a>>
 // What the matches of the subcommand `cell` ask for; `None` where the token is not there.
 fn cell_line<'a>(matches: &ArgMatches<'a>) -> Option<Line<'a>>
     ensures some { IfSome result (Asks (Some (codes "cell", rows_of (found_of matches.now)))) }
-    ensures none { IfNone result (AsksNothing (Some (codes "cell", rows_of (found_of matches.now)))) }
+    ensures none { IfNone result (AsksNothing
+        (Some (codes "cell", rows_of (found_of matches.now)))) }
 {
     Some(Line::Cell {
         token: matches.get_str("token")?,
@@ -134,11 +140,12 @@ fn line_in<'a>(matches: &ArgMatches<'a>) -> Option<Line<'a>>
 }
 
 /// Reads the words of a command line, of which the first is the program's name. A fault has the
-/// whole text that the user reads, its line ends included. What the words ask for, and which mistakes
-/// they have, is by `clap`'s own account of the grammar.
+/// whole text that the user reads, its line ends included. What the words ask for, and which
+/// mistakes they have, is by `clap`'s own account of the grammar.
 pub fn parse<'a>(alloc: Global, words: &'a [&'a str]) -> Result<Line<'a>, LineFault>
     ensures ok { IfOk result (Asks (subcommand_of dss_app (texts words.entry.now))) }
-    ensures err { IfErr result (Explains (mistakes_of dss_app (texts words.entry.now)) (subcommand_of dss_app (texts words.entry.now))) }
+    ensures err { IfErr result (Explains (mistakes_of dss_app (texts words.entry.now))
+        (subcommand_of dss_app (texts words.entry.now))) }
 {
     let matches = match command(alloc)?.try_get_matches_from(words) {
         Ok(matches) => matches,
