@@ -1,0 +1,3 @@
+pub mod Outcomes
+pub mod Readings
+pub mod Changing

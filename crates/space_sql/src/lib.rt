@@ -1,0 +1,7 @@
+//! A space over tables of SQLite: made, taken and given back, read and changed.
+#![tactic(auto)]
+
+mod answer;
+mod parts;
+mod reading;
+pub mod space;
