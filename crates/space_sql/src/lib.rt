@@ -2,6 +2,7 @@
 #![tactic(auto)]
 
 mod answer;
+pub mod open;
 mod parts;
 mod reading;
 pub mod space;

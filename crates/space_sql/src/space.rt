@@ -22,6 +22,7 @@ use std::marker::Model;
 /// other, and the airspace that they spell. What is said of it stands as long as the disk has
 /// returned what was written; a store in memory has no disk. After `Broken` every call answers
 /// `Broken`, and the tables are left.
+#[derive(Drop)]
 pub struct SqlSpace<S: Alter> {
     pub(crate) conn: Connection<S>,
     pub(crate) refusals: u64,
