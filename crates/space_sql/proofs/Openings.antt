@@ -6,8 +6,8 @@ use Rattle.space_tables.specs.Making.{MayBeMade}
 use Rattle.space_tables.specs.Tables.{dss_schema}
 use Rattle.space_tables.specs.declared.standing.Standing.TheVariants.{Missing, Whole}
 use Rattle.space_sql.specs.Opening.{MayBeOpened}
-use Rattle.space_sql.specs.declared.open.OpenFault.{OpenFault}
-use Rattle.space_sql.specs.declared.open.OpenFault.TheVariants.{Store}
+use Rattle.space_sql.specs.declared.open_fault.OpenFault.{OpenFault}
+use Rattle.space_sql.specs.declared.open_fault.OpenFault.TheVariants.{Store}
 
 pub ok_is_no_fault : (x : Unit {0}) (fault : OpenFault) → ◌≢◌ {A = Result (Unit {0}) OpenFault} (Ok x) (Err fault)
 ok_is_no_fault x fault = λ e. cc

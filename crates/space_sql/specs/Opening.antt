@@ -8,8 +8,8 @@ use Rattle.space_reading.specs.Judging.{IsOtherFormat}
 use Rattle.space_tables.specs.Making.{MayBeMade}
 use Rattle.space_tables.specs.Spelling.{Spells}
 use Rattle.space_tables.specs.Tables.{dss_schema}
-use Rattle.space_sql.specs.declared.open.OpenFault.{OpenFault}
-use Rattle.space_sql.specs.declared.open.OpenFault.TheVariants.{NotADss, Version, Store}
+use Rattle.space_sql.specs.declared.open_fault.OpenFault.{OpenFault}
+use Rattle.space_sql.specs.declared.open_fault.OpenFault.TheVariants.{NotADss, Version, Store}
 
 -- Why tables of our schema were not taken: NotADss where they spell no airspace and the format is not another one,
 -- Version where it is.

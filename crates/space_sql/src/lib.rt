@@ -3,6 +3,7 @@
 
 mod answer;
 pub mod open;
+pub mod open_fault;
 mod parts;
 mod reading;
 pub mod space;

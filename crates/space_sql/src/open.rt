@@ -9,8 +9,9 @@ ghost use Rattle.space_tables.specs.Making.{IsSettled, IsUndone, MayBeMade};
 ghost use Rattle.space_tables.specs.Spelling.{Spells};
 ghost use Rattle.space_tables.specs.Tables.{dss_schema, no_schema};
 ghost use Rattle.space_sql.specs.Opening.{Examines, MayBeOpened, Refuses};
-ghost use Rattle.space_sql.specs.declared.open.OpenFault.TheVariants.{Store};
+ghost use Rattle.space_sql.specs.declared.open_fault.OpenFault.TheVariants.{Store};
 
+use crate::open_fault::OpenFault;
 use crate::space::SqlSpace;
 use space_core::space::{Space, SpaceFault};
 use space_reading::judge::Verdict;
@@ -19,17 +20,6 @@ use space_tables::make::make_tables;
 use space_tables::standing::{Standing, standing_of};
 use sqlite::{Alter, Connection, File, FileStore, MemStore};
 use std::alloc::Global;
-
-/// Why a database was not taken as an airspace.
-#[derive(Clone, Copy, Debug, PartialEq, Eq)]
-pub enum OpenFault {
-    /// Some of the tables or their columns are lacking, or the rows are no airspace.
-    NotADss,
-    /// `meta` reads with one row whose format is not known.
-    Version,
-    /// The store failed.
-    Store,
-}
 
 // A space over a connection at rest, whose tables spell an airspace.
 fn space_over<S: Alter>(alloc: Global, conn: Connection<S>) -> SqlSpace<S>
