@@ -1,0 +1,29 @@
+-- What statements in a transaction do.
+use Rattle.std.specs.Prelude.{◌≡◌, ℕ, ◌<◌, true, IsTrue, Option, Result, IfOk}
+use Rattle.sqlite.specs.Effect.{Database, IsDatabase}
+use Rattle.sqlite.specs.State.{State, Shows, HasCleanDisk, KeepsCommit, Survives}
+use Rattle.sqlite.specs.declared.error.Error.{Error}
+use Rattle.entity_core.specs.Airspace.{Airspace, EntityKey}
+use Rattle.entity_core.specs.Serial.{greatest_serial}
+use Rattle.space_rows.specs.Finds.{Finds}
+use Rattle.space_tables.specs.Spelling.{Spells}
+use Rattle.space_changes.specs.Layout.{Layout, LaysOut, IsNumberOf, Relays, with_next_serial}
+
+-- Statements run in a transaction that goes on, and R holds of what they answer, the database before and that after.
+-- Whatever comes of them, the last commit stands, and a crash leaves what it would have left before.
+pub record Runs {X : Type 0} (R : X → Database → Database → Type 0) (old new : State) (result : Result X Error) : Type 0 where
+  pub done : HasCleanDisk new → IsTrue old.in_transaction → IfOk result (λ x. R x old.now new.now × Shows old new new.now old.committed true)
+  pub kept : HasCleanDisk new → IsTrue old.in_transaction → KeepsCommit old new
+  pub survives : Survives old new (λ _. ⊥)
+
+-- the number under which the tables have an entity is found, if they have it, and they stay as they are
+abbrev pub FindsNumber : EntityKey → Option ℤ → Database → Database → Type 0
+FindsNumber k found old new = (new ≡ old) × ((a : Airspace) (p : Spells old a) → Finds (λ num. IsNumberOf num k p.groups) found)
+
+-- a change of the rows, after which they obey the schema
+abbrev pub RelaysSound : (P : Layout → Type 0) (change : Layout → Layout) → Database → Database → Type 0
+RelaysSound P change old new = Relays P change old new × ((l : Layout) → P l → LaysOut old l → IsDatabase new)
+
+-- whatever airspace was spelt, if P holds of it, what comes of it is spelt, and the rows obey the schema
+abbrev pub SpellsChanged : (P : Airspace → Type 0) (change : Airspace → Airspace) → Database → Database → Type 0
+SpellsChanged P change old new = (a : Airspace) → Spells old a → P a → Spells new (change a) × IsDatabase new

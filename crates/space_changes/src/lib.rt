@@ -1,0 +1,6 @@
+//! One change of the airspace in the tables, in one transaction.
+#![tactic(auto)]
+
+mod number;
+mod remove;
+mod serial;
