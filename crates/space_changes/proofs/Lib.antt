@@ -2,3 +2,9 @@ pub mod Texts
 pub mod Means
 pub mod Running
 pub mod Relaying
+pub mod Rows
+pub mod Clear
+pub mod Cascade
+pub mod Cascades
+pub mod Selecting
+pub mod Removing
