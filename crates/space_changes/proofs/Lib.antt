@@ -8,3 +8,4 @@ pub mod Cascade
 pub mod Cascades
 pub mod Selecting
 pub mod Removing
+pub mod Serials
