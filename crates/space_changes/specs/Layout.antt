@@ -1,5 +1,5 @@
 -- The rows of the tables on the way from one airspace to the next.
-use Rattle.std.specs.Prelude.{◌≡◌, ℕ, ◌+◌, ◌<◌, ℤ, List, [], ◌∷◌, map, filter, not, false, IsPermutation}
+use Rattle.std.specs.Prelude.{◌≡◌, ℕ, ◌+◌, ◌<◌, ℤ, List, [], ◌∷◌, ◌++◌, map, filter, not, false, IsPermutation}
 use Rattle.std.specs.List.{AllByRecursion, flat_map}
 use Rattle.std.specs.Ordering.{int_eq}
 use Rattle.std.specs.FinMap.{entries}
@@ -54,6 +54,17 @@ without_volumes num l = record l { volumes = filter (λ (v : VolumeRow). not (in
 -- without the row of an entity in `entity`
 abbrev pub without_entity_row : ℤ → Layout → Layout
 without_entity_row num l = record l { entities = filter (λ (e : EntityRow). not (int_eq e.num num)) l.entities }
+
+-- with a further row in `entity`
+abbrev pub with_entity_row : EntityRow → Layout → Layout
+with_entity_row e l = record l { entities = l.entities ++ e ∷ [] }
+
+-- with further volumes
+abbrev pub with_volumes : List VolumeRow → Layout → Layout
+with_volumes vs l = record l { volumes = l.volumes ++ vs }
+
+abbrev pub with_cells : List CellRow → Layout → Layout
+with_cells cs l = record l { cells = l.cells ++ cs }
 
 -- the serial goes on by one
 abbrev pub with_next_serial : Layout → Layout

@@ -1,7 +1,7 @@
 -- What statements in a transaction do.
-use Rattle.std.specs.Prelude.{◌≡◌, ℕ, ◌<◌, true, IsTrue, Option, Result, IfOk}
+use Rattle.std.specs.Prelude.{◌≡◌, ℕ, ℤ, ◌<◌, IsTrue, Option, Result, IfOk}
 use Rattle.sqlite.specs.Effect.{Database, IsDatabase}
-use Rattle.sqlite.specs.State.{State, Shows, HasCleanDisk, KeepsCommit, Survives}
+use Rattle.sqlite.specs.State.{State, HasCleanDisk, KeepsCommit, Survives}
 use Rattle.sqlite.specs.declared.error.Error.{Error}
 use Rattle.entity_core.specs.Airspace.{Airspace, EntityKey}
 use Rattle.entity_core.specs.Serial.{greatest_serial}
@@ -12,7 +12,7 @@ use Rattle.space_changes.specs.Layout.{Layout, LaysOut, IsNumberOf, Relays, with
 -- Statements run in a transaction that goes on, and R holds of what they answer, the database before and that after.
 -- Whatever comes of them, the last commit stands, and a crash leaves what it would have left before.
 pub record Runs {X : Type 0} (R : X → Database → Database → Type 0) (old new : State) (result : Result X Error) : Type 0 where
-  pub done : HasCleanDisk new → IsTrue old.in_transaction → IfOk result (λ x. R x old.now new.now × Shows old new new.now old.committed true)
+  pub done : HasCleanDisk new → IsTrue old.in_transaction → IfOk result (λ x. R x old.now new.now × IsTrue new.in_transaction)
   pub kept : HasCleanDisk new → IsTrue old.in_transaction → KeepsCommit old new
   pub survives : Survives old new (λ _. ⊥)
 

@@ -1,6 +1,7 @@
 //! One change of the airspace in the tables, in one transaction.
 #![tactic(auto)]
 
+mod insert;
 mod number;
 mod remove;
 mod serial;
