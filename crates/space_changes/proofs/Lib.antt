@@ -1,0 +1,4 @@
+pub mod Texts
+pub mod Means
+pub mod Running
+pub mod Relaying

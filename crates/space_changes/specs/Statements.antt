@@ -1,24 +1,23 @@
 -- What statements in a transaction do.
-use Rattle.std.specs.Prelude.{◌≡◌, ℕ, ℤ, ◌<◌, IsTrue, Option, Result, IfOk}
+use Rattle.std.specs.Prelude.{◌≡◌, ℤ, true, IsTrue, Option, Result, IfOk}
 use Rattle.sqlite.specs.Effect.{Database, IsDatabase}
-use Rattle.sqlite.specs.State.{State, HasCleanDisk, KeepsCommit, Survives}
+use Rattle.sqlite.specs.State.{State, Shows, HasCleanDisk, KeepsCommit, Survives}
 use Rattle.sqlite.specs.declared.error.Error.{Error}
 use Rattle.entity_core.specs.Airspace.{Airspace, EntityKey}
-use Rattle.entity_core.specs.Serial.{greatest_serial}
 use Rattle.space_rows.specs.Finds.{Finds}
 use Rattle.space_tables.specs.Spelling.{Spells}
-use Rattle.space_changes.specs.Layout.{Layout, LaysOut, IsNumberOf, Relays, with_next_serial}
+use Rattle.space_changes.specs.Layout.{Layout, LaysOut, IsNumberOf, Relays}
 
 -- Statements run in a transaction that goes on, and R holds of what they answer, the database before and that after.
 -- Whatever comes of them, the last commit stands, and a crash leaves what it would have left before.
 pub record Runs {X : Type 0} (R : X → Database → Database → Type 0) (old new : State) (result : Result X Error) : Type 0 where
-  pub done : HasCleanDisk new → IsTrue old.in_transaction → IfOk result (λ x. R x old.now new.now × IsTrue new.in_transaction)
+  pub done : HasCleanDisk new → IsTrue old.in_transaction → IfOk result (λ x. R x old.now new.now × Shows old new new.now old.committed true)
   pub kept : HasCleanDisk new → IsTrue old.in_transaction → KeepsCommit old new
   pub survives : Survives old new (λ _. ⊥)
 
 -- the number under which the tables have an entity is found, if they have it, and they stay as they are
 abbrev pub FindsNumber : EntityKey → Option ℤ → Database → Database → Type 0
-FindsNumber k found old new = (new ≡ old) × ((a : Airspace) (p : Spells old a) → Finds (λ num. IsNumberOf num k p.groups) found)
+FindsNumber k found old new = (a : Airspace) (p : Spells old a) → (new ≡ old) × Finds (λ num. IsNumberOf num k p.groups) found
 
 -- a change of the rows, after which they obey the schema
 abbrev pub RelaysSound : (P : Layout → Type 0) (change : Layout → Layout) → Database → Database → Type 0
