@@ -4,3 +4,9 @@ pub mod Running
 pub mod Relaying
 pub mod Joining
 pub mod Inserting
+pub mod Rows
+pub mod Clear
+pub mod Cascade
+pub mod Cascades
+pub mod Selecting
+pub mod Removing
