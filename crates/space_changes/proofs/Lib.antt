@@ -4,6 +4,7 @@ pub mod Running
 pub mod Relaying
 pub mod Joining
 pub mod Inserting
+pub mod Inserted
 pub mod Rows
 pub mod Clear
 pub mod Cascade

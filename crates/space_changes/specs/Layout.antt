@@ -66,6 +66,10 @@ with_volumes vs l = record l { volumes = l.volumes ++ vs }
 abbrev pub with_cells : List CellRow → Layout → Layout
 with_cells cs l = record l { cells = l.cells ++ cs }
 
+-- with all rows of an entity
+abbrev pub with_rows : EntityRow → List VolumeRow → List CellRow → Layout → Layout
+with_rows e vs cs l = with_cells cs (with_volumes vs (with_entity_row e l))
+
 -- the serial goes on by one
 abbrev pub with_next_serial : Layout → Layout
 with_next_serial l = record l { serial = l.serial + 1 }

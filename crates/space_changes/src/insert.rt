@@ -1,7 +1,7 @@
 //! The rows of an entity are inserted, those of a table before those that refer to them.
 ghost use Rattle.std.specs.Prelude.{◌≡◌, [], ◌∷◌};
 ghost use Rattle.sqlite.specs.Held.{state};
-ghost use Rattle.space_changes.specs.Layout.{Relays, with_cells, with_entity_row, with_volumes};
+ghost use Rattle.space_changes.specs.Layout.{Relays, with_cells, with_entity_row, with_rows, with_volumes};
 ghost use Rattle.space_changes.specs.Statements.{Runs};
 
 use space_rows::rows::{CellRow, EntityRow, VolumeRow};
@@ -67,4 +67,26 @@ fn insert_cell<S: Alter>(tx: &mut Transaction<'_, S>, row: &CellRow) -> Result<u
             row.hi
         ],
     )
+}
+
+/// Inserts the rows of an entity.
+pub(crate) fn insert_rows<S: Alter>(
+    tx: &mut Transaction<'_, S>,
+    row: &EntityRow,
+    volumes: &[VolumeRow],
+    cells: &[CellRow],
+) -> Result<(), Error>
+    ensures same_reference { tx.new.conn.ghost_name ≡ tx.old.conn.ghost_name }
+    ensures inserts { let old = state S.Store tx.old.conn.now in
+        Runs (λ _. Relays (λ _. Unit {0}) (with_rows row.now volumes.now cells.now))
+            old (state S.Store tx.new.conn.now) result }
+{
+    insert_row(tx, row)?;
+    for volume in volumes {
+        insert_volume(tx, volume)?;
+    }
+    for cell in cells {
+        insert_cell(tx, cell)?;
+    }
+    Ok(())
 }
