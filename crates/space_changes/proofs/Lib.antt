@@ -11,3 +11,4 @@ pub mod Cascade
 pub mod Cascades
 pub mod Selecting
 pub mod Removing
+pub mod Serials

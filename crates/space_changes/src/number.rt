@@ -2,7 +2,7 @@
 ghost use Rattle.std.specs.Prelude.{◌≡◌};
 ghost use Rattle.sqlite.specs.Held.{state};
 ghost use Rattle.space_rows.specs.Rows.{kind_number};
-ghost use Rattle.space_changes.specs.Statements.{Runs, FindsNumber};
+ghost use Rattle.space_changes.specs.Statements.{Runs, FindsNumber, ShowsNumbers};
 
 use entity_core::entity_id::EntityId;
 use entity_core::nature::Kind;
@@ -18,6 +18,23 @@ fn kind_number(kind: Kind) -> i64
     }
 }
 
+// The numbers of the rows of a kind and an id.
+fn numbers<S: Alter>(
+    tx: &mut Transaction<'_, S>,
+    kind: i64,
+    id: &str,
+) -> Result<Vec<Row>, Error>
+    ensures same_reference { tx.new.conn.ghost_name ≡ tx.old.conn.ghost_name }
+    ensures shows { let old = state S.Store tx.old.conn.now in
+        Runs (λ rows. ShowsNumbers kind id.now rows.items)
+            old (state S.Store tx.new.conn.now) result }
+{
+    tx.query_all(
+        "SELECT num FROM entity WHERE kind = ?1 AND id = ?2",
+        params![kind, id],
+    )
+}
+
 /// The number of an entity, if the tables have it.
 pub(crate) fn number_of<S: Alter>(
     alloc: Global,
@@ -29,11 +46,9 @@ pub(crate) fn number_of<S: Alter>(
     ensures finds { let old = state S.Store tx.old.conn.now in
         Runs (FindsNumber (kind, id)) old (state S.Store tx.new.conn.now) result }
 {
+    let _number = id.number();
     let text = id.text(alloc)?;
-    let rows = tx.query_all(
-        "SELECT num FROM entity WHERE kind = ?1 AND id = ?2",
-        params![kind_number(kind), text.as_str()],
-    )?;
+    let rows = numbers(tx, kind_number(kind), text.as_str())?;
     match rows.first() {
         Some(row) => Ok(Some(row.get(0)?)),
         None => Ok(None),
