@@ -3,5 +3,6 @@
 
 mod insert;
 mod number;
+mod put;
 mod remove;
 mod serial;

@@ -53,7 +53,7 @@ pub(crate) fn clear_extents<S: Alter>(tx: &mut Transaction<'_, S>, num: i64) -> 
 }
 
 /// Removes all rows of an entity.
-fn clear_entity<S: Alter>(tx: &mut Transaction<'_, S>, num: i64) -> Result<(), Error>
+pub(crate) fn clear_entity<S: Alter>(tx: &mut Transaction<'_, S>, num: i64) -> Result<(), Error>
     ensures same_reference { tx.new.conn.ghost_name ≡ tx.old.conn.ghost_name }
     ensures clears { let old = state S.Store tx.old.conn.now in
         Runs (λ _. Relays (λ _. Unit {0})
