@@ -12,3 +12,5 @@ pub mod Cascades
 pub mod Selecting
 pub mod Removing
 pub mod Serials
+pub mod Spelt
+pub mod Numbers

@@ -66,20 +66,19 @@ module _ (old new : State) (sql : List ℕ) (params : Row) where
       go (Some what) (inl s) = inl s.1
       go (Some what) (inr f) = inr f.3
 
-  pub query_keeps : (e : Error) → FailsToQuery sql params old new e ⊎ IsTooLate sql params old new e → KeepsCommit old new
+  query_keeps : (e : Error) → FailsToQuery sql params old new e ⊎ IsTooLate sql params old new e → KeepsCommit old new
   query_keeps e (inl h) = kept_keeps old new (failed_kept e h)
   query_keeps e (inr h) = unchanged_keeps old new h.5
 
   -- what is answered of the rows of a query
-  pub queried : {X : Type 0} (R : X → Database → Database → Type 0) (x : X) (rows : List Row) → (HasCleanDisk new → Shown sql params old new rows) → Survives old new (λ _. ⊥) → (Shown sql params old new rows → R x old.now new.now) → Runs R old new (Ok x)
-  queried R x rows shown survives each = record {
-    done = λ clean on. (each (shown clean), shown_shows rows (shown clean) on);
-    kept = λ clean on. let s = shown_shows rows (shown clean) on in record { was_open = λ _. s.was_open; committed = λ _. s.committed_is };
+  pub query_runs : {X : Type 0} (items : X → List Row) (R : X → Database → Database → Type 0) (r : Result X Error) → (HasCleanDisk new → IfOk r (λ x. Shown sql params old new (items x)))
+      → (HasCleanDisk new → IfErr r (λ e. FailsToQuery sql params old new e ⊎ IsTooLate sql params old new e)) → Survives old new (λ _. ⊥) → ((x : X) → Shown sql params old new (items x) → R x old.now new.now) → Runs R old new r
+  query_runs items R (Ok x) shown fails survives each = record {
+    done = λ clean on. (each x (shown clean), shown_shows (items x) (shown clean) on);
+    kept = λ clean on. let s = shown_shows (items x) (shown clean) on in record { was_open = λ _. s.was_open; committed = λ _. s.committed_is };
     survives = survives;
   }
-
-  pub query_failed : {X : Type 0} (R : X → Database → Database → Type 0) (e f : Error) → (HasCleanDisk new → FailsToQuery sql params old new e ⊎ IsTooLate sql params old new e) → Survives old new (λ _. ⊥) → Runs R old new (Err f)
-  query_failed R e f fails survives = record { done = λ clean on. tt; kept = λ clean on. query_keeps e (fails clean); survives = survives }
+  query_runs items R (Err e) shown fails survives each = record { done = λ clean on. tt; kept = λ clean on. query_keeps e (fails clean); survives = survives }
 
 -- ---- one after the other
 
