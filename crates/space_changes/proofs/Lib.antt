@@ -2,6 +2,9 @@ pub mod Texts
 pub mod Means
 pub mod Running
 pub mod Relaying
+pub mod Joining
+pub mod Inserting
+pub mod Inserted
 pub mod Rows
 pub mod Clear
 pub mod Cascade

@@ -15,3 +15,12 @@ raise_serial_text = codes "UPDATE meta SET serial = serial + 1 WHERE one = 1"
 
 abbrev pub number_text : List ℕ
 number_text = codes "SELECT num FROM entity WHERE kind = ?1 AND id = ?2"
+
+abbrev pub insert_row_text : List ℕ
+insert_row_text = codes "INSERT INTO entity (num, kind, id, manager, state, version, serial, ovn, url) VALUES (?1, ?2, ?3, ?4, ?5, ?6, ?7, ?8, ?9)"
+
+abbrev pub insert_volume_text : List ℕ
+insert_volume_text = codes "INSERT INTO volume (entity, place, alt_lower, alt_upper, time_start, time_end) VALUES (?1, ?2, ?3, ?4, ?5, ?6)"
+
+abbrev pub insert_cell_text : List ℕ
+insert_cell_text = codes "INSERT INTO cell (entity, volume, place, token, lo, hi) VALUES (?1, ?2, ?3, ?4, ?5, ?6)"

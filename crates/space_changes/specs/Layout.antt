@@ -1,5 +1,5 @@
 -- The rows of the tables on the way from one airspace to the next.
-use Rattle.std.specs.Prelude.{◌≡◌, ℕ, ◌+◌, ◌<◌, ℤ, List, [], ◌∷◌, map, filter, not, false, IsPermutation}
+use Rattle.std.specs.Prelude.{◌≡◌, ℕ, ◌+◌, ◌<◌, ℤ, List, [], ◌∷◌, ◌++◌, map, filter, not, false, IsPermutation}
 use Rattle.std.specs.List.{AllByRecursion, flat_map}
 use Rattle.std.specs.Ordering.{int_eq}
 use Rattle.std.specs.FinMap.{entries}
@@ -58,6 +58,21 @@ without_entity_row num l = record l { entities = filter (λ (e : EntityRow). not
 -- without all rows of an entity
 abbrev pub without_rows : ℤ → Layout → Layout
 without_rows num l = without_entity_row num (without_volumes num (without_cells num l))
+
+-- with a further row in `entity`
+abbrev pub with_entity_row : EntityRow → Layout → Layout
+with_entity_row e l = record l { entities = l.entities ++ e ∷ [] }
+
+-- with further volumes
+abbrev pub with_volumes : List VolumeRow → Layout → Layout
+with_volumes vs l = record l { volumes = l.volumes ++ vs }
+
+abbrev pub with_cells : List CellRow → Layout → Layout
+with_cells cs l = record l { cells = l.cells ++ cs }
+
+-- with all rows of an entity
+abbrev pub with_rows : EntityRow → List VolumeRow → List CellRow → Layout → Layout
+with_rows e vs cs l = with_cells cs (with_volumes vs (with_entity_row e l))
 
 -- the serial goes on by one
 abbrev pub with_next_serial : Layout → Layout

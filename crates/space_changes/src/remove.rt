@@ -41,8 +41,8 @@ fn clear_row<S: Alter>(tx: &mut Transaction<'_, S>, num: i64) -> Result<usize, E
     tx.execute("DELETE FROM entity WHERE num = ?1", params![num])
 }
 
-/// Removes the volumes of an entity, and their cells.
-pub(crate) fn clear_extents<S: Alter>(tx: &mut Transaction<'_, S>, num: i64) -> Result<(), Error>
+// Removes the volumes of an entity, and their cells.
+fn clear_extents<S: Alter>(tx: &mut Transaction<'_, S>, num: i64) -> Result<(), Error>
     ensures same_reference { tx.new.conn.ghost_name ≡ tx.old.conn.ghost_name }
     ensures clears { let old = state S.Store tx.old.conn.now in
         Runs (λ _. Relays (λ _. Unit {0}) (λ l. without_volumes num (without_cells num l)))
@@ -53,8 +53,8 @@ pub(crate) fn clear_extents<S: Alter>(tx: &mut Transaction<'_, S>, num: i64) -> 
     Ok(())
 }
 
-// Removes all rows of an entity.
-fn clear_entity<S: Alter>(tx: &mut Transaction<'_, S>, num: i64) -> Result<(), Error>
+/// Removes all rows of an entity.
+pub(crate) fn clear_entity<S: Alter>(tx: &mut Transaction<'_, S>, num: i64) -> Result<(), Error>
     ensures same_reference { tx.new.conn.ghost_name ≡ tx.old.conn.ghost_name }
     ensures clears { let old = state S.Store tx.old.conn.now in
         Runs (λ _. Relays (λ _. Unit {0}) (without_rows num))
