@@ -16,3 +16,4 @@ pub mod Spelt
 pub mod Numbers
 pub mod Entries
 pub mod Removed
+pub mod Settings

@@ -1,16 +1,16 @@
 -- The rows of the tables on the way from one airspace to the next.
 use Rattle.std.specs.Prelude.{◌≡◌, ℕ, ◌+◌, ◌<◌, ℤ, List, [], ◌∷◌, ◌++◌, map, filter, not, false, IsPermutation}
 use Rattle.std.specs.List.{AllByRecursion, flat_map}
-use Rattle.std.specs.Ordering.{int_eq}
+use Rattle.std.specs.Ordering.{int_eq, eq_by_cmp}
 use Rattle.std.specs.FinMap.{entries}
 use Rattle.sqlite_rules.specs.Lists.{Has}
 use Rattle.sqlite.specs.Effect.{Database}
-use Rattle.entity_core.specs.Airspace.{Airspace, EntityKey, Stated, key_of}
+use Rattle.entity_core.specs.Airspace.{Airspace, EntityKey, Stated, key_of, text_cmp}
 use Rattle.space_rows.specs.declared.rows.EntityRow.{EntityRow}
 use Rattle.space_rows.specs.declared.rows.VolumeRow.{VolumeRow}
 use Rattle.space_rows.specs.declared.rows.CellRow.{CellRow}
 use Rattle.space_tables.specs.Tables.{dss_schema}
-use Rattle.space_tables.specs.Spelling.{Spells, Group, AreApart, meta_values, entity_values, volume_values, cell_values, availability_values, meta_columns, entity_columns, six_columns, three_columns}
+use Rattle.space_tables.specs.Spelling.{Spells, Group, IsStated, AreApart, meta_values, entity_values, volume_values, cell_values, availability_values, meta_columns, entity_columns, six_columns, three_columns}
 
 -- the serial, and the rows of the other tables, in any order
 pub record Layout : Type 0 where
@@ -74,6 +74,14 @@ with_cells cs l = record l { cells = l.cells ++ cs }
 abbrev pub with_rows : EntityRow → List VolumeRow → List CellRow → Layout → Layout
 with_rows e vs cs l = with_cells cs (with_volumes vs (with_entity_row e l))
 
+-- without what a USS has set
+abbrev pub without_setting : List ℕ → Layout → Layout
+without_setting uss l = record l { availabilities = filter (λ s. not (eq_by_cmp text_cmp uss s.0)) l.availabilities }
+
+-- with what a USS has set
+abbrev pub with_setting : List ℕ → Stated → Layout → Layout
+with_setting uss stated l = record l { availabilities = l.availabilities ++ (uss, stated) ∷ [] }
+
 -- the serial goes on by one
 abbrev pub with_next_serial : Layout → Layout
 with_next_serial l = record l { serial = l.serial + 1 }
@@ -88,6 +96,10 @@ LacksVolumes num l = AllByRecursion (λ (v : VolumeRow). int_eq v.entity num ≡
 -- whatever rows there were, if P holds of them, there are the changed ones
 abbrev pub Relays : (P : Layout → Type 0) (change : Layout → Layout) → Database → Database → Type 0
 Relays P change old new = (l : Layout) → P l → LaysOut old l → LaysOut new (change l)
+
+-- what a USS has set is replaced, by texts that read by their types
+abbrev pub ReplacesSetting : List ℕ → Stated → Database → Database → Type 0
+ReplacesSetting uss stated old new = IsStated (uss, stated) × Relays (λ _. Unit {0}) (λ l. with_setting uss stated (without_setting uss l)) old new
 
 -- ---- the number of an entity
 

@@ -1,6 +1,7 @@
 //! One change of the airspace in the tables, in one transaction.
 #![tactic(auto)]
 
+mod availability;
 mod insert;
 mod number;
 mod put;
