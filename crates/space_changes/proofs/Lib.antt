@@ -17,3 +17,4 @@ pub mod Numbers
 pub mod Entries
 pub mod Removed
 pub mod Settings
+pub mod Committed

@@ -2,6 +2,7 @@
 #![tactic(auto)]
 
 mod availability;
+pub mod change;
 mod insert;
 mod number;
 mod put;
