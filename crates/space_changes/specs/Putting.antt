@@ -10,14 +10,14 @@ use Rattle.space_rows.specs.declared.rows.VolumeRow.{VolumeRow}
 use Rattle.space_rows.specs.declared.rows.CellRow.{CellRow}
 use Rattle.space_rows.specs.Rows.{SpellsEntity}
 use Rattle.space_tables.specs.Spelling.{Spells}
-use Rattle.space_changes.specs.Layout.{LaysOut, IsNumberOf, Relays, layout_of, without_cells, without_entity_row, without_volumes, with_rows}
+use Rattle.space_changes.specs.Layout.{LaysOut, IsNumberOf, Relays, layout_of, without_rows, with_rows}
 
 -- Room is made for an entity under a number. Where the tables have its kind and id, it is that entity's number, and its
 -- rows are gone. Where they do not, it is the serial of the entity, and all rows stand.
 abbrev pub MakesRoom : Entity → ℤ → Database → Database → Type 0
 MakesRoom e num old new =
     (a : Airspace) (p : Spells old a)
-    → (IsNumberOf num (key_of e) p.groups × LaysOut new (without_entity_row num (without_volumes num (without_cells num (layout_of old a p)))))
+    → (IsNumberOf num (key_of e) p.groups × LaysOut new (without_rows num (layout_of old a p)))
     ⊎ (((n : ℤ) → ¬ IsNumberOf n (key_of e) p.groups) × (num ≡ pos e.serial) × LaysOut new (layout_of old a p))
 
 -- Rows that spell the entity under the number join the others.
