@@ -15,3 +15,5 @@ pub mod Removing
 pub mod Serials
 pub mod Spelt
 pub mod Numbers
+pub mod Entries
+pub mod Removed

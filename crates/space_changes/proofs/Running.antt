@@ -100,6 +100,12 @@ module _ {X Y Z : Type 0} (R : X → Database → Database → Type 0) (Q : Y �
     survives = survives_then a b d _ _ (λ _. ⊥) (λ _ db none. none) (λ _ db none. none) p.survives q.survives;
   }
 
+-- the last one answers for all
+pub runs_last : {X Y : Type 0} (R : X → Database → Database → Type 0) (Q T : Y → Database → Database → Type 0) (a b d : State) (x : X) (r : Result Y Error) → ((y : Y) → R x a.now b.now → Q y b.now d.now → T y a.now d.now)
+    → Runs R a b (Ok x) → Runs Q b d r → Runs T a d r
+runs_last R Q T a b d x (Ok y) joins p q = runs_then R Q T a b d x y y (joins y) p q
+runs_last R Q T a b d x (Err e) joins p q = runs_failed R Q T a b d x e e p q
+
 module _ {X Z : Type 0} (R : X → Database → Database → Type 0) (T : Z → Database → Database → Type 0) (a b : State) where
   -- an error, whatever was to be told
   pub runs_err : (e f : Error) → Runs R a b (Err e) → Runs T a b (Err f)

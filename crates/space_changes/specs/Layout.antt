@@ -55,6 +55,10 @@ without_volumes num l = record l { volumes = filter (λ (v : VolumeRow). not (in
 abbrev pub without_entity_row : ℤ → Layout → Layout
 without_entity_row num l = record l { entities = filter (λ (e : EntityRow). not (int_eq e.num num)) l.entities }
 
+-- without all rows of an entity
+abbrev pub without_rows : ℤ → Layout → Layout
+without_rows num l = without_entity_row num (without_volumes num (without_cells num l))
+
 -- with a further row in `entity`
 abbrev pub with_entity_row : EntityRow → Layout → Layout
 with_entity_row e l = record l { entities = l.entities ++ e ∷ [] }

@@ -1,10 +1,11 @@
 //! The rows of an entity are removed, cells first.
-ghost use Rattle.std.specs.Prelude.{◌≡◌};
+ghost use Rattle.std.specs.Prelude.{◌≡◌, ◌<◌};
 ghost use Rattle.sqlite.specs.Held.{state};
+ghost use Rattle.entity_core.specs.Serial.{greatest_serial};
 ghost use Rattle.space_core.specs.declared.space.Change.TheVariants.{Remove};
 ghost use Rattle.space_core.specs.Space.{Fits, changed};
-ghost use Rattle.space_changes.specs.Layout.{LacksCells, LacksVolumes, Relays, without_cells, without_entity_row, without_volumes};
-ghost use Rattle.space_changes.specs.Statements.{Runs, SpellsChanged};
+ghost use Rattle.space_changes.specs.Layout.{LacksCells, LacksVolumes, Relays, with_next_serial, without_cells, without_entity_row, without_rows, without_volumes};
+ghost use Rattle.space_changes.specs.Statements.{RelaysSound, Runs, SpellsChanged};
 
 use crate::number::number_of;
 use crate::serial::raise_serial;
@@ -40,8 +41,8 @@ fn clear_row<S: Alter>(tx: &mut Transaction<'_, S>, num: i64) -> Result<usize, E
     tx.execute("DELETE FROM entity WHERE num = ?1", params![num])
 }
 
-/// Removes the volumes of an entity, and their cells.
-pub(crate) fn clear_extents<S: Alter>(tx: &mut Transaction<'_, S>, num: i64) -> Result<(), Error>
+// Removes the volumes of an entity, and their cells.
+fn clear_extents<S: Alter>(tx: &mut Transaction<'_, S>, num: i64) -> Result<(), Error>
     ensures same_reference { tx.new.conn.ghost_name ≡ tx.old.conn.ghost_name }
     ensures clears { let old = state S.Store tx.old.conn.now in
         Runs (λ _. Relays (λ _. Unit {0}) (λ l. without_volumes num (without_cells num l)))
@@ -56,12 +57,23 @@ pub(crate) fn clear_extents<S: Alter>(tx: &mut Transaction<'_, S>, num: i64) -> 
 pub(crate) fn clear_entity<S: Alter>(tx: &mut Transaction<'_, S>, num: i64) -> Result<(), Error>
     ensures same_reference { tx.new.conn.ghost_name ≡ tx.old.conn.ghost_name }
     ensures clears { let old = state S.Store tx.old.conn.now in
-        Runs (λ _. Relays (λ _. Unit {0})
-            (λ l. without_entity_row num (without_volumes num (without_cells num l))))
+        Runs (λ _. Relays (λ _. Unit {0}) (without_rows num))
             old (state S.Store tx.new.conn.now) result }
 {
     clear_extents(tx, num)?;
     clear_row(tx, num)?;
+    Ok(())
+}
+
+fn remove_rows<S: Alter>(tx: &mut Transaction<'_, S>, num: i64) -> Result<(), Error>
+    ensures same_reference { tx.new.conn.ghost_name ≡ tx.old.conn.ghost_name }
+    ensures removes { let old = state S.Store tx.old.conn.now in
+        Runs (λ _. RelaysSound (λ l. l.serial < greatest_serial)
+            (λ l. with_next_serial (without_rows num l)))
+            old (state S.Store tx.new.conn.now) result }
+{
+    clear_entity(tx, num)?;
+    raise_serial(tx)?;
     Ok(())
 }
 
@@ -80,7 +92,5 @@ pub(crate) fn remove_entity<S: Alter>(
     let Some(num) = number_of(alloc, tx, kind, id)? else {
         return Err(Error::QueryReturnedNoRows);
     };
-    clear_entity(tx, num)?;
-    raise_serial(tx)?;
-    Ok(())
+    remove_rows(tx, num)
 }
