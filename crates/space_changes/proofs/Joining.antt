@@ -43,7 +43,7 @@ module _ {X : Type 0} (key : X → ℤ) where
     | Greater ↦ IsPermutation-refl _
   ]
 
-  all_put : (P : X → Type 0) (x : X) (ys : List X) → P x → AllByRecursion P ys → AllByRecursion P (put_by x ys)
+  pub all_put : (P : X → Type 0) (x : X) (ys : List X) → P x → AllByRecursion P ys → AllByRecursion P (put_by x ys)
   all_put P x [] here all = (here, tt)
   all_put P x (y ∷ ys) here all = elim (int_cmp (key y) (key x)) as (λ o. AllByRecursion P (match_ordering o (y ∷ put_by x ys) (x ∷ y ∷ ys) (x ∷ y ∷ ys))) [
     | Less ↦ (all.0, all_put P x ys here all.1)

@@ -5,6 +5,7 @@ pub mod Relaying
 pub mod Joining
 pub mod Inserting
 pub mod Inserted
+pub mod Putting
 pub mod Rows
 pub mod Clear
 pub mod Cascade

@@ -118,3 +118,8 @@ module _ {X Z : Type 0} (R : X → Database → Database → Type 0) (T : Z → 
   -- an error after an answer
   pub runs_ok_err : (x : X) (f : Error) → Runs R a b (Ok x) → Runs T a b (Err f)
   runs_ok_err x f p = record { done = λ clean on. tt; kept = p.kept; survives = p.survives }
+
+-- less is told, whatever comes of it
+pub runs_weaker : {X : Type 0} (R T : X → Database → Database → Type 0) (a b : State) (r : Result X Error) → ((x : X) → R x a.now b.now → T x a.now b.now) → Runs R a b r → Runs T a b r
+runs_weaker R T a b (Ok x) turns p = runs_as_well R T a b x x (turns x) p
+runs_weaker R T a b (Err e) turns p = runs_err R T a b e e p
