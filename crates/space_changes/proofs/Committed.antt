@@ -1,6 +1,6 @@
 -- A transaction is committed, or undone.
 use Rattle.std.proofs.Common.{arith, ◌≡◌, ◌⊎◌, inl, inr, true, false, Ok, Err, Result, IfErr, OnOk, OnErr, [], refl, sym, subst, ◌∙◌}
-use Rattle.std.specs.Prelude.{IsTrue}
+use Rattle.std.specs.Prelude.{IsTrue, IsErr}
 use Rattle.sqlite_trees.specs.declared.store.Store.{Ghosts}
 use Rattle.sqlite.specs.Held.{Held, state}
 use Rattle.sqlite.specs.Effect.{Database}
@@ -50,8 +50,9 @@ module _ {S : Type 0} (g : Ghosts S) (old : Held S) (P : Airspace → Type 0) (c
   }
 
   -- it has been rolled back
-  pub undone : (e f : Error) → Runs Changes begun last (Err e) → (HasCleanDisk new → IsRolledBack last new) → Survives last new (λ _. ⊥) → Commits {X = Unit {0}} P change before new (Err f)
-  undone e f ran back survives = record {
+  pub undone : (r : Result (Unit {0}) Error) (e : Error) → IsErr r → Runs Changes begun last (Err e) → (HasCleanDisk new → IsRolledBack last new) → Survives last new (λ _. ⊥) → Commits P change before new r
+  undone (Ok x) e failed ran back survives = absurd (let none = failed in cc)
+  undone (Err f) e failed ran back survives = record {
     done = λ clean. tt;
     err = λ clean alive.
         let kept = (ran.kept (omega (arith, survives.clean)) refl).committed ((back clean).was_open alive) in
