@@ -16,7 +16,7 @@ use Rattle.space_tables.specs.Making.{IsUndone}
 use Rattle.space_tables.specs.Spelling.{Spells}
 use Rattle.space_tables.specs.Tables.{dss_schema}
 use Rattle.space_tables.proofs.OneAirspace.{one_airspace}
-use Rattle.space_changes.specs.Committing.{Commits, MayBeCommitted}
+use Rattle.space_changes.specs.Committing.{Commits, MayBeChanged}
 use Rattle.space_sql.specs.Holding.{Keeps, holds_in, is_whole_in, holds_of, is_sound_of, is_whole_of, kept, with_tables}
 use Rattle.space_sql.proofs.Outcomes.{Laws, Rests, held_is_spelt, spelt_alone, spelt_is_held, whole_is_spelt}
 
@@ -26,7 +26,7 @@ keeps_of trees a it =
     let path : it.0 ≡ with_tables trees = λ i. record { schema = it.3.schema i; trees = (sym it.1) i } in
     subst (λ d. IsDatabase d × Spells d a) path (it.2, it.3)
 
-module _ (P : Airspace → Type 0) (change : Airspace → Airspace) (old mid new : State) (rests : Rests old) (rested : Rests mid) (after : Laws new) (live : HasCleanDisk old → IsTrue old.is_open) (fits : HasCleanDisk old → (a : Airspace) → holds_in old a → P a) (went : Survives old mid (MayBeCommitted P change old)) (tried : Survives mid new (λ _. ⊥)) (clean : HasCleanDisk new) where
+module _ (P : Airspace → Type 0) (change : Airspace → Airspace) (old mid new : State) (rests : Rests old) (rested : Rests mid) (after : Laws new) (live : HasCleanDisk old → IsTrue old.is_open) (fits : HasCleanDisk old → (a : Airspace) → holds_in old a → P a) (went : Survives old mid (MayBeChanged P change old)) (tried : Survives mid new (λ _. ⊥)) (clean : HasCleanDisk new) where
   mid_clean : HasCleanDisk mid
   mid_clean = omega (arith, tried.clean)
 
@@ -34,10 +34,10 @@ module _ (P : Airspace → Type 0) (change : Airspace → Airspace) (old mid new
   old_clean = omega (arith, went.clean, mid_clean)
 
   -- what was held is changed where trees may have been committed
-  committed : (db : Trees) → MayBeCommitted P change old db → (a : Airspace) → holds_in old a → Keeps db (change a)
+  committed : (db : Trees) → MayBeChanged P change old db → (a : Airspace) → holds_in old a → Keeps db (change a)
   committed db made a h = keeps_of db (change a) (made a (held_is_spelt old rests (live old_clean) a h) (fits old_clean a h))
 
-  outcome : (db : Trees) → new.may_leave db → old.may_leave db ⊎ MayBeCommitted P change old db
+  outcome : (db : Trees) → new.may_leave db → old.may_leave db ⊎ MayBeChanged P change old db
   outcome db may = elim (tried.crash clean db may) [ inl earlier ↦ went.crash mid_clean db earlier | inr none ↦ absurd none ]
 
   pub change_whole : is_whole_in old → is_whole_in new

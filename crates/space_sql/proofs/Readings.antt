@@ -10,14 +10,15 @@ use Rattle.entity_core.specs.Airspace.{Airspace}
 use Rattle.space_core.specs.declared.space.SpaceFault.{SpaceFault}
 use Rattle.space_core.specs.declared.space.SpaceFault.TheVariants.{Unchanged, Broken}
 use Rattle.space_core.specs.Space.{Reads}
-use Rattle.space_reading.specs.declared.judge.Listed.{Listed}
+use Rattle.space_reading.specs.declared.verdict.Listed.{Listed}
 use Rattle.space_sql.specs.Holding.{holds_of, is_sound_of, is_whole_of, kept}
-use Rattle.space_sql.specs.Reading.{ReadsTables, told_by}
+use Rattle.space_reading.specs.Judging.{listed_airspace}
+use Rattle.space_sql.specs.Reading.{ReadsTables}
 use Rattle.space_sql.proofs.Outcomes.{Laws, Rests, clean_before, held_is_spelt, no_other, stays_held, stays_whole}
 
 -- what is found in the airspace that was read
-pub found_in : {U : Type 0} (old new : State) (l : Listed) (r : Result U Error) (Q : Airspace → U → Type 0) → ReadsTables old new (Ok l) (λ a found. told_by found ≡ a)
-    → IfOk r (Q (told_by l)) → ReadsTables old new r Q
+pub found_in : {U : Type 0} (old new : State) (l : Listed) (r : Result U Error) (Q : Airspace → U → Type 0) → ReadsTables old new (Ok l) (λ a found. listed_airspace found ≡ a)
+    → IfOk r (Q (listed_airspace l)) → ReadsTables old new r Q
 found_in old new l (Ok x) Q it ok = record { answer = λ clean a p. subst (λ b. Q b x) (it.answer clean a p) ok; is_open = it.is_open; survives = it.survives }
 found_in old new l (Err e) Q it ok = record { answer = λ clean. tt; is_open = λ clean. tt; survives = it.survives }
 

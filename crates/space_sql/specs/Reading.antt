@@ -3,13 +3,7 @@ use Rattle.std.specs.Prelude.{◌≡◌, Result, IfOk, OnOk, IsTrue}
 use Rattle.sqlite.specs.State.{State, HasCleanDisk, Survives}
 use Rattle.sqlite.specs.declared.error.Error.{Error}
 use Rattle.entity_core.specs.Airspace.{Airspace}
-use Rattle.space_core.specs.List.{airspace_of}
-use Rattle.space_reading.specs.declared.judge.Listed.{Listed}
 use Rattle.space_tables.specs.Spelling.{Spells}
-
--- the airspace that was read
-abbrev pub told_by : Listed → Airspace
-told_by l = airspace_of l.entities l.availabilities l.serial
 
 -- What is read has P of the airspace that the tables spell, if they spell one. Nothing is committed, and after an
 -- answer the store is open.

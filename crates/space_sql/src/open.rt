@@ -14,7 +14,7 @@ ghost use Rattle.space_sql.specs.declared.open_fault.OpenFault.TheVariants.{Stor
 use crate::open_fault::OpenFault;
 use crate::space::SqlSpace;
 use space_core::space::{Space, SpaceFault};
-use space_reading::judge::Verdict;
+use space_reading::verdict::Verdict;
 use space_reading::reading::{known, read_airspace};
 use space_tables::make::make_tables;
 use space_tables::standing::{Standing, standing_of};

@@ -3,8 +3,8 @@ ghost use Rattle.std.specs.Prelude.{◌≡◌, false, IfOk};
 ghost use Rattle.std.specs.FinMap.{get};
 ghost use Rattle.sqlite.specs.Held.{state};
 ghost use Rattle.entity_core.specs.Search.{all_in, meeting_in};
-ghost use Rattle.space_core.specs.List.{airspace_of};
-ghost use Rattle.space_sql.specs.Reading.{ReadsTables, told_by};
+ghost use Rattle.space_reading.specs.Judging.{listed_airspace};
+ghost use Rattle.space_sql.specs.Reading.{ReadsTables};
 
 use entity_core::availability::Availability;
 use entity_core::entity::Entity;
@@ -13,7 +13,7 @@ use entity_core::nature::Kind;
 use entity_core::ovn::Ovn;
 use entity_core::uss_id::UssId;
 use grid_core::volume::Area;
-use space_reading::judge::{Listed, Verdict};
+use space_reading::verdict::{Listed, Verdict};
 use space_reading::reading::read_airspace;
 use sqlite::{Alter, Connection, Error, ErrorCode};
 use std::alloc::Global;
@@ -23,7 +23,7 @@ fn read_listed<S: Alter>(alloc: Global, conn: &mut Connection<S>) -> Result<List
     requires { conn.old.in_transaction ≡ false }
     ensures outside { conn.new.in_transaction ≡ false }
     ensures reads { ReadsTables (state S.Store conn.old) (state S.Store conn.new) result
-        (λ a found. told_by found ≡ a) }
+        (λ a found. listed_airspace found ≡ a) }
 {
     match read_airspace(alloc, conn) {
         Ok(Verdict::Spelt(listed)) => Ok(listed),
@@ -38,7 +38,7 @@ fn entity_in(
     kind: Kind,
     id: EntityId,
 ) -> Result<Option<Entity>, Error>
-    ensures { IfOk result (λ found. found ≡ get (told_by listed.now).entities (kind, id)) }
+    ensures { IfOk result (λ found. found ≡ get (listed_airspace listed.now).entities (kind, id)) }
 {
     let found = listed.entities.entity(alloc, kind, id)?;
     Ok(found)
@@ -52,14 +52,14 @@ fn meeting_among(
     except: Option<EntityId>,
 ) -> Result<Vec<Entity>, Error>
     ensures { IfOk result (λ found.
-        found.items ≡ meeting_in (told_by listed.now).entities kind areas.now except) }
+        found.items ≡ meeting_in (listed_airspace listed.now).entities kind areas.now except) }
 {
     let found = listed.entities.meeting(alloc, kind, areas, except)?;
     Ok(found)
 }
 
 fn all_among(alloc: Global, listed: &Listed, kind: Kind) -> Result<Vec<Entity>, Error>
-    ensures { IfOk result (λ found. found.items ≡ all_in (told_by listed.now).entities kind) }
+    ensures { IfOk result (λ found. found.items ≡ all_in (listed_airspace listed.now).entities kind) }
 {
     let found = listed.entities.all(alloc, kind)?;
     Ok(found)
@@ -69,14 +69,14 @@ fn availability_in(
     listed: &Listed,
     uss: &UssId,
 ) -> Result<Option<(Availability, Ovn)>, Error>
-    ensures { IfOk result (λ found. found ≡ get (told_by listed.now).availabilities uss.now) }
+    ensures { IfOk result (λ found. found ≡ get (listed_airspace listed.now).availabilities uss.now) }
 {
     let found = listed.availabilities.availability(uss)?;
     Ok(found)
 }
 
 fn serial_in(listed: &Listed) -> Result<u64, Error>
-    ensures { IfOk result (λ serial. serial ≡ (told_by listed.now).serial) }
+    ensures { IfOk result (λ serial. serial ≡ (listed_airspace listed.now).serial) }
 {
     Ok(listed.serial)
 }
