@@ -3,7 +3,9 @@ ghost use Rattle.std.specs.Prelude.{◌≡◌, IfErr, IfNone, IfOk, IfSome, Some
 ghost use Rattle.clap.specs.Faults.{fault_of as mistakes_of};
 ghost use Rattle.clap.specs.Words.{app_of, found_of, rows_of, rule_of, subcommand_of, subcommand_rows_of};
 ghost use Rattle.clap.specs.declared.builder.command.Command.TheViews.{out-Command};
-ghost use Rattle.dss_line.specs.Grammar.{cell_app, dss_app, option_rule, run_app};
+ghost use Rattle.dss_line.specs.Grammar.{
+    cell_app, database_rule, dss_app, now_rule, option_rule, requests_rule, run_app, tokens_rule
+};
 ghost use Rattle.dss_line.specs.Line.{Asks, AsksNothing, Explains, texts};
 
 use crate::fault::{LineFault, fault_of};
@@ -17,12 +19,14 @@ pub const LAST_MOMENT: u64 = 253_402_300_799;
 /// What a command line asks for.
 #[derive(Clone, Copy, Debug, PartialEq, Eq)]
 pub enum Line<'a> {
-    /// Serve one stream of requests in memory.
+    /// Serve one stream of requests, in memory or over a database.
     Run {
         /// The name of the token file.
         tokens: &'a str,
         /// The moment of each request, in seconds since 1970.
         now: u64,
+        /// The name of the database's file, if it is not in memory.
+        database: Option<&'a str>,
         /// The name of the file of requests; `-` is the standard input.
         requests: &'a str,
     },
@@ -41,26 +45,55 @@ fn option<'a>(alloc: Global, name: &'a str) -> Arg<'a>
     Arg::new(alloc, name).long(name).required(true)
 }
 
+fn tokens_option<'a>(alloc: Global) -> Arg<'a>
+    ensures rule { rule_of result ≡ tokens_rule }
+    ensures local { result.global ≡ false }
+{
+    option(alloc, "tokens")
+        .value_name("FILE")
+        .help("The token file")
+}
+
+fn now_option<'a>(alloc: Global) -> Arg<'a>
+    ensures rule { rule_of result ≡ now_rule }
+    ensures local { result.global ≡ false }
+{
+    option(alloc, "now")
+        .value_name("SECONDS")
+        .help("The moment of each request, in seconds since 1970")
+        .value_parser(ValueParser::unsigned(0, LAST_MOMENT))
+}
+
+fn database_option<'a>(alloc: Global) -> Arg<'a>
+    ensures rule { rule_of result ≡ database_rule }
+    ensures local { result.global ≡ false }
+{
+    Arg::new(alloc, "db")
+        .long("db")
+        .value_name("FILE")
+        .help("The database, made where there is none; without it the airspace is in memory")
+}
+
+fn requests_word<'a>(alloc: Global) -> Arg<'a>
+    ensures rule { rule_of result ≡ requests_rule }
+    ensures local { result.global ≡ false }
+{
+    Arg::new(alloc, "requests")
+        .required(true)
+        .value_name("REQUESTS")
+        .help("The file of requests, or - for standard input")
+}
+
 fn run_command<'a>(alloc: Global) -> Result<Command<'a>, AllocError>
     ensures { IfOk result (λ command. (app_of command ≡ run_app)
         × ((out-Command command).has_globals ≡ false)) }
 {
-    let tokens = option(alloc, "tokens")
-        .value_name("FILE")
-        .help("The token file");
-    let now = option(alloc, "now")
-        .value_name("SECONDS")
-        .help("The moment of each request, in seconds since 1970")
-        .value_parser(ValueParser::unsigned(0, LAST_MOMENT));
-    let requests = Arg::new(alloc, "requests")
-        .required(true)
-        .value_name("REQUESTS")
-        .help("The file of requests, or - for standard input");
     Command::new(alloc, "run")
-        .about("Serves one stream of requests in memory")
-        .arg(tokens)?
-        .arg(now)?
-        .arg(requests)
+        .about("Serves one stream of requests")
+        .arg(tokens_option(alloc))?
+        .arg(now_option(alloc))?
+        .arg(database_option(alloc))?
+        .arg(requests_word(alloc))
 }
 
 fn cell_command<'a>(alloc: Global) -> Result<Command<'a>, AllocError>
@@ -101,6 +134,7 @@ fn run_line<'a>(matches: &ArgMatches<'a>) -> Option<Line<'a>>
     Some(Line::Run {
         tokens: matches.get_str("tokens")?,
         now,
+        database: matches.get_str("db"),
         requests: matches.get_str("requests")?,
     })
 }

@@ -1,0 +1,79 @@
+-- What the statements mean.
+use Rattle.std.proofs.Common.{◌≡◌, ℕ, List, refl, [], ◌∷◌, pos, negsuc, None, false, codes}
+use Rattle.sqlite.specs.declared.types.Value.TheVariants.{Null, Int}
+use Rattle.sqlite_tied.specs.Compute.{everything}
+use Rattle.sqlite.specs.Listing.{understood, reads_listing}
+use Rattle.sqlite.proofs.Callers.{IsPlain, command_of}
+use Rattle.sqlite.specs.Command.TheVariants.{Update, Delete, Select}
+use Rattle.sqlite.specs.Query.{Query, inner, end}
+use Rattle.sqlite.specs.Term.{Term, lit, col, op2}
+use Rattle.sqlite.specs.Collation.TheVariants.{Binary}
+use Rattle.sqlite_sql.specs.declared.ops.BinaryOp.TheVariants.{Compare, Arith}
+use Rattle.sqlite_sql.specs.declared.ops.CompareOp.TheVariants.{Eq}
+use Rattle.sqlite_sql.specs.declared.ops.ArithOp.TheVariants.{Add}
+use Rattle.space_tables.specs.Tables.{dss_schema}
+use Rattle.space_changes.proofs.Texts.{clear_cells_text, clear_volumes_text, clear_row_text, raise_serial_text, number_text}
+
+abbrev pub equals : Term → Term → Term
+equals a b = op2 (Compare Eq Binary) a b
+
+-- of the rows of a tree that pass the tests, these terms
+abbrev pub query_of : ℕ → List Term → List Term → Query
+query_of t tests shown = record { from = inner t end; filter = tests; group = None; project = shown; distinct = false; collations = []; order = []; limit = lit (Int (negsuc 0)); offset = lit (Int (pos 0)) }
+
+-- a column is the first parameter
+abbrev pub is_first : ℕ → List Term
+is_first place = equals (col 1 place) (col 0 0) ∷ []
+
+pub clear_cells_is : command_of (understood dss_schema clear_cells_text) ≡ Delete 3 (record { lets = []; body = query_of 5 (is_first 1) (col 1 0 ∷ []) })
+unfolding understood everything
+clear_cells_is = refl
+
+pub clear_cells_plain : IsPlain (understood dss_schema clear_cells_text)
+unfolding understood everything
+clear_cells_plain = (refl, refl)
+
+pub clear_volumes_is : command_of (understood dss_schema clear_volumes_text) ≡ Delete 2 (record { lets = []; body = query_of 3 (is_first 1) (col 1 0 ∷ []) })
+unfolding understood everything
+clear_volumes_is = refl
+
+pub clear_volumes_plain : IsPlain (understood dss_schema clear_volumes_text)
+unfolding understood everything
+clear_volumes_plain = (refl, refl)
+
+pub clear_row_is : command_of (understood dss_schema clear_row_text) ≡ Delete 1 (record { lets = []; body = query_of 1 (is_first 0) (col 1 0 ∷ []) })
+unfolding understood everything
+clear_row_is = refl
+
+pub clear_row_plain : IsPlain (understood dss_schema clear_row_text)
+unfolding understood everything
+clear_row_plain = (refl, refl)
+
+abbrev pub is_one : List Term
+is_one = equals (col 1 0) (lit (Int (pos 1))) ∷ []
+
+abbrev pub raised_row : List Term
+raised_row = col 1 0 ∷ col 1 0 ∷ lit Null ∷ col 1 2 ∷ op2 (Arith Add) (col 1 3) (lit (Int (pos 1))) ∷ []
+
+pub raise_serial_is : command_of (understood dss_schema raise_serial_text) ≡ Update 0 (record { lets = []; body = query_of 0 is_one raised_row })
+unfolding understood everything
+raise_serial_is = refl
+
+pub raise_serial_plain : IsPlain (understood dss_schema raise_serial_text)
+unfolding understood everything
+raise_serial_plain = (refl, refl)
+
+abbrev pub is_kind_and_id : List Term
+is_kind_and_id = equals (col 1 2) (col 0 0) ∷ equals (col 1 3) (col 0 1) ∷ []
+
+pub number_is : command_of (understood dss_schema number_text) ≡ Select (record { lets = []; body = query_of 1 is_kind_and_id (col 1 0 ∷ []) }) (codes "num" ∷ [])
+unfolding understood everything
+number_is = refl
+
+pub number_plain : IsPlain (understood dss_schema number_text)
+unfolding understood everything
+number_plain = (refl, refl)
+
+pub number_unlisted : reads_listing dss_schema number_text ≡ false
+unfolding understood everything
+number_unlisted = refl

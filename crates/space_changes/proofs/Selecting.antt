@@ -1,0 +1,120 @@
+-- What queries on one table show, and what updates and deletes leave.
+use Rattle.std.proofs.Common.{◌≡◌, ℕ, ℤ, List, [], ◌∷◌, ◌++◌, map, filter, flat_map, not, slice_get, Bool, true, false, cond, Option, Some, None, Ok, Err, Result, refl, sym, ap, subst, ◌∙◌}
+use Rattle.std.specs.Prelude.{IsPermutation}
+use Rattle.std.specs.List.{list_all}
+use Rattle.std.proofs.lemmas.List.Sorted.{IsPermutation-map}
+use Rattle.sqlite.specs.declared.types.Value.TheVariants.{Null}
+use Rattle.sqlite.specs.Order.{Row}
+use Rattle.sqlite.specs.Term.{Term, col, eval_all, holds}
+use Rattle.sqlite.specs.Query.{IsAnswer, output, Output}
+use Rattle.sqlite.specs.Program.{overlay}
+use Rattle.sqlite_schema.specs.declared.program.Program.{Program}
+use Rattle.sqlite.specs.Table.{Table}
+use Rattle.sqlite.specs.Tree.{Trees}
+use Rattle.sqlite_trees.specs.Tree.{rowid}
+use Rattle.sqlite.specs.Edit.{edit_of}
+use Rattle.sqlite_rules.specs.Edit.{id_in, without_all, Applies}
+use Rattle.sqlite_rules.specs.Calls.{ids_of}
+use Rattle.sqlite_rules.specs.Action.{Writes as Acts}
+use Rattle.sqlite.specs.Rowids.TheVariants.{Given}
+use Rattle.sqlite_schema.specs.declared.schema.Keys.TheVariants.{Enforced}
+use Rattle.sqlite.specs.Command.TheVariants.{Update, Delete}
+use Rattle.sqlite.specs.Does.{Tally, Does}
+use Rattle.sqlite.specs.Rows.{Written}
+use Rattle.sqlite.specs.Effect.{Database, Answers}
+use Rattle.sqlite.specs.Schema.{Schema}
+use Rattle.sqlite.specs.Listing.{understood}
+use Rattle.sqlite.specs.State.{State, mode_of, Writes, Executes}
+use Rattle.sqlite.proofs.Callers.{IsPlain, command_of, statement_of, runs_as}
+use Rattle.space_tables.specs.Tables.{dss_schema}
+use Rattle.space_tables.specs.Spelling.{AreApart}
+use Rattle.space_tables.proofs.Steps.{went, same_value}
+use Rattle.space_changes.proofs.Means.{query_of}
+use Rattle.space_changes.proofs.Clear.{pair_apart, clears}
+
+kept_as_filter : {X Y : Type 0} (p : X → Bool) (f : X → Y) (xs : List X) → flat_map (λ x. cond (p x) (f x ∷ []) []) xs ≡ map f (filter p xs)
+kept_as_filter p f [] = refl
+kept_as_filter p f (x ∷ xs) = elim (p x) as (λ b. cond b (f x ∷ []) [] ++ flat_map (λ x. cond (p x) (f x ∷ []) []) xs ≡ map f (cond b (x ∷ filter p xs) (filter p xs)))
+    [ true ↦ ap (λ l. f x ∷ l) (kept_as_filter p f xs) | false ↦ kept_as_filter p f xs ]
+
+pub map_twice : {X Y Z : Type 0} (g : Y → Z) (f : X → Y) (xs : List X) → map g (map f xs) ≡ map (λ x. g (f x)) xs
+map_twice g f [] = refl
+map_twice g f (x ∷ xs) = ap (λ l. g (f x) ∷ l) (map_twice g f xs)
+
+-- a query on one table shows the rows that pass, in some order
+pub shows : (t : ℕ) (fs project : List Term) (db : Trees) (params : Row) (rows : List Row) → overlay db [] t ≡ db t → IsAnswer (query_of t fs project) (overlay db []) params rows
+    → IsPermutation (map (λ r. eval_all project (params ∷ r ∷ [])) (filter (λ r. list_all (holds (params ∷ r ∷ [])) fs) (db t))) rows
+shows t fs project db params rows here a =
+    let q = query_of t fs project in
+    let staged : a.staged ≡ map (λ r. params ∷ r ∷ []) (filter (λ r. list_all (holds (params ∷ r ∷ [])) fs) (db t)) =
+    a.grouped ∙ ap (flat_map (λ r. cond (list_all (holds (params ∷ r ∷ [])) fs) ((params ∷ r ∷ []) ∷ []) [])) here ∙ kept_as_filter _ (λ r. params ∷ r ∷ []) (db t) in
+    let kept = a.distinct ∙ ap (map (output q)) staged in
+    let shown = IsPermutation-map (λ (o : Output). o.1) _ _ a.same in
+    let from = ap (map (λ (o : Output). o.1)) kept ∙ map_twice _ (output q) _ ∙ map_twice _ (λ r. params ∷ r ∷ []) _ in
+    subst (λ l. IsPermutation l rows) from (subst (IsPermutation (map (λ (o : Output). o.1) a.kept)) (sym a.shown) shown)
+
+module _ (schema : Schema) (old new : State) (params : Row) (table : Table) (at : ℕ) (q : Program) (text : List ℕ) (count : ℕ) (has : old.now.schema ≡ schema) (listed : slice_get schema.tables at ≡ Some table) where
+  abbrev now : Database
+  now = record { schema = schema; trees = old.now.trees }
+
+  pub record Updated : Type 0 where
+    pub rows : List Row
+    pub answer : Answers now q params rows
+    pub next : Trees
+    pub wrote : Acts schema (mode_of old).keys old.now.trees (edit_of old.now.trees table (ids_of rows) Given 1 rows) (Ok next)
+    pub is : new.now ≡ record { schema = schema; trees = next }
+
+  pub updates : Writes old new None (Update at q) text params count → Updated
+  updates w =
+      let placed = subst (λ s. Does old.step_limit (mode_of old) params (record old.now { schema = s }) text None (Update at q) (Ok (w.tally, new.now))) has w.changed in
+      let done = went (rw listed at placed) in
+      let after = ap (λ (p : Tally × Database). p.1) (same_value (went (went done.2).2).2) in
+      let given = went done.1 in
+      let written = went given.2 in
+      let trees = ap (λ (it : Written). it.trees) (same_value written.2) in
+      record { rows = given.0; answer = given.1; next = written.0; wrote = written.1; is = after ∙ ap (λ t. record { schema = schema; trees = t }) trees }
+
+  pub record Deleted : Type 0 where
+    pub rows : List Row
+    pub answer : Answers now q params rows
+    pub next : Trees
+    pub wrote : Acts schema (mode_of old).keys old.now.trees (edit_of old.now.trees table (ids_of rows) Given 0 []) (Ok next)
+    pub is : new.now ≡ record { schema = schema; trees = next }
+
+  pub deletes : Writes old new None (Delete at q) text params count → Deleted
+  deletes w =
+      let placed = subst (λ s. Does old.step_limit (mode_of old) params (record old.now { schema = s }) text None (Delete at q) (Ok (w.tally, new.now))) has w.changed in
+      let done = went (rw listed at placed) in
+      let after = ap (λ (p : Tally × Database). p.1) (same_value (went (went done.2).2).2) in
+      let given = went done.1 in
+      let written = went given.2 in
+      let trees = ap (λ (it : Written). it.trees) (same_value written.2) in
+      record { rows = given.0; answer = given.1; next = written.0; wrote = written.1; is = after ∙ ap (λ t. record { schema = schema; trees = t }) trees }
+
+-- ---- a delete
+
+-- the rows that pass are gone, and what else the delete may have done is told by `step`
+pub record Cleared (old new : Database) (table : Table) (hit : Row → Bool) : Type 0 where
+  pub ids : List ℤ
+  pub next : Trees
+  pub is : new ≡ record { schema = dss_schema; trees = next }
+  pub step : Applies dss_schema Enforced old.trees (edit_of old.trees table ids Given 0 []) next
+  pub rows : next table.tree ≡ filter (λ r. not (hit r)) (old.trees table.tree)
+
+module _ (text : List ℕ) (params : Row) (table : Table) (at : ℕ) (tests : List Term) (listed : slice_get dss_schema.tables at ≡ Some table)
+    (is : command_of (understood dss_schema text) ≡ Delete at (record { lets = []; body = query_of table.tree tests (col 1 0 ∷ []) })) (plain : IsPlain (understood dss_schema text)) where
+  abbrev pub passes : Row → Bool
+  passes r = list_all (holds (params ∷ r ∷ [])) tests
+
+  pub clears_table : (old new : State) (count : ℕ) → old.now.schema ≡ dss_schema → AreApart (old.now.trees table.tree) → overlay old.now.trees [] table.tree ≡ old.now.trees table.tree → Executes text params old new (Ok count)
+      → ((ids : List ℤ) (next : Trees) → IsPermutation (map (λ r. id_in (rowid r)) (filter passes (old.now.trees table.tree))) ids → Acts dss_schema Enforced old.now.trees (edit_of old.now.trees table ids Given 0 []) (Ok next)
+      → Applies dss_schema Enforced old.now.trees (edit_of old.now.trees table ids Given 0 []) next)
+      → Cleared old.now new.now table passes
+  clears_table old new count has apart here h quiet =
+      let db = old.now.trees in
+      let w = runs_as text params old new dss_schema has _ is plain count h in
+      let u = deletes dss_schema old new params table at _ (statement_of text (understood dss_schema text)) count has listed w in
+      let shown = IsPermutation-map (λ r. id_in (rowid r)) _ _ (shows table.tree tests (col 1 0 ∷ []) db params u.rows here (u.answer.answer Null)) in
+      let ids = subst (λ k. IsPermutation k (ids_of u.rows)) (map_twice (λ r. id_in (rowid r)) (λ r. eval_all (col 1 0 ∷ []) (params ∷ r ∷ [])) (filter passes (db table.tree))) shown in
+      let step = quiet (ids_of u.rows) u.next ids u.wrote in
+      record { ids = ids_of u.rows; next = u.next; is = u.is; step = step; rows = step.rows ∙ clears passes (db table.tree) (ids_of u.rows) (pair_apart (db table.tree) apart) ids }

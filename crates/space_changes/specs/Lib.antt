@@ -1,0 +1,4 @@
+pub mod Layout
+pub mod Statements
+pub mod Committing
+pub mod Putting

@@ -1,0 +1,92 @@
+//! The rows of an entity are inserted, those of a table before those that refer to them.
+ghost use Rattle.std.specs.Prelude.{◌≡◌, [], ◌∷◌};
+ghost use Rattle.sqlite.specs.Held.{state};
+ghost use Rattle.space_changes.specs.Layout.{Relays, with_cells, with_entity_row, with_rows, with_volumes};
+ghost use Rattle.space_changes.specs.Statements.{Runs};
+
+use space_rows::rows::{CellRow, EntityRow, VolumeRow};
+use sqlite::{Alter, Error, Transaction, params};
+
+fn insert_row<S: Alter>(tx: &mut Transaction<'_, S>, row: &EntityRow) -> Result<usize, Error>
+    ensures same_reference { tx.new.conn.ghost_name ≡ tx.old.conn.ghost_name }
+    ensures inserts { let old = state S.Store tx.old.conn.now in
+        Runs (λ _. Relays (λ _. Unit {0}) (with_entity_row row.now))
+            old (state S.Store tx.new.conn.now) result }
+{
+    tx.execute(
+        "INSERT INTO entity (num, kind, id, manager, state, version, serial, ovn, url) \
+         VALUES (?1, ?2, ?3, ?4, ?5, ?6, ?7, ?8, ?9)",
+        params![
+            row.num,
+            row.kind,
+            row.id.text(),
+            row.manager.text(),
+            row.state,
+            row.version,
+            row.serial,
+            row.ovn.text(),
+            row.url.text()
+        ],
+    )
+}
+
+fn insert_volume<S: Alter>(tx: &mut Transaction<'_, S>, row: &VolumeRow) -> Result<usize, Error>
+    ensures same_reference { tx.new.conn.ghost_name ≡ tx.old.conn.ghost_name }
+    ensures inserts { let old = state S.Store tx.old.conn.now in
+        Runs (λ _. Relays (λ _. Unit {0}) (with_volumes (row.now ∷ [])))
+            old (state S.Store tx.new.conn.now) result }
+{
+    tx.execute(
+        "INSERT INTO volume (entity, place, alt_lower, alt_upper, time_start, time_end) \
+         VALUES (?1, ?2, ?3, ?4, ?5, ?6)",
+        params![
+            row.entity,
+            row.place,
+            row.alt_lower,
+            row.alt_upper,
+            row.time_start,
+            row.time_end
+        ],
+    )
+}
+
+fn insert_cell<S: Alter>(tx: &mut Transaction<'_, S>, row: &CellRow) -> Result<usize, Error>
+    ensures same_reference { tx.new.conn.ghost_name ≡ tx.old.conn.ghost_name }
+    ensures inserts { let old = state S.Store tx.old.conn.now in
+        Runs (λ _. Relays (λ _. Unit {0}) (with_cells (row.now ∷ [])))
+            old (state S.Store tx.new.conn.now) result }
+{
+    tx.execute(
+        "INSERT INTO cell (entity, volume, place, token, lo, hi) VALUES (?1, ?2, ?3, ?4, ?5, ?6)",
+        params![
+            row.entity,
+            row.volume,
+            row.place,
+            row.token.text(),
+            row.lo,
+            row.hi
+        ],
+    )
+}
+
+/// Inserts the rows of an entity.
+pub(crate) fn insert_rows<S: Alter>(
+    tx: &mut Transaction<'_, S>,
+    row: &EntityRow,
+    volumes: &[VolumeRow],
+    cells: &[CellRow],
+) -> Result<(), Error>
+    ensures same_reference { tx.new.conn.ghost_name ≡ tx.old.conn.ghost_name }
+    ensures inserts { let old = state S.Store tx.old.conn.now in
+        Runs (λ _. Relays (λ _. Unit {0}) (with_rows row.now volumes.now cells.now))
+            old (state S.Store tx.new.conn.now) result }
+{
+    insert_row(tx, row)?;
+    for volume in volumes {
+        insert_volume(tx, volume)?;
+    }
+    for cell in cells {
+        insert_cell(tx, cell)?;
+    }
+    Ok(())
+}

@@ -1,0 +1,96 @@
+//! The rows of an entity are removed, cells first.
+ghost use Rattle.std.specs.Prelude.{◌≡◌, ◌<◌};
+ghost use Rattle.sqlite.specs.Held.{state};
+ghost use Rattle.entity_core.specs.Serial.{greatest_serial};
+ghost use Rattle.space_core.specs.declared.space.Change.TheVariants.{Remove};
+ghost use Rattle.space_core.specs.Space.{Fits, changed};
+ghost use Rattle.space_changes.specs.Layout.{LacksCells, LacksVolumes, Relays, with_next_serial, without_cells, without_entity_row, without_rows, without_volumes};
+ghost use Rattle.space_changes.specs.Statements.{RelaysSound, Runs, SpellsChanged};
+
+use crate::number::number_of;
+use crate::serial::raise_serial;
+use entity_core::entity_id::EntityId;
+use entity_core::nature::Kind;
+use sqlite::{Alter, Error, Transaction, params};
+use std::alloc::Global;
+
+fn clear_cells<S: Alter>(tx: &mut Transaction<'_, S>, num: i64) -> Result<usize, Error>
+    ensures same_reference { tx.new.conn.ghost_name ≡ tx.old.conn.ghost_name }
+    ensures clears { let old = state S.Store tx.old.conn.now in
+        Runs (λ _. Relays (λ _. Unit {0}) (without_cells num))
+            old (state S.Store tx.new.conn.now) result }
+{
+    tx.execute("DELETE FROM cell WHERE entity = ?1", params![num])
+}
+
+fn clear_volumes<S: Alter>(tx: &mut Transaction<'_, S>, num: i64) -> Result<usize, Error>
+    ensures same_reference { tx.new.conn.ghost_name ≡ tx.old.conn.ghost_name }
+    ensures clears { let old = state S.Store tx.old.conn.now in
+        Runs (λ _. Relays (LacksCells num) (without_volumes num))
+            old (state S.Store tx.new.conn.now) result }
+{
+    tx.execute("DELETE FROM volume WHERE entity = ?1", params![num])
+}
+
+fn clear_row<S: Alter>(tx: &mut Transaction<'_, S>, num: i64) -> Result<usize, Error>
+    ensures same_reference { tx.new.conn.ghost_name ≡ tx.old.conn.ghost_name }
+    ensures clears { let old = state S.Store tx.old.conn.now in
+        Runs (λ _. Relays (LacksVolumes num) (without_entity_row num))
+            old (state S.Store tx.new.conn.now) result }
+{
+    tx.execute("DELETE FROM entity WHERE num = ?1", params![num])
+}
+
+// Removes the volumes of an entity, and their cells.
+fn clear_extents<S: Alter>(tx: &mut Transaction<'_, S>, num: i64) -> Result<(), Error>
+    ensures same_reference { tx.new.conn.ghost_name ≡ tx.old.conn.ghost_name }
+    ensures clears { let old = state S.Store tx.old.conn.now in
+        Runs (λ _. Relays (λ _. Unit {0}) (λ l. without_volumes num (without_cells num l)))
+            old (state S.Store tx.new.conn.now) result }
+{
+    clear_cells(tx, num)?;
+    clear_volumes(tx, num)?;
+    Ok(())
+}
+
+/// Removes all rows of an entity.
+pub(crate) fn clear_entity<S: Alter>(tx: &mut Transaction<'_, S>, num: i64) -> Result<(), Error>
+    ensures same_reference { tx.new.conn.ghost_name ≡ tx.old.conn.ghost_name }
+    ensures clears { let old = state S.Store tx.old.conn.now in
+        Runs (λ _. Relays (λ _. Unit {0}) (without_rows num))
+            old (state S.Store tx.new.conn.now) result }
+{
+    clear_extents(tx, num)?;
+    clear_row(tx, num)?;
+    Ok(())
+}
+
+fn remove_rows<S: Alter>(tx: &mut Transaction<'_, S>, num: i64) -> Result<(), Error>
+    ensures same_reference { tx.new.conn.ghost_name ≡ tx.old.conn.ghost_name }
+    ensures removes { let old = state S.Store tx.old.conn.now in
+        Runs (λ _. RelaysSound (λ l. l.serial < greatest_serial)
+            (λ l. with_next_serial (without_rows num l)))
+            old (state S.Store tx.new.conn.now) result }
+{
+    clear_entity(tx, num)?;
+    raise_serial(tx)?;
+    Ok(())
+}
+
+/// Removes the entity of a kind and an id. It is an error where there is none.
+pub(crate) fn remove_entity<S: Alter>(
+    alloc: Global,
+    tx: &mut Transaction<'_, S>,
+    kind: Kind,
+    id: EntityId,
+) -> Result<(), Error>
+    ensures same_reference { tx.new.conn.ghost_name ≡ tx.old.conn.ghost_name }
+    ensures changes { let old = state S.Store tx.old.conn.now in
+        Runs (λ _. SpellsChanged (Fits (Remove kind id)) (changed (Remove kind id)))
+            old (state S.Store tx.new.conn.now) result }
+{
+    let Some(num) = number_of(alloc, tx, kind, id)? else {
+        return Err(Error::QueryReturnedNoRows);
+    };
+    remove_rows(tx, num)
+}
