@@ -178,47 +178,81 @@ def as_rows():
     return found
 
 
-# What is done to a filled database by SQLite's own statements, and the fault that is due; None where it is taken.
+# What is done to a filled database by SQLite's own statements, its checks and references off, and the fault that is due;
+# None where it is taken.
 DONE = [
     ("DELETE FROM meta", NOT_A_DSS),
     ("UPDATE meta SET format = 7", VERSION),
     ("UPDATE meta SET format = 0", VERSION),
     ("UPDATE meta SET serial = 2", NOT_A_DSS),
-    ("UPDATE meta SET serial = 5", None),
+    ("UPDATE meta SET serial = -1", NOT_A_DSS),
+    ("UPDATE meta SET serial = 9223372036854775807", None),
+    ("UPDATE meta SET one = 2", NOT_A_DSS),
+    ("INSERT INTO meta VALUES (2, 1, 4)", NOT_A_DSS),
     ("ALTER TABLE meta DROP COLUMN format", NOT_A_DSS),
     ("DROP TABLE cell", NOT_A_DSS),
     ("DROP TABLE availability", NOT_A_DSS),
     ("ALTER TABLE availability RENAME TO others", NOT_A_DSS),
-    ("DELETE FROM volume WHERE entity = 3", NOT_A_DSS),
-    ("DELETE FROM cell WHERE entity = 3", NOT_A_DSS),
-    ("DELETE FROM cell WHERE volume = 1", NOT_A_DSS),
-    ("DELETE FROM entity WHERE num = 1", None),
-    ("UPDATE cell SET lo = lo - 1 WHERE entity = 3", NOT_A_DSS),
-    ("UPDATE cell SET hi = hi + 1 WHERE entity = 3", NOT_A_DSS),
-    ("UPDATE cell SET token = '89C3' WHERE entity = 3", NOT_A_DSS),
-    ("UPDATE cell SET token = '89c30' WHERE entity = 3", NOT_A_DSS),
-    ("UPDATE cell SET token = '89c5' WHERE entity = 3", NOT_A_DSS),
-    ("UPDATE cell SET place = 2 WHERE entity = 1 AND volume = 0 AND place = 1", NOT_A_DSS),
-    ("UPDATE volume SET place = 1 WHERE entity = 3", NOT_A_DSS),
-    ("UPDATE volume SET time_end = 253402300800 WHERE entity = 1 AND place = 1", NOT_A_DSS),
-    ("UPDATE volume SET alt_upper = 1000001 WHERE entity = 1 AND place = 1", NOT_A_DSS),
+    ("ALTER TABLE availability RENAME TO Availability", None),
+    ("ALTER TABLE volume RENAME COLUMN place TO number", NOT_A_DSS),
+    ("CREATE TABLE more (x)", None),
+    # a kind that is none, a state of no intent, an intent as a constraint
+    ("UPDATE entity SET kind = 2 WHERE num = 1", NOT_A_DSS),
+    ("UPDATE entity SET state = 4 WHERE num = 1", NOT_A_DSS),
+    ("UPDATE entity SET kind = 1 WHERE num = 1", NOT_A_DSS),
+    ("UPDATE entity SET kind = 1, state = 4 WHERE num = 1", None),
+    ("UPDATE entity SET state = 0 WHERE num = 3", NOT_A_DSS),
+    # versions from 1 to 2,147,483,647
+    ("UPDATE entity SET version = 0 WHERE num = 1", NOT_A_DSS),
+    ("UPDATE entity SET version = 2147483647 WHERE num = 1", None),
+    ("UPDATE entity SET version = 2147483648 WHERE num = 1", NOT_A_DSS),
+    # a create from 1 to the last put, and that to the serial of meta
+    ("UPDATE entity SET serial = 1 WHERE num = 1", None),
+    ("UPDATE entity SET serial = 4 WHERE num = 1", None),
+    ("UPDATE entity SET serial = 5 WHERE num = 1", NOT_A_DSS),
+    ("UPDATE entity SET serial = 0 WHERE num = 1", NOT_A_DSS),
+    ("UPDATE entity SET serial = -7 WHERE num = 1", NOT_A_DSS),
+    ("UPDATE entity SET num = 4 WHERE num = 3", NOT_A_DSS),
+    # texts
     ("UPDATE entity SET id = upper(id) WHERE num = 1", NOT_A_DSS),
     ("UPDATE entity SET id = 'a1' WHERE num = 1", NOT_A_DSS),
     ("UPDATE entity SET manager = 'uss a' WHERE num = 1", NOT_A_DSS),
-    ("UPDATE entity SET state = 4 WHERE num = 1", NOT_A_DSS),
-    ("UPDATE entity SET state = 0 WHERE num = 3", NOT_A_DSS),
-    ("UPDATE entity SET kind = 1, state = 4 WHERE num = 1", None),
-    ("UPDATE entity SET version = 7 WHERE num = 1", None),
-    ("UPDATE entity SET serial = 5 WHERE num = 1", NOT_A_DSS),
-    ("UPDATE entity SET serial = 0 WHERE num = 1", NOT_A_DSS),
     ("UPDATE entity SET ovn = '0123456789abcde' WHERE num = 1", NOT_A_DSS),
+    ("UPDATE entity SET ovn = '0123456789abcde!' WHERE num = 1", None),
     ("UPDATE entity SET url = '' WHERE num = 1", NOT_A_DSS),
     ("UPDATE entity SET url = CAST(x'ff' AS TEXT) WHERE num = 1", NOT_A_DSS),
-    ("UPDATE entity SET num = 4 WHERE num = 3", NOT_A_DSS),
     ("UPDATE availability SET uss = 'uss b'", NOT_A_DSS),
     ("UPDATE availability SET version = '0123'", NOT_A_DSS),
-    ("CREATE TABLE more (x)", None),
-    ("ALTER TABLE entity ADD COLUMN more TEXT", None),
+    ("UPDATE availability SET state = 3", NOT_A_DSS),
+    # volumes: a gap, another entity, none at all
+    ("UPDATE volume SET place = 2 WHERE entity = 1 AND place = 1", NOT_A_DSS),
+    ("UPDATE volume SET place = 1 WHERE entity = 3", NOT_A_DSS),
+    ("UPDATE volume SET entity = 4 WHERE entity = 1 AND place = 1", NOT_A_DSS),
+    ("DELETE FROM volume WHERE entity = 1 AND place = 1", NOT_A_DSS),
+    ("DELETE FROM volume WHERE entity = 3", NOT_A_DSS),
+    ("DELETE FROM entity WHERE num = 3", NOT_A_DSS),
+    # beyond a limit, and bounds that are turned
+    ("UPDATE volume SET alt_lower = -100001 WHERE entity = 1 AND place = 0", NOT_A_DSS),
+    ("UPDATE volume SET alt_upper = 1000001 WHERE entity = 1 AND place = 1", NOT_A_DSS),
+    ("UPDATE volume SET alt_lower = 1200, alt_upper = -100 WHERE entity = 1", NOT_A_DSS),
+    ("UPDATE volume SET time_start = -1 WHERE entity = 1 AND place = 0", NOT_A_DSS),
+    ("UPDATE volume SET time_end = 253402300800 WHERE entity = 1 AND place = 1", NOT_A_DSS),
+    ("UPDATE volume SET time_start = 2000, time_end = 900 WHERE entity = 1 AND place = 0", NOT_A_DSS),
+    # cells: a gap, a volume that is none, another entity, a volume without a cell
+    ("UPDATE cell SET place = 2 WHERE entity = 1 AND volume = 0 AND place = 1", NOT_A_DSS),
+    ("UPDATE cell SET volume = 2 WHERE entity = 1 AND volume = 1", NOT_A_DSS),
+    ("UPDATE cell SET entity = 4 WHERE entity = 1 AND volume = 1", NOT_A_DSS),
+    ("UPDATE cell SET volume = 0, place = 2 WHERE entity = 1 AND volume = 1", NOT_A_DSS),
+    ("DELETE FROM cell WHERE volume = 1", NOT_A_DSS),
+    ("DELETE FROM cell WHERE entity = 3", NOT_A_DSS),
+    # a token that is printed otherwise, of another cell, and none
+    ("UPDATE cell SET token = '89C25904' WHERE place = 0 AND volume = 0 AND entity = 1", NOT_A_DSS),
+    ("UPDATE cell SET token = '10' WHERE volume = 1", NOT_A_DSS),
+    ("UPDATE cell SET token = '0' WHERE volume = 1", NOT_A_DSS),
+    ("UPDATE cell SET token = '89c5' WHERE entity = 3", NOT_A_DSS),
+    # a range that is not the cell's
+    ("UPDATE cell SET lo = 288901919 WHERE place = 1", NOT_A_DSS),
+    ("UPDATE cell SET hi = 288901924 WHERE place = 1", NOT_A_DSS),
 ]
 
 
@@ -229,7 +263,9 @@ def done_to_it():
         with Room() as room:
             room.serve(filled())
             with sqlite3.connect(room.database) as database:
-                database.execute("PRAGMA foreign_keys = " + ("ON" if fault is None else "OFF"))
+                database.execute("PRAGMA foreign_keys = OFF")
+                database.execute("PRAGMA ignore_check_constraints = ON")
+                database.execute("PRAGMA legacy_alter_table = ON")
                 database.execute(statement)
             database.close()
             before = room.database.read_bytes()
@@ -239,6 +275,80 @@ def done_to_it():
             else:
                 is_right = got == (1, b"", fault) and room.database.read_bytes() == before
             found += [] if is_right else [f"{statement}: wanted {fault!r}, got {got!r}"]
+    return found
+
+
+# Rows that the rules of the tables take or refuse, one after the other.
+RULED = [
+    ("INSERT INTO meta VALUES (2, 1, 0)", False),
+    ("UPDATE meta SET serial = -1", False),
+    ("UPDATE meta SET format = 7", True),
+    ("INSERT INTO entity VALUES (1, 0, 'a', 'm', 3, 2147483647, 0, 'o', 'u')", True),
+    ("INSERT INTO entity VALUES (2, 1, 'a', 'm', 4, 1, 1, 'o', 'u')", True),
+    # a kind and an id that stand already, and a number that does
+    ("INSERT INTO entity VALUES (3, 0, 'a', 'm', 0, 1, 1, 'o', 'u')", False),
+    ("INSERT INTO entity VALUES (1, 0, 'b', 'm', 0, 1, 1, 'o', 'u')", False),
+    ("INSERT INTO entity VALUES (3, 2, 'b', 'm', 0, 1, 1, 'o', 'u')", False),
+    ("INSERT INTO entity VALUES (3, 0, 'b', 'm', 5, 1, 1, 'o', 'u')", False),
+    ("INSERT INTO entity VALUES (3, 0, 'b', 'm', 0, 0, 1, 'o', 'u')", False),
+    ("INSERT INTO entity VALUES (3, 0, 'b', 'm', 0, 2147483648, 1, 'o', 'u')", False),
+    ("INSERT INTO entity VALUES (3, 0, 'b', 'm', 0, 1, -1, 'o', 'u')", False),
+    ("INSERT INTO entity VALUES (3, 0, 'b', 'm', 0, 1, 1, 'o', NULL)", False),
+    ("INSERT INTO volume VALUES (1, 0, -5, -5, 7, 7)", True),
+    ("INSERT INTO volume VALUES (1, 0, 0, 1, 0, 1)", False),
+    ("INSERT INTO volume VALUES (3, 0, 0, 1, 0, 1)", False),
+    ("INSERT INTO volume VALUES (1, 1, 1, 0, 0, 1)", False),
+    ("INSERT INTO volume VALUES (1, 1, 0, 1, 1, 0)", False),
+    ("INSERT INTO cell VALUES (1, 0, 0, '1', 5, 5)", True),
+    ("INSERT INTO cell VALUES (1, 0, 0, '1', 5, 6)", False),
+    ("INSERT INTO cell VALUES (1, 1, 0, '1', 5, 6)", False),
+    ("INSERT INTO cell VALUES (1, 0, 1, '1', 6, 5)", False),
+    ("INSERT INTO availability VALUES ('m', 2, 'v')", True),
+    ("INSERT INTO availability VALUES ('m', 0, 'v')", False),
+    ("INSERT INTO availability VALUES ('n', 3, 'v')", False),
+]
+
+
+def rules_of_tables():
+    """The rules of the tables that the program made, as SQLite keeps them; what is below an entity goes with it."""
+    found = []
+    with Room() as room:
+        room.serve([])
+        if room.query("SELECT * FROM meta") != [(1, 1, 0)]:
+            found += [f"meta: {room.query('SELECT * FROM meta')}"]
+        # five tables, four indexes of their keys, and that on the ranges of cells
+        if room.query("SELECT count(*) FROM sqlite_schema") != [(10,)]:
+            found += [f"{room.query('SELECT name FROM sqlite_schema')}"]
+        with sqlite3.connect(room.database) as database:
+            database.execute("PRAGMA foreign_keys = ON")
+            for statement, is_taken in RULED:
+                try:
+                    database.execute(statement)
+                    got = True
+                except sqlite3.IntegrityError:
+                    got = False
+                found += [f"{statement}: wanted {is_taken}"] if got != is_taken else []
+            database.execute("DELETE FROM entity WHERE num = 1")
+            for table, count in ("volume", 0), ("cell", 0), ("entity", 1):
+                got = database.execute(f"SELECT count(*) FROM {table}").fetchone()[0]
+                found += [f"{table}: wanted {count}, got {got}"] if got != count else []
+    return found
+
+
+def greatest_serial():
+    """A constraint is kept under the greatest serial, and after it nothing more."""
+    found = []
+    with Room() as room:
+        room.serve([])
+        with sqlite3.connect(room.database) as database:
+            database.execute("UPDATE meta SET serial = 9223372036854775806")
+        database.close()
+        status, output, error = room.serve(filled()[2:])
+        said = [it.partition(b" ")[2][:3] for it in wire.answers_of(output)]
+        found += [f"{status}, {said}, {error!r}"] if (status, said, error) != (0, [b"201", b"503"], b"") else []
+        got = room.query("SELECT num, kind, serial FROM entity")
+        found += [f"{got}"] if got != [(2**63 - 1, 1, 2**63 - 1)] else []
+        found += wrong_with(room)
     return found
 
 
@@ -290,6 +400,8 @@ CASES = {
     "worked-examples-over-a-database": worked_examples,
     "drawn-calls-over-a-database": drawn,
     "database-as-sqlite-reads-it": as_rows,
+    "rules-of-the-tables": rules_of_tables,
+    "greatest-serial-in-a-database": greatest_serial,
     "databases-that-were-changed": done_to_it,
     "databases-that-are-not-taken": not_taken,
     "database-that-is-cut-short": cut_short,
