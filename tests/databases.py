@@ -335,17 +335,41 @@ def rules_of_tables():
     return found
 
 
+# the answers to two settings that begin at the last serial but one
+LAST = (
+    b"HTTP/1.1 200 OK\r\nContent-Type: application/json\r\nContent-Length: 125\r\nConnection: close\r\n\r\n"
+    b'{"status":{"availability":"Down","uss":"uss-b"},'
+    b'"version":"bec24f9ff872b851ce8df23fed0c9e6626b1b2760c2358888916a354292ff62f"}'
+)
+NONE_LEFT = (
+    b"HTTP/1.1 503 Service Unavailable\r\nContent-Type: application/json\r\nContent-Length: 23\r\n"
+    b'Connection: close\r\n\r\n{"message":"P15 LIMIT"}'
+)
+
+
+def at_serial(room, serial):
+    """The database is made, and its serial is that number."""
+    room.serve([])
+    with sqlite3.connect(room.database) as database:
+        database.execute(f"UPDATE meta SET serial = {serial}")
+    database.close()
+
+
 def greatest_serial():
-    """A constraint is kept under the greatest serial, and after it nothing more."""
+    """A change is kept under the greatest serial, and after it nothing more."""
     found = []
+    body = {"old_version": "", "availability": "Down"}
     with Room() as room:
-        room.serve([])
-        with sqlite3.connect(room.database) as database:
-            database.execute("UPDATE meta SET serial = 9223372036854775806")
-        database.close()
-        status, output, error = room.serve(filled()[2:])
-        said = [it.partition(b" ")[2][:3] for it in wire.answers_of(output)]
-        found += [f"{status}, {said}, {error!r}"] if (status, said, error) != (0, [b"201", b"503"], b"") else []
+        at_serial(room, 2**63 - 2)
+        for uss, wanted in ("uss-b", LAST), ("uss-c", NONE_LEFT):
+            target = f"{wire.AVAILABILITY}/{uss}"
+            request = wire.request("PUT", target, "Bearer tok-v", wire.compact(body).encode(), ["Connection: close"])
+            got = room.serve([request])
+            found += [f"{uss}: wanted {wanted!r}, got {got!r}"] if got != (0, wanted, b"") else []
+    with Room() as room:
+        at_serial(room, 2**63 - 2)
+        status, output, error = room.serve(filled()[2:3])
+        found += [f"{status}, {output!r}, {error!r}"] if status or b" 201 " not in output or error else []
         got = room.query("SELECT num, kind, serial FROM entity")
         found += [f"{got}"] if got != [(2**63 - 1, 1, 2**63 - 1)] else []
         found += wrong_with(room)

@@ -6,8 +6,5 @@ mod bodies;
 #[cfg(test)]
 mod calls;
 #[cfg(test)]
-mod old_ovn;
-#[cfg(test)]
 mod replies;
-#[cfg(test)]
-mod told;
+pub mod told;

@@ -1,6 +1,5 @@
-//! Tests of the crates of cells, entities, rows and rules of what bytes do not show: faults by
-//! their numbers, limits that no stream reaches, keys of some thousands, entities as rows, and
-//! digests of another program.
+//! Tests of the crates of cells, entities and rules of what bytes do not show: faults by their
+//! numbers, limits that no stream reaches, keys of some thousands, and digests of another program.
 #![tactic(auto)]
 
 #[cfg(test)]
@@ -11,5 +10,3 @@ mod faults;
 mod keys;
 #[cfg(test)]
 mod ovns;
-#[cfg(test)]
-mod rows;

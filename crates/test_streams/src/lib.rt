@@ -1,4 +1,4 @@
-//! Tests of the stream where a device fails or a serial is the greatest.
+//! Tests of the stream where a device fails.
 #![tactic(auto)]
 
 #[cfg(test)]
@@ -7,5 +7,3 @@ mod clocks;
 mod devices;
 #[cfg(test)]
 mod failures;
-#[cfg(test)]
-mod limits;
