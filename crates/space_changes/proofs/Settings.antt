@@ -1,7 +1,6 @@
 -- What a USS has set is replaced.
-use Rattle.std.proofs.Common.{◌≡◌, ℕ, ◌+◌, ◌<◌, ℤ, List, [], ◌∷◌, ◌++◌, map, filter, not, ◌&&◌, Bool, true, false, Ok, Err, Result, OnOk, refl, sym, ap, subst, subst₂, ◌∙◌, arith, is_eq}
+use Rattle.std.proofs.Common.{◌≡◌, ℕ, ◌+◌, ◌<◌, ℤ, List, [], ◌∷◌, ◌++◌, map, filter, not, ◌&&◌, Bool, true, false, Ok, Err, Result, OnOk, refl, sym, ap, subst, ◌∙◌, arith}
 use Rattle.std.specs.Prelude.{IsPermutation}
-use Rattle.std.specs.List.{AllByRecursion}
 use Rattle.std.specs.Ordering.{eq_by_cmp}
 use Rattle.std.specs.FinMap.{entries, insert, nat_cmp-IsAntisymmetric, slice_cmp-IsAntisymmetric, IsAntisymmetric}
 use Rattle.std.proofs.lemmas.Cmp.{nat_list_cmp_total, eq_by_cmp_equiv}
@@ -35,13 +34,12 @@ use Rattle.entity_core.specs.declared.availability.Availability.{Availability}
 use Rattle.entity_core.specs.Airspace.{Airspace, Stated, text_cmp, with_availability}
 use Rattle.entity_core.specs.Serial.{greatest_serial}
 use Rattle.space_core.specs.declared.space.Change.TheVariants.{Avail}
-use Rattle.space_core.specs.Space.{Fits, changed}
 use Rattle.space_rows.proofs.Pieces.{all_turned}
 use Rattle.space_tables.specs.Tables.{dss_schema, availability}
-use Rattle.space_tables.specs.Spelling.{Spells, Group, IsGroup, IsStated, AreApart, availability_number, availability_values, three_columns}
+use Rattle.space_tables.specs.Spelling.{Spells, IsGroup, IsStated, AreApart, availability_number, availability_values, three_columns}
 use Rattle.space_tables.proofs.Steps.{cast_int, cast_null, inserts}
-use Rattle.space_changes.specs.Layout.{Layout, LaysOut, Relays, ReplacesSetting, layout_of, with_setting, without_setting, with_next_serial}
-use Rattle.space_changes.specs.Statements.{RelaysSound, SpellsChanged}
+use Rattle.space_changes.specs.Layout.{Always, Relays, ReplacesSetting, layout_of, with_setting, without_setting, with_next_serial}
+use Rattle.space_changes.specs.Statements.{RelaysSound, MakesChange}
 use Rattle.space_changes.proofs.Texts.{clear_setting_text, insert_setting_text}
 use Rattle.space_changes.proofs.Means.{is_first, query_of}
 use Rattle.space_changes.proofs.Selecting.{clears_table}
@@ -74,12 +72,12 @@ names uss c = is_true (binary (Compare Eq Binary) (column c 0) (Text uss)) && tr
 names_uss : (uss : List ℕ) (s : List ℕ × Stated) → names uss (availability_values s) ≡ eq_by_cmp text_cmp uss s.0
 names_uss uss s = and_true _ ∙ (at_texts false Eq s.0 uss ∙ (eq_by_cmp_equiv nat_list_cmp_total).symm s.0 uss)
 
-pub clears_setting : (old new : State) (uss : List ℕ) (r : Result ℕ Error) → Executes clear_setting_text (Text uss ∷ []) old new r → OnOk r (Relays (λ _. Unit {0}) (without_setting uss) old.now new.now)
+pub clears_setting : (old new : State) (uss : List ℕ) (r : Result ℕ Error) → Executes clear_setting_text (Text uss ∷ []) old new r → OnOk r (Relays Always (without_setting uss) old.now new.now)
 clears_setting old new uss (Err e) h = tt
 clears_setting old new uss (Ok count) h = λ l _ has.
     let db = old.now.trees in
     let u = clears_table clear_setting_text (Text uss ∷ []) (availability 8) 4 (is_first 1) refl clear_setting_is clear_setting_plain old new count has.schema has.apart.2 refl h
-        (λ ids next same wrote. one_step dss_schema Enforced db next (edit_of db (availability 8) ids Given 0 []) (no_works db ids) wrote) in
+    (λ ids next same wrote. one_step dss_schema Enforced db next (edit_of db (availability 8) ids Given 0 []) (no_works db ids) wrote) in
     let at = λ (t : ℕ). ap (λ (d : Database). d.trees t) u.is in
     let eight = at 8 ∙ u.rows in
     let left = filter (λ (s : List ℕ × Stated). not (eq_by_cmp text_cmp uss s.0)) l.availabilities in
@@ -112,7 +110,7 @@ new_setting db s = rw (cast_int (availability_number s.1.0), cast_null)
 setting_works : (db : Trees) (s : List ℕ × Stated) → works dss_schema Enforced 0 8 (taken_by db (setting_edit db s)) (setting_edit db s).news ≡ []
 setting_works db s = refl
 
-pub inserts_setting : (old new : State) (s : List ℕ × Stated) (r : Result ℕ Error) → Executes insert_setting_text (availability_values s) old new r → OnOk r (Relays (λ _. Unit {0}) (with_setting s.0 s.1) old.now new.now)
+pub inserts_setting : (old new : State) (s : List ℕ × Stated) (r : Result ℕ Error) → Executes insert_setting_text (availability_values s) old new r → OnOk r (Relays Always (with_setting s.0 s.1) old.now new.now)
 inserts_setting old new s (Err e) h = tt
 inserts_setting old new s (Ok count) h = λ l _ has.
     let db = old.now.trees in
@@ -157,7 +155,7 @@ module _ (db : Database) (a : Airspace) (p : Spells db a) (uss : List ℕ) (stat
 
 -- what a USS has set is replaced, and the serial goes on
 pub sets_availability : (old replaced new : Database) (uss : List ℕ) (availability : Availability) (version : List ℕ) → ReplacesSetting uss (availability, version) old replaced → RelaysSound (λ l. l.serial < greatest_serial) with_next_serial replaced new
-    → SpellsChanged (Fits (Avail uss availability version)) (changed (Avail uss availability version)) old new
+    → MakesChange (Avail uss availability version) old new
 sets_availability old replaced new uss availability version replaces raises a p fits =
     let l = layout_of old a p in
     let stated : Stated = (availability, version) in
