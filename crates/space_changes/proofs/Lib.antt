@@ -1,3 +1,4 @@
+pub mod Lists
 pub mod Texts
 pub mod Means
 pub mod Running

@@ -42,8 +42,7 @@ use Rattle.space_changes.proofs.Texts.{number_text}
 use Rattle.space_changes.proofs.Means.{is_kind_and_id, number_is, number_plain, number_unlisted}
 use Rattle.space_changes.proofs.Running.{shown_same}
 use Rattle.space_changes.proofs.Selecting.{shows}
-use Rattle.space_changes.proofs.Clear.{has_filtered}
-use Rattle.space_changes.proofs.Cascades.{all_there}
+use Rattle.space_changes.proofs.Lists.{all_there, equal_of, first_of_two, has_filtered, last_of_two}
 use Rattle.space_changes.proofs.Rows.{rows_passing}
 use Rattle.space_changes.proofs.Spelt.{lay_out}
 
@@ -77,11 +76,6 @@ shows_numbers old new kind id rows h = λ l has. ((shown_same old new number_tex
 
 -- ---- from the rows to the entity
 
-equal_of : (o : Ordering) → is_eq o ≡ true → o ≡ Equal
-equal_of Less e = cc
-equal_of Equal e = refl
-equal_of Greater e = cc
-
 same_text : (a b : List ℕ) → eq_by_cmp text_cmp a b ≡ true → a ≡ b
 same_text a b e = slice_cmp-IsAntisymmetric nat_cmp-IsAntisymmetric a b (equal_of _ e)
 
@@ -90,14 +84,6 @@ one_kind kind.Intent kind.Intent e = refl
 one_kind kind.Constraint kind.Constraint e = refl
 one_kind kind.Intent kind.Constraint e = absurd cc
 one_kind kind.Constraint kind.Intent e = absurd cc
-
-first_passes : (a b : Bool) → (a && b) ≡ true → a ≡ true
-first_passes true b e = refl
-first_passes false b e = cc
-
-second_passes : (a b : Bool) → (a && b) ≡ true → b ≡ true
-second_passes true b e = e
-second_passes false b e = cc
 
 module _ (serial : ℕ) (k : EntityKey) where
   abbrev is_its : EntityRow → Bool
@@ -113,8 +99,8 @@ module _ (serial : ℕ) (k : EntityKey) where
   -- and no other
   key_from : (g : Group) → k.1 < 2 ^ 128 → IsGroup serial g → is_its g.row ≡ true → key_of g.entity ≡ k
   key_from g low is e =
-      let kind = one_kind (kind_of g.entity.nature) k.0 (sym is.spelt.entity.kind ∙ same_int g.row.kind (kind_number k.0) (first_passes _ _ e)) in
-      let id = one_id g.row.id g.entity.id k.1 is.spelt.kept.id low is.spelt.entity.id (same_text g.row.id (printed k.1) (second_passes _ _ e)) in
+      let kind = one_kind (kind_of g.entity.nature) k.0 (sym is.spelt.entity.kind ∙ same_int g.row.kind (kind_number k.0) (first_of_two _ _ e)) in
+      let id = one_id g.row.id g.entity.id k.1 is.spelt.kept.id low is.spelt.entity.id (same_text g.row.id (printed k.1) (last_of_two _ _ e)) in
       λ i. (kind i, id i)
 
   abbrev IsShownOf : List Group → Row → Type 0

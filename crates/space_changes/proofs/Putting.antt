@@ -25,6 +25,7 @@ use Rattle.space_tables.specs.Spelling.{Spells, Group, IsGroup, pair_of}
 use Rattle.space_changes.specs.Layout.{Always, Layout, LaysOut, IsNumberOf, Relays, layout_of, with_next_serial, with_rows, without_rows}
 use Rattle.space_changes.specs.Statements.{FindsNumber, RelaysSound, MakesChange}
 use Rattle.space_changes.specs.Putting.{InsertsEntity, MakesRoom}
+use Rattle.space_changes.proofs.Lists.{all_from, equal_of}
 use Rattle.space_changes.proofs.Entries.{hits, inserted, removed}
 use Rattle.space_changes.proofs.Joining.{put_by, put_permutes, put_rises, all_put}
 use Rattle.space_changes.proofs.Removed.{is_other, rows_left}
@@ -43,19 +44,10 @@ room_there e num old new is finds a p = let it = finds a p in inr (it.1, is, sub
 
 -- ---- an entity that is not there yet
 
-all_there : {X : Type 0} (P : X → Type 0) (xs : List X) → ((x : X) → Has xs x → P x) → AllByRecursion P xs
-all_there P [] each = tt
-all_there P (x ∷ xs) each = (each x (inl refl), all_there P xs (λ y h. each y (inr h)))
-
-is_equal : (o : Ordering) → is_eq o ≡ true → o ≡ Equal
-is_equal Less e = cc
-is_equal Equal e = refl
-is_equal Greater e = cc
-
 module _ (db : Database) (a : Airspace) (p : Spells db a) (k : EntityKey) (none : (num : ℤ) → ¬ IsNumberOf num k p.groups) where
   other_keys : AllByRecursion (λ (g : Group). eq_by_cmp key_cmp k (key_of g.entity) ≡ false) p.groups
-  other_keys = all_there _ p.groups (λ g there. elim (cases_Bool (eq_by_cmp key_cmp k (key_of g.entity))) [
-    | inl same ↦ absurd (none g.row.num (record { group = g; there = there; number = refl; key = sym (key_exact k (key_of g.entity) (is_equal (key_cmp k (key_of g.entity)) same)) }))
+  other_keys = all_from _ p.groups (λ g there. elim (cases_Bool (eq_by_cmp key_cmp k (key_of g.entity))) [
+    | inl same ↦ absurd (none g.row.num (record { group = g; there = there; number = refl; key = sym (key_exact k (key_of g.entity) (equal_of (key_cmp k (key_of g.entity)) same)) }))
     | inr other ↦ other
   ])
 

@@ -25,7 +25,7 @@ use Rattle.space_tables.specs.Spelling.{Spells, Group, IsGroup, IsBefore, pair_o
 use Rattle.space_tables.proofs.OneAirspace.{volumes_borne, cells_borne}
 use Rattle.space_changes.specs.Layout.{LaysOut, IsNumberOf, layout_of, without_rows, with_next_serial}
 use Rattle.space_changes.specs.Statements.{FindsNumber, RelaysSound, MakesChange}
-use Rattle.space_changes.proofs.Clear.{alone, has_filtered}
+use Rattle.space_changes.proofs.Lists.{alone, filter_joined, filter_on, has_filtered}
 use Rattle.space_changes.proofs.Entries.{hits, few_hits, removed}
 use Rattle.space_changes.proofs.Spelt.{AreRowsOf, lay_out, spell_out}
 
@@ -33,10 +33,6 @@ use Rattle.space_changes.proofs.Spelt.{AreRowsOf, lay_out, spell_out}
 
 abbrev pub is_other : ℤ → Group → Bool
 is_other num g = not (int_eq g.row.num num)
-
-filter_joined : {X : Type 0} (p : X → Bool) (xs ys : List X) → filter p (xs ++ ys) ≡ filter p xs ++ filter p ys
-filter_joined p [] ys = refl
-filter_joined p (x ∷ xs) ys = elim (p x) as (λ b. cond b (x ∷ filter p (xs ++ ys)) (filter p (xs ++ ys)) ≡ cond b (x ∷ filter p xs) (filter p xs) ++ filter p ys) [ true ↦ ap (λ l. x ∷ l) (filter_joined p xs ys) | false ↦ filter_joined p xs ys ]
 
 module _ {R : Type 0} (key : R → ℤ) (f : Group → List R) (num : ℤ) where
   own_left : (m : ℤ) (rs : List R) → AllByRecursion (λ r. key r ≡ m) rs → filter (λ r. not (int_eq (key r) num)) rs ≡ cond (not (int_eq m num)) rs []
@@ -64,10 +60,6 @@ module _ {R : Type 0} (key : R → ℤ) (f : Group → List R) (num : ℤ) where
       split false = refl
 
 -- ---- one group has the number, and one has the key
-
-filter_on : {X : Type 0} (p q : X → Bool) (xs : List X) → ((x : X) → Has xs x → p x ≡ q x) → filter p xs ≡ filter q xs
-filter_on p q [] h = refl
-filter_on p q (x ∷ xs) h = ap (λ b. cond b (x ∷ filter p xs) (filter p xs)) (h x (inl refl)) ∙ ap (λ l. cond (q x) (x ∷ l) l) (filter_on p q xs (λ y k. h y (inr k)))
 
 after : (g : Group) (gs : List Group) → AllByRecursion (IsBefore g) gs → (h : Group) → Has gs h → g.row.num ≡ h.row.num → ⊥
 after g [] all h there e = there

@@ -30,8 +30,9 @@ use Rattle.space_tables.specs.Spelling.{AreApart, entity_values, volume_values, 
 use Rattle.space_changes.specs.Layout.{Always, Relays, LacksCells, LacksVolumes, without_cells, without_volumes, without_entity_row}
 use Rattle.space_changes.proofs.Texts.{clear_cells_text, clear_volumes_text, clear_row_text}
 use Rattle.space_changes.proofs.Means.{is_first, clear_cells_is, clear_cells_plain, clear_volumes_is, clear_volumes_plain, clear_row_is, clear_row_plain}
+use Rattle.space_changes.proofs.Lists.{all_there}
 use Rattle.space_changes.proofs.Selecting.{clears_table}
-use Rattle.space_changes.proofs.Cascades.{taken_have, all_there, volumes_quiet, entity_quiet}
+use Rattle.space_changes.proofs.Cascades.{taken_have, volumes_quiet, entity_quiet}
 use Rattle.space_changes.proofs.Clear.{pair_apart, apart_kept}
 use Rattle.space_changes.proofs.Relaying.{cells_relaid, volumes_relaid, entities_relaid}
 use Rattle.space_changes.proofs.Rows.{bears, bears_number, rows_left, rows_numbered, rows_other}
