@@ -1,8 +1,8 @@
-//! Answers the calls of its input and prints of each the status, the length of the body and how many
-//! nanoseconds the service took for it.
+//! Answers the calls of its input and prints of each the status, the length of the body and how
+//! many nanoseconds the service took for it.
 //!
-//! A line of the input is a call: what is asked (`create`, `update`, `delete` or `query`, of an intent), the
-//! words of its path (the second is `-` where there is none) and its body.
+//! A line of the input is a call: what is asked (`create`, `update`, `delete` or `query`, of an
+//! intent), the words of its path (the second is `-` where there is none) and its body.
 #![tactic(auto)]
 
 use entity_core::nature::Kind;

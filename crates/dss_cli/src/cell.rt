@@ -7,8 +7,8 @@ use grid_core::cell::CellId;
 use grid_core::token::{parse_token, token};
 use std::alloc::{AllocError, Global};
 
-/// The line of a cell, its line end included: the token as it is printed, the face, the level, and the
-/// first and the last cell of level 13 inside it.
+/// The line of a cell, its line end included: the token as it is printed, the face, the level, and
+/// the first and the last cell of level 13 inside it.
 pub fn cell_line(alloc: Global, cell: CellId) -> Result<String, AllocError>
     ensures { IfOk result (λ line. IsLineOf cell (string_bytes line)) }
 {
@@ -22,7 +22,8 @@ pub fn cell_line(alloc: Global, cell: CellId) -> Result<String, AllocError>
 
 /// The line of a token's cell, or why the text is no token.
 pub fn token_line(alloc: Global, text: &str) -> Result<String, Fault>
-    ensures { MatchResult result (λ line. IsLineOfToken text.now (string_bytes line)) (IsFaultOfToken text.now) }
+    ensures { MatchResult result (λ line. IsLineOfToken text.now (string_bytes line))
+        (IsFaultOfToken text.now) }
 {
     let cell = match parse_token(text) {
         Ok(cell) => cell,

@@ -4,33 +4,32 @@ use crate::fault::Fault;
 use crate::tokens::{token_table, unread};
 use dss_line::fault::LineFault;
 use dss_line::line::{Line, parse};
+use entity_core::salt::Salt;
 use service_core::service::Service;
 use space_core::list::ListSpace;
+use space_core::space::Space;
+use space_sql::space::SqlSpace;
 use std::alloc::Global;
 use std::fs::File;
 use std::io::{Read, Write};
-use std::rt::Files;
 use token_conf::token_table::TokenTable;
 use wire_http::{Counted, Fixed, StreamFault, serve_stream};
 
-// Serves a stream over a space in memory, each moment being `now`.
-fn serve<R: Read, W: Write>(
+// Serves one stream, each moment being `now`.
+fn serve<S: Space + Drop, R: Read, W: Write>(
     alloc: Global,
+    service: &mut Service<S>,
     tokens: &TokenTable,
     now: u64,
     input: &mut R,
     output: &mut W,
 ) -> Result<(), Fault> {
-    let Ok(salt) = tokens.salt().clone() else {
-        return Err(Fault::Memory);
-    };
-    let mut service = Service::new(ListSpace::new(alloc), salt);
     let mut reader = Counted::new(input);
     let mut writer = Counted::new(output);
     let mut clock = Fixed::new(now);
     match serve_stream(
         alloc,
-        &mut service,
+        service,
         tokens,
         &mut clock,
         &mut reader,
@@ -42,22 +41,73 @@ fn serve<R: Read, W: Write>(
     }
 }
 
-// The command `run`.
-fn run<N: Files + AllocGlobal, R: Read, W: Write>(
-    rt: &N,
-    tokens: &str,
+// What the command `run` was given.
+struct Run<'a> {
     now: u64,
-    requests: &str,
+    database: Option<&'a str>,
+    requests: &'a str,
+}
+
+// Serves the requests of a file, or of the standard input.
+fn serve_requests<S: Space + Drop, R: Read, W: Write>(
+    rt: &HostRuntime,
+    service: &mut Service<S>,
+    tokens: &TokenTable,
+    run: &Run<'_>,
     input: &mut R,
     output: &mut W,
 ) -> Result<(), Fault> {
-    let table = token_table(rt, tokens)?;
-    if requests == "-" {
-        return serve(rt.alloc(), &table, now, input, output);
+    if run.requests == "-" {
+        return serve(rt.alloc(), service, tokens, run.now, input, output);
     }
-    match File::open(rt, requests) {
-        Ok(mut file) => serve(rt.alloc(), &table, now, &mut file, output),
+    match File::open(rt, run.requests) {
+        Ok(mut file) => serve(rt.alloc(), service, tokens, run.now, &mut file, output),
         Err(error) => Err(unread(&error, Fault::RequestsUnread)),
+    }
+}
+
+// The same over a database, which is closed last.
+fn serve_database<R: Read, W: Write>(
+    rt: &HostRuntime,
+    name: &str,
+    salt: Salt,
+    tokens: &TokenTable,
+    run: &Run<'_>,
+    input: &mut R,
+    output: &mut W,
+) -> Result<(), Fault> {
+    let space = match SqlSpace::open(rt, name) {
+        Ok(space) => space,
+        Err(fault) => return Err(Fault::Database(fault)),
+    };
+    let mut service = Service::new(space, salt);
+    let served = serve_requests(rt, &mut service, tokens, run, input, output);
+    let closed = service.into_space().close();
+    served?;
+    match closed {
+        Ok(()) => Ok(()),
+        Err(_) => Err(Fault::DatabaseFailed),
+    }
+}
+
+// The command `run`.
+fn run<R: Read, W: Write>(
+    rt: &HostRuntime,
+    tokens: &str,
+    run: &Run<'_>,
+    input: &mut R,
+    output: &mut W,
+) -> Result<(), Fault> {
+    let tokens = token_table(rt, tokens)?;
+    let Ok(salt) = tokens.salt().clone() else {
+        return Err(Fault::Memory);
+    };
+    match run.database {
+        Some(name) => serve_database(rt, name, salt, &tokens, run, input, output),
+        None => {
+            let mut service = Service::new(ListSpace::new(rt.alloc()), salt);
+            serve_requests(rt, &mut service, &tokens, run, input, output)
+        }
     }
 }
 
@@ -98,11 +148,11 @@ fn refused<O: Write, E: Write>(fault: LineFault, output: &mut O, error: &mut E) 
     status
 }
 
-/// Runs one command line, whose first word is the program's name, over a reader and two writers, and
-/// answers the exit status: 0 where it is done, 1 after a fault, which is told on one line of `error`,
-/// and 2 for a command line that is refused.
-pub fn run_line<'a, N: Files + AllocGlobal, R: Read, O: Write, E: Write>(
-    rt: &N,
+/// Runs one command line, whose first word is the program's name, over a reader and two writers,
+/// and answers the exit status: 0 where it is done, 1 after a fault, which is told on one line of
+/// `error`, and 2 for a command line that is refused.
+pub fn run_line<'a, R: Read, O: Write, E: Write>(
+    rt: &HostRuntime,
     words: &'a [&'a str],
     input: &mut R,
     output: &mut O,
@@ -113,10 +163,16 @@ pub fn run_line<'a, N: Files + AllocGlobal, R: Read, O: Write, E: Write>(
             Line::Run {
                 tokens,
                 now,
+                database,
                 requests,
             },
         ) => {
-            let done = run(rt, tokens, now, requests, input, output);
+            let given = Run {
+                now,
+                database,
+                requests,
+            };
+            let done = run(rt, tokens, &given, input, output);
             ended(done, error)
         }
         Ok(Line::Cell { token }) => ended(cell(rt.alloc(), token, output), error),

@@ -1,5 +1,6 @@
 //! Why a command failed.
 use grid_core::token::TokenFault;
+use space_sql::open_fault::OpenFault;
 use std::fmt;
 use token_conf::conf_fault::ConfFault;
 use wire_http::StreamFault;
@@ -12,6 +13,10 @@ pub enum Fault {
     TokensUnread,
     /// The token file is wrong.
     Tokens(ConfFault),
+    /// The database was not taken.
+    Database(OpenFault),
+    /// The database failed after it was taken.
+    DatabaseFailed,
     /// The file of requests does not open.
     RequestsUnread,
     /// The stream of requests was given up.
@@ -33,6 +38,12 @@ impl fmt::Display for Fault {
                 let name = fault.name();
                 write!(f, "dss: tokens: fault {number} {name}")
             }
+            Fault::Database(fault) => {
+                let number = fault.number();
+                let name = fault.name();
+                write!(f, "dss: db: fault {number} {name}")
+            }
+            Fault::DatabaseFailed => write!(f, "dss: db: fault"),
             Fault::RequestsUnread => write!(f, "dss: requests: cannot read"),
             Fault::Stream(fault) => {
                 let number = fault.number();

@@ -1,7 +1,6 @@
 //! The token file of a command.
 use crate::fault::Fault;
 use std::io::ErrorKind;
-use std::rt::Files;
 use std::{fs, io};
 use token_conf::conf_fault::ConfFault;
 use token_conf::token_table::TokenTable;
@@ -16,7 +15,7 @@ pub(crate) fn unread(error: &io::Error, fault: Fault) -> Fault {
 }
 
 /// The table of the token file with that name.
-pub fn token_table<N: Files + AllocGlobal>(rt: &N, name: &str) -> Result<TokenTable, Fault> {
+pub fn token_table(rt: &HostRuntime, name: &str) -> Result<TokenTable, Fault> {
     let text = match fs::read_to_string(rt, name) {
         Ok(text) => text,
         Err(error) => return Err(unread(&error, Fault::TokensUnread)),

@@ -46,19 +46,19 @@ other_name same = differ (ap first same)
     differ e = let bad : nat_eq 114 99 ≡ true = eq-eqb (first (codes "run")) (first (codes "cell")) e in cc
 
 pub nothing_by_tokens : (rows : List Row) → first_of (codes "tokens") rows ≡ None → AsksNothing (Some (codes "run", rows))
-nothing_by_tokens rows none (Run tokens now requests) asks = let bad : None ≡ Some tokens.now = sym none ∙ asks.1 in cc
+nothing_by_tokens rows none (Run tokens now database requests) asks = let bad : None ≡ Some tokens.now = sym none ∙ asks.1 in cc
 nothing_by_tokens rows none (Cell token) asks = other_name asks.0
 
 pub nothing_by_requests : (rows : List Row) → first_of (codes "requests") rows ≡ None → AsksNothing (Some (codes "run", rows))
-nothing_by_requests rows none (Run tokens now requests) asks = let bad : None ≡ Some requests.now = sym none ∙ asks.4 in cc
+nothing_by_requests rows none (Run tokens now database requests) asks = let bad : None ≡ Some requests.now = sym none ∙ asks.5 in cc
 nothing_by_requests rows none (Cell token) asks = other_name asks.0
 
 pub nothing_by_now : (rows : List Row) → ((n : ℕ) → HasNumber (codes "now") rows n → n ≤ LAST_MOMENT → ⊥) → AsksNothing (Some (codes "run", rows))
-nothing_by_now rows none (Run tokens now requests) asks = none now asks.2 asks.3
+nothing_by_now rows none (Run tokens now database requests) asks = none now asks.2 asks.3
 nothing_by_now rows none (Cell token) asks = other_name asks.0
 
 pub nothing_by_token : (rows : List Row) → first_of (codes "token") rows ≡ None → AsksNothing (Some (codes "cell", rows))
-nothing_by_token rows none (Run tokens now requests) asks = other_name (sym asks.0)
+nothing_by_token rows none (Run tokens now database requests) asks = other_name (sym asks.0)
 nothing_by_token rows none (Cell token) asks = let bad : None ≡ Some token.now = sym none ∙ asks.1 in cc
 
 -- a fact that holds anyway holds where there is no value

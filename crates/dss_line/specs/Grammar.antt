@@ -16,12 +16,18 @@ tokens_rule = record (option_rule (codes "tokens")) { value_names = 1 }
 abbrev pub now_rule : Rule
 now_rule = record (option_rule (codes "now")) { value_names = 1; parser = Some (Unsigned 0 LAST_MOMENT) }
 
+-- the database, which need not be named
+abbrev pub database_rule : Rule
+database_rule = record (new_rule (codes "db")) { long = Some (codes "db"); value_names = 1 }
+
 -- a word that has to be there
 abbrev pub requests_rule : Rule
 requests_rule = record (new_rule (codes "requests")) { value_names = 1; required = true }
 
 abbrev pub run_app : App
-run_app = with_rule (with_rule (with_rule (new_app (codes "run")) tokens_rule) now_rule) requests_rule
+run_app =
+    with_rule (with_rule (with_rule (with_rule (new_app (codes "run")) tokens_rule) now_rule) database_rule)
+    requests_rule
 
 -- the one word of the command `cell`
 abbrev pub token_rule : Rule

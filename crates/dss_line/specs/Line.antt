@@ -1,5 +1,5 @@
 -- What a command line asks for.
-use Rattle.std.specs.Prelude.{◌≡◌, ◌≤◌, ◌⊎◌, ℕ, List, Option, Some, None, codes, map}
+use Rattle.std.specs.Prelude.{◌≡◌, ◌≤◌, ◌⊎◌, ℕ, List, Option, Some, None, codes, map, option_map}
 use Rattle.std.specs.Borrow.{Bor}
 use Rattle.std.specs.Str.Parse.{IsNumeral, digits_value, without_leading_plus}
 use Rattle.clap.specs.Kinds.{IsAmong}
@@ -24,8 +24,11 @@ HasNumber id rows n =
 -- the subcommand of that name with the values of these arguments asks for the line
 abbrev pub Asks : Option (Text × List Row) → Line → Type 0
 Asks None line = ⊥
-Asks (Some (name, rows)) (Run tokens now requests) =
-    (name ≡ codes "run") × (first_of (codes "tokens") rows ≡ Some tokens.now) × HasNumber (codes "now") rows now × (now ≤ LAST_MOMENT) × (first_of (codes "requests") rows ≡ Some requests.now)
+Asks (Some (name, rows)) (Run tokens now database requests) =
+    (name ≡ codes "run") × (first_of (codes "tokens") rows ≡ Some tokens.now)
+    × HasNumber (codes "now") rows now × (now ≤ LAST_MOMENT)
+    × (first_of (codes "db") rows ≡ option_map (λ word. word.now) database)
+    × (first_of (codes "requests") rows ≡ Some requests.now)
 Asks (Some (name, rows)) (Cell token) = (name ≡ codes "cell") × (first_of (codes "token") rows ≡ Some token.now)
 
 -- the subcommand, if there is one, asks for no line

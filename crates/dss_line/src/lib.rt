@@ -1,4 +1,5 @@
-//! The command line of the program: its words become a `Line`, or the text that is shown in its place.
+//! The command line of the program: its words become a `Line`, or the text that is shown in its
+//! place.
 #![tactic(auto)]
 
 pub mod fault;

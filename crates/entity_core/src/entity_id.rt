@@ -26,8 +26,8 @@ impl Model for EntityId {
 }
 
 impl EntityId {
-    /// Reads a hyphenated UUID of 36 characters, of either case. The error is the first fault of the
-    /// text, and never want of memory: it takes none.
+    /// Reads a hyphenated UUID of 36 characters, of either case. The error is the first fault of
+    /// the text, and never want of memory: it takes none.
     pub fn read(text: &str) -> Result<EntityId, IdFault>
         ensures { ReadsId text.now result }
     {

@@ -1,4 +1,5 @@
-//! What every other crate speaks of: ids, OVNs, versions, availabilities, and the airspace as a definition.
+//! What every other crate speaks of: ids, OVNs, versions, availabilities, and the airspace as a
+//! definition.
 #![tactic(auto)]
 
 pub mod availability;

@@ -18,7 +18,8 @@ fn is_name(text: &str) -> bool
 
 /// A copy of a name. The error is its first fault.
 pub(crate) fn read_name(alloc: Global, text: &str) -> Result<String, IdFault>
-    ensures { MatchResult result (λ s. (string_bytes s ≡ text.now) × (name_fault text.now ≡ None)) (λ e. IsToldOf (name_fault text.now) e) }
+    ensures { MatchResult result (λ s. (string_bytes s ≡ text.now) × (name_fault text.now ≡ None))
+        (λ e. IsToldOf (name_fault text.now) e) }
 {
     if text.is_empty() || text.len() > 64 {
         return Err(IdFault::Length);

@@ -4,7 +4,8 @@ ghost use Rattle.entity_core.specs.Serial.{greatest_serial};
 
 use std::marker::Model;
 
-/// The greatest serial of an airspace, 2^63 - 1 (this project's profile: it fits a column of SQLite).
+/// The greatest serial of an airspace, 2^63 - 1 (this project's profile: it fits a column of
+/// SQLite).
 pub const GREATEST_SERIAL: u64 = 9_223_372_036_854_775_807;
 
 /// The serial of a change, from 1 to [`GREATEST_SERIAL`]. Contracts see the number.

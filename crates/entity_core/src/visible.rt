@@ -21,7 +21,8 @@ pub(crate) fn read_visible(
     least: usize,
     most: usize,
 ) -> Result<String, IdFault>
-    ensures { MatchResult result (λ s. (string_bytes s ≡ text.now) × (first_fault least most is_visible_byte text.now ≡ None))
+    ensures { MatchResult result (λ s. (string_bytes s ≡ text.now)
+        × (first_fault least most is_visible_byte text.now ≡ None))
         (λ e. IsToldOf (first_fault least most is_visible_byte text.now) e) }
 {
     if text.len() < least || text.len() > most {

@@ -5,8 +5,9 @@ ghost use Rattle.grid_core.specs.Cell.{Cell, IsCell, number_of, range_min, range
 
 use std::marker::Model;
 
-/// A cell of the grid: a face from 0 to 5, and at most 30 digits from 0 to 3, one for each level below
-/// it. It is kept as its number, a cell id of S2 Geometry. Contracts see the face and the digits.
+/// A cell of the grid: a face from 0 to 5, and at most 30 digits from 0 to 3, one for each level
+/// below it. It is kept as its number, a cell id of S2 Geometry. Contracts see the face and the
+/// digits.
 #[derive(Clone, Copy, Debug)]
 pub struct CellId {
     raw: u64,
@@ -30,8 +31,8 @@ impl Model for CellId {
 }
 
 impl CellId {
-    /// The cell with this number: its face in the top three bits, then two bits for each digit, a single
-    /// 1 bit, and zeros (S2 Geometry). Other numbers are of no cell.
+    /// The cell with this number: its face in the top three bits, then two bits for each digit, a
+    /// single 1 bit, and zeros (S2 Geometry). Other numbers are of no cell.
     pub fn from_raw(raw: u64) -> Option<CellId>
         ensures number { IfSome result (λ c. number_of c ≡ raw) }
         ensures valid { IfSome result IsCell }
@@ -105,7 +106,8 @@ impl CellId {
         }
     }
 
-    /// Whether it holds the other: the faces are equal, and its digits are the first digits of the other.
+    /// Whether it holds the other: the faces are equal, and its digits are the first digits of the
+    /// other.
     pub fn contains(self, other: CellId) -> bool
         ensures { IsTrue result ↔ Contains self other }
     {
@@ -151,8 +153,8 @@ impl CellId {
         (self.range_max() >> 35) as u32
     }
 
-    /// Whether the two are one at level 13, or one of them holds the other there. That is so exactly
-    /// where `lo..=hi` of the two share a number.
+    /// Whether the two are one at level 13, or one of them holds the other there. That is so
+    /// exactly where `lo..=hi` of the two share a number.
     pub fn touches(self, other: CellId) -> bool
         ensures { IsTrue result ↔ Touch self other }
     {

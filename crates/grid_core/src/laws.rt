@@ -2,14 +2,14 @@
 ghost use Rattle.grid_core.specs.Laws.{MeetsIsMeet, AnyMeetIsRelation, TouchByInterval, ApartOrNested, FoundByIndex};
 ghost use Rattle.grid_core.specs.Token.{NamesCell};
 
-/// The test `meets` of two areas is the relation `Meet`: a cell of the one touches a cell of the other,
-/// and they share an altitude and a time.
+/// The test `meets` of two areas is the relation `Meet`: a cell of the one touches a cell of the
+/// other, and they share an altitude and a time.
 pub fn meets_is_meet()
     ensures { MeetsIsMeet }
 {}
 
-/// The test `any_meet` is the relation `AnyMeet`: some volume of the one list meets some area of the
-/// other.
+/// The test `any_meet` is the relation `AnyMeet`: some volume of the one list meets some area of
+/// the other.
 pub fn any_meet_is_relation()
     ensures { AnyMeetIsRelation }
 {}
@@ -24,8 +24,8 @@ pub fn apart_or_nested()
     ensures { ApartOrNested }
 {}
 
-/// What an index on `(lo, hi)` finds: a cell d touches a cell c exactly where `d.lo` is from `c.lo` to
-/// `c.hi`, or d has the interval of a cell of a level below 13 that holds c.
+/// What an index on `(lo, hi)` finds: a cell d touches a cell c exactly where `d.lo` is from `c.lo`
+/// to `c.hi`, or d has the interval of a cell of a level below 13 that holds c.
 pub fn found_by_index()
     ensures { FoundByIndex }
 {}

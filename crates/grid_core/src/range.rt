@@ -8,7 +8,8 @@ pub const LEAST_ALTITUDE: i64 = -100_000;
 /// The greatest altitude of a volume, in decimetres (this project's profile).
 pub const GREATEST_ALTITUDE: i64 = 1_000_000;
 
-/// The last time of a volume, in seconds since 1970: the end of the year 9999 (this project's profile).
+/// The last time of a volume, in seconds since 1970: the end of the year 9999 (this project's
+/// profile).
 pub const LAST_TIME: u64 = 253_402_300_799;
 
 fn is_below(low: i64, high: i64) -> bool

@@ -57,7 +57,8 @@ fn digit_of(byte: u8) -> Option<u64>
 // The number that hexadecimal digits write.
 fn value_of(text: &[u8]) -> Option<u64>
     requires { length text.now ≤ 16 }
-    ensures { MatchOption result (AllDigits 16 text.now → ⊥) (λ n. AllDigits 16 text.now × (n ≡ digits_value 16 text.now)) }
+    ensures { MatchOption result (AllDigits 16 text.now → ⊥)
+        (λ n. AllDigits 16 text.now × (n ≡ digits_value 16 text.now)) }
 {
     let mut value = 0u64;
     for byte in text {
@@ -80,8 +81,8 @@ fn padded(value: u64, count: usize) -> u64
 }
 
 /// The cell of a token: 1 to 16 hexadecimal digits of either case, which are the cell's number once
-/// zeros fill it up on the right (S2 Geometry; that the zeros may be there is this project's profile).
-/// The faults are tested in the order of their numbers. It takes no memory.
+/// zeros fill it up on the right (S2 Geometry; that the zeros may be there is this project's
+/// profile). The faults are tested in the order of their numbers. It takes no memory.
 pub fn parse_token(text: &str) -> Result<CellId, TokenFault>
     ensures reads { Parses text.now result }
     ensures named { IfOk result (λ c. cell_named text.now ≡ Some c) }
@@ -102,7 +103,8 @@ pub fn parse_token(text: &str) -> Result<CellId, TokenFault>
 // The hexadecimal digit at a place of a number, the first being that of the highest four bits.
 fn glyph_at(raw: u64, place: u32) -> char
     requires { place < 16 }
-    ensures value { digit_value result ≡ raw / 2 ^ (60 - 4 * place) - raw / 2 ^ (60 - 4 * place) / 16 * 16 }
+    ensures value { digit_value result ≡ raw / 2 ^ (60 - 4 * place) - raw / 2 ^
+        (60 - 4 * place) / 16 * 16 }
     ensures lower { IsTrue (is_lower_digit result) }
 {
     match char::from_digit(((raw >> (60 - 4 * place)) % 16) as u32, 16) {

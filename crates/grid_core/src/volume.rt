@@ -27,7 +27,8 @@ impl Model for Volume {
 
     ghost view = { λ a. extent_of a.cells.items a.altitude a.time };
 
-    ghost invariant = { λ a. region_fault (region_of (extent_of a.cells.items a.altitude a.time)) ≡ None };
+    ghost invariant = { λ a. region_fault (region_of (extent_of a.cells.items a.altitude a.time))
+        ≡ None };
 }
 
 /// Where and when something is looked for: as a volume, but each of the four bounds may be absent,
@@ -128,7 +129,8 @@ impl Volume {
         altitude: (i64, i64),
         time: (u64, u64),
     ) -> Result<Volume, VolumeFault>
-        ensures { MatchResult result (λ v. (v ≡ extent_of cells.items altitude time) × (region_fault (region_of v) ≡ None))
+        ensures { MatchResult result (λ v. (v ≡ extent_of cells.items altitude time)
+            × (region_fault (region_of v) ≡ None))
             (λ e. region_fault (region_of (extent_of cells.items altitude time)) ≡ Some e) }
     {
         let bounds = (Some(altitude.0), Some(altitude.1));
@@ -194,8 +196,8 @@ impl Volume {
         })
     }
 
-    /// Whether a cell of the one touches a cell of the other, and they share an altitude and a time. It
-    /// takes no memory.
+    /// Whether a cell of the one touches a cell of the other, and they share an altitude and a
+    /// time. It takes no memory.
     pub fn meets(&self, area: &Area) -> bool
         ensures test { result ≡ meets (region_of self.now) area.now }
         ensures relation { IsTrue result ↔ Meet (region_of self.now) area.now }
@@ -229,7 +231,8 @@ impl Area {
         altitude: (Option<i64>, Option<i64>),
         time: (Option<u64>, Option<u64>),
     ) -> Result<Area, VolumeFault>
-        ensures { MatchResult result (λ a. (a ≡ region_with cells.items altitude time) × (region_fault a ≡ None))
+        ensures { MatchResult result (λ a. (a ≡ region_with cells.items altitude time)
+            × (region_fault a ≡ None))
             (λ e. region_fault (region_with cells.items altitude time) ≡ Some e) }
     {
         match fault_of(&cells, altitude, time) {
@@ -274,8 +277,8 @@ impl Area {
         covered_by(&self.cells)
     }
 
-    /// Whether a cell of the one touches a cell of the other, and they share an altitude and a time. It
-    /// takes no memory.
+    /// Whether a cell of the one touches a cell of the other, and they share an altitude and a
+    /// time. It takes no memory.
     pub fn meets(&self, area: &Area) -> bool
         ensures test { result ≡ meets self.now area.now }
         ensures relation { IsTrue result ↔ Meet self.now area.now }

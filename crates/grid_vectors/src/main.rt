@@ -1,5 +1,5 @@
-//! Prints what `grid_core` says of cells, a line for each line of input, to be compared with what the
-//! S2 Geometry library of Google says of them.
+//! Prints what `grid_core` says of cells, a line for each line of input, to be compared with what
+//! the S2 Geometry library of Google says of them.
 #![tactic(auto)]
 
 use anyhow::{Context, Result};

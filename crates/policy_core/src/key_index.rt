@@ -28,8 +28,8 @@ impl<'a> Model for KeyIndex<'a> {
 }
 
 impl<'a> KeyIndex<'a> {
-    /// The index of a key. Where the key has k OVNs, this takes O(k log k) comparisons. An empty key
-    /// takes no memory.
+    /// The index of a key. Where the key has k OVNs, this takes O(k log k) comparisons. An empty
+    /// key takes no memory.
     pub fn of(alloc: Global, key: &'a [Ovn]) -> Result<KeyIndex<'a>, AllocError>
         ensures { IfOk result (λ index. IsPermutation key.now index) }
     {

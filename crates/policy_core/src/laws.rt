@@ -19,8 +19,8 @@ pub fn puts_know()
     ensures { PutsKnow }
 {}
 
-/// What a call needs to know, and whose OVN its key does not have, is asked for: one of P1 to P14 is
-/// broken, and where P14 is the first, it is listed.
+/// What a call needs to know, and whose OVN its key does not have, is asked for: one of P1 to P14
+/// is broken, and where P14 is the first, it is listed.
 pub fn needed_is_asked()
     ensures { NeededIsAsked }
 {}

@@ -21,7 +21,8 @@ pub fn needs_key(nature: Nature) -> bool
 /// The places of the entities whose OVNs are not in the key, rising. Where the key has k OVNs, this
 /// takes O(k log k) comparisons, and O(log k) more for each entity.
 pub fn missing(alloc: Global, key: &[Ovn], needed: &[Entity]) -> Result<Vec<usize>, AllocError>
-    ensures { IfOk result (λ places. places.items ≡ places_where (is_missing_from key.now) needed.now) }
+    ensures { IfOk result (λ places. places.items
+        ≡ places_where (is_missing_from key.now) needed.now) }
 {
     let index = KeyIndex::of(alloc, key)?;
     let mut places = Vec::new(alloc);

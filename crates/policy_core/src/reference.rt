@@ -50,7 +50,8 @@ pub fn view(
     entity: &Entity,
     availability: Availability,
 ) -> Result<Reference, AllocError>
-    ensures value { IfOk result (λ reference. reference ≡ view_with uss.now entity.now availability) }
+    ensures value { IfOk result (λ reference. reference
+        ≡ view_with uss.now entity.now availability) }
     ensures in_airspace { (a : Airspace) → availability ≡ (availability_of a entity.now.manager).0
         → IfOk result (λ reference. reference ≡ view_of a uss.now entity.now) }
 {
@@ -123,7 +124,8 @@ impl References {
     }
 }
 
-/// What a key lacks: references that the caller may see, intents and constraints each by rising ids.
+/// What a key lacks: references that the caller may see, intents and constraints each by rising
+/// ids.
 #[derive(Debug, Drop)]
 pub struct Missing {
     pub intents: References,

@@ -5,8 +5,8 @@ ghost use Rattle.policy_core.specs.Scope.{scope_name, has_scope, no_scopes, with
 use entity_core::uss_id::UssId;
 use std::marker::Model;
 
-/// What a token allows its holder to do. The names are those of ASTM F3548's scopes as this project's
-/// profile has them.
+/// What a token allows its holder to do. The names are those of ASTM F3548's scopes as this
+/// project's profile has them.
 #[derive(Clone, Copy, Debug, PartialEq, Eq)]
 pub enum Scope {
     StrategicCoordination,
@@ -21,7 +21,8 @@ impl Scope {
 
     /// The scope of that name, with case. No other text is a scope's name.
     pub fn named(name: &str) -> Option<Scope>
-        ensures { MatchOption result ((s : Scope) → scope_name s ≡ name.now → ⊥) (λ s. scope_name s ≡ name.now) }
+        ensures { MatchOption result ((s : Scope) → scope_name s ≡ name.now → ⊥)
+            (λ s. scope_name s ≡ name.now) }
     {
         match name {
             "utm.strategic_coordination" => Some(Scope::StrategicCoordination),

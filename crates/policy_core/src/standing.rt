@@ -218,7 +218,8 @@ fn first_standing(
     kept: Option<(Availability, &Ovn)>,
 ) -> Option<Rule>
     ensures { (serial : ℕ) → result
-        ≡ find (breaks_given (lent_facts found.entry kept.entry serial) now call.now) standing_rules }
+        ≡ find (breaks_given (lent_facts found.entry kept.entry serial) now call.now)
+            standing_rules }
 {
     if breaks_found(&call.op, found) {
         return Some(Rule::Found);
@@ -244,9 +245,9 @@ fn first_standing(
     None
 }
 
-/// What a call at a moment (in seconds since 1970) breaks, where this is found under the kind and the
-/// id that it names, this is kept of the supplier that it names, and this is the serial. It takes no
-/// memory.
+/// What a call at a moment (in seconds since 1970) breaks, where this is found under the kind and
+/// the id that it names, this is kept of the supplier that it names, and this is the serial. It
+/// takes no memory.
 pub fn standing(
     now: u64,
     call: &Call,
@@ -255,12 +256,15 @@ pub fn standing(
     serial: u64,
 ) -> Findings
     ensures first { result.first
-        ≡ find (breaks_given (lent_facts found.entry kept.entry serial) now call.now) standing_rules }
+        ≡ find (breaks_given (lent_facts found.entry kept.entry serial) now call.now)
+            standing_rules }
     ensures limit { result.limit
         ≡ breaks_given (lent_facts found.entry kept.entry serial) now call.now Rule.Limit }
-    ensures first_in { (a : Airspace) → Regards a call.now.op (lent_facts found.entry kept.entry serial)
+    ensures first_in { (a : Airspace) → Regards a call.now.op
+        (lent_facts found.entry kept.entry serial)
         → result.first ≡ find (breaks a now call.now) standing_rules }
-    ensures limit_in { (a : Airspace) → Regards a call.now.op (lent_facts found.entry kept.entry serial)
+    ensures limit_in { (a : Airspace) → Regards a call.now.op
+        (lent_facts found.entry kept.entry serial)
         → result.limit ≡ breaks a now call.now Rule.Limit }
 {
     let first = first_standing(now, call, found, kept);

@@ -128,22 +128,6 @@ last_limit a t c g caller m limit early is ground who missing none l =
     first_last a t c early e ∙ (ap (λ (b : Bool). cond b (Some Key) (cond (breaks a t c Limit) (Some Limit) None)) (key_is a t c m true f none)
     ∙ ap (λ (b : Bool). cond b (Some Limit) None) (sym n))
 
--- what breaks none of P7 to P13 has found what it needs
-pub ready_from : (found : Option Entity) (kept : Option Stated) (serial t : ℕ) (caller : Option Caller) (op : Operation) → find (breaks_given (record { found = found; kept = kept; serial = serial }) t (record { caller = caller; op = op })) standing_rules ≡ None → IsReady op found
-ready_from found kept serial t caller NoRoute h = tt
-ready_from found kept serial t caller NoMethod h = tt
-ready_from found kept serial t caller (Malformed kind) h = tt
-ready_from found kept serial t caller (Query kind area) h = tt
-ready_from None kept serial t caller (Read kind id) h = cc
-ready_from (Some e) kept serial t caller (Read kind id) h = refl
-ready_from found kept serial t caller (Create id put) h = tt
-ready_from None kept serial t caller (Update id ovn put) h = cc
-ready_from (Some e) kept serial t caller (Update id ovn put) h = refl
-ready_from None kept serial t caller (Delete kind id ovn) h = cc
-ready_from (Some e) kept serial t caller (Delete kind id ovn) h = refl
-ready_from found kept serial t caller (ReadAvail uss) h = tt
-ready_from found kept serial t caller (SetAvail uss old availability) h = tt
-
 pub some_of_none : (o : Option Rule) (P : Rule → Type 0) → None ≡ o → IfSome o P
 some_of_none o P e = subst (λ (x : Option Rule). IfSome x P) e tt
 

@@ -21,7 +21,9 @@ pub fn setting(
     uss: &UssId,
     availability: Availability,
 ) -> Result<Made, AllocError>
-    ensures { IfOk result (λ made. (made.change ≡ Some (Change.Avail uss.now availability (ovn_text salt.now serial))) × (made.answer ≡ Answer.Avail uss.now availability (ovn_text salt.now serial))) }
+    ensures { IfOk result (λ made. (made.change
+        ≡ Some (Change.Avail uss.now availability (ovn_text salt.now serial)))
+        × (made.answer ≡ Answer.Avail uss.now availability (ovn_text salt.now serial))) }
 {
     let version = ovn_of(alloc, salt, serial.number())?;
     let shown = version.clone()?.into_text();
@@ -38,7 +40,9 @@ pub fn told(
     uss: &UssId,
     kept: &Option<(Availability, Ovn)>,
 ) -> Result<Made, AllocError>
-    ensures { IfOk result (λ made. (made.change ≡ None) × (made.answer ≡ Answer.Avail uss.now (unwrap_or kept.now (Availability.Unknown, [])).0 (unwrap_or kept.now (Availability.Unknown, [])).1)) }
+    ensures { IfOk result (λ made. (made.change ≡ None)
+        × (made.answer ≡ Answer.Avail uss.now (unwrap_or kept.now (Availability.Unknown, [])).0
+        (unwrap_or kept.now (Availability.Unknown, [])).1)) }
 {
     let uss = uss.clone()?;
     match kept {

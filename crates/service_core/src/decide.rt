@@ -39,7 +39,8 @@ fn missing_by<S: Space>(
     caller: &Caller,
     op: &Operation,
 ) -> Result<Missing, Halt>
-    ensures { Looks S.Space space.old space.new result (λ a missing. missing ≡ missing_by a caller.now op.now) }
+    ensures { Looks S.Space space.old space.new result
+        (λ a missing. missing ≡ missing_by a caller.now op.now) }
 {
     match op {
         Operation::Create(id, put) => missing_of(space, alloc, caller, *id, put),
@@ -56,7 +57,8 @@ fn missing_of<S: Space>(
     id: EntityId,
     put: &Put,
 ) -> Result<Missing, Halt>
-    ensures { Looks S.Space space.old space.new result (λ a missing. missing ≡ missing_put a caller.now id put.now) }
+    ensures { Looks S.Space space.old space.new result
+        (λ a missing. missing ≡ missing_put a caller.now id put.now) }
 {
     if !needs_key(put.nature) {
         return Ok(Missing::nothing(alloc));
@@ -96,7 +98,8 @@ fn missing_kind<S: Space>(
 ) -> Result<References, Halt>
     requires areas { areas.now ≡ map region_of put.now.volumes }
     ensures { Looks S.Space space.old space.new result (λ a references.
-        references ≡ map (view_of a caller.now.uss) (missing_from put.now.key (needed_put kind a (Some caller.now) id put.now))) }
+        references ≡ map (view_of a caller.now.uss)
+            (missing_from put.now.key (needed_put kind a (Some caller.now) id put.now))) }
 {
     let needed = needed_put(space, alloc, kind, caller, id, put, areas)?;
     missing_from(space, alloc, &caller.uss, put.key.items(), &needed)
@@ -120,9 +123,11 @@ fn judge<S: Space>(
 ) -> Result<Option<(Rule, Missing)>, Halt>
     requires caller { call.now.caller ≡ Some caller.now }
     requires early { (a : Airspace) → find (breaks a now call.now) early_rules ≡ None }
-    ensures looks { Looks S.Space space.old space.new result (λ a broken. IsGround call.now.op a grounds.now → IsFirst now call.now a broken) }
+    ensures looks { Looks S.Space space.old space.new result
+        (λ a broken. IsGround call.now.op a grounds.now → IsFirst now call.now a broken) }
     ensures ready { result ≡ Ok None → IsReady call.now.op grounds.now.found }
-    ensures memory { result ≡ Err Halt.NoMemory → find (breaks_given (facts_in grounds.now) now call.now) standing_rules ≡ None }
+    ensures memory { result ≡ Err Halt.NoMemory
+        → find (breaks_given (facts_in grounds.now) now call.now) standing_rules ≡ None }
 {
     let findings = standing(
         now,
@@ -166,7 +171,8 @@ pub fn decide<S: Space>(
     requires early { (a : Airspace) → find (breaks a now call.now) early_rules ≡ None }
     ensures looks { Looks S.Space space.old space.new result (Judges now call.now) }
     ensures ready { IfOk result (IsReadyIfAllowed call.now.op) }
-    ensures memory { result ≡ Err Halt.NoMemory → S.is_sound space.new → (a : Airspace) → S.holds space.old a → find (breaks a now call.now) standing_rules ≡ None }
+    ensures memory { result ≡ Err Halt.NoMemory → S.is_sound space.new → (a : Airspace)
+        → S.holds space.old a → find (breaks a now call.now) standing_rules ≡ None }
 {
     let grounds = look(space, &call.op)?;
     let judged = judge(space, alloc, now, call, caller, &grounds)?;

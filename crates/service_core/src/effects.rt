@@ -29,7 +29,8 @@ pub fn prepared<S: Space>(
     requires caller { call.now.caller ≡ Some caller.now }
     requires early { (a : Airspace) → find (breaks a now call.now) early_rules ≡ None }
     requires ready { IsReady call.now.op grounds.now.found }
-    ensures { Looks S.Space space.old space.new result (Prepares salt.now now call.now grounds.now) }
+    ensures { Looks S.Space space.old space.new result
+        (Prepares salt.now now call.now grounds.now) }
 {
     let _now = now;
     let serial = next_serial(grounds.serial);

@@ -55,7 +55,8 @@ fn entity_of(
     id: EntityId,
     put: &Put,
 ) -> Result<Entity, AllocError>
-    ensures { IfOk result (λ entity. entity ≡ kept_as salt.now serial manager.now version id put.now) }
+    ensures { IfOk result (λ entity. entity
+        ≡ kept_as salt.now serial manager.now version id put.now) }
 {
     Ok(Entity {
         nature: put.nature,
@@ -78,7 +79,9 @@ pub fn listing<S: Space>(
     area: &Area,
 ) -> Result<Made, Halt>
     ensures { Looks S.Space space.old space.new result
-        (λ a made. (made.change ≡ None) × (made.answer ≡ Answer.Listed kind (map (view_of a uss.now) (meeting_in a.entities kind (area.now ∷ []) None)))) }
+        (λ a made. (made.change ≡ None) ×
+            (made.answer ≡ Answer.Listed kind
+            (map (view_of a uss.now) (meeting_in a.entities kind (area.now ∷ []) None)))) }
 {
     let met = look_meeting(space, kind, from_ref(area), None)?;
     let shown = references(space, alloc, uss, &met)?;
@@ -91,7 +94,8 @@ pub fn listing<S: Space>(
 /// The reference of what is read.
 pub fn reading<S: Space>(space: &mut S, uss: &UssId, entity: &Entity) -> Result<Made, Halt>
     ensures { Looks S.Space space.old space.new result
-        (λ a made. (made.change ≡ None) × (made.answer ≡ Answer.Found (view_of a uss.now entity.now))) }
+        (λ a made. (made.change ≡ None) ×
+            (made.answer ≡ Answer.Found (view_of a uss.now entity.now))) }
 {
     let shown = reference(space, uss, entity)?;
     Ok(Made {
@@ -111,7 +115,9 @@ pub fn creation<S: Space>(
     put: &Put,
 ) -> Result<Made, Halt>
     ensures { Looks S.Space space.old space.new result
-        (λ a made. (made.change ≡ Some (Change.Put (kept_as salt.now serial uss.now 1 id put.now))) × (made.answer ≡ Answer.Created (view_of a uss.now (kept_as salt.now serial uss.now 1 id put.now)))) }
+        (λ a made. (made.change ≡ Some (Change.Put (kept_as salt.now serial uss.now 1 id put.now)))
+            × (made.answer ≡ Answer.Created
+            (view_of a uss.now (kept_as salt.now serial uss.now 1 id put.now)))) }
 {
     let entity = entity_of(alloc, salt, serial, uss, Version::first(), id, put)?;
     let shown = reference(space, uss, &entity)?;
@@ -133,8 +139,11 @@ pub fn update<S: Space>(
     old: &Entity,
 ) -> Result<Made, Halt>
     ensures { Looks S.Space space.old space.new result
-        (λ a made. old.now.version < greatest_version → (made.change ≡ Some (Change.Put (kept_as salt.now serial old.now.manager (old.now.version + 1) id put.now)))
-        × (made.answer ≡ Answer.Changed (view_of a uss.now (kept_as salt.now serial old.now.manager (old.now.version + 1) id put.now)))) }
+        (λ a made. old.now.version < greatest_version
+            → (made.change ≡ Some (Change.Put
+            (kept_as salt.now serial old.now.manager (old.now.version + 1) id put.now)))
+        × (made.answer ≡ Answer.Changed (view_of a uss.now
+            (kept_as salt.now serial old.now.manager (old.now.version + 1) id put.now)))) }
 {
     let version = next_version(old.version);
     let entity = entity_of(alloc, salt, serial, &old.manager, version, id, put)?;
@@ -154,7 +163,8 @@ pub fn removal<S: Space>(
     entity: &Entity,
 ) -> Result<Made, Halt>
     ensures { Looks S.Space space.old space.new result
-        (λ a made. (made.change ≡ Some (Change.Remove kind id)) × (made.answer ≡ Answer.Changed (view_of a uss.now entity.now))) }
+        (λ a made. (made.change ≡ Some (Change.Remove kind id))
+            × (made.answer ≡ Answer.Changed (view_of a uss.now entity.now))) }
 {
     let shown = reference(space, uss, entity)?;
     Ok(Made {

@@ -54,7 +54,8 @@ impl Grounds {
 }
 
 fn look_found<S: Space>(space: &mut S, op: &Operation) -> Result<Option<Entity>, Halt>
-    ensures looks { Looks S.Space space.old space.new result (λ a found. found ≡ found_of a op.now) }
+    ensures looks { Looks S.Space space.old space.new result
+        (λ a found. found ≡ found_of a op.now) }
     ensures memory { result ≢ Err Halt.NoMemory }
 {
     match op {
@@ -106,7 +107,8 @@ pub fn look_meeting<S: Space>(
     areas: &[Area],
     except: Option<EntityId>,
 ) -> Result<Vec<Entity>, Halt>
-    ensures { Looks S.Space space.old space.new result (λ a found. found.items ≡ meeting_in a.entities kind areas.now except) }
+    ensures { Looks S.Space space.old space.new result
+        (λ a found. found.items ≡ meeting_in a.entities kind areas.now except) }
 {
     Ok(space.meeting(kind, areas, except)?)
 }
@@ -121,7 +123,8 @@ fn availability_in(kept: Option<(Availability, Ovn)>) -> Availability
 }
 
 fn look_availability<S: Space>(space: &mut S, uss: &UssId) -> Result<Availability, Halt>
-    ensures { Looks S.Space space.old space.new result (λ a availability. availability ≡ (availability_of a uss.now).0) }
+    ensures { Looks S.Space space.old space.new result
+        (λ a availability. availability ≡ (availability_of a uss.now).0) }
 {
     Ok(availability_in(space.availability(uss)?))
 }
@@ -129,7 +132,8 @@ fn look_availability<S: Space>(space: &mut S, uss: &UssId) -> Result<Availabilit
 /// The reference of an entity as a supplier sees it now.
 #[tactic(auto, unfolding(policy_core::specs::View::view_of))]
 pub fn reference<S: Space>(space: &mut S, uss: &UssId, entity: &Entity) -> Result<Reference, Halt>
-    ensures { Looks S.Space space.old space.new result (λ a reference. reference ≡ view_of a uss.now entity.now) }
+    ensures { Looks S.Space space.old space.new result
+        (λ a reference. reference ≡ view_of a uss.now entity.now) }
 {
     let availability = look_availability(space, &entity.manager)?;
     Ok(view(uss, entity, availability)?)
@@ -142,7 +146,8 @@ pub fn references<S: Space>(
     uss: &UssId,
     entities: &[Entity],
 ) -> Result<References, Halt>
-    ensures { Looks S.Space space.old space.new result (λ a references. references ≡ map (view_of a uss.now) entities.now) }
+    ensures { Looks S.Space space.old space.new result
+        (λ a references. references ≡ map (view_of a uss.now) entities.now) }
 {
     let mut items = Vec::new(alloc);
     for entity in entities {
@@ -160,7 +165,9 @@ fn references_at<S: Space>(
     places: &[usize],
 ) -> Result<References, Halt>
     requires { All (λ i. i < length entities.now) places.now }
-    ensures { Looks S.Space space.old space.new result (λ a references. references ≡ map (view_of a uss.now) (filter_map (slice_get entities.now) places.now)) }
+    ensures { Looks S.Space space.old space.new result
+        (λ a references. references ≡ map (view_of a uss.now)
+        (filter_map (slice_get entities.now) places.now)) }
 {
     let mut items = Vec::new(alloc);
     for place in places {

@@ -28,8 +28,8 @@ pub enum Answer {
 pub enum Reply {
     /// The call broke no rule and had its effect.
     Done(Answer),
-    /// The call broke this rule first, and changed nothing. Something is missing of its key where the
-    /// rule is P14.
+    /// The call broke this rule first, and changed nothing. Something is missing of its key where
+    /// the rule is P14.
     Denied(Rule, Missing),
     /// The call failed, for want of memory or by the space, and changed nothing.
     Fault,

@@ -73,7 +73,8 @@ fn allowed<S: Space>(
     requires caller { call.now.caller ≡ Some caller.now }
     requires early { (a : Airspace) → find (breaks a now call.now) early_rules ≡ None }
     requires ready { IsReady call.now.op grounds.now.found }
-    requires given { S.is_sound space.old → (a : Airspace) → S.holds space.old a → Judges now call.now a (Verdict.Allowed grounds.now) }
+    requires given { S.is_sound space.old → (a : Airspace) → S.holds space.old a
+        → Judges now call.now a (Verdict.Allowed grounds.now) }
     ensures { Answers S.Space salt.now now call.now space.old space.new result }
 {
     let Made { change, answer } = match prepared(space, alloc, salt, now, call, caller, grounds) {
@@ -97,7 +98,9 @@ fn changed<S: Space>(
     answer: Answer,
 ) -> Reply
     requires early { (a : Airspace) → find (breaks a now call.now) early_rules ≡ None }
-    requires given { S.is_sound space.old → (a : Airspace) → S.holds space.old a → (first_broken a now call.now ≡ None) × Makes salt.now now call.now grounds.now a (Some change) answer }
+    requires given { S.is_sound space.old → (a : Airspace) → S.holds space.old a
+        → (first_broken a now call.now ≡ None)
+        × Makes salt.now now call.now grounds.now a (Some change) answer }
     ensures { Answers S.Space salt.now now call.now space.old space.new result }
 {
     let (_salt, _now, _call, _grounds) = (salt, now, call, grounds);
@@ -131,7 +134,8 @@ impl<S: Space + Drop> Service<S> {
 
     /// The space, lent.
     pub fn space(&mut self) -> &mut S
-        ensures* lends { sem 𝓛 (Lends (the_row S.row) S.row self.entry result (with_space self.entry.now)) }
+        ensures* lends { sem 𝓛 (Lends (the_row S.row) S.row self.entry result
+            (with_space self.entry.now)) }
         ensures value { result.now ≡ space_of self.entry.now }
     {
         &mut self.space
@@ -151,18 +155,20 @@ impl<S: Space + Drop> Service<S> {
 
     /// Answers one call at a moment (in seconds since 1970) with what the policy says of it.
     ///
-    /// `Fault` comes only for want of memory or where the space answered `Unchanged`, and then nothing
-    /// was changed. `Stopped` comes for the call in which the space answered `Broken`, and for each
-    /// call after it. A call that breaks one of P1 to P6 is denied without memory, and the space is not
-    /// asked.
+    /// After `Fault` (want of memory, or the space answered `Unchanged`) the content is as before. It
+    /// does not come for a call that breaks one of P1 to P6, and for one that breaks one of P7 to P13
+    /// only where the space's count of refusals rose, or is at its greatest. `Stopped` comes for the
+    /// call in which the space answered `Broken`, and for each call after it. A call that breaks one
+    /// of P1 to P6 is denied without memory, and the space is not asked.
     ///
-    /// A put that needs to know an entity, and whose key has OVNs of other serials alone, is not done:
-    /// it is denied by one of P1 to P14, and where it is P14, the entity is listed.
+    /// A put that needs to know an entity, and whose key has OVNs of other serials alone, is not
+    /// done: it is denied by one of P1 to P14, and where it is P14, the entity is listed.
     pub fn call(&mut self, alloc: Global, now: u64, call: &Call) -> Reply
         ensures reply { IsReplyTo S.Space self.old self.new now call.now result }
         ensures stale { is_shut self.old ≡ false → S.is_sound (space_of self.new)
             → (a : Airspace) → IsContent S.holds (space_of self.old) a
-            → (kind : Kind) (y : Entity) → IsStale (salt_of self.old) kind a call.now y → FailsOrIsRefused kind a call.now y result }
+            → (kind : Kind) (y : Entity) → IsStale (salt_of self.old) kind a call.now y
+                → FailsOrIsRefused kind a call.now y result }
     {
         if self.stopped {
             return Reply::Stopped;
@@ -181,9 +187,10 @@ impl<S: Space + Drop> Service<S> {
     /// Answers calls in order, each at its moment. The room for the replies is taken first, so that
     /// after an error no call was made.
     ///
-    /// Where the space was empty and nothing stopped: of two entities that meet in the end, where the
-    /// later one is an intent that is planned or flown as planned, the last put of the later one had
-    /// the OVN of the other in its key (that of a constraint, if its caller processes constraints).
+    /// Where the space was empty and nothing stopped: of two entities that meet in the end, where
+    /// the later one is an intent that is planned or flown as planned, the last put of the later
+    /// one had the OVN of the other in its key (that of a constraint, if its caller processes
+    /// constraints).
     pub fn run(&mut self, alloc: Global, calls: &[(u64, Call)]) -> Result<Vec<Reply>, AllocError>
         ensures none_made { OnErr result (self.new ≡ self.old) }
         ensures answered { IfOk result (λ replies.

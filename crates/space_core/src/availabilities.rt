@@ -73,7 +73,9 @@ fn found(items: &[Entry], uss: &UssId) -> Result<Option<(Availability, Ovn)>, Al
 
 fn put_in_place(items: &mut Vec<Entry>, entry: Entry) -> Result<(), AllocError>
     requires { InOrder items.old.items }
-    ensures ok { OnOk result (keyed pair_of items.new.items ≡ put text_cmp entry.uss (entry.availability, entry.version) (keyed pair_of items.old.items)) }
+    ensures ok { OnOk result (keyed pair_of items.new.items
+        ≡ put text_cmp entry.uss (entry.availability, entry.version)
+        (keyed pair_of items.old.items)) }
     ensures err { OnErr result (items.new.items ≡ items.old.items) }
 {
     match place_of(items, &entry.uss) {
@@ -110,15 +112,16 @@ impl Availabilities {
         found(&self.items, uss)
     }
 
-    /// Puts what a supplier sets in the place of what it had set, or among the others where its place
-    /// is. On an error nothing is changed.
+    /// Puts what a supplier sets in the place of what it had set, or among the others where its
+    /// place is. On an error nothing is changed.
     pub fn put(
         &mut self,
         uss: UssId,
         availability: Availability,
         version: Ovn,
     ) -> Result<(), AllocError>
-        ensures ok { OnOk result (availability_map self.new ≡ insert (availability_map self.old) uss (availability, version)) }
+        ensures ok { OnOk result (availability_map self.new
+            ≡ insert (availability_map self.old) uss (availability, version)) }
         ensures err { OnErr result (self.new ≡ self.old) }
     {
         let entry = Entry {

@@ -88,7 +88,8 @@ fn all_wanted(
     areas: &[Area],
     except: Option<EntityId>,
 ) -> Result<Vec<Entity>, AllocError>
-    ensures { IfOk result (λ found. found.items ≡ filter (λ e. is_sought kind areas.now except (pair_of e)) items.now) }
+    ensures { IfOk result (λ found. found.items ≡ filter
+        (λ e. is_sought kind areas.now except (pair_of e)) items.now) }
 {
     let mut wanted = Vec::new(alloc);
     for entity in items {
@@ -100,7 +101,8 @@ fn all_wanted(
 }
 
 fn all_of(alloc: Global, items: &[Entity], kind: Kind) -> Result<Vec<Entity>, AllocError>
-    ensures { IfOk result (λ found. found.items ≡ filter (λ e. has_kind kind (key_of e)) items.now) }
+    ensures { IfOk result (λ found. found.items ≡ filter
+        (λ e. has_kind kind (key_of e)) items.now) }
 {
     let mut wanted = Vec::new(alloc);
     for entity in items {
@@ -113,7 +115,8 @@ fn all_of(alloc: Global, items: &[Entity], kind: Kind) -> Result<Vec<Entity>, Al
 
 fn put_in_place(items: &mut Vec<Entity>, entity: Entity) -> Result<(), AllocError>
     requires { InOrder items.old.items }
-    ensures ok { OnOk result (keyed pair_of items.new.items ≡ put key_cmp (key_of entity) entity (keyed pair_of items.old.items)) }
+    ensures ok { OnOk result (keyed pair_of items.new.items
+        ≡ put key_cmp (key_of entity) entity (keyed pair_of items.old.items)) }
     ensures err { OnErr result (items.new.items ≡ items.old.items) }
 {
     match place_of(items, entity.nature.kind(), entity.id) {
@@ -127,7 +130,8 @@ fn put_in_place(items: &mut Vec<Entity>, entity: Entity) -> Result<(), AllocErro
 
 fn remove_from(items: &mut Vec<Entity>, kind: Kind, id: EntityId)
     requires { InOrder items.old.items }
-    ensures { filter (λ e. not (eq_by_cmp key_cmp (kind, id) (key_of e))) items.old.items ≡ items.new.items }
+    ensures { filter (λ e. not (eq_by_cmp key_cmp (kind, id) (key_of e))) items.old.items
+        ≡ items.new.items }
 {
     match place_of(items, kind, id) {
         Ok(i) => {
@@ -159,8 +163,8 @@ impl Entities {
         found(alloc, &self.items, kind, id)
     }
 
-    /// Copies of the entities of a kind, but the one of an id, of which some volume meets some area, by
-    /// rising ids.
+    /// Copies of the entities of a kind, but the one of an id, of which some volume meets some
+    /// area, by rising ids.
     pub fn meeting(
         &self,
         alloc: Global,
@@ -168,7 +172,8 @@ impl Entities {
         areas: &[Area],
         except: Option<EntityId>,
     ) -> Result<Vec<Entity>, AllocError>
-        ensures { IfOk result (λ found. found.items ≡ meeting_in (entity_map self.now) kind areas.now except) }
+        ensures { IfOk result (λ found. found.items
+            ≡ meeting_in (entity_map self.now) kind areas.now except) }
     {
         all_wanted(alloc, &self.items, kind, areas, except)
     }
@@ -180,10 +185,11 @@ impl Entities {
         all_of(alloc, &self.items, kind)
     }
 
-    /// Puts an entity in the place of the one that has its kind and id, or among the others where its
-    /// place is. On an error nothing is changed.
+    /// Puts an entity in the place of the one that has its kind and id, or among the others where
+    /// its place is. On an error nothing is changed.
     pub fn put(&mut self, entity: Entity) -> Result<(), AllocError>
-        ensures ok { OnOk result (entity_map self.new ≡ insert (entity_map self.old) (key_of entity) entity) }
+        ensures ok { OnOk result (entity_map self.new
+            ≡ insert (entity_map self.old) (key_of entity) entity) }
         ensures err { OnErr result (self.new ≡ self.old) }
     {
         put_in_place(&mut self.items, entity)

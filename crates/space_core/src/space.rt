@@ -25,7 +25,8 @@ pub enum SpaceFault {
 /// A change of an airspace.
 #[derive(Debug, Drop)]
 pub enum Change {
-    /// The entity is kept, in the place of the one that has its kind and id. It bears the new serial.
+    /// The entity is kept, in the place of the one that has its kind and id. It bears the new
+    /// serial.
     Put(Entity),
     /// The entity of the kind and the id, which is there, is not kept any more.
     Remove(Kind, EntityId),
@@ -35,11 +36,12 @@ pub enum Change {
 
 /// A place where an airspace is kept.
 ///
-/// What a space holds is a relation, since a crash or a fault may leave it open which of two airspaces
-/// is kept. A constructor gives a space with one content (`IsContent`); each call says what becomes of
-/// it. A space that is broken before its first call has no one content.
+/// What a space holds is a relation, since a crash or a fault may leave it open which of two
+/// airspaces is kept. A constructor gives a space with one content (`IsContent`); each call says
+/// what becomes of it. A space that is broken before its first call has no one content.
 pub trait Space {
-    /// An airspace that it may turn out to hold, also after a crash. It is one, until the space is broken.
+    /// An airspace that it may turn out to hold, also after a crash. It is one, until the space is
+    /// broken.
     ghost holds: { Self → Airspace → Type 0 };
 
     /// Whether what is said of its content stands.
@@ -61,8 +63,8 @@ pub trait Space {
         ensures reads { Reads holds is_sound is_whole self.old self.new result
             (λ a found. found ≡ get a.entities (kind, id)) };
 
-    /// The entities of a kind, but the one of an id, of which some volume meets some area: each once,
-    /// by rising ids.
+    /// The entities of a kind, but the one of an id, of which some volume meets some area: each
+    /// once, by rising ids.
     fn meeting(
         &mut self,
         kind: Kind,
@@ -100,14 +102,17 @@ pub trait Space {
         requires fits { is_sound self.old → (a : Airspace) → holds self.old a → Fits change a }
         ensures tells { Tells (refusals self.old) (refusals self.new)
             (is_broken self.old) (is_broken self.new) result }
-        ensures changes { Changes holds is_sound is_whole (is_broken self.old) self.old self.new result
+        ensures changes { Changes holds is_sound is_whole
+            (is_broken self.old) self.old self.new result
             (changed change) };
 
     /// A sound space that is not broken holds no two airspaces.
-    ghost one: { (s : Self) (a b : Airspace) → is_sound s → is_broken s ≡ false → holds s a → holds s b → a ≡ b };
+    ghost one: { (s : Self) (a b : Airspace) → is_sound s → is_broken s ≡ false → holds s a
+        → holds s b → a ≡ b };
 
     /// A sound space that is not broken and holds an airspace is whole.
-    ghost certain: { (s : Self) (a : Airspace) → is_sound s → is_broken s ≡ false → holds s a → is_whole s };
+    ghost certain: { (s : Self) (a : Airspace) → is_sound s → is_broken s ≡ false → holds s a
+        → is_whole s };
 
     /// A sound space that is whole, also a broken one, holds some airspace.
     ghost some: { (s : Self) → is_sound s → is_whole s → ∥ ((a : Airspace) × holds s a) ∥₁ };

@@ -30,8 +30,8 @@ fn joined(head: Head, list: Vec<Volume>) -> Option<Entity>
     }
 }
 
-/// The entity that the rows spell, if they spell one. The rows of `volume` come by rising places, and
-/// those of `cell` by rising volumes and then places; in another order they spell none.
+/// The entity that the rows spell, if they spell one. The rows of `volume` come by rising places,
+/// and those of `cell` by rising volumes and then places; in another order they spell none.
 pub fn entity_of(
     alloc: Global,
     row: &EntityRow,

@@ -1,5 +1,5 @@
-//! The tables that keep an airspace: their schema, which airspace they spell, how they are made, and
-//! which of them a database has.
+//! The tables that keep an airspace: their schema, which airspace they spell, how they are made,
+//! and which of them a database has.
 #![tactic(auto)]
 
 pub mod laws;

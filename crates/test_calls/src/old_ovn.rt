@@ -1,5 +1,6 @@
-//! The worked example of an old OVN, through `Service::run`: each accepted intent came with the present OVN of
-//! what it meets in its key, and after the run a key of old OVNs alone does not pass.
+//! The worked example of an old OVN, through `Service::run`: each accepted intent came with the
+//! present OVN of what it meets in its key, and after the run a key of old OVNs alone does not
+//! pass.
 use crate::told::told_after;
 use entity_core::nature::Kind;
 use entity_core::salt::Salt;

@@ -3,8 +3,8 @@ ghost use Rattle.std.specs.Prelude.{◌≡◌};
 
 use std::alloc::{AllocError, AllocFailed};
 
-/// The first fault of a token file. The salt comes first, then the tables in their order; in a table
-/// the faults come in the order of their numbers.
+/// The first fault of a token file. The salt comes first, then the tables in their order; in a
+/// table the faults come in the order of their numbers.
 #[derive(Clone, Copy, Debug, PartialEq, Eq)]
 pub enum ConfFault {
     /// The text is not TOML.

@@ -18,7 +18,8 @@ use toml::Value;
 
 /// The supplier that the table names.
 fn uss_at(alloc: Global, value: &Value) -> Result<UssId, ConfFault>
-    ensures { Gives (λ uss. uss) result (or_fault ConfFault.Uss (text_at (codes "uss") name_fault (view value.now))) }
+    ensures { Gives (λ uss. uss) result (or_fault ConfFault.Uss
+        (text_at (codes "uss") name_fault (view value.now))) }
 {
     let Some(text) = string_at(value, "uss") else {
         return Err(ConfFault::Uss);
@@ -80,7 +81,8 @@ fn read_token(
     value: &Value,
     known: &[(Text, Caller)],
 ) -> Result<(Text, Caller), ConfFault>
-    ensures gives { Gives (λ token. token) result (token_of (view value.now) (callers_in known.now)) }
+    ensures gives { Gives (λ token. token) result
+        (token_of (view value.now) (callers_in known.now)) }
     ensures new { IfOk result (λ token. contains_key (callers_in known.now) token.0 ≡ false) }
 {
     let Some(text) = token_text(value) else {
@@ -99,7 +101,8 @@ fn read_token(
 
 /// The tokens of the tables. It compares each text with those before it.
 pub(crate) fn read_tokens(alloc: Global, values: &[Value]) -> Result<Vec<(Text, Caller)>, ConfFault>
-    ensures { Gives (λ tokens. callers_in tokens.items) result (callers_after (items_view values.now) empty) }
+    ensures { Gives (λ tokens. callers_in tokens.items) result
+        (callers_after (items_view values.now) empty) }
 {
     let mut tokens = Vec::new(alloc);
     for value in values {

@@ -10,14 +10,16 @@ use toml::Value;
 
 /// The text at a key.
 pub(crate) fn string_at<'a>(value: &'a Value, key: &str) -> Option<&'a str>
-    ensures { option_map (λ s. s.now) result ≡ option_and_then as_str (get key.now (view value.now)) }
+    ensures { option_map (λ s. s.now) result
+        ≡ option_and_then as_str (get key.now (view value.now)) }
 {
     value.get(key).and_then(Value::as_str)
 }
 
 /// The list at a key.
 pub(crate) fn list_at<'a>(value: &'a Value, key: &str) -> Option<&'a Vec<Value>>
-    ensures { option_map (λ v. array_view v.now) result ≡ option_and_then as_array (get key.now (view value.now)) }
+    ensures { option_map (λ v. array_view v.now) result
+        ≡ option_and_then as_array (get key.now (view value.now)) }
 {
     value.get(key).and_then(Value::as_array)
 }

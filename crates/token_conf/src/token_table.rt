@@ -36,7 +36,8 @@ impl Model for TokenTable {
 
 /// The salt of the document.
 fn read_salt(alloc: Global, document: &Value) -> Result<Salt, ConfFault>
-    ensures { Gives (λ salt. salt) result (or_fault ConfFault.Salt (text_at (codes "salt") name_fault (view document.now))) }
+    ensures { Gives (λ salt. salt) result
+        (or_fault ConfFault.Salt (text_at (codes "salt") name_fault (view document.now))) }
 {
     let Some(text) = string_at(document, "salt") else {
         return Err(ConfFault::Salt);
@@ -50,7 +51,8 @@ fn read_salt(alloc: Global, document: &Value) -> Result<Salt, ConfFault>
 
 /// The tokens of the document's member `token`, if it has one.
 fn tokens_at(alloc: Global, found: Option<&Value>) -> Result<Vec<(Text, Caller)>, ConfFault>
-    ensures { Gives (λ tokens. callers_in tokens.items) result (callers_at (option_map (λ value. view value.now) found.entry)) }
+    ensures { Gives (λ tokens. callers_in tokens.items) result
+        (callers_at (option_map (λ value. view value.now) found.entry)) }
 {
     let Some(value) = found else {
         return Ok(Vec::new(alloc));
@@ -62,11 +64,11 @@ fn tokens_at(alloc: Global, found: Option<&Value>) -> Result<Vec<(Text, Caller)>
 }
 
 impl TokenTable {
-    /// Reads a token file: a TOML document with the member `salt` and a list of tables `token`, each
-    /// with `text` (1 to 255 visible ASCII characters), `uss` (a supplier's id) and `scopes` (a list
-    /// of texts). Other members and texts that name no scope are ignored. The error is the first
-    /// fault; after `Memory` nothing is known of the file. The time grows with the square of the
-    /// number of tokens.
+    /// Reads a token file: a TOML document with the member `salt` and a list of tables `token`,
+    /// each with `text` (1 to 255 visible ASCII characters), `uss` (a supplier's id) and `scopes`
+    /// (a list of texts). Other members and texts that name no scope are ignored. The error is the
+    /// first fault; after `Memory` nothing is known of the file. The time grows with the square of
+    /// the number of tokens.
     #[tactic(auto, unfolding(crate::specs::TokenFile::file_of))]
     pub fn read(alloc: Global, text: &str) -> Result<TokenTable, ConfFault>
         ensures { Reads (file_of text.now) result }
@@ -86,8 +88,8 @@ impl TokenTable {
         Ok(TokenTable { salt, tokens })
     }
 
-    /// The caller that a token names, by the token's whole text. It takes no memory, and goes through
-    /// the tokens in turn.
+    /// The caller that a token names, by the token's whole text. It takes no memory, and goes
+    /// through the tokens in turn.
     pub fn caller(&self, text: &str) -> Option<&Caller>
         ensures { option_copied result ≡ get (callers_of self.now) text.now }
     {

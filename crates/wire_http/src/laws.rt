@@ -27,7 +27,8 @@ pub fn one_request()
 
 /// A request makes one call at most, at one place.
 pub fn one_call()
-    ensures { (callers : Callers) (h : RequestHead) (body : List ℕ) (a b : Option Place) (c d : Call)
+    ensures { (callers : Callers) (h : RequestHead) (body : List ℕ) (a b : Option Place)
+        (c d : Call)
         → IsCallOf callers h body a c → IsCallOf callers h body b d → (b ≡ a) × (d ≡ c) }
 {}
 

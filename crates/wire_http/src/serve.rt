@@ -166,9 +166,9 @@ fn serve_one<S: Space + Drop, M: Moments, R: Read, W: Write>(
 /// Serves the requests of a stream: reads them from the reader, asks the service each of them once,
 /// at the next moment, and writes the answers.
 ///
-/// A stream has at most 100 requests. Its connection closes after the last of them, and after one of
-/// version 1.0 or with the word `close` in a field Connection. A request that breaks a rule of the
-/// wire is told so, and ends the stream.
+/// A stream has at most 100 requests. Its connection closes after the last of them, and after one
+/// of version 1.0 or with the word `close` in a field Connection. A request that breaks a rule of
+/// the wire is told so, and ends the stream.
 ///
 /// After a fault the first bytes of the answers were written. At most one call was made whose
 /// answer was not wholly written, and it stands as it was done. Nothing more is to be written on
@@ -207,7 +207,8 @@ pub fn serve_stream<S: Space + Drop, M: Moments, R: Read, W: Write>(
     ensures told_clock { (result ≡ Err StreamFault.Clock)
         ⊎ (M.failures moments.new ≡ M.failures moments.old) }
     ensures turns { result ≡ Err StreamFault.Turns
-        → (calls_of reader.new ≡ calls_of reader.old + most_reads) ⊎ IsGreatest (calls_of reader.new) }
+        → (calls_of reader.new ≡ calls_of reader.old + most_reads) ⊎ IsGreatest
+            (calls_of reader.new) }
     ensures reads { (calls_of reader.new ≤ calls_of reader.old + most_reads)
         ⊎ IsGreatest (calls_of reader.new) }
 

@@ -125,8 +125,8 @@ fn body_text(alloc: Global, reply: &Reply) -> Result<String, AllocError>
     value.to_string(alloc)
 }
 
-/// The body of the answer that a reply gets: compact JSON, the members of each object in the order of
-/// their names (this project's profile).
+/// The body of the answer that a reply gets: compact JSON, the members of each object in the order
+/// of their names (this project's profile).
 pub fn reply_text(alloc: Global, reply: &Reply) -> Result<Vec<u8>, AllocError>
     ensures { IfOk result (λ text. text.items ≡ reply_text reply.now) }
 {

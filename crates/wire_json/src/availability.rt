@@ -19,7 +19,8 @@ pub fn name_of(availability: Availability) -> &'static str
 #[tactic(auto, unfolding(crate::specs::Availability::availability_named))]
 pub fn named(name: &str) -> Option<Availability>
     ensures value { result ≡ availability_named name.now }
-    ensures relation { MatchOption result ((a : Availability) → name_of a ≡ name.now → ⊥) (λ a. name_of a ≡ name.now) }
+    ensures relation { MatchOption result ((a : Availability) → name_of a ≡ name.now → ⊥)
+        (λ a. name_of a ≡ name.now) }
 {
     match name {
         "Unknown" => Some(Availability::Unknown),

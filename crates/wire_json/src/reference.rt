@@ -12,7 +12,8 @@ use policy_core::reference::{Reference, References};
 use serde_json::{Map, Value, put};
 use std::alloc::{AllocError, Global};
 
-/// The subscription that each intent is said to have: the service keeps none (this project's profile).
+/// The subscription that each intent is said to have: the service keeps none (this project's
+/// profile).
 const NO_SUBSCRIPTION: &str = "00000000-0000-4000-8000-000000000000";
 
 /// The name under which an answer has the reference of one entity of the kind.

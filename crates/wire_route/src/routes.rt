@@ -36,7 +36,8 @@ pub struct Route<'p> {
     pub words: PathWords<'p>,
 }
 
-// The route of a place more, which no other is in the way of: it is refused for want of memory alone.
+// The route of a place more, which no other is in the way of: it is refused for want of memory
+// alone.
 #[tactic(auto, unfolding(crate::specs::Table::with_route, crate::specs::Table::Fits))]
 fn put(router: &mut Router<Place>, place: Place) -> Result<(), AllocError>
     requires { Fits place router.old }
@@ -84,7 +85,8 @@ fn one_word(word: &str, is_right: bool) -> Option<PathWords<'_>>
 // What stands round the first slash.
 fn halves(rest: &str) -> Option<(&str, &str)>
     ensures { MatchOption result (has_slash rest.now ≡ false)
-        (λ half. (rest.now ≡ half.0.now ++ (codes "/" ++ half.1.now)) × (has_slash half.0.now ≡ false)) }
+        (λ half. (rest.now ≡ half.0.now ++ (codes "/" ++ half.1.now))
+            × (has_slash half.0.now ≡ false)) }
 {
     rest.split_once('/')
 }

@@ -12,6 +12,7 @@ returns-clause-some c =
       sym (c.in_ok-get_str.ensures ∙ first_value-rows f (codes "tokens")),
       number_from_text f (codes "now") c.in_ok-now.now c.in_ok-now.ensures.none (λ t e. (c.in_ok-now.ensures.value t e).0),
       omega arith,
+      sym (c.get_str-2.ensures ∙ first_value-rows f (codes "db")),
       sym (c.in_ok-get_str-2.ensures ∙ first_value-rows f (codes "requests")),
     )
 

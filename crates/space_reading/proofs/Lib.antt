@@ -1,0 +1,15 @@
+pub mod Texts
+pub mod Means
+pub mod Shown
+pub mod Readings
+pub mod Columns
+pub mod TypedRows
+pub mod MapEntries
+pub mod Groups
+pub mod Gatherings
+pub mod Settlings
+pub mod Risings
+pub mod Written
+pub mod Listings
+pub mod Junction
+pub mod Judged

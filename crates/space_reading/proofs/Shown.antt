@@ -1,0 +1,130 @@
+-- What a reading of a whole table shows.
+use Rattle.std.proofs.Common.{◌≡◌, ℕ, ℤ, pos, List, [], ◌∷◌, ◌++◌, map, filter, Bool, true, false, cond, ◌&&◌, Ok, Err, Result, IfOk, refl, sym, ap, subst, ◌∙◌, Ordering, Less, Equal, Greater}
+use Rattle.std.specs.Prelude.{IsPermutation}
+use Rattle.std.specs.Ordering.{int_cmp, ordering_then}
+use Rattle.std.specs.List.{list_all, flat_map}
+use Rattle.std.proofs.lemmas.List.Sorted.{IsPermutation-map, IsPermutation-trans, IsPermutation-refl}
+use Rattle.sqlite_keyed.proofs.ListLemmas.{map-map, ascending-map, ascending_weaker, map_same}
+use Rattle.sqlite_keyed.proofs.SortLemmas.{sorted_unique}
+use Rattle.sqlite_sql.proofs.QueryLemmas.{output_cmp_total}
+use Rattle.sqlite_trees.specs.Tree.{Trees, IsAscending, rowid}
+use Rattle.sqlite_value.proofs.OrderLemmas.{value_cmp-Int}
+use Rattle.sqlite.specs.declared.types.Value.TheVariants.{Null, Int, Text}
+use Rattle.sqlite.specs.Order.{Row, column}
+use Rattle.sqlite.specs.Term.{Term, lit, col, eval_all, holds}
+use Rattle.sqlite.specs.Program.{overlay}
+use Rattle.sqlite_sql.specs.Query.{Query, Output, output, output_cmp, IsAnswer}
+use Rattle.sqlite.specs.State.{State, Shown}
+use Rattle.sqlite.proofs.Callers.{reads_as}
+use Rattle.space_rows.specs.declared.rows.EntityRow.{EntityRow}
+use Rattle.space_rows.specs.declared.rows.VolumeRow.{VolumeRow}
+use Rattle.space_rows.specs.declared.rows.CellRow.{CellRow}
+use Rattle.space_tables.specs.Tables.{dss_schema}
+use Rattle.space_reading.proofs.Texts.{metas_read, entities_read, volumes_read, cells_read, settings_read, volume_ids_read, cell_ids_read, setting_ids_read}
+use Rattle.space_tables.specs.Spelling.{entity_values, volume_values, cell_values, entity_columns, six_columns, three_columns, meta_columns}
+use Rattle.space_reading.specs.Reading.{entity_order, volume_order, cell_order, rowid_column, ShowsRising, ShowsMeta, ShowsEntities, ShowsVolumes, ShowsCells, ShowsSettings, ShowsIds}
+use Rattle.space_reading.specs.Rows.{number_values}
+use Rattle.space_reading.proofs.Means.{simple, Lists, listing, cols, up, metas_list, entities_list, volumes_list, cells_list, settings_list, volume_ids_list, cell_ids_list, setting_ids_list}
+
+kept_as_filter : {X Y : Type 0} (p : X → Bool) (f : X → Y) (xs : List X) → flat_map (λ x. cond (p x) (f x ∷ []) []) xs ≡ map f (filter p xs)
+kept_as_filter p f [] = refl
+kept_as_filter p f (x ∷ xs) = elim (p x) as (λ b. cond b (f x ∷ []) [] ++ flat_map (λ x. cond (p x) (f x ∷ []) []) xs ≡ map f (cond b (x ∷ filter p xs) (filter p xs)))
+    [ true ↦ ap (λ l. f x ∷ l) (kept_as_filter p f xs) | false ↦ kept_as_filter p f xs ]
+
+filtered : (t : ℕ) (fs : List Term) (db : Trees) (params : Row) → overlay db [] t ≡ db t
+    → flat_map (λ r. cond (list_all (holds (params ∷ r ∷ [])) fs) ((params ∷ r ∷ []) ∷ []) []) (overlay db [] t) ≡ map (λ r. params ∷ r ∷ []) (filter (λ r. list_all (holds (params ∷ r ∷ [])) fs) (db t))
+filtered t fs db params here = ap (flat_map (λ r. cond (list_all (holds (params ∷ r ∷ [])) fs) ((params ∷ r ∷ []) ∷ []) [])) here ∙ kept_as_filter _ (λ r. params ∷ r ∷ []) (db t)
+
+then_equal : (o : Ordering) → ordering_then o Equal ≡ o
+then_equal Less = refl
+then_equal Equal = refl
+then_equal Greater = refl
+
+all_pass : {X : Type 0} (xs : List X) → filter (λ _. true) xs ≡ xs
+all_pass [] = refl
+all_pass (x ∷ xs) = ap (λ l. x ∷ l) (all_pass xs)
+
+module _ (text : List ℕ) (t : ℕ) (shown order : List ℕ) (l : Lists text t shown order) (old new : State) (rows : List Row) (has : old.now.schema ≡ dss_schema) (h : Shown text [] old new rows) (here : overlay old.now.trees [] t ≡ old.now.trees t) where
+  abbrev q : Query
+  q = listing t shown order
+
+  answer : IsAnswer q (overlay old.now.trees []) [] rows
+  answer = let read = reads_as text [] old new dss_schema has _ l.is l.plain l.unlisted rows h in read.answer Null
+
+  kept_are : answer.kept ≡ map (λ r. output q ([] ∷ r ∷ [])) (old.now.trees t)
+  kept_are =
+      let a = answer in
+      let staged : a.staged ≡ map (λ r. [] ∷ r ∷ []) (filter (λ r. list_all (holds ([] ∷ r ∷ [])) []) (old.now.trees t)) = a.grouped ∙ filtered t [] old.now.trees [] here in
+      a.distinct ∙ (ap (map (output q)) (staged ∙ ap (map (λ r. [] ∷ r ∷ [])) (all_pass (old.now.trees t))) ∙ map-map (output q) (λ r. [] ∷ r ∷ []) (old.now.trees t))
+
+  -- the rows of the table, in some order
+  pub lists_all : IsPermutation (map (λ r. eval_all (cols shown) ([] ∷ r ∷ [])) (old.now.trees t)) rows
+  lists_all =
+      let a = answer in
+      let moved = IsPermutation-map (λ (o : Output). o.1) _ _ a.same in
+      let from = ap (map (λ (o : Output). o.1)) kept_are ∙ map-map (λ (o : Output). o.1) (λ r. output q ([] ∷ r ∷ [])) (old.now.trees t) in
+      subst (λ k. IsPermutation k rows) from (subst (IsPermutation (map (λ (o : Output). o.1) a.kept)) (sym a.shown) moved)
+
+  -- where the columns are those of a list that rises, the rows are that list
+  pub lists_one : {X : Type 0} (encode : X → Row) (columns : Row → Row) (pick : Row → Output) (cmp : X → X → Ordering) → ((r : Row) → output q ([] ∷ r ∷ []) ≡ pick (columns r)) → ((c : Row) → (pick c).1 ≡ c)
+      → ((x y : X) → cmp x y ≡ Less → output_cmp q (pick (encode x)) (pick (encode y)) ≡ Less) → (xs : List X) → IsAscending (λ x y. cmp x y ≡ Less) xs → IsPermutation (map encode xs) (map columns (old.now.trees t)) → rows ≡ map encode xs
+  lists_one {X} encode columns pick cmp picks whole less xs rises same =
+      let a = answer in
+      let outs = map pick (map encode xs) in
+      let moved : IsPermutation outs (map pick (map columns (old.now.trees t))) = IsPermutation-map pick _ _ same in
+      let mine : map pick (map columns (old.now.trees t)) ≡ a.kept = map-map pick columns (old.now.trees t) ∙ (sym (map_same (λ r. output q ([] ∷ r ∷ [])) (λ r. pick (columns r)) picks (old.now.trees t)) ∙ sym kept_are) in
+      let strict : IsAscending (λ a b. output_cmp q a b ≡ Less) outs = ascending-map (λ a b. output_cmp q a b ≡ Less) pick (map encode xs)
+      (ascending-map (λ a b. output_cmp q (pick a) (pick b) ≡ Less) encode xs (ascending_weaker (λ x y. cmp x y ≡ Less) (λ x y. output_cmp q (pick (encode x)) (pick (encode y)) ≡ Less) less xs rises)) in
+      let found = sorted_unique (output_cmp q) (output_cmp_total q) outs a.ordered strict (IsPermutation-trans _ _ _ (subst (IsPermutation outs) mine moved) a.same) a.sorted in
+      a.shown ∙ (ap (map (λ (o : Output). o.1)) found ∙ (map-map (λ (o : Output). o.1) pick (map encode xs) ∙ (map_same (λ c. (pick c).1) (λ c. c) whole (map encode xs) ∙ same_map (map encode xs))))
+    where
+      same_map : (l : List Row) → map (λ c. c) l ≡ l
+      same_map [] = refl
+      same_map (x ∷ l) = ap (λ m. x ∷ m) (same_map l)
+
+-- ---- the tables
+
+module _ (old new : State) (rows : List Row) (has : old.now.schema ≡ dss_schema) where
+  pub metas_shown : Shown metas_read [] old new rows → ShowsMeta old.now rows
+  metas_shown h = lists_all metas_read 0 _ _ metas_list old new rows has h refl
+
+  pub entities_shown : Shown entities_read [] old new rows → ShowsEntities old.now rows
+  entities_shown h = record {
+    all = lists_all entities_read 1 _ _ entities_list old new rows has h refl;
+    rising = lists_one entities_read 1 _ _ entities_list old new rows has h refl entity_values entity_columns (λ c. (column c 0 ∷ [], c)) entity_order (λ r. refl) (λ c. refl) (λ x y e. rw (value_cmp-Int x.num y.num, e));
+  }
+
+  pub volumes_shown : Shown volumes_read [] old new rows → ShowsVolumes old.now rows
+  volumes_shown h = record {
+    all = lists_all volumes_read 3 _ _ volumes_list old new rows has h refl;
+    rising = lists_one volumes_read 3 _ _ volumes_list old new rows has h refl volume_values six_columns (λ c. (column c 0 ∷ column c 1 ∷ [], c)) volume_order (λ r. refl) (λ c. refl)
+        (λ x y e. rw (value_cmp-Int x.entity y.entity, value_cmp-Int x.place y.place, then_equal (int_cmp x.place y.place)) e);
+  }
+
+  pub cells_shown : Shown cells_read [] old new rows → ShowsCells old.now rows
+  cells_shown h = record {
+    all = lists_all cells_read 5 _ _ cells_list old new rows has h refl;
+    rising = lists_one cells_read 5 _ _ cells_list old new rows has h refl cell_values six_columns (λ c. (column c 0 ∷ column c 1 ∷ column c 2 ∷ [], c)) cell_order (λ r. refl) (λ c. refl)
+        (λ x y e. rw (value_cmp-Int x.entity y.entity, value_cmp-Int x.volume y.volume, value_cmp-Int x.place y.place, then_equal (int_cmp x.place y.place)) e);
+  }
+
+  pub settings_shown : Shown settings_read [] old new rows → ShowsSettings old.now rows
+  settings_shown h = lists_all settings_read 8 _ _ settings_list old new rows has h refl
+
+  pub volume_ids_shown : Shown volume_ids_read [] old new rows → ShowsIds 3 old.now rows
+  volume_ids_shown h = record {
+    all = lists_all volume_ids_read 3 _ _ volume_ids_list old new rows has h refl;
+    rising = lists_one volume_ids_read 3 _ _ volume_ids_list old new rows has h refl number_values rowid_column (λ c. (column c 0 ∷ [], c)) int_cmp (λ r. refl) (λ c. refl) (λ x y e. rw (value_cmp-Int x y, e));
+  }
+
+  pub cell_ids_shown : Shown cell_ids_read [] old new rows → ShowsIds 5 old.now rows
+  cell_ids_shown h = record {
+    all = lists_all cell_ids_read 5 _ _ cell_ids_list old new rows has h refl;
+    rising = lists_one cell_ids_read 5 _ _ cell_ids_list old new rows has h refl number_values rowid_column (λ c. (column c 0 ∷ [], c)) int_cmp (λ r. refl) (λ c. refl) (λ x y e. rw (value_cmp-Int x y, e));
+  }
+
+  pub setting_ids_shown : Shown setting_ids_read [] old new rows → ShowsIds 8 old.now rows
+  setting_ids_shown h = record {
+    all = lists_all setting_ids_read 8 _ _ setting_ids_list old new rows has h refl;
+    rising = lists_one setting_ids_read 8 _ _ setting_ids_list old new rows has h refl number_values rowid_column (λ c. (column c 0 ∷ [], c)) int_cmp (λ r. refl) (λ c. refl) (λ x y e. rw (value_cmp-Int x y, e));
+  }

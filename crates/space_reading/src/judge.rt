@@ -1,0 +1,59 @@
+//! What the rows of all tables list: an airspace, another format, or neither.
+ghost use Rattle.std.specs.Prelude.{◌≡◌, ◌↔◌, ◌≤◌, [], ◌∷◌, IfOk, IsTrue};
+ghost use Rattle.entity_core.specs.Serial.{greatest_serial};
+ghost use Rattle.space_tables.specs.Spelling.{meta_values};
+ghost use Rattle.space_reading.specs.Gathering.{Judges, HaveRisingIds};
+
+use crate::entities::entities_in;
+use crate::meta::{Meta, meta_of};
+use crate::rising::are_rising;
+use crate::settings::settings_in;
+use crate::tables::{Rowids, Tables};
+use crate::verdict::{Listed, Verdict};
+use sqlite::Error;
+use std::alloc::Global;
+
+fn have_rising_ids(alloc: Global, tables: &Tables) -> Result<bool, Error>
+    ensures { IfOk result (λ b. IsTrue b ↔ HaveRisingIds tables.now) }
+{
+    let ids = &tables.rowids;
+    if !are_rising(alloc, ids.volumes.as_slice())? {
+        return Ok(false);
+    }
+    if !are_rising(alloc, ids.cells.as_slice())? {
+        return Ok(false);
+    }
+    are_rising(alloc, ids.settings.as_slice())
+}
+
+fn judge_ours(alloc: Global, tables: &Tables, serial: u64) -> Result<Verdict, Error>
+    requires meta { tables.now.metas.items ≡ meta_values 1 serial ∷ [] }
+    requires most { serial ≤ greatest_serial }
+    ensures { IfOk result (Judges tables.now) }
+{
+    if !have_rising_ids(alloc, tables)? {
+        return Ok(Verdict::Unspelt);
+    }
+    let Some(entities) = entities_in(alloc, serial, &tables.entities)? else {
+        return Ok(Verdict::Unspelt);
+    };
+    match settings_in(alloc, tables.settings.as_slice())? {
+        Some(availabilities) => Ok(Verdict::Spelt(Listed {
+            entities,
+            availabilities,
+            serial,
+        })),
+        None => Ok(Verdict::Unspelt),
+    }
+}
+
+/// Judges the rows.
+pub(crate) fn judge(alloc: Global, tables: &Tables) -> Result<Verdict, Error>
+    ensures { IfOk result (Judges tables.now) }
+{
+    match meta_of(tables.metas.as_slice()) {
+        Meta::Ours(serial) => judge_ours(alloc, tables, serial),
+        Meta::Other => Ok(Verdict::OtherFormat),
+        Meta::Neither => Ok(Verdict::Unspelt),
+    }
+}

@@ -1,0 +1,12 @@
+//! The airspace that the tables of format 1 spell, read of a connection.
+#![tactic(auto)]
+
+mod entities;
+mod judge;
+mod meta;
+pub mod reading;
+mod rising;
+mod rows;
+mod settings;
+mod tables;
+pub mod verdict;

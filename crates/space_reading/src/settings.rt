@@ -1,0 +1,139 @@
+//! What suppliers have set, as the rows of `availability` say.
+ghost use Rattle.std.specs.Prelude.{◌≡◌, ◌↔◌, None, IsTrue, IfOk, MatchOption};
+ghost use Rattle.std.specs.FinMap.{get, empty};
+ghost use Rattle.sqlite_value.specs.Order.{column};
+ghost use Rattle.sqlite_value.specs.declared.value.Value.TheVariants.{Int, Text as Words};
+ghost use Rattle.entity_core.specs.IdTexts.{name_fault, ovn_fault};
+ghost use Rattle.entity_core.specs.Airspace.{Availabilities as Map};
+ghost use Rattle.space_core.specs.Availabilities.{availability_map};
+ghost use Rattle.space_rows.specs.Finds.{Finds};
+ghost use Rattle.space_tables.specs.Spelling.{availability_number};
+ghost use Rattle.space_reading.specs.Gathering.{IsSetting, Settles, stated_by};
+
+use crate::rows::{number_in, text_in};
+use entity_core::availability::Availability;
+use entity_core::id_fault::IdFault;
+use entity_core::ovn::Ovn;
+use entity_core::uss_id::UssId;
+use space_core::availabilities::Availabilities;
+use sqlite::Row;
+use std::alloc::{AllocError, Global};
+
+/// What a supplier has set.
+#[derive(Drop)]
+pub(crate) struct Setting {
+    pub uss: UssId,
+    pub availability: Availability,
+    pub version: Ovn,
+}
+
+fn availability_of(number: i64) -> Option<Availability>
+    ensures { Finds (λ a. number ≡ availability_number a) result }
+{
+    match number {
+        0 => Some(Availability::Unknown),
+        1 => Some(Availability::Normal),
+        2 => Some(Availability::Down),
+        _ => None,
+    }
+}
+
+fn uss_in(alloc: Global, row: &Row, at: usize) -> Result<Option<UssId>, AllocError>
+    ensures { let value = column row.now at in
+        IfOk result (λ o. Finds (λ t. (value ≡ Words t) × (name_fault t ≡ None)) o) }
+{
+    let Some(text) = text_in(row, at) else {
+        return Ok(None);
+    };
+    match UssId::read(alloc, text) {
+        Ok(uss) => Ok(Some(uss)),
+        Err(IdFault::Memory) => Err(AllocError),
+        Err(IdFault::Length) => Ok(None),
+        Err(IdFault::Form) => Ok(None),
+    }
+}
+
+fn version_in(alloc: Global, row: &Row, at: usize) -> Result<Option<Ovn>, AllocError>
+    ensures { let value = column row.now at in
+        IfOk result (λ o. Finds (λ t. (value ≡ Words t) × (ovn_fault t ≡ None)) o) }
+{
+    let Some(text) = text_in(row, at) else {
+        return Ok(None);
+    };
+    match Ovn::read(alloc, text) {
+        Ok(version) => Ok(Some(version)),
+        Err(IdFault::Memory) => Err(AllocError),
+        Err(IdFault::Length) => Ok(None),
+        Err(IdFault::Form) => Ok(None),
+    }
+}
+
+fn availability_in(row: &Row, at: usize) -> Option<Availability>
+    ensures { let value = column row.now at in
+        Finds (λ a. value ≡ Int (availability_number a)) result }
+{
+    match number_in(row, at) {
+        Some(number) => availability_of(number),
+        None => None,
+    }
+}
+
+fn is_free(out: &Availabilities, uss: &UssId) -> Result<bool, AllocError>
+    ensures { IfOk result (λ b. IsTrue b ↔ (get (availability_map out.now) uss.now ≡ None)) }
+{
+    match out.availability(uss)? {
+        Some(_) => Ok(false),
+        None => Ok(true),
+    }
+}
+
+// What a row says, if it says what a supplier has set that is none of those before it.
+fn setting_of(
+    alloc: Global,
+    row: &Row,
+    out: &Availabilities,
+) -> Result<Option<Setting>, AllocError>
+    ensures { let before = availability_map out.now in
+        IfOk result (λ o. Finds (λ s. IsSetting row.now before (stated_by s)) o) }
+{
+    if row.column_count() != 3 {
+        return Ok(None);
+    }
+    let Some(uss) = uss_in(alloc, row, 0)? else {
+        return Ok(None);
+    };
+    let Some(availability) = availability_in(row, 1) else {
+        return Ok(None);
+    };
+    let Some(version) = version_in(alloc, row, 2)? else {
+        return Ok(None);
+    };
+    if is_free(out, &uss)? {
+        Ok(Some(Setting {
+            uss,
+            availability,
+            version,
+        }))
+    } else {
+        Ok(None)
+    }
+}
+
+/// What suppliers have set, if each row says what one has.
+pub(crate) fn settings_in(
+    alloc: Global,
+    rows: &[Row],
+) -> Result<Option<Availabilities>, AllocError>
+    ensures { let r = rows.now in
+        IfOk result (λ o. MatchOption o ((m : Map) → ¬ Settles r empty m)
+            (λ es. Settles r empty (availability_map es))) }
+{
+    let mut out = Availabilities::new(alloc);
+    for row in rows {
+        match setting_of(alloc, row, &out)? {
+            Some(setting) => out.put(setting.uss, setting.availability, setting.version)?,
+            None => return Ok(None),
+        }
+    }
+    Ok(Some(out))
+}

@@ -1,0 +1,165 @@
+//! All rows of all tables, read in one transaction that changes nothing.
+ghost use Rattle.std.specs.Prelude.{◌≡◌, false, IfOk, IsTrue};
+ghost use Rattle.sqlite.specs.Held.{state};
+ghost use Rattle.sqlite.specs.State.{HasCleanDisk, Survives};
+ghost use Rattle.space_tables.specs.Tables.{dss_schema};
+ghost use Rattle.space_reading.specs.Reading.{Reads, GoesBack, ShowsMeta, ShowsEntities, ShowsVolumes, ShowsCells, ShowsSettings, ShowsVolumeIds, ShowsCellIds, ShowsSettingIds, ShowsEntityTables, ShowsRowids, ShowsTables};
+
+use sqlite::{Alter, Connection, Error, Row, Transaction};
+
+/// The rows of the tables that keep entities, by rising keys.
+#[derive(Drop)]
+pub(crate) struct EntityTables {
+    pub entities: Vec<Row>,
+    pub volumes: Vec<Row>,
+    pub cells: Vec<Row>,
+}
+
+/// The rowids of the tables that have no number as their key, rising.
+#[derive(Drop)]
+pub(crate) struct Rowids {
+    pub volumes: Vec<Row>,
+    pub cells: Vec<Row>,
+    pub settings: Vec<Row>,
+}
+
+/// The rows of all tables.
+#[derive(Drop)]
+pub(crate) struct Tables {
+    pub metas: Vec<Row>,
+    pub entities: EntityTables,
+    /// Those of `availability`.
+    pub settings: Vec<Row>,
+    pub rowids: Rowids,
+}
+
+fn read_metas<S: Alter>(tx: &mut Transaction<'_, S>) -> Result<Vec<Row>, Error>
+    ensures same_reference { tx.new.conn.ghost_name ≡ tx.old.conn.ghost_name }
+    ensures reads { let old = state S.Store tx.old.conn.now in
+        Reads (λ db rows. ShowsMeta db rows.items) old (state S.Store tx.new.conn.now) result }
+{
+    tx.query_all("SELECT one, format, serial FROM meta", &[])
+}
+
+fn read_entities<S: Alter>(tx: &mut Transaction<'_, S>) -> Result<Vec<Row>, Error>
+    ensures same_reference { tx.new.conn.ghost_name ≡ tx.old.conn.ghost_name }
+    ensures reads { let old = state S.Store tx.old.conn.now in
+        Reads (λ db rows. ShowsEntities db rows.items) old (state S.Store tx.new.conn.now) result }
+{
+    tx.query_all(
+        "SELECT num, kind, id, manager, state, version, serial, ovn, url \
+         FROM entity ORDER BY num",
+        &[],
+    )
+}
+
+fn read_volumes<S: Alter>(tx: &mut Transaction<'_, S>) -> Result<Vec<Row>, Error>
+    ensures same_reference { tx.new.conn.ghost_name ≡ tx.old.conn.ghost_name }
+    ensures reads { let old = state S.Store tx.old.conn.now in
+        Reads (λ db rows. ShowsVolumes db rows.items) old (state S.Store tx.new.conn.now) result }
+{
+    tx.query_all(
+        "SELECT entity, place, alt_lower, alt_upper, time_start, time_end \
+         FROM volume ORDER BY entity, place",
+        &[],
+    )
+}
+
+fn read_cells<S: Alter>(tx: &mut Transaction<'_, S>) -> Result<Vec<Row>, Error>
+    ensures same_reference { tx.new.conn.ghost_name ≡ tx.old.conn.ghost_name }
+    ensures reads { let old = state S.Store tx.old.conn.now in
+        Reads (λ db rows. ShowsCells db rows.items) old (state S.Store tx.new.conn.now) result }
+{
+    tx.query_all(
+        "SELECT entity, volume, place, token, lo, hi \
+         FROM cell ORDER BY entity, volume, place",
+        &[],
+    )
+}
+
+fn read_settings<S: Alter>(tx: &mut Transaction<'_, S>) -> Result<Vec<Row>, Error>
+    ensures same_reference { tx.new.conn.ghost_name ≡ tx.old.conn.ghost_name }
+    ensures reads { let old = state S.Store tx.old.conn.now in
+        Reads (λ db rows. ShowsSettings db rows.items) old (state S.Store tx.new.conn.now) result }
+{
+    tx.query_all("SELECT uss, state, version FROM availability", &[])
+}
+
+fn read_volume_ids<S: Alter>(tx: &mut Transaction<'_, S>) -> Result<Vec<Row>, Error>
+    ensures same_reference { tx.new.conn.ghost_name ≡ tx.old.conn.ghost_name }
+    ensures reads { let old = state S.Store tx.old.conn.now in
+        Reads (λ db rows. ShowsVolumeIds db rows.items) old (state S.Store tx.new.conn.now) result }
+{
+    tx.query_all("SELECT rowid FROM volume ORDER BY rowid", &[])
+}
+
+fn read_cell_ids<S: Alter>(tx: &mut Transaction<'_, S>) -> Result<Vec<Row>, Error>
+    ensures same_reference { tx.new.conn.ghost_name ≡ tx.old.conn.ghost_name }
+    ensures reads { let old = state S.Store tx.old.conn.now in
+        Reads (λ db rows. ShowsCellIds db rows.items) old (state S.Store tx.new.conn.now) result }
+{
+    tx.query_all("SELECT rowid FROM cell ORDER BY rowid", &[])
+}
+
+fn read_setting_ids<S: Alter>(tx: &mut Transaction<'_, S>) -> Result<Vec<Row>, Error>
+    ensures same_reference { tx.new.conn.ghost_name ≡ tx.old.conn.ghost_name }
+    ensures reads { let old = state S.Store tx.old.conn.now in
+        Reads (λ db rows. ShowsSettingIds db rows.items) old (state S.Store tx.new.conn.now) result }
+{
+    tx.query_all("SELECT rowid FROM availability ORDER BY rowid", &[])
+}
+
+fn read_entity_tables<S: Alter>(tx: &mut Transaction<'_, S>) -> Result<EntityTables, Error>
+    ensures same_reference { tx.new.conn.ghost_name ≡ tx.old.conn.ghost_name }
+    ensures reads { let old = state S.Store tx.old.conn.now in
+        Reads ShowsEntityTables old (state S.Store tx.new.conn.now) result }
+{
+    Ok(EntityTables {
+        entities: read_entities(tx)?,
+        volumes: read_volumes(tx)?,
+        cells: read_cells(tx)?,
+    })
+}
+
+fn read_rowids<S: Alter>(tx: &mut Transaction<'_, S>) -> Result<Rowids, Error>
+    ensures same_reference { tx.new.conn.ghost_name ≡ tx.old.conn.ghost_name }
+    ensures reads { let old = state S.Store tx.old.conn.now in
+        Reads ShowsRowids old (state S.Store tx.new.conn.now) result }
+{
+    Ok(Rowids {
+        volumes: read_volume_ids(tx)?,
+        cells: read_cell_ids(tx)?,
+        settings: read_setting_ids(tx)?,
+    })
+}
+
+fn read_all<S: Alter>(tx: &mut Transaction<'_, S>) -> Result<Tables, Error>
+    ensures same_reference { tx.new.conn.ghost_name ≡ tx.old.conn.ghost_name }
+    ensures reads { let old = state S.Store tx.old.conn.now in
+        Reads ShowsTables old (state S.Store tx.new.conn.now) result }
+{
+    Ok(Tables {
+        metas: read_metas(tx)?,
+        entities: read_entity_tables(tx)?,
+        settings: read_settings(tx)?,
+        rowids: read_rowids(tx)?,
+    })
+}
+
+/// Reads all tables, and leaves them as they are.
+pub(crate) fn read_tables<S: Alter>(conn: &mut Connection<S>) -> Result<Tables, Error>
+    requires { conn.old.in_transaction ≡ false }
+    ensures ended { conn.new.in_transaction ≡ false }
+    ensures read { let old = state S.Store conn.old in
+        HasCleanDisk (state S.Store conn.new)
+        → IfOk result (λ t. old.now.schema ≡ dss_schema → ShowsTables old.now t) }
+    ensures back { let old = state S.Store conn.old in
+        let new = state S.Store conn.new in
+        HasCleanDisk new → IsTrue new.is_open → old.now.schema ≡ dss_schema → GoesBack old new }
+    ensures survives { Survives (state S.Store conn.old) (state S.Store conn.new) (λ _. ⊥) }
+{
+    let mut tx = conn.transaction();
+    let tables = read_all(&mut tx)?;
+    tx.rollback();
+    Ok(tables)
+}

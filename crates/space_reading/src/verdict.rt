@@ -1,0 +1,23 @@
+//! What a database is found to be.
+
+use space_core::availabilities::Availabilities;
+use space_core::entities::Entities;
+
+/// An airspace, as it was read.
+#[derive(Debug, Drop)]
+pub struct Listed {
+    pub entities: Entities,
+    pub availabilities: Availabilities,
+    pub serial: u64,
+}
+
+/// What the tables of format 1 are found to spell.
+#[derive(Debug, Drop)]
+pub enum Verdict {
+    /// This airspace.
+    Spelt(Listed),
+    /// None: `meta` has one row, and it says another format.
+    OtherFormat,
+    /// None, and `meta` says no other format.
+    Unspelt,
+}

@@ -1,0 +1,4 @@
+pub mod Outcomes
+pub mod Readings
+pub mod Changing
+pub mod Openings

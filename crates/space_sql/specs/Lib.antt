@@ -1,0 +1,5 @@
+pub mod Holding
+pub mod Reading
+pub mod Laws
+pub mod Opening
+pub mod OpenFault

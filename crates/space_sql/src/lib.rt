@@ -1,0 +1,9 @@
+//! A space over tables of SQLite: made, taken and given back, read and changed.
+#![tactic(auto)]
+
+mod answer;
+pub mod open;
+pub mod open_fault;
+mod parts;
+mod reading;
+pub mod space;

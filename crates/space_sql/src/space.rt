@@ -1,0 +1,144 @@
+//! A space over tables of SQLite.
+ghost use Rattle.std.specs.Prelude.{◌≡◌, false};
+ghost use Rattle.sqlite.specs.Held.{state};
+ghost use Rattle.space_sql.specs.Holding.{holds_in, is_whole_in, IsSound};
+
+use crate::parts;
+use entity_core::availability::Availability;
+use entity_core::entity::Entity;
+use entity_core::entity_id::EntityId;
+use entity_core::nature::Kind;
+use entity_core::ovn::Ovn;
+use entity_core::uss_id::UssId;
+use grid_core::volume::Area;
+use space_core::space::{Change, Space, SpaceFault};
+use sqlite::{Alter, Connection};
+use std::alloc::Global;
+use std::marker::Model;
+
+/// An airspace in the tables of a store of SQLite.
+///
+/// What a space holds is what a crash at this moment may leave of its tables: those of format 1 and
+/// no other, and the airspace that they spell. What is said of it stands as long as the disk has
+/// returned what was written; a store in memory has no disk. After `Broken` every call answers
+/// `Broken`, and the tables are left.
+#[derive(Drop)]
+pub struct SqlSpace<S: Alter> {
+    pub(crate) conn: Connection<S>,
+    pub(crate) refusals: u64,
+    pub(crate) broken: bool,
+    pub(crate) alloc: Global,
+}
+
+impl<S: Alter> Model for SqlSpace<S> {
+    ghost use Rattle.sqlite.specs.Held.{state};
+    ghost use Rattle.space_sql.specs.Holding.{IsKeeping, Kept, kept_code};
+
+    ghost Value = { Kept S };
+
+    ghost coded = { kept_code S.code };
+
+    ghost view = { λ s. record { conn = s.conn; refusals = s.refusals; broken = s.broken } };
+
+    ghost invariant = { λ s. IsKeeping (state S.Store s.conn) s.broken };
+}
+
+impl<S: Alter> Space for SqlSpace<S> {
+    ghost use Rattle.std.specs.Prelude.{◌≡◌};
+    ghost use Rattle.sqlite.specs.Held.{state};
+    ghost use Rattle.space_sql.specs.Holding.{holds_in, is_whole_in, IsSound};
+    ghost use Rattle.space_sql.specs.Laws.{all_kept, kept_is_proper, one_kept, some_kept};
+
+    ghost holds = { λ s a. holds_in (state S.Store s.conn) a };
+
+    ghost is_sound = { λ s. IsSound (state S.Store s.conn) s.broken };
+
+    ghost is_whole = { λ s. is_whole_in (state S.Store s.conn) };
+
+    ghost refusals = { λ s. s.refusals };
+
+    ghost is_broken = { λ s. s.broken };
+
+    ghost one = { λ s a b sound off h k.
+        one_kept _ a b (λ db may. S.Store.settled _ db (sound.live off) may) h k };
+
+    ghost certain = { λ s a sound off h.
+        all_kept _ a (λ db may. S.Store.settled _ db (sound.live off) may) h };
+
+    ghost some = { λ s sound whole. some_kept (S.Store.survives _ sound.clean) whole };
+
+    ghost proper = { λ s a sound h. kept_is_proper a h };
+
+    fn entity(&mut self, kind: Kind, id: EntityId) -> Result<Option<Entity>, SpaceFault> {
+        let alloc = self.alloc;
+        parts::entity(
+            alloc,
+            &mut self.conn,
+            &mut self.refusals,
+            &mut self.broken,
+            kind,
+            id,
+        )
+    }
+
+    fn meeting(
+        &mut self,
+        kind: Kind,
+        areas: &[Area],
+        except: Option<EntityId>,
+    ) -> Result<Vec<Entity>, SpaceFault> {
+        let alloc = self.alloc;
+        parts::meeting(
+            alloc,
+            &mut self.conn,
+            &mut self.refusals,
+            &mut self.broken,
+            kind,
+            areas,
+            except,
+        )
+    }
+
+    fn all(&mut self, kind: Kind) -> Result<Vec<Entity>, SpaceFault> {
+        let alloc = self.alloc;
+        parts::all(
+            alloc,
+            &mut self.conn,
+            &mut self.refusals,
+            &mut self.broken,
+            kind,
+        )
+    }
+
+    fn availability(&mut self, uss: &UssId) -> Result<Option<(Availability, Ovn)>, SpaceFault> {
+        let alloc = self.alloc;
+        parts::availability(
+            alloc,
+            &mut self.conn,
+            &mut self.refusals,
+            &mut self.broken,
+            uss,
+        )
+    }
+
+    fn serial(&mut self) -> Result<u64, SpaceFault> {
+        let alloc = self.alloc;
+        parts::serial(
+            alloc,
+            &mut self.conn,
+            &mut self.refusals,
+            &mut self.broken,
+        )
+    }
+
+    fn apply(&mut self, change: Change) -> Result<(), SpaceFault> {
+        let alloc = self.alloc;
+        parts::apply(
+            alloc,
+            &mut self.conn,
+            &mut self.refusals,
+            &mut self.broken,
+            &change,
+        )
+    }
+}
