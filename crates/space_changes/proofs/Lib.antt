@@ -18,5 +18,5 @@ pub mod Spelt
 pub mod Numbers
 pub mod Entries
 pub mod Removed
-pub mod Settings
+pub mod Availabilities
 pub mod Committed

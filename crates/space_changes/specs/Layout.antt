@@ -79,13 +79,13 @@ abbrev pub with_rows : EntityRow → List VolumeRow → List CellRow → Layout 
 with_rows e vs cs l = with_cells cs (with_volumes vs (with_entity_row e l))
 
 -- without what a USS has set
-abbrev pub without_setting : List ℕ → Layout → Layout
-without_setting uss l =
+abbrev pub without_availability_row : List ℕ → Layout → Layout
+without_availability_row uss l =
     record l { availabilities = filter (λ s. not (eq_by_cmp text_cmp uss s.0)) l.availabilities }
 
 -- with what a USS has set
-abbrev pub with_setting : List ℕ → Stated → Layout → Layout
-with_setting uss stated l = record l { availabilities = l.availabilities ++ (uss, stated) ∷ [] }
+abbrev pub with_availability_row : List ℕ → Stated → Layout → Layout
+with_availability_row uss stated l = record l { availabilities = l.availabilities ++ (uss, stated) ∷ [] }
 
 -- the serial goes on by one
 abbrev pub with_next_serial : Layout → Layout
@@ -107,10 +107,10 @@ abbrev pub Relays : (P : Layout → Type 0) (change : Layout → Layout) → Dat
 Relays P change old new = (l : Layout) → P l → LaysOut old l → LaysOut new (change l)
 
 -- what a USS has set is replaced, by texts that read by their types
-abbrev pub ReplacesSetting : List ℕ → Stated → Database → Database → Type 0
-ReplacesSetting uss stated old new =
+abbrev pub ReplacesAvailability : List ℕ → Stated → Database → Database → Type 0
+ReplacesAvailability uss stated old new =
     IsStated (uss, stated)
-    × Relays Always (λ l. with_setting uss stated (without_setting uss l)) old new
+    × Relays Always (λ l. with_availability_row uss stated (without_availability_row uss l)) old new
 
 -- ---- the number of an entity
 

@@ -3,7 +3,7 @@ ghost use Rattle.std.specs.Prelude.{◌≡◌};
 ghost use Rattle.sqlite.specs.Held.{state};
 ghost use Rattle.space_core.specs.declared.space.Change.TheVariants.{Avail};
 ghost use Rattle.space_tables.specs.Spelling.{IsStated, availability_number};
-ghost use Rattle.space_changes.specs.Layout.{Always, Relays, ReplacesSetting, with_setting, without_setting};
+ghost use Rattle.space_changes.specs.Layout.{Always, Relays, ReplacesAvailability, with_availability_row, without_availability_row};
 ghost use Rattle.space_changes.specs.Statements.{Runs, MakesChange};
 
 use crate::serial::raise_serial;
@@ -22,11 +22,11 @@ fn availability_number(availability: Availability) -> i64
     }
 }
 
-fn clear_setting<S: Alter>(tx: &mut Transaction<'_, S>, uss: &UssId) -> Result<usize, Error>
+fn clear_availability<S: Alter>(tx: &mut Transaction<'_, S>, uss: &UssId) -> Result<usize, Error>
     ensures same_reference { tx.new.conn.ghost_name ≡ tx.old.conn.ghost_name }
     ensures clears { let old = state S.Store tx.old.conn.now in
         let new = state S.Store tx.new.conn.now in
-        Runs (λ _. Relays Always (without_setting uss.now)) old new result }
+        Runs (λ _. Relays Always (without_availability_row uss.now)) old new result }
 {
     tx.execute(
         "DELETE FROM availability WHERE uss = ?1",
@@ -34,7 +34,7 @@ fn clear_setting<S: Alter>(tx: &mut Transaction<'_, S>, uss: &UssId) -> Result<u
     )
 }
 
-fn insert_setting<S: Alter>(
+fn insert_availability<S: Alter>(
     tx: &mut Transaction<'_, S>,
     uss: &UssId,
     availability: Availability,
@@ -44,7 +44,7 @@ fn insert_setting<S: Alter>(
     ensures stated { IsStated (uss.now, (availability, version.now)) }
     ensures inserts { let old = state S.Store tx.old.conn.now in
         let new = state S.Store tx.new.conn.now in
-        Runs (λ _. Relays Always (with_setting uss.now (availability, version.now)))
+        Runs (λ _. Relays Always (with_availability_row uss.now (availability, version.now)))
         old new result }
 {
     tx.execute(
@@ -57,7 +57,7 @@ fn insert_setting<S: Alter>(
     )
 }
 
-fn replace_setting<S: Alter>(
+fn replace_availability<S: Alter>(
     tx: &mut Transaction<'_, S>,
     uss: &UssId,
     availability: Availability,
@@ -66,10 +66,10 @@ fn replace_setting<S: Alter>(
     ensures same_reference { tx.new.conn.ghost_name ≡ tx.old.conn.ghost_name }
     ensures replaces { let old = state S.Store tx.old.conn.now in
         let new = state S.Store tx.new.conn.now in
-        Runs (λ _. ReplacesSetting uss.now (availability, version.now)) old new result }
+        Runs (λ _. ReplacesAvailability uss.now (availability, version.now)) old new result }
 {
-    clear_setting(tx, uss)?;
-    insert_setting(tx, uss, availability, version)?;
+    clear_availability(tx, uss)?;
+    insert_availability(tx, uss, availability, version)?;
     Ok(())
 }
 
@@ -86,7 +86,7 @@ pub(crate) fn set_availability<S: Alter>(
         let change = Avail uss.now availability version.now in
         Runs (λ _. MakesChange change) old new result }
 {
-    replace_setting(tx, uss, availability, version)?;
+    replace_availability(tx, uss, availability, version)?;
     raise_serial(tx)?;
     Ok(())
 }
