@@ -1,18 +1,14 @@
 -- A delete whose children are gone sets off nothing.
-use Rattle.std.proofs.Common.{◌≡◌, ◌⊎◌, inl, inr, ℕ, ℤ, List, [], ◌∷◌, ◌++◌, map, filter, flat_map, not, ◌&&◌, ◌||◌, Bool, true, false, cond, Ok, Err, Result, OnOk, refl, sym, ap, subst, subst₂, ◌∙◌, int_eq, Some, None, is_eq}
+use Rattle.std.proofs.Common.{◌≡◌, ◌⊎◌, inl, inr, ℕ, ℤ, List, [], ◌∷◌, map, filter, ◌&&◌, ◌||◌, Bool, true, false, cond, Ok, refl, sym, ap, subst, ◌∙◌, Some, is_eq}
 use Rattle.std.specs.Prelude.{IsPermutation, find, unwrap_or, Option}
-use Rattle.std.specs.List.{list_all, list_any, AllByRecursion}
-use Rattle.std.proofs.lemmas.Bool.{cases_Bool}
-use Rattle.std.proofs.lemmas.List.Sorted.{IsPermutation-map, All-permutation}
+use Rattle.std.specs.List.{list_any, AllByRecursion}
+use Rattle.std.proofs.lemmas.List.Sorted.{All-permutation}
 use Rattle.std.proofs.lemmas.List.Elements.{All-from_recursion, recursion_from_All}
-use Rattle.sqlite_keyed.proofs.ListLemmas.{all_unmap, all-map}
-use Rattle.sqlite_tied.proofs.RuleLemmas.{and_true}
 use Rattle.sqlite_tied.specs.Compute.{everything}
-use Rattle.sqlite.specs.declared.types.Value.TheVariants.{Null, Int}
+use Rattle.sqlite.specs.declared.types.Value.TheVariants.{Int}
 use Rattle.sqlite.specs.Order.{Row, column}
 use Rattle.sqlite_value.specs.Order.{value_cmp}
 use Rattle.sqlite_value.specs.Keys.{plain}
-use Rattle.sqlite_typed.proofs.TestLemmas.{at_ints}
 use Rattle.sqlite_sql.specs.declared.ops.BinaryOp.TheVariants.{Compare}
 use Rattle.sqlite_sql.specs.declared.ops.CompareOp.TheVariants.{Eq}
 use Rattle.sqlite_sql.specs.Ops.{binary, is_true}
@@ -22,7 +18,7 @@ use Rattle.sqlite_trees.specs.Tree.{rowid, has_rowid}
 use Rattle.sqlite.specs.Edit.{Edit, edit_of}
 use Rattle.sqlite_rules.specs.Lists.{Has}
 use Rattle.sqlite_rules.specs.Edit.{taken_by, row_at, id_in, Applies}
-use Rattle.sqlite_rules.specs.Action.{Work, works, pairs, loses, is_child_of, Leads, Writes as Acts}
+use Rattle.sqlite_rules.specs.Action.{Work, works, pairs, loses, is_child_of, Writes as Acts}
 use Rattle.sqlite_rules.specs.declared.action.Deed.TheVariants as deed
 use Rattle.sqlite_rules.proofs.TableLemmas.{int_is}
 use Rattle.sqlite_schema.specs.declared.schema.Keys.TheVariants.{Enforced}

@@ -17,3 +17,5 @@ pub mod Spelt
 pub mod Numbers
 pub mod Entries
 pub mod Removed
+pub mod Settings
+pub mod Committed

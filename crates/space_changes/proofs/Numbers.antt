@@ -1,13 +1,12 @@
 -- The number of an entity is found.
-use Rattle.std.proofs.Common.{◌≡◌, ◌⊎◌, inl, inr, ℕ, ◌<◌, ◌^◌, ℤ, pos, List, [], ◌∷◌, map, filter, length, ◌&&◌, Bool, true, false, cond, Some, None, Option, refl, sym, ap, subst, ◌∙◌, arith, int_eq, is_eq, get_or, Ordering, Less, Equal, Greater}
+use Rattle.std.proofs.Common.{◌≡◌, inl, inr, ℕ, ◌<◌, ◌^◌, ℤ, List, [], ◌∷◌, map, filter, length, ◌&&◌, Bool, true, false, cond, Some, None, refl, sym, ap, subst, ◌∙◌, arith, int_eq, is_eq, get_or, Ordering, Less, Equal, Greater}
 use Rattle.std.specs.Prelude.{IsPermutation}
-use Rattle.std.specs.List.{list_all, AllByRecursion}
-use Rattle.std.specs.Ordering.{int_cmp, nat_cmp, eq_by_cmp}
+use Rattle.std.specs.List.{AllByRecursion}
+use Rattle.std.specs.Ordering.{eq_by_cmp}
 use Rattle.std.specs.FinMap.{nat_cmp-IsAntisymmetric, slice_cmp-IsAntisymmetric}
-use Rattle.std.proofs.lemmas.Bool.{cases_Bool}
 use Rattle.std.proofs.lemmas.Bool.Decides.{Decides-int_eq}
-use Rattle.std.proofs.lemmas.Cmp.{int_eq_equiv, nat_list_cmp_total, tied_itself}
-use Rattle.std.proofs.lemmas.List.{length-map, nil_from_length}
+use Rattle.std.proofs.lemmas.Cmp.{nat_list_cmp_total, tied_itself}
+use Rattle.std.proofs.lemmas.List.{length-map}
 use Rattle.std.proofs.lemmas.List.Elements.{All-from_recursion, recursion_from_All}
 use Rattle.std.proofs.lemmas.List.Sorted.{IsPermutation-map, IsPermutation-trans, length_permutation, All-permutation}
 use Rattle.sqlite_keyed.proofs.ListLemmas.{map-map}
@@ -22,23 +21,21 @@ use Rattle.sqlite_value.specs.declared.keys.Collation.TheVariants.{Binary}
 use Rattle.sqlite.specs.declared.types.Value.{Value}
 use Rattle.sqlite.specs.declared.types.Value.TheVariants.{Null, Int, Text}
 use Rattle.sqlite.specs.Order.{Row, column}
-use Rattle.sqlite.specs.Term.{col, eval_all, holds}
+use Rattle.sqlite.specs.Term.{col}
 use Rattle.sqlite.specs.Effect.{Database}
 use Rattle.sqlite.specs.Listing.{understood}
 use Rattle.sqlite.specs.State.{State, Shown}
 use Rattle.sqlite.proofs.Callers.{IsPlain, reads_as}
 use Rattle.entity_core.specs.declared.nature.Kind.{Kind}
 use Rattle.entity_core.specs.declared.nature.Kind.TheVariants as kind
-use Rattle.entity_core.specs.declared.entity.Entity.{Entity}
 use Rattle.entity_core.specs.Entity.{kind_of}
 use Rattle.entity_core.specs.EntityId.{printed}
-use Rattle.entity_core.specs.Airspace.{Airspace, EntityKey, key_of, text_cmp}
+use Rattle.entity_core.specs.Airspace.{EntityKey, key_of, text_cmp}
 use Rattle.space_rows.specs.declared.rows.EntityRow.{EntityRow}
 use Rattle.space_rows.specs.Rows.{kind_number}
-use Rattle.space_rows.specs.Finds.{Finds}
 use Rattle.space_rows.proofs.OneEntity.{one_id}
 use Rattle.space_tables.specs.Tables.{dss_schema}
-use Rattle.space_tables.specs.Spelling.{Spells, Group, IsGroup, entity_values, entity_columns}
+use Rattle.space_tables.specs.Spelling.{Group, IsGroup, entity_values, entity_columns}
 use Rattle.space_changes.specs.Layout.{Layout, LaysOut, IsNumberOf, layout_of}
 use Rattle.space_changes.specs.Statements.{FindsNumber, ShowsNumbers, is_of}
 use Rattle.space_changes.proofs.Texts.{number_text}
@@ -47,7 +44,7 @@ use Rattle.space_changes.proofs.Running.{shown_same}
 use Rattle.space_changes.proofs.Selecting.{shows}
 use Rattle.space_changes.proofs.Clear.{has_filtered}
 use Rattle.space_changes.proofs.Cascades.{all_there}
-use Rattle.space_changes.proofs.Rows.{rows_passing, all_mapped}
+use Rattle.space_changes.proofs.Rows.{rows_passing}
 use Rattle.space_changes.proofs.Spelt.{lay_out}
 
 -- ---- what the query shows

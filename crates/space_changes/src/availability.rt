@@ -1,0 +1,93 @@
+//! What a USS has set is replaced.
+ghost use Rattle.std.specs.Prelude.{◌≡◌, ◌<◌};
+ghost use Rattle.sqlite.specs.Held.{state};
+ghost use Rattle.entity_core.specs.Serial.{greatest_serial};
+ghost use Rattle.space_core.specs.declared.space.Change.TheVariants.{Avail};
+ghost use Rattle.space_core.specs.Space.{Fits, changed};
+ghost use Rattle.space_tables.specs.Spelling.{IsStated, availability_number};
+ghost use Rattle.space_changes.specs.Layout.{Always, Relays, ReplacesSetting, with_setting, without_setting};
+ghost use Rattle.space_changes.specs.Statements.{Runs, MakesChange};
+
+use crate::serial::raise_serial;
+use entity_core::availability::Availability;
+use entity_core::ovn::Ovn;
+use entity_core::uss_id::UssId;
+use sqlite::{Alter, Error, Transaction, params};
+
+fn availability_number(availability: Availability) -> i64
+    ensures { result ≡ availability_number availability }
+{
+    match availability {
+        Availability::Unknown => 0,
+        Availability::Normal => 1,
+        Availability::Down => 2,
+    }
+}
+
+fn clear_setting<S: Alter>(tx: &mut Transaction<'_, S>, uss: &UssId) -> Result<usize, Error>
+    ensures same_reference { tx.new.conn.ghost_name ≡ tx.old.conn.ghost_name }
+    ensures clears { let old = state S.Store tx.old.conn.now in
+        let new = state S.Store tx.new.conn.now in
+        Runs (λ _. Relays Always (without_setting uss.now)) old new result }
+{
+    tx.execute(
+        "DELETE FROM availability WHERE uss = ?1",
+        params![uss.text()],
+    )
+}
+
+fn insert_setting<S: Alter>(
+    tx: &mut Transaction<'_, S>,
+    uss: &UssId,
+    availability: Availability,
+    version: &Ovn,
+) -> Result<usize, Error>
+    ensures same_reference { tx.new.conn.ghost_name ≡ tx.old.conn.ghost_name }
+    ensures stated { IsStated (uss.now, (availability, version.now)) }
+    ensures inserts { let old = state S.Store tx.old.conn.now in
+        let new = state S.Store tx.new.conn.now in
+        Runs (λ _. Relays Always (with_setting uss.now (availability, version.now))) old new result }
+{
+    tx.execute(
+        "INSERT INTO availability (uss, state, version) VALUES (?1, ?2, ?3)",
+        params![
+            uss.text(),
+            availability_number(availability),
+            version.text()
+        ],
+    )
+}
+
+fn replace_setting<S: Alter>(
+    tx: &mut Transaction<'_, S>,
+    uss: &UssId,
+    availability: Availability,
+    version: &Ovn,
+) -> Result<(), Error>
+    ensures same_reference { tx.new.conn.ghost_name ≡ tx.old.conn.ghost_name }
+    ensures replaces { let old = state S.Store tx.old.conn.now in
+        let new = state S.Store tx.new.conn.now in
+        Runs (λ _. ReplacesSetting uss.now (availability, version.now)) old new result }
+{
+    clear_setting(tx, uss)?;
+    insert_setting(tx, uss, availability, version)?;
+    Ok(())
+}
+
+/// Sets the availability of a USS under a version.
+pub(crate) fn set_availability<S: Alter>(
+    tx: &mut Transaction<'_, S>,
+    uss: &UssId,
+    availability: Availability,
+    version: &Ovn,
+) -> Result<(), Error>
+    ensures same_reference { tx.new.conn.ghost_name ≡ tx.old.conn.ghost_name }
+    ensures changes { let old = state S.Store tx.old.conn.now in
+        let new = state S.Store tx.new.conn.now in
+        let change = Avail uss.now availability version.now in
+        Runs (λ _. MakesChange change) old new result }
+{
+    replace_setting(tx, uss, availability, version)?;
+    raise_serial(tx)?;
+    Ok(())
+}

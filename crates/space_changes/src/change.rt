@@ -1,0 +1,55 @@
+//! A change of the airspace, made in one transaction.
+ghost use Rattle.std.specs.Prelude.{◌≡◌, false};
+ghost use Rattle.sqlite.specs.Held.{state};
+ghost use Rattle.space_core.specs.Space.{Fits, changed};
+ghost use Rattle.space_changes.specs.Committing.{Commits};
+ghost use Rattle.space_changes.specs.Statements.{Runs, MakesChange};
+
+use crate::availability::set_availability;
+use crate::put::put_entity;
+use crate::remove::remove_entity;
+use space_core::space::Change;
+use sqlite::{Alter, Connection, Error, Transaction};
+use std::alloc::Global;
+
+fn write_change<S: Alter>(
+    alloc: Global,
+    tx: &mut Transaction<'_, S>,
+    change: &Change,
+) -> Result<(), Error>
+    ensures same_reference { tx.new.conn.ghost_name ≡ tx.old.conn.ghost_name }
+    ensures changes { let old = state S.Store tx.old.conn.now in
+        let new = state S.Store tx.new.conn.now in
+        Runs (λ _. MakesChange change.now) old new result }
+{
+    match change {
+        Change::Put(entity) => put_entity(alloc, tx, entity),
+        Change::Remove(kind, id) => remove_entity(alloc, tx, *kind, *id),
+        Change::Avail(uss, availability, version) => {
+            set_availability(tx, uss, *availability, version)
+        }
+    }
+}
+
+/// Makes a change in one transaction, and the serial goes on by one. It is for tables that spell an
+/// airspace in which the change fits: of others it is told that what an Ok leaves is committed, and
+/// no more.
+///
+/// # Errors
+///
+/// An error of the database, or want of memory. While the connection stays open, it shows what was
+/// committed before.
+pub fn make_change<S: Alter>(
+    alloc: Global,
+    conn: &mut Connection<S>,
+    change: &Change,
+) -> Result<(), Error>
+    requires { conn.old.in_transaction ≡ false }
+    ensures ended { conn.new.in_transaction ≡ false }
+    ensures commits { let old = state S.Store conn.old in
+        Commits (Fits change.now) (changed change.now) old (state S.Store conn.new) result }
+{
+    let mut tx = conn.transaction();
+    write_change(alloc, &mut tx, change)?;
+    tx.commit()
+}
