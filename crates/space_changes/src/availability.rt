@@ -1,9 +1,7 @@
 //! What a USS has set is replaced.
-ghost use Rattle.std.specs.Prelude.{◌≡◌, ◌<◌};
+ghost use Rattle.std.specs.Prelude.{◌≡◌};
 ghost use Rattle.sqlite.specs.Held.{state};
-ghost use Rattle.entity_core.specs.Serial.{greatest_serial};
 ghost use Rattle.space_core.specs.declared.space.Change.TheVariants.{Avail};
-ghost use Rattle.space_core.specs.Space.{Fits, changed};
 ghost use Rattle.space_tables.specs.Spelling.{IsStated, availability_number};
 ghost use Rattle.space_changes.specs.Layout.{Always, Relays, ReplacesSetting, with_setting, without_setting};
 ghost use Rattle.space_changes.specs.Statements.{Runs, MakesChange};
@@ -46,7 +44,8 @@ fn insert_setting<S: Alter>(
     ensures stated { IsStated (uss.now, (availability, version.now)) }
     ensures inserts { let old = state S.Store tx.old.conn.now in
         let new = state S.Store tx.new.conn.now in
-        Runs (λ _. Relays Always (with_setting uss.now (availability, version.now))) old new result }
+        Runs (λ _. Relays Always (with_setting uss.now (availability, version.now)))
+        old new result }
 {
     tx.execute(
         "INSERT INTO availability (uss, state, version) VALUES (?1, ?2, ?3)",

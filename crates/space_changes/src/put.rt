@@ -2,7 +2,6 @@
 ghost use Rattle.std.specs.Prelude.{◌≡◌, ◌≤ℤ◌, pos, IfOk};
 ghost use Rattle.sqlite.specs.Held.{state};
 ghost use Rattle.space_core.specs.declared.space.Change.TheVariants.{Put};
-ghost use Rattle.space_core.specs.Space.{Fits, changed};
 ghost use Rattle.space_changes.specs.Statements.{Runs, MakesChange};
 ghost use Rattle.space_changes.specs.Putting.{InsertsEntity, MakesRoom};
 

@@ -3,7 +3,6 @@ ghost use Rattle.std.specs.Prelude.{◌≡◌, ◌<◌};
 ghost use Rattle.sqlite.specs.Held.{state};
 ghost use Rattle.entity_core.specs.Serial.{greatest_serial};
 ghost use Rattle.space_core.specs.declared.space.Change.TheVariants.{Remove};
-ghost use Rattle.space_core.specs.Space.{Fits, changed};
 ghost use Rattle.space_changes.specs.Layout.{Always, LacksCells, LacksVolumes, Relays, with_next_serial, without_cells, without_entity_row, without_rows, without_volumes};
 ghost use Rattle.space_changes.specs.Statements.{RelaysSound, Runs, MakesChange};
 
