@@ -1,5 +1,5 @@
 -- A delete whose children are gone sets off nothing.
-use Rattle.std.proofs.Common.{◌≡◌, ◌⊎◌, inl, inr, ℕ, ℤ, List, [], ◌∷◌, map, filter, ◌&&◌, ◌||◌, Bool, true, false, cond, Ok, refl, sym, ap, subst, ◌∙◌, Some, is_eq}
+use Rattle.std.proofs.Common.{◌≡◌, ◌⊎◌, inl, inr, ℕ, ℤ, List, [], ◌∷◌, map, filter, ◌||◌, Bool, true, false, cond, Ok, refl, sym, ap, subst, ◌∙◌, Some, is_eq}
 use Rattle.std.specs.Prelude.{IsPermutation, find, unwrap_or, Option}
 use Rattle.std.specs.List.{list_any, AllByRecursion}
 use Rattle.std.proofs.lemmas.List.Sorted.{All-permutation}

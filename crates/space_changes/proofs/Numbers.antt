@@ -1,5 +1,5 @@
 -- The number of an entity is found.
-use Rattle.std.proofs.Common.{◌≡◌, inl, inr, ℕ, ◌<◌, ◌^◌, ℤ, List, [], ◌∷◌, map, filter, length, ◌&&◌, Bool, true, false, cond, Some, None, refl, sym, ap, subst, ◌∙◌, arith, int_eq, is_eq, get_or, Ordering, Less, Equal, Greater}
+use Rattle.std.proofs.Common.{◌≡◌, inl, inr, ℕ, ◌<◌, ◌^◌, ℤ, List, [], ◌∷◌, map, filter, length, ◌&&◌, Bool, true, false, cond, Some, None, refl, sym, ap, subst, ◌∙◌, arith, int_eq, get_or}
 use Rattle.std.specs.Prelude.{IsPermutation}
 use Rattle.std.specs.List.{AllByRecursion}
 use Rattle.std.specs.Ordering.{eq_by_cmp}

@@ -85,7 +85,8 @@ without_availability_row uss l =
 
 -- with what a USS has set
 abbrev pub with_availability_row : List ℕ → Stated → Layout → Layout
-with_availability_row uss stated l = record l { availabilities = l.availabilities ++ (uss, stated) ∷ [] }
+with_availability_row uss stated l =
+    record l { availabilities = l.availabilities ++ (uss, stated) ∷ [] }
 
 -- the serial goes on by one
 abbrev pub with_next_serial : Layout → Layout
