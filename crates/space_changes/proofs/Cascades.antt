@@ -1,18 +1,14 @@
 -- A delete whose children are gone sets off nothing.
-use Rattle.std.proofs.Common.{◌≡◌, ◌⊎◌, inl, inr, ℕ, ℤ, List, [], ◌∷◌, ◌++◌, map, filter, flat_map, not, ◌&&◌, ◌||◌, Bool, true, false, cond, Ok, Err, Result, OnOk, refl, sym, ap, subst, subst₂, ◌∙◌, int_eq, Some, None, is_eq}
+use Rattle.std.proofs.Common.{◌≡◌, ◌⊎◌, inl, inr, ℕ, ℤ, List, [], ◌∷◌, map, filter, ◌||◌, Bool, true, false, cond, Ok, refl, sym, ap, subst, ◌∙◌, Some, is_eq}
 use Rattle.std.specs.Prelude.{IsPermutation, find, unwrap_or, Option}
-use Rattle.std.specs.List.{list_all, list_any, AllByRecursion}
-use Rattle.std.proofs.lemmas.Bool.{cases_Bool}
-use Rattle.std.proofs.lemmas.List.Sorted.{IsPermutation-map, All-permutation}
+use Rattle.std.specs.List.{list_any, AllByRecursion}
+use Rattle.std.proofs.lemmas.List.Sorted.{All-permutation}
 use Rattle.std.proofs.lemmas.List.Elements.{All-from_recursion, recursion_from_All}
-use Rattle.sqlite_keyed.proofs.ListLemmas.{all_unmap, all-map}
-use Rattle.sqlite_tied.proofs.RuleLemmas.{and_true}
 use Rattle.sqlite_tied.specs.Compute.{everything}
-use Rattle.sqlite.specs.declared.types.Value.TheVariants.{Null, Int}
+use Rattle.sqlite.specs.declared.types.Value.TheVariants.{Int}
 use Rattle.sqlite.specs.Order.{Row, column}
 use Rattle.sqlite_value.specs.Order.{value_cmp}
 use Rattle.sqlite_value.specs.Keys.{plain}
-use Rattle.sqlite_typed.proofs.TestLemmas.{at_ints}
 use Rattle.sqlite_sql.specs.declared.ops.BinaryOp.TheVariants.{Compare}
 use Rattle.sqlite_sql.specs.declared.ops.CompareOp.TheVariants.{Eq}
 use Rattle.sqlite_sql.specs.Ops.{binary, is_true}
@@ -22,7 +18,7 @@ use Rattle.sqlite_trees.specs.Tree.{rowid, has_rowid}
 use Rattle.sqlite.specs.Edit.{Edit, edit_of}
 use Rattle.sqlite_rules.specs.Lists.{Has}
 use Rattle.sqlite_rules.specs.Edit.{taken_by, row_at, id_in, Applies}
-use Rattle.sqlite_rules.specs.Action.{Work, works, pairs, loses, is_child_of, Leads, Writes as Acts}
+use Rattle.sqlite_rules.specs.Action.{Work, works, pairs, loses, is_child_of, Writes as Acts}
 use Rattle.sqlite_rules.specs.declared.action.Deed.TheVariants as deed
 use Rattle.sqlite_rules.proofs.TableLemmas.{int_is}
 use Rattle.sqlite_schema.specs.declared.schema.Keys.TheVariants.{Enforced}
@@ -32,6 +28,7 @@ use Rattle.sqlite.specs.Rowids.TheVariants.{Given}
 use Rattle.std.proofs.Common.{codes}
 use Rattle.space_tables.specs.Tables.{dss_schema, cell, volume, entity}
 use Rattle.space_changes.proofs.Clear.{PairApart, ties_itself}
+use Rattle.space_changes.proofs.Lists.{all_there, first_of_two, last_of_two}
 use Rattle.space_changes.proofs.Cascade.{IsIdle, one_idle, none_left}
 
 any_some : {X : Type 0} (p : X → Bool) (xs : List X) → list_any p xs ≡ true → (x : X) × Has xs x × (p x ≡ true)
@@ -42,23 +39,10 @@ any_some {X} p (x ∷ xs) e = go (p x) refl e (λ h. any_some p xs h)
     go true h e more = (x, inl refl, h)
     go false h e more = let it = more e in (it.0, inr it.1, it.2)
 
-pub all_there : {X : Type 0} (P : X → Type 0) (xs : List X) → AllByRecursion P xs → (x : X) → Has xs x → P x
-all_there P [] all x h = absurd h
-all_there P (y ∷ xs) all x (inl e) = subst P (sym e) all.0
-all_there P (y ∷ xs) all x (inr h) = all_there P xs all.1 x h
-
 in_pairs : (olds : List Row) (m : Row × Row) → Has (pairs olds []) m → Has olds m.0
 in_pairs [] m h = h
 in_pairs (o ∷ olds) m (inl e) = inl (ap (λ (p : Row × Row). p.0) e)
 in_pairs (o ∷ olds) m (inr h) = inr (in_pairs olds m h)
-
-last_of : (a b : Bool) → (a && b) ≡ true → b ≡ true
-last_of true b e = e
-last_of false b e = cc
-
-first_of_two : (a b : Bool) → (a && b) ≡ true → a ≡ true
-first_of_two true b e = refl
-first_of_two false b e = cc
 
 -- ---- the rows that a delete takes out
 
@@ -121,7 +105,7 @@ module _ (num : ℤ) (w : Work) (place : ℕ) (same : (r : Row) (m : Row × Row)
 
 cell_of_volume : (olds : List Row) (r : Row) (m : Row × Row) → is_child_of (cell_work olds) r m ≡ true → is_true (binary (Compare Eq Binary) (column r 1) (column m.0 1)) ≡ true
 unfolding everything cell_reference
-cell_of_volume olds r m e = first_of_two _ _ (last_of _ _ e)
+cell_of_volume olds r m e = first_of_two _ _ (last_of_two _ _ e)
 
 -- a write that sets off nothing, or what has no child
 pub quiet_step : (db next : Trees) (edit : Edit) (t : ℕ) (w : Work) → (works dss_schema Enforced 0 edit.table.tree (taken_by db edit) edit.news ≡ []) ⊎ (works dss_schema Enforced 0 edit.table.tree (taken_by db edit) edit.news ≡ w ∷ [])
@@ -157,7 +141,7 @@ entity_works olds = go (list_any (loses plain (0 ∷ [])) (pairs olds [])) refl
 
 volume_of_entity : (olds : List Row) (r : Row) (m : Row × Row) → is_child_of (volume_work olds) r m ≡ true → is_true (binary (Compare Eq Binary) (column r 1) (column m.0 0)) ≡ true
 unfolding everything volume_reference
-volume_of_entity olds r m e = first_of_two _ _ (last_of _ _ e)
+volume_of_entity olds r m e = first_of_two _ _ (last_of_two _ _ e)
 
 pub entity_quiet : (db next : Trees) (ids : List ℤ) (num : ℤ) → AllByRecursion (λ m. column m 0 ≡ Int num) (map (row_at (db 1)) ids) → AllByRecursion (λ r. is_true (binary (Compare Eq Binary) (column r 1) (Int num)) ≡ false) (db 3)
     → Acts dss_schema Enforced db (edit_of db (entity 1) ids Given 0 []) (Ok next) → Applies dss_schema Enforced db (edit_of db (entity 1) ids Given 0 []) next

@@ -1,12 +1,12 @@
 -- A delete takes out the rows that pass, where no two rows have one rowid.
-use Rattle.std.proofs.Common.{◌≡◌, ◌⊎◌, inl, inr, ℕ, ℤ, List, [], ◌∷◌, map, filter, not, ◌||◌, Bool, true, false, cond, refl, sym, ap, subst, ◌∙◌, is_eq, int_cmp, All}
+use Rattle.std.proofs.Common.{◌≡◌, ◌⊎◌, inl, inr, ℤ, List, [], ◌∷◌, map, filter, not, ◌||◌, Bool, true, false, cond, refl, sym, ap, subst, ◌∙◌, is_eq, int_cmp}
 use Rattle.std.specs.Prelude.{IsPermutation}
 use Rattle.std.specs.List.{list_any, AllByRecursion}
 use Rattle.std.proofs.lemmas.Bool.{cases_Bool}
 use Rattle.std.proofs.lemmas.List.Elements.{All-from_recursion, recursion_from_All}
 use Rattle.std.proofs.lemmas.List.Sorted.{IsPermutation-sym, All-permutation}
 use Rattle.sqlite.specs.declared.types.Value.{Value}
-use Rattle.sqlite.specs.declared.types.Value.TheVariants.{Null, Int, Real, Text, Blob}
+use Rattle.sqlite.specs.declared.types.Value.TheVariants.{Int}
 use Rattle.sqlite.specs.Order.{Row}
 use Rattle.sqlite_value.specs.Order.{value_cmp}
 use Rattle.sqlite_value.proofs.OrderLemmas.{value_cmp_total}
@@ -24,6 +24,7 @@ use Rattle.sqlite_keyed.proofs.ListLemmas.{IsPermutation-filter, filter-map, fil
 use Rattle.sqlite_value.proofs.OrderLemmas.{value_cmp-Int}
 use Rattle.sqlite_trees.specs.Tree.{IsAscending}
 use Rattle.space_tables.specs.Spelling.{AreApart}
+use Rattle.space_changes.proofs.Lists.{all_there, has_filtered, filter_on, alone}
 
 -- each row has a number, and no two rows have one
 pub record PairApart (rows : List Row) : Type 0 where
@@ -48,11 +49,6 @@ gone_by_ids [] rows = sym (all_stay rows)
     all_stay [] = refl
     all_stay (r ∷ rows) = ap (λ l. r ∷ l) (all_stay rows)
 gone_by_ids (id ∷ ids) rows = gone_by_ids ids (without_rowid id rows) ∙ filter_twice (λ r. list_any (λ i. has_rowid i r) ids) (has_rowid id) rows
-
-pub filter_same : (p q : Row → Bool) (rows : List Row) → ((r : Row) → Has rows r → p r ≡ q r) → filter p rows ≡ filter q rows
-filter_same p q [] h = refl
-filter_same p q (r ∷ rows) h = let more = filter_same p q rows (λ x has. h x (inr has)) in
-    let first = h r (inl refl) in subst (λ b. filter p (r ∷ rows) ≡ cond b (r ∷ filter q rows) (filter q rows)) first (ap (λ l. cond (p r) (r ∷ l) l) more)
 
 none_any : (p : ℤ → Bool) (ids : List ℤ) → AllByRecursion (λ id. p id ≡ false) ids → list_any p ids ≡ false
 none_any p [] all = refl
@@ -100,7 +96,7 @@ hits hit (x ∷ from) r (inr more) passed int all = go (hit x) refl (hits hit fr
 
 -- so the rows that are left are those that do not pass
 pub clears : (hit : Row → Bool) (rows : List Row) (ids : List ℤ) → PairApart rows → IsPermutation (numbers_of hit rows) ids → without_all rows ids ≡ filter (λ r. not (hit r)) rows
-clears hit rows ids sound same = gone_by_ids ids rows ∙ filter_same _ _ rows (λ r there. ap not (each r there (cases_Bool (hit r)) (cases_Bool (list_any (λ id. has_rowid id r) ids))))
+clears hit rows ids sound same = gone_by_ids ids rows ∙ filter_on _ _ rows (λ r there. ap not (each r there (cases_Bool (hit r)) (cases_Bool (list_any (λ id. has_rowid id r) ids))))
   where
     each : (r : Row) → Has rows r → (hit r ≡ true) ⊎ (hit r ≡ false) → (list_any (λ id. has_rowid id r) ids ≡ true) ⊎ (list_any (λ id. has_rowid id r) ids ≡ false) → list_any (λ id. has_rowid id r) ids ≡ hit r
     each r there (inl passed) (inl found) = found ∙ sym passed
@@ -109,27 +105,6 @@ clears hit rows ids sound same = gone_by_ids ids rows ∙ filter_same _ _ rows (
     each r there (inr no') found = none_any (λ id. has_rowid id r) ids (recursion_from_All (λ id. has_rowid id r ≡ false) ids (All-permutation (λ id. has_rowid id r ≡ false) (numbers_of hit rows) ids same (All-from_recursion (λ id. has_rowid id r ≡ false) (numbers_of hit rows) (misses hit rows rows r sound there no' (λ x has. has))))) ∙ sym no'
 
 -- ---- apart, by a rising list of numbers
-
-all_has : {X : Type 0} (P : X → Type 0) (xs : List X) → AllByRecursion P xs → (x : X) → Has xs x → P x
-all_has P [] all x h = absurd h
-all_has P (y ∷ xs) all x (inl e) = subst P (sym e) all.0
-all_has P (y ∷ xs) all x (inr h) = all_has P xs all.1 x h
-
-pub has_filtered : {X : Type 0} (p : X → Bool) (xs : List X) (x : X) → Has xs x → p x ≡ true → Has (filter p xs) x
-has_filtered p [] x h e = h
-has_filtered p (y ∷ xs) x (inl same) e = subst (λ b. Has (cond b (y ∷ filter p xs) (filter p xs)) x) (sym (ap p (sym same) ∙ e)) (inl same)
-has_filtered p (y ∷ xs) x (inr h) e = go (p y) (has_filtered p xs x h e)
-  where
-    go : (b : Bool) → Has (filter p xs) x → Has (cond b (y ∷ filter p xs) (filter p xs)) x
-    go true more = inr more
-    go false more = more
-
-pub alone : {X : Type 0} (xs : List X) (a b : X) → length xs ≤ 1 → Has xs a → Has xs b → a ≡ b
-alone [] a b few h k = absurd h
-alone (x ∷ []) a b few (inl p) (inl q) = p ∙ sym q
-alone (x ∷ []) a b few (inl p) (inr k) = absurd k
-alone (x ∷ []) a b few (inr h) k = absurd h
-alone (x ∷ y ∷ xs) a b few h k = absurd (omega (arith, few))
 
 past_number : (m n : ℤ) (ids : List ℤ) → int_cmp m n ≡ Equal → AllByRecursion (λ k. int_cmp n k ≡ Less) ids → AllByRecursion (λ k. is_eq (int_cmp m k) ≡ false) ids
 past_number m n [] e all = tt
@@ -152,7 +127,7 @@ pub pair_apart : (rows : List Row) → AreApart rows → PairApart rows
 pair_apart rows it = record { numbers = λ r h. number r h; apart = pair }
   where
     number : (r : Row) → Has rows r → is_int (rowid r) ≡ true
-    number r h = all_has (λ r. is_int (rowid r) ≡ true) rows (all_unmap (λ v. is_int v ≡ true) rowid rows (recursion_from_All (λ v. is_int v ≡ true) (map rowid rows) (All-permutation (λ v. is_int v ≡ true) (map (λ n. Int n) it.0) (map rowid rows) it.2 (All-from_recursion (λ v. is_int v ≡ true) (map (λ n. Int n) it.0) (ints_all it.0))))) r h
+    number r h = all_there (λ r. is_int (rowid r) ≡ true) rows (all_unmap (λ v. is_int v ≡ true) rowid rows (recursion_from_All (λ v. is_int v ≡ true) (map rowid rows) (All-permutation (λ v. is_int v ≡ true) (map (λ n. Int n) it.0) (map rowid rows) it.2 (All-from_recursion (λ v. is_int v ≡ true) (map (λ n. Int n) it.0) (ints_all it.0))))) r h
 
     pair : (a b : Row) → Has rows a → Has rows b → is_eq (value_cmp (rowid a) (rowid b)) ≡ true → a ≡ b
     pair a b h k e =
@@ -174,7 +149,7 @@ pub apart_kept : (p : Row → Bool) (rows : List Row) → AreApart rows → AreA
 apart_kept p rows it = (
   filter (λ n. q (Int n)) it.0,
   ascending-filter (λ a b. int_cmp a b ≡ Less) (λ n. q (Int n)) it.0 it.1,
-  subst₂ (λ a b. IsPermutation a b) (filter-map q (λ n. Int n) it.0) (filter-map q rowid rows ∙ ap (map rowid) (filter_same (λ r. q (rowid r)) p rows (λ r h. kept r h (cases_Bool (p r)) (cases_Bool (q (rowid r))))))
+  subst₂ (λ a b. IsPermutation a b) (filter-map q (λ n. Int n) it.0) (filter-map q rowid rows ∙ ap (map rowid) (filter_on (λ r. q (rowid r)) p rows (λ r h. kept r h (cases_Bool (p r)) (cases_Bool (q (rowid r))))))
       (IsPermutation-filter q _ _ it.2),
 )
   where

@@ -1,5 +1,5 @@
 -- A row is inserted into one of the tables of an entity.
-use Rattle.std.proofs.Common.{◌≡◌, ℕ, ℤ, List, [], ◌∷◌, ◌++◌, map, not, ◌&&◌, Bool, true, false, Ok, Err, Result, OnOk, refl, sym, ap, subst, ◌∙◌}
+use Rattle.std.proofs.Common.{◌≡◌, ℕ, [], ◌∷◌, ◌++◌, map, not, ◌&&◌, Bool, true, false, Ok, Err, Result, OnOk, refl, sym, ap, subst, ◌∙◌}
 use Rattle.std.specs.Prelude.{IsPermutation}
 use Rattle.sqlite.specs.declared.types.Value.TheVariants.{Null, Int, Text}
 use Rattle.sqlite.specs.Order.{Row}
@@ -7,8 +7,8 @@ use Rattle.sqlite.specs.Term.{lit, col}
 use Rattle.sqlite_tied.specs.Compute.{everything}
 use Rattle.sqlite.specs.Tree.{Trees}
 use Rattle.sqlite_trees.specs.Tree.{put_row}
-use Rattle.sqlite.specs.Edit.{Edit, edit_of, edited}
-use Rattle.sqlite_rules.specs.Edit.{taken_by, is_taken, next_rowid, left_by, are_fresh, put_all, Applies}
+use Rattle.sqlite.specs.Edit.{Edit, edit_of}
+use Rattle.sqlite_rules.specs.Edit.{taken_by, is_taken, next_rowid, Applies}
 use Rattle.sqlite_rules.specs.Action.{works, Writes as Acts}
 use Rattle.sqlite_schema.specs.declared.schema.Keys.TheVariants.{Enforced}
 use Rattle.sqlite.specs.Effect.{Database}
@@ -25,7 +25,7 @@ use Rattle.space_rows.specs.declared.rows.CellRow.{CellRow}
 use Rattle.space_tables.specs.Tables.{dss_schema, entity, volume, cell}
 use Rattle.space_tables.specs.Spelling.{AreApart, entity_values, volume_values, cell_values, entity_columns, six_columns}
 use Rattle.space_tables.proofs.Steps.{cast_int, cast_null, inserts}
-use Rattle.space_changes.specs.Layout.{Relays, with_entity_row, with_volumes, with_cells}
+use Rattle.space_changes.specs.Layout.{Always, Relays, with_entity_row, with_volumes, with_cells}
 use Rattle.space_changes.proofs.Texts.{insert_row_text, insert_volume_text, insert_cell_text}
 use Rattle.space_changes.proofs.Relaying.{entities_relaid, volumes_relaid, cells_relaid}
 use Rattle.space_changes.proofs.Joining.{grows, apart_joined}
@@ -64,7 +64,7 @@ new_volume db v = rw (cast_int v.entity, cast_null, cast_int v.place, cast_int v
 volume_works : (db : Trees) (v : VolumeRow) → works dss_schema Enforced 0 3 (taken_by db (volume_edit db v)) (volume_edit db v).news ≡ []
 volume_works db v = refl
 
-pub inserts_volume : (old new : State) (v : VolumeRow) (r : Result ℕ Error) → Executes insert_volume_text (volume_values v) old new r → OnOk r (Relays (λ _. Unit {0}) (with_volumes (v ∷ [])) old.now new.now)
+pub inserts_volume : (old new : State) (v : VolumeRow) (r : Result ℕ Error) → Executes insert_volume_text (volume_values v) old new r → OnOk r (Relays Always (with_volumes (v ∷ [])) old.now new.now)
 inserts_volume old new v (Err e) h = tt
 inserts_volume old new v (Ok count) h = λ l _ has.
     let db = old.now.trees in
@@ -104,7 +104,7 @@ new_cell db c = rw (cast_int c.entity, cast_null, cast_int c.volume, cast_int c.
 cell_works : (db : Trees) (c : CellRow) → works dss_schema Enforced 0 5 (taken_by db (cell_edit db c)) (cell_edit db c).news ≡ []
 cell_works db c = refl
 
-pub inserts_cell : (old new : State) (c : CellRow) (r : Result ℕ Error) → Executes insert_cell_text (cell_values c) old new r → OnOk r (Relays (λ _. Unit {0}) (with_cells (c ∷ [])) old.now new.now)
+pub inserts_cell : (old new : State) (c : CellRow) (r : Result ℕ Error) → Executes insert_cell_text (cell_values c) old new r → OnOk r (Relays Always (with_cells (c ∷ [])) old.now new.now)
 inserts_cell old new c (Err e) h = tt
 inserts_cell old new c (Ok count) h = λ l _ has.
     let db = old.now.trees in
@@ -144,7 +144,7 @@ new_row db e = rw (cast_int e.num, cast_null, cast_int e.kind, cast_int e.state,
 row_works : (db : Trees) (e : EntityRow) → works dss_schema Enforced 0 1 (taken_by db (row_edit db e)) (row_edit db e).news ≡ []
 row_works db e = refl
 
-pub inserts_row : (old new : State) (e : EntityRow) (r : Result ℕ Error) → Executes insert_row_text (entity_values e) old new r → OnOk r (Relays (λ _. Unit {0}) (with_entity_row e) old.now new.now)
+pub inserts_row : (old new : State) (e : EntityRow) (r : Result ℕ Error) → Executes insert_row_text (entity_values e) old new r → OnOk r (Relays Always (with_entity_row e) old.now new.now)
 inserts_row old new e (Err stop) h = tt
 inserts_row old new e (Ok count) h = λ l _ has.
     let db = old.now.trees in

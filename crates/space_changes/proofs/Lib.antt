@@ -1,3 +1,4 @@
+pub mod Lists
 pub mod Texts
 pub mod Means
 pub mod Running
@@ -17,5 +18,5 @@ pub mod Spelt
 pub mod Numbers
 pub mod Entries
 pub mod Removed
-pub mod Settings
+pub mod Availabilities
 pub mod Committed

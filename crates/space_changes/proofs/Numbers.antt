@@ -1,13 +1,12 @@
 -- The number of an entity is found.
-use Rattle.std.proofs.Common.{◌≡◌, ◌⊎◌, inl, inr, ℕ, ◌<◌, ◌^◌, ℤ, pos, List, [], ◌∷◌, map, filter, length, ◌&&◌, Bool, true, false, cond, Some, None, Option, refl, sym, ap, subst, ◌∙◌, arith, int_eq, is_eq, get_or, Ordering, Less, Equal, Greater}
+use Rattle.std.proofs.Common.{◌≡◌, inl, inr, ℕ, ◌<◌, ◌^◌, ℤ, List, [], ◌∷◌, map, filter, length, ◌&&◌, Bool, true, false, cond, Some, None, refl, sym, ap, subst, ◌∙◌, arith, int_eq, get_or}
 use Rattle.std.specs.Prelude.{IsPermutation}
-use Rattle.std.specs.List.{list_all, AllByRecursion}
-use Rattle.std.specs.Ordering.{int_cmp, nat_cmp, eq_by_cmp}
+use Rattle.std.specs.List.{AllByRecursion}
+use Rattle.std.specs.Ordering.{eq_by_cmp}
 use Rattle.std.specs.FinMap.{nat_cmp-IsAntisymmetric, slice_cmp-IsAntisymmetric}
-use Rattle.std.proofs.lemmas.Bool.{cases_Bool}
 use Rattle.std.proofs.lemmas.Bool.Decides.{Decides-int_eq}
-use Rattle.std.proofs.lemmas.Cmp.{int_eq_equiv, nat_list_cmp_total, tied_itself}
-use Rattle.std.proofs.lemmas.List.{length-map, nil_from_length}
+use Rattle.std.proofs.lemmas.Cmp.{nat_list_cmp_total, tied_itself}
+use Rattle.std.proofs.lemmas.List.{length-map}
 use Rattle.std.proofs.lemmas.List.Elements.{All-from_recursion, recursion_from_All}
 use Rattle.std.proofs.lemmas.List.Sorted.{IsPermutation-map, IsPermutation-trans, length_permutation, All-permutation}
 use Rattle.sqlite_keyed.proofs.ListLemmas.{map-map}
@@ -22,32 +21,29 @@ use Rattle.sqlite_value.specs.declared.keys.Collation.TheVariants.{Binary}
 use Rattle.sqlite.specs.declared.types.Value.{Value}
 use Rattle.sqlite.specs.declared.types.Value.TheVariants.{Null, Int, Text}
 use Rattle.sqlite.specs.Order.{Row, column}
-use Rattle.sqlite.specs.Term.{col, eval_all, holds}
+use Rattle.sqlite.specs.Term.{col}
 use Rattle.sqlite.specs.Effect.{Database}
 use Rattle.sqlite.specs.Listing.{understood}
 use Rattle.sqlite.specs.State.{State, Shown}
 use Rattle.sqlite.proofs.Callers.{IsPlain, reads_as}
 use Rattle.entity_core.specs.declared.nature.Kind.{Kind}
 use Rattle.entity_core.specs.declared.nature.Kind.TheVariants as kind
-use Rattle.entity_core.specs.declared.entity.Entity.{Entity}
 use Rattle.entity_core.specs.Entity.{kind_of}
 use Rattle.entity_core.specs.EntityId.{printed}
-use Rattle.entity_core.specs.Airspace.{Airspace, EntityKey, key_of, text_cmp}
+use Rattle.entity_core.specs.Airspace.{EntityKey, key_of, text_cmp}
 use Rattle.space_rows.specs.declared.rows.EntityRow.{EntityRow}
 use Rattle.space_rows.specs.Rows.{kind_number}
-use Rattle.space_rows.specs.Finds.{Finds}
 use Rattle.space_rows.proofs.OneEntity.{one_id}
 use Rattle.space_tables.specs.Tables.{dss_schema}
-use Rattle.space_tables.specs.Spelling.{Spells, Group, IsGroup, entity_values, entity_columns}
+use Rattle.space_tables.specs.Spelling.{Group, IsGroup, entity_values, entity_columns}
 use Rattle.space_changes.specs.Layout.{Layout, LaysOut, IsNumberOf, layout_of}
 use Rattle.space_changes.specs.Statements.{FindsNumber, ShowsNumbers, is_of}
 use Rattle.space_changes.proofs.Texts.{number_text}
 use Rattle.space_changes.proofs.Means.{is_kind_and_id, number_is, number_plain, number_unlisted}
 use Rattle.space_changes.proofs.Running.{shown_same}
 use Rattle.space_changes.proofs.Selecting.{shows}
-use Rattle.space_changes.proofs.Clear.{has_filtered}
-use Rattle.space_changes.proofs.Cascades.{all_there}
-use Rattle.space_changes.proofs.Rows.{rows_passing, all_mapped}
+use Rattle.space_changes.proofs.Lists.{all_there, equal_of, first_of_two, has_filtered, last_of_two}
+use Rattle.space_changes.proofs.Rows.{rows_passing}
 use Rattle.space_changes.proofs.Spelt.{lay_out}
 
 -- ---- what the query shows
@@ -80,11 +76,6 @@ shows_numbers old new kind id rows h = λ l has. ((shown_same old new number_tex
 
 -- ---- from the rows to the entity
 
-equal_of : (o : Ordering) → is_eq o ≡ true → o ≡ Equal
-equal_of Less e = cc
-equal_of Equal e = refl
-equal_of Greater e = cc
-
 same_text : (a b : List ℕ) → eq_by_cmp text_cmp a b ≡ true → a ≡ b
 same_text a b e = slice_cmp-IsAntisymmetric nat_cmp-IsAntisymmetric a b (equal_of _ e)
 
@@ -93,14 +84,6 @@ one_kind kind.Intent kind.Intent e = refl
 one_kind kind.Constraint kind.Constraint e = refl
 one_kind kind.Intent kind.Constraint e = absurd cc
 one_kind kind.Constraint kind.Intent e = absurd cc
-
-first_passes : (a b : Bool) → (a && b) ≡ true → a ≡ true
-first_passes true b e = refl
-first_passes false b e = cc
-
-second_passes : (a b : Bool) → (a && b) ≡ true → b ≡ true
-second_passes true b e = e
-second_passes false b e = cc
 
 module _ (serial : ℕ) (k : EntityKey) where
   abbrev is_its : EntityRow → Bool
@@ -116,8 +99,8 @@ module _ (serial : ℕ) (k : EntityKey) where
   -- and no other
   key_from : (g : Group) → k.1 < 2 ^ 128 → IsGroup serial g → is_its g.row ≡ true → key_of g.entity ≡ k
   key_from g low is e =
-      let kind = one_kind (kind_of g.entity.nature) k.0 (sym is.spelt.entity.kind ∙ same_int g.row.kind (kind_number k.0) (first_passes _ _ e)) in
-      let id = one_id g.row.id g.entity.id k.1 is.spelt.kept.id low is.spelt.entity.id (same_text g.row.id (printed k.1) (second_passes _ _ e)) in
+      let kind = one_kind (kind_of g.entity.nature) k.0 (sym is.spelt.entity.kind ∙ same_int g.row.kind (kind_number k.0) (first_of_two _ _ e)) in
+      let id = one_id g.row.id g.entity.id k.1 is.spelt.kept.id low is.spelt.entity.id (same_text g.row.id (printed k.1) (last_of_two _ _ e)) in
       λ i. (kind i, id i)
 
   abbrev IsShownOf : List Group → Row → Type 0

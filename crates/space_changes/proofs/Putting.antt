@@ -1,31 +1,30 @@
 -- The airspace with an entity.
-use Rattle.std.proofs.Common.{◌≡◌, ◌⊎◌, inl, inr, ℕ, ◌+◌, ◌<◌, ◌≤◌, ℤ, pos, List, [], ◌∷◌, ◌++◌, map, filter, flat_map, not, true, false, Some, None, Ok, Err, Result, refl, sym, ap, subst, subst₂, ◌∙◌, arith, int_eq, is_eq, Ordering, Less, Equal, Greater, ◌≤ℤ◌}
+use Rattle.std.proofs.Common.{◌≡◌, inl, inr, ℕ, ◌+◌, ◌<◌, ◌≤◌, ℤ, pos, List, [], ◌∷◌, ◌++◌, map, filter, flat_map, not, true, false, Some, None, refl, sym, ap, subst, subst₂, arith, int_eq, is_eq, ◌≤ℤ◌}
 use Rattle.std.specs.Prelude.{IsPermutation}
 use Rattle.std.specs.List.{AllByRecursion}
 use Rattle.std.specs.Ordering.{eq_by_cmp}
-use Rattle.std.specs.FinMap.{entries}
 use Rattle.std.proofs.lemmas.Bool.{cases_Bool}
 use Rattle.std.proofs.lemmas.Int.{ints}
 use Rattle.std.proofs.lemmas.List.Sorted.{IsPermutation-refl, IsPermutation-sym, IsPermutation-trans, IsPermutation-map, IsPermutation-cons, IsPermutation-append_comm, IsPermutation-append_right}
 use Rattle.sqlite_keyed.proofs.ListLemmas.{IsPermutation-flat_map, IsPermutation-filter, filter_all, all_map}
 use Rattle.sqlite_keyed.proofs.KeyedLemmas.{Less-from_lt}
-use Rattle.sqlite_rules.specs.Lists.{Has}
 use Rattle.sqlite.specs.Effect.{Database, IsDatabase}
 use Rattle.entity_core.specs.declared.entity.Entity.{Entity}
 use Rattle.entity_core.specs.Airspace.{Airspace, EntityKey, key_cmp, key_of, with_entity, without_entity}
 use Rattle.entity_core.specs.Serial.{greatest_serial}
 use Rattle.entity_core.proofs.Keys.{key_total, key_exact}
 use Rattle.space_core.specs.declared.space.Change.TheVariants.{Put}
-use Rattle.space_core.specs.Space.{Fits, changed}
+use Rattle.space_core.specs.Space.{Fits}
 use Rattle.space_rows.specs.declared.rows.EntityRow.{EntityRow}
 use Rattle.space_rows.specs.declared.rows.VolumeRow.{VolumeRow}
 use Rattle.space_rows.specs.declared.rows.CellRow.{CellRow}
 use Rattle.space_rows.specs.Rows.{SpellsEntity}
 use Rattle.space_rows.proofs.Pieces.{all_turned}
-use Rattle.space_tables.specs.Spelling.{Spells, Group, IsGroup, IsBefore, pair_of}
-use Rattle.space_changes.specs.Layout.{Layout, LaysOut, IsNumberOf, Relays, layout_of, with_next_serial, with_rows, without_rows}
-use Rattle.space_changes.specs.Statements.{FindsNumber, RelaysSound, SpellsChanged}
+use Rattle.space_tables.specs.Spelling.{Spells, Group, IsGroup, pair_of}
+use Rattle.space_changes.specs.Layout.{Always, Layout, LaysOut, IsNumberOf, Relays, layout_of, with_next_serial, with_rows, without_rows}
+use Rattle.space_changes.specs.Statements.{FindsNumber, RelaysSound, MakesChange}
 use Rattle.space_changes.specs.Putting.{InsertsEntity, MakesRoom}
+use Rattle.space_changes.proofs.Lists.{all_from, equal_of}
 use Rattle.space_changes.proofs.Entries.{hits, inserted, removed}
 use Rattle.space_changes.proofs.Joining.{put_by, put_permutes, put_rises, all_put}
 use Rattle.space_changes.proofs.Removed.{is_other, rows_left}
@@ -34,7 +33,7 @@ use Rattle.space_changes.proofs.Spelt.{AreRowsOf, lay_out, spell_out}
 
 -- ---- room for an entity
 
-pub room_left : (e : Entity) (num : ℤ) (old found new : Database) → FindsNumber (key_of e) (Some num) old found → Relays (λ _. Unit {0}) (without_rows num) found new → MakesRoom e num old new
+pub room_left : (e : Entity) (num : ℤ) (old found new : Database) → FindsNumber (key_of e) (Some num) old found → Relays Always (without_rows num) found new → MakesRoom e num old new
 room_left e num old found new finds clears a p =
     let it = finds a p in
     inl (it.1, clears (layout_of old a p) tt (subst (λ db. LaysOut db (layout_of old a p)) (sym it.0) (lay_out old a p)))
@@ -44,19 +43,10 @@ room_there e num old new is finds a p = let it = finds a p in inr (it.1, is, sub
 
 -- ---- an entity that is not there yet
 
-all_there : {X : Type 0} (P : X → Type 0) (xs : List X) → ((x : X) → Has xs x → P x) → AllByRecursion P xs
-all_there P [] each = tt
-all_there P (x ∷ xs) each = (each x (inl refl), all_there P xs (λ y h. each y (inr h)))
-
-is_equal : (o : Ordering) → is_eq o ≡ true → o ≡ Equal
-is_equal Less e = cc
-is_equal Equal e = refl
-is_equal Greater e = cc
-
 module _ (db : Database) (a : Airspace) (p : Spells db a) (k : EntityKey) (none : (num : ℤ) → ¬ IsNumberOf num k p.groups) where
   other_keys : AllByRecursion (λ (g : Group). eq_by_cmp key_cmp k (key_of g.entity) ≡ false) p.groups
-  other_keys = all_there _ p.groups (λ g there. elim (cases_Bool (eq_by_cmp key_cmp k (key_of g.entity))) [
-    | inl same ↦ absurd (none g.row.num (record { group = g; there = there; number = refl; key = sym (key_exact k (key_of g.entity) (is_equal (key_cmp k (key_of g.entity)) same)) }))
+  other_keys = all_from _ p.groups (λ g there. elim (cases_Bool (eq_by_cmp key_cmp k (key_of g.entity))) [
+    | inl same ↦ absurd (none g.row.num (record { group = g; there = there; number = refl; key = sym (key_exact k (key_of g.entity) (equal_of (key_cmp k (key_of g.entity)) same)) }))
     | inr other ↦ other
   ])
 
@@ -130,7 +120,7 @@ module _ (e : Entity) (num : ℤ) (old room rows new : Database) (makes : MakesR
       let joined = rows_joined l gs a e inserts.row inserts.volumes inserts.cells are (subst (λ n. AllByRecursion (λ (g : Group). int_eq g.row.num n ≡ false) gs) (sym inserts.number) other) inserts.spelt fits.due in
       (spell_out new (with_next_serial with) _ (with_entity a e) (raises.0 with low laid) joined, raises.1 with low laid)
 
-  pub puts_entity : SpellsChanged (Fits (Put e)) (changed (Put e)) old new
+  pub puts_entity : MakesChange (Put e) old new
   puts_entity a p fits = elim (makes a p) [
     | inl there ↦ puts_beside a (without_rows num (layout_of old a p)) (filter (is_other num) p.groups) fits refl there.1 (rows_left old a p num (key_of e) there.0 fits.room) (none_left_of (λ (g : Group). g.row.num) num p.groups)
     | inr none ↦ puts_beside a (layout_of old a p) p.groups fits refl none.2 (rows_stand old a p (key_of e) none.0 fits.room)

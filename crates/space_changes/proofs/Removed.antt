@@ -1,9 +1,8 @@
 -- The airspace without an entity.
-use Rattle.std.proofs.Common.{◌≡◌, ◌⊎◌, inl, inr, ℕ, ◌+◌, ◌<◌, ◌≤◌, ℤ, List, [], ◌∷◌, ◌++◌, map, filter, flat_map, length, not, Bool, true, false, cond, Some, refl, sym, ap, subst, subst₂, ◌∙◌, arith, int_eq, is_eq, Less}
+use Rattle.std.proofs.Common.{◌≡◌, ◌⊎◌, inl, inr, ℕ, ◌+◌, ◌<◌, ◌≤◌, ℤ, List, [], ◌∷◌, ◌++◌, map, filter, flat_map, length, not, Bool, true, false, cond, Some, refl, sym, ap, subst, subst₂, ◌∙◌, arith, int_eq, is_eq}
 use Rattle.std.specs.Prelude.{IsPermutation}
 use Rattle.std.specs.List.{AllByRecursion}
 use Rattle.std.specs.Ordering.{int_cmp, eq_by_cmp}
-use Rattle.std.specs.FinMap.{entries}
 use Rattle.std.proofs.lemmas.Bool.{cases_Bool}
 use Rattle.std.proofs.lemmas.List.{length-map}
 use Rattle.std.proofs.lemmas.Cmp.{int_cmp_total, tied_itself}
@@ -18,7 +17,6 @@ use Rattle.entity_core.specs.Airspace.{Airspace, EntityKey, key_cmp, key_of, wit
 use Rattle.entity_core.specs.Serial.{greatest_serial}
 use Rattle.entity_core.proofs.Keys.{key_total, key_exact}
 use Rattle.space_core.specs.declared.space.Change.TheVariants.{Remove}
-use Rattle.space_core.specs.Space.{Fits, changed}
 use Rattle.space_rows.specs.declared.rows.EntityRow.{EntityRow}
 use Rattle.space_rows.specs.declared.rows.VolumeRow.{VolumeRow}
 use Rattle.space_rows.specs.declared.rows.CellRow.{CellRow}
@@ -26,8 +24,8 @@ use Rattle.space_rows.proofs.Pieces.{Borne, all_turned}
 use Rattle.space_tables.specs.Spelling.{Spells, Group, IsGroup, IsBefore, pair_of}
 use Rattle.space_tables.proofs.OneAirspace.{volumes_borne, cells_borne}
 use Rattle.space_changes.specs.Layout.{LaysOut, IsNumberOf, layout_of, without_rows, with_next_serial}
-use Rattle.space_changes.specs.Statements.{FindsNumber, RelaysSound, SpellsChanged}
-use Rattle.space_changes.proofs.Clear.{alone, has_filtered}
+use Rattle.space_changes.specs.Statements.{FindsNumber, RelaysSound, MakesChange}
+use Rattle.space_changes.proofs.Lists.{alone, filter_joined, filter_on, has_filtered}
 use Rattle.space_changes.proofs.Entries.{hits, few_hits, removed}
 use Rattle.space_changes.proofs.Spelt.{AreRowsOf, lay_out, spell_out}
 
@@ -35,10 +33,6 @@ use Rattle.space_changes.proofs.Spelt.{AreRowsOf, lay_out, spell_out}
 
 abbrev pub is_other : ℤ → Group → Bool
 is_other num g = not (int_eq g.row.num num)
-
-filter_joined : {X : Type 0} (p : X → Bool) (xs ys : List X) → filter p (xs ++ ys) ≡ filter p xs ++ filter p ys
-filter_joined p [] ys = refl
-filter_joined p (x ∷ xs) ys = elim (p x) as (λ b. cond b (x ∷ filter p (xs ++ ys)) (filter p (xs ++ ys)) ≡ cond b (x ∷ filter p xs) (filter p xs) ++ filter p ys) [ true ↦ ap (λ l. x ∷ l) (filter_joined p xs ys) | false ↦ filter_joined p xs ys ]
 
 module _ {R : Type 0} (key : R → ℤ) (f : Group → List R) (num : ℤ) where
   own_left : (m : ℤ) (rs : List R) → AllByRecursion (λ r. key r ≡ m) rs → filter (λ r. not (int_eq (key r) num)) rs ≡ cond (not (int_eq m num)) rs []
@@ -66,10 +60,6 @@ module _ {R : Type 0} (key : R → ℤ) (f : Group → List R) (num : ℤ) where
       split false = refl
 
 -- ---- one group has the number, and one has the key
-
-filter_on : {X : Type 0} (p q : X → Bool) (xs : List X) → ((x : X) → Has xs x → p x ≡ q x) → filter p xs ≡ filter q xs
-filter_on p q [] h = refl
-filter_on p q (x ∷ xs) h = ap (λ b. cond b (x ∷ filter p xs) (filter p xs)) (h x (inl refl)) ∙ ap (λ l. cond (q x) (x ∷ l) l) (filter_on p q xs (λ y k. h y (inr k)))
 
 after : (g : Group) (gs : List Group) → AllByRecursion (IsBefore g) gs → (h : Group) → Has gs h → g.row.num ≡ h.row.num → ⊥
 after g [] all h there e = there
@@ -131,7 +121,7 @@ module _ (db : Database) (a : Airspace) (p : Spells db a) (num : ℤ) (k : Entit
 
 -- the number is found, its rows are removed, and the serial goes on
 pub removes_entity : (old found new : Database) (kind : Kind) (id : ℕ) (num : ℤ) → FindsNumber (kind, id) (Some num) old found → RelaysSound (λ l. l.serial < greatest_serial) (λ l. with_next_serial (without_rows num l)) found new
-    → SpellsChanged (Fits (Remove kind id)) (changed (Remove kind id)) old new
+    → MakesChange (Remove kind id) old new
 removes_entity old found new kind id num finds removes a p fits =
     let it = finds a p in
     let l = layout_of old a p in

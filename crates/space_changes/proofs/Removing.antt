@@ -1,7 +1,6 @@
 -- The rows of an entity are removed, cells first.
-use Rattle.std.proofs.Common.{◌≡◌, ℕ, ℤ, List, [], ◌∷◌, map, filter, not, ◌&&◌, Bool, true, Ok, Err, Result, OnOk, refl, sym, ap, subst, ◌∙◌, int_eq}
+use Rattle.std.proofs.Common.{◌≡◌, ℕ, ℤ, List, [], ◌∷◌, map, filter, not, ◌&&◌, true, Ok, Err, Result, OnOk, refl, sym, ap, subst, ◌∙◌, int_eq}
 use Rattle.std.specs.Prelude.{IsPermutation}
-use Rattle.std.specs.List.{AllByRecursion}
 use Rattle.sqlite_keyed.proofs.KeyedLemmas.{same_int}
 use Rattle.sqlite_tied.specs.Compute.{everything}
 use Rattle.sqlite.specs.declared.types.Value.TheVariants.{Int}
@@ -28,12 +27,13 @@ use Rattle.space_rows.specs.declared.rows.VolumeRow.{VolumeRow}
 use Rattle.space_rows.specs.declared.rows.CellRow.{CellRow}
 use Rattle.space_tables.specs.Tables.{dss_schema, cell, volume, entity}
 use Rattle.space_tables.specs.Spelling.{AreApart, entity_values, volume_values, cell_values, entity_columns, six_columns}
-use Rattle.space_changes.specs.Layout.{Layout, LaysOut, Relays, LacksCells, LacksVolumes, without_cells, without_volumes, without_entity_row}
+use Rattle.space_changes.specs.Layout.{Always, Relays, LacksCells, LacksVolumes, without_cells, without_volumes, without_entity_row}
 use Rattle.space_changes.proofs.Texts.{clear_cells_text, clear_volumes_text, clear_row_text}
 use Rattle.space_changes.proofs.Means.{is_first, clear_cells_is, clear_cells_plain, clear_volumes_is, clear_volumes_plain, clear_row_is, clear_row_plain}
-use Rattle.space_changes.proofs.Selecting.{clears_table, passes}
-use Rattle.space_changes.proofs.Cascades.{taken_have, all_there, volumes_quiet, entity_quiet}
-use Rattle.space_changes.proofs.Clear.{PairApart, pair_apart, apart_kept}
+use Rattle.space_changes.proofs.Lists.{all_there}
+use Rattle.space_changes.proofs.Selecting.{clears_table}
+use Rattle.space_changes.proofs.Cascades.{taken_have, volumes_quiet, entity_quiet}
+use Rattle.space_changes.proofs.Clear.{pair_apart, apart_kept}
 use Rattle.space_changes.proofs.Relaying.{cells_relaid, volumes_relaid, entities_relaid}
 use Rattle.space_changes.proofs.Rows.{bears, bears_number, rows_left, rows_numbered, rows_other}
 
@@ -42,13 +42,13 @@ no_works : (db : Trees) (ids : List ℤ) → works dss_schema Enforced 0 5 (take
 unfolding everything
 no_works db ids = refl
 
-pub clears_cells : (old new : State) (num : ℤ) (r : Result ℕ Error) → Executes clear_cells_text (Int num ∷ []) old new r → OnOk r (Relays (λ _. Unit {0}) (without_cells num) old.now new.now)
+pub clears_cells : (old new : State) (num : ℤ) (r : Result ℕ Error) → Executes clear_cells_text (Int num ∷ []) old new r → OnOk r (Relays Always (without_cells num) old.now new.now)
 clears_cells old new num (Err e) h = tt
 clears_cells old new num (Ok count) h = λ l _ has.
     let params = Int num ∷ [] in
     let db = old.now.trees in
     let u = clears_table clear_cells_text params (cell 5) 3 (is_first 1) refl clear_cells_is clear_cells_plain old new count has.schema has.apart.1 refl h
-        (λ ids next same wrote. one_step dss_schema Enforced db next (edit_of db (cell 5) ids Given 0 []) (no_works db ids) wrote) in
+    (λ ids next same wrote. one_step dss_schema Enforced db next (edit_of db (cell 5) ids Given 0 []) (no_works db ids) wrote) in
     let at = λ (t : ℕ). ap (λ (d : Database). d.trees t) u.is in
     let five = at 5 ∙ u.rows in
     cells_relaid old.now new.now l has (ap (λ (d : Database). d.schema) u.is)
@@ -73,7 +73,7 @@ clears_volumes old new num (Ok count) h = λ l gone has.
     let numbers = rows_numbered volume_values (λ (v : VolumeRow). v.entity) (λ v. refl) six_columns l.volumes (db 3) has.volumes in
     let none = rows_other cell_values (λ (c : CellRow). c.entity) (λ c. refl) six_columns l.cells (db 5) has.cells num gone in
     let u = clears_table clear_volumes_text params (volume 3) 2 (is_first 1) refl clear_volumes_is clear_volumes_plain old new count has.schema has.apart.0 refl h
-        (λ ids next same wrote. volumes_quiet db next ids num (taken_have (λ m. column m 1 ≡ Int num) (bears 1 num) (db 3) ids pairs same (λ r there e. number_of_row num r (all_there (λ r. (k : ℤ) × (column r 1 ≡ Int k)) (db 3) numbers r there) e)) none wrote) in
+    (λ ids next same wrote. volumes_quiet db next ids num (taken_have (λ m. column m 1 ≡ Int num) (bears 1 num) (db 3) ids pairs same (λ r there e. number_of_row num r (all_there (λ r. (k : ℤ) × (column r 1 ≡ Int k)) (db 3) numbers r there) e)) none wrote) in
     let at = λ (t : ℕ). ap (λ (d : Database). d.trees t) u.is in
     let three = at 3 ∙ u.rows in
     volumes_relaid old.now new.now l has (ap (λ (d : Database). d.schema) u.is)
@@ -98,7 +98,7 @@ clears_row old new num (Ok count) h = λ l gone has.
     let pairs = pair_apart (db 1) has.numbered in
     let none = rows_other volume_values (λ (v : VolumeRow). v.entity) (λ v. refl) six_columns l.volumes (db 3) has.volumes num gone in
     let u = clears_table clear_row_text params (entity 1) 1 (is_first 0) refl clear_row_is clear_row_plain old new count has.schema has.numbered refl h
-        (λ ids next same wrote. entity_quiet db next ids num (taken_have (λ m. column m 0 ≡ Int num) (bears 0 num) (db 1) ids pairs same (λ r there e. head_number num r (pairs.numbers r there) e)) none wrote) in
+    (λ ids next same wrote. entity_quiet db next ids num (taken_have (λ m. column m 0 ≡ Int num) (bears 0 num) (db 1) ids pairs same (λ r there e. head_number num r (pairs.numbers r there) e)) none wrote) in
     let at = λ (t : ℕ). ap (λ (d : Database). d.trees t) u.is in
     let one = at 1 ∙ u.rows in
     entities_relaid old.now new.now l has (ap (λ (d : Database). d.schema) u.is)

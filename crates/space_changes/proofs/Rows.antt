@@ -1,5 +1,5 @@
 -- From typed rows to the rows that a table has.
-use Rattle.std.proofs.Common.{◌≡◌, ℤ, List, [], ◌∷◌, map, filter, not, ◌&&◌, Bool, true, false, cond, refl, sym, ap, subst, subst₂, ◌∙◌, int_eq}
+use Rattle.std.proofs.Common.{◌≡◌, ℤ, List, [], ◌∷◌, map, filter, not, ◌&&◌, Bool, true, false, cond, refl, ap, subst₂, ◌∙◌, int_eq}
 use Rattle.std.specs.Prelude.{IsPermutation}
 use Rattle.std.specs.List.{AllByRecursion}
 use Rattle.std.proofs.lemmas.List.Sorted.{All-permutation}

@@ -1,5 +1,5 @@
 -- Statements in a transaction, alone and one after the other.
-use Rattle.std.proofs.Common.{arith, ◌≡◌, ◌⊎◌, inl, inr, ℕ, List, true, false, cond, Option, Some, None, Ok, Err, Result, IfOk, OnOk, IfErr, refl, sym, ap, subst, ◌∙◌}
+use Rattle.std.proofs.Common.{arith, ◌⊎◌, inl, inr, ℕ, List, true, cond, Option, Some, None, Ok, Err, Result, IfOk, OnOk, IfErr, refl, ap, subst, ◌∙◌}
 use Rattle.std.specs.Prelude.{IsTrue}
 use Rattle.sqlite_schema.specs.declared.command.Returning.{Returning}
 use Rattle.sqlite.specs.Clock.{timed}
@@ -7,7 +7,7 @@ use Rattle.sqlite.specs.Order.{Row}
 use Rattle.sqlite.specs.Effect.{Database}
 use Rattle.sqlite.specs.declared.error.Error.{Error}
 use Rattle.sqlite.specs.Listing.{understood}
-use Rattle.sqlite.specs.State.{State, HasCleanDisk, Survives, Shows, KeepsCommit, IsUnchanged, IsRolledBack, Executes, ExecutesInside, Shown, ShowsRows, FailsToQuery, FailsToShow, IsTooLate, IsNotRun, RunsCommand}
+use Rattle.sqlite.specs.State.{State, HasCleanDisk, Survives, Shows, KeepsCommit, IsUnchanged, IsRolledBack, Executes, ExecutesInside, Shown, ShowsRows, FailsToQuery, FailsToShow, IsTooLate, IsNotRun}
 use Rattle.sqlite.proofs.Callers.{IsPlain}
 use Rattle.sqlite.proofs.StateLemmas.{survives_then}
 use Rattle.space_tables.proofs.Steps.{keeps_then, kept_keeps, unchanged_keeps}
@@ -34,7 +34,7 @@ module _ (old new : State) (sql : List ℕ) (params : Row) where
     survives = survives;
   }
 
--- ---- a query
+  -- ---- a query
 
   shown_shows : (rows : List Row) → Shown sql params old new rows → IsTrue old.in_transaction → Shows old new new.now old.committed true
   unfolding Shown

@@ -1,8 +1,9 @@
 -- What queries on one table show, and what updates and deletes leave.
-use Rattle.std.proofs.Common.{◌≡◌, ℕ, ℤ, List, [], ◌∷◌, ◌++◌, map, filter, flat_map, not, slice_get, Bool, true, false, cond, Option, Some, None, Ok, Err, Result, refl, sym, ap, subst, ◌∙◌}
+use Rattle.std.proofs.Common.{◌≡◌, ℕ, ℤ, List, [], ◌∷◌, ◌++◌, map, filter, flat_map, not, slice_get, Bool, true, false, cond, Some, None, Ok, refl, sym, ap, subst, ◌∙◌}
 use Rattle.std.specs.Prelude.{IsPermutation}
 use Rattle.std.specs.List.{list_all}
 use Rattle.std.proofs.lemmas.List.Sorted.{IsPermutation-map}
+use Rattle.sqlite_keyed.proofs.ListLemmas.{map-map}
 use Rattle.sqlite.specs.declared.types.Value.TheVariants.{Null}
 use Rattle.sqlite.specs.Order.{Row}
 use Rattle.sqlite.specs.Term.{Term, col, eval_all, holds}
@@ -13,7 +14,7 @@ use Rattle.sqlite.specs.Table.{Table}
 use Rattle.sqlite.specs.Tree.{Trees}
 use Rattle.sqlite_trees.specs.Tree.{rowid}
 use Rattle.sqlite.specs.Edit.{edit_of}
-use Rattle.sqlite_rules.specs.Edit.{id_in, without_all, Applies}
+use Rattle.sqlite_rules.specs.Edit.{id_in, Applies}
 use Rattle.sqlite_rules.specs.Calls.{ids_of}
 use Rattle.sqlite_rules.specs.Action.{Writes as Acts}
 use Rattle.sqlite.specs.Rowids.TheVariants.{Given}
@@ -37,10 +38,6 @@ kept_as_filter p f [] = refl
 kept_as_filter p f (x ∷ xs) = elim (p x) as (λ b. cond b (f x ∷ []) [] ++ flat_map (λ x. cond (p x) (f x ∷ []) []) xs ≡ map f (cond b (x ∷ filter p xs) (filter p xs)))
     [ true ↦ ap (λ l. f x ∷ l) (kept_as_filter p f xs) | false ↦ kept_as_filter p f xs ]
 
-pub map_twice : {X Y Z : Type 0} (g : Y → Z) (f : X → Y) (xs : List X) → map g (map f xs) ≡ map (λ x. g (f x)) xs
-map_twice g f [] = refl
-map_twice g f (x ∷ xs) = ap (λ l. g (f x) ∷ l) (map_twice g f xs)
-
 -- a query on one table shows the rows that pass, in some order
 pub shows : (t : ℕ) (fs project : List Term) (db : Trees) (params : Row) (rows : List Row) → overlay db [] t ≡ db t → IsAnswer (query_of t fs project) (overlay db []) params rows
     → IsPermutation (map (λ r. eval_all project (params ∷ r ∷ [])) (filter (λ r. list_all (holds (params ∷ r ∷ [])) fs) (db t))) rows
@@ -50,7 +47,7 @@ shows t fs project db params rows here a =
     a.grouped ∙ ap (flat_map (λ r. cond (list_all (holds (params ∷ r ∷ [])) fs) ((params ∷ r ∷ []) ∷ []) [])) here ∙ kept_as_filter _ (λ r. params ∷ r ∷ []) (db t) in
     let kept = a.distinct ∙ ap (map (output q)) staged in
     let shown = IsPermutation-map (λ (o : Output). o.1) _ _ a.same in
-    let from = ap (map (λ (o : Output). o.1)) kept ∙ map_twice _ (output q) _ ∙ map_twice _ (λ r. params ∷ r ∷ []) _ in
+    let from = ap (map (λ (o : Output). o.1)) kept ∙ map-map _ (output q) _ ∙ map-map _ (λ r. params ∷ r ∷ []) _ in
     subst (λ l. IsPermutation l rows) from (subst (IsPermutation (map (λ (o : Output). o.1) a.kept)) (sym a.shown) shown)
 
 module _ (schema : Schema) (old new : State) (params : Row) (table : Table) (at : ℕ) (q : Program) (text : List ℕ) (count : ℕ) (has : old.now.schema ≡ schema) (listed : slice_get schema.tables at ≡ Some table) where
@@ -115,6 +112,6 @@ module _ (text : List ℕ) (params : Row) (table : Table) (at : ℕ) (tests : Li
       let w = runs_as text params old new dss_schema has _ is plain count h in
       let u = deletes dss_schema old new params table at _ (statement_of text (understood dss_schema text)) count has listed w in
       let shown = IsPermutation-map (λ r. id_in (rowid r)) _ _ (shows table.tree tests (col 1 0 ∷ []) db params u.rows here (u.answer.answer Null)) in
-      let ids = subst (λ k. IsPermutation k (ids_of u.rows)) (map_twice (λ r. id_in (rowid r)) (λ r. eval_all (col 1 0 ∷ []) (params ∷ r ∷ [])) (filter passes (db table.tree))) shown in
+      let ids = subst (λ k. IsPermutation k (ids_of u.rows)) (map-map (λ r. id_in (rowid r)) (λ r. eval_all (col 1 0 ∷ []) (params ∷ r ∷ [])) (filter passes (db table.tree))) shown in
       let step = quiet (ids_of u.rows) u.next ids u.wrote in
       record { ids = ids_of u.rows; next = u.next; is = u.is; step = step; rows = step.rows ∙ clears passes (db table.tree) (ids_of u.rows) (pair_apart (db table.tree) apart) ids }

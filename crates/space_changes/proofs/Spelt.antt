@@ -1,5 +1,5 @@
 -- From an airspace that is spelt to the rows, and back.
-use Rattle.std.proofs.Common.{◌≡◌, ℕ, ◌≤◌, ℤ, List, [], ◌∷◌, map, flat_map, refl, sym, subst, subst₂, ◌∙◌, Less}
+use Rattle.std.proofs.Common.{◌≡◌, ◌≤◌, List, [], ◌∷◌, map, flat_map, sym, subst, subst₂, ◌∙◌, Less}
 use Rattle.std.specs.Prelude.{IsPermutation}
 use Rattle.std.specs.List.{AllByRecursion}
 use Rattle.std.specs.Ordering.{int_cmp}
@@ -12,7 +12,7 @@ use Rattle.sqlite.specs.Order.{column}
 use Rattle.sqlite.specs.Effect.{Database}
 use Rattle.entity_core.specs.Airspace.{Airspace}
 use Rattle.entity_core.specs.Serial.{greatest_serial}
-use Rattle.space_tables.specs.Spelling.{Spells, Group, IsGroup, IsBefore, IsStated, pair_of, meta_values, meta_columns, entity_values, volume_values, cell_values, availability_values, entity_columns, six_columns, three_columns}
+use Rattle.space_tables.specs.Spelling.{Spells, Group, IsGroup, IsBefore, IsStated, pair_of, meta_values, meta_columns, entity_values, volume_values, cell_values, availability_values, entity_columns, six_columns}
 use Rattle.space_changes.specs.Layout.{Layout, LaysOut, layout_of}
 
 -- what is spelt is laid out

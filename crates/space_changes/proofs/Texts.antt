@@ -25,8 +25,8 @@ insert_volume_text = codes "INSERT INTO volume (entity, place, alt_lower, alt_up
 abbrev pub insert_cell_text : List ℕ
 insert_cell_text = codes "INSERT INTO cell (entity, volume, place, token, lo, hi) VALUES (?1, ?2, ?3, ?4, ?5, ?6)"
 
-abbrev pub clear_setting_text : List ℕ
-clear_setting_text = codes "DELETE FROM availability WHERE uss = ?1"
+abbrev pub clear_availability_text : List ℕ
+clear_availability_text = codes "DELETE FROM availability WHERE uss = ?1"
 
-abbrev pub insert_setting_text : List ℕ
-insert_setting_text = codes "INSERT INTO availability (uss, state, version) VALUES (?1, ?2, ?3)"
+abbrev pub insert_availability_text : List ℕ
+insert_availability_text = codes "INSERT INTO availability (uss, state, version) VALUES (?1, ?2, ?3)"

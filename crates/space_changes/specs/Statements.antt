@@ -7,15 +7,20 @@ use Rattle.sqlite.specs.Effect.{Database, IsDatabase}
 use Rattle.sqlite.specs.State.{State, Shows, HasCleanDisk, KeepsCommit, Survives}
 use Rattle.sqlite.specs.declared.error.Error.{Error}
 use Rattle.entity_core.specs.Airspace.{Airspace, EntityKey, text_cmp}
+use Rattle.space_core.specs.declared.space.Change.{Change}
+use Rattle.space_core.specs.Space.{Fits, changed}
 use Rattle.space_rows.specs.declared.rows.EntityRow.{EntityRow}
 use Rattle.space_rows.specs.Finds.{Finds}
 use Rattle.space_tables.specs.Spelling.{Spells}
 use Rattle.space_changes.specs.Layout.{Layout, LaysOut, IsNumberOf, Relays}
 
--- Statements run in a transaction that goes on, and R holds of what they answer, the database before and that after.
--- Whatever comes of them, the last commit stands, and a crash leaves what it would have left before.
-pub record Runs {X : Type 0} (R : X → Database → Database → Type 0) (old new : State) (result : Result X Error) : Type 0 where
-  pub done : HasCleanDisk new → IsTrue old.in_transaction → IfOk result (λ x. R x old.now new.now × Shows old new new.now old.committed true)
+-- Statements run in a transaction that goes on, and R holds of what they answer, the database
+-- before and that after. Whatever comes of them, the last commit stands, and a crash leaves what it
+-- would have left before.
+pub record Runs {X : Type 0} (R : X → Database → Database → Type 0) (old new : State)
+    (result : Result X Error) : Type 0 where
+  pub done : HasCleanDisk new → IsTrue old.in_transaction
+      → IfOk result (λ x. R x old.now new.now × Shows old new new.now old.committed true)
   pub kept : HasCleanDisk new → IsTrue old.in_transaction → KeepsCommit old new
   pub survives : Survives old new (λ _. ⊥)
 
@@ -23,18 +28,31 @@ pub record Runs {X : Type 0} (R : X → Database → Database → Type 0) (old n
 abbrev pub is_of : ℤ → List ℕ → EntityRow → Bool
 is_of kind id row = int_eq row.kind kind && eq_by_cmp text_cmp row.id id
 
--- the numbers of the rows of a kind and an id are shown, and the tables stay as they are
-abbrev pub ShowsNumbers : ℤ → List ℕ → List Row → Database → Database → Type 0
-ShowsNumbers kind id shown old new = (l : Layout) → LaysOut old l → (new ≡ old) × IsPermutation (map (λ (row : EntityRow). Int row.num ∷ []) (filter (is_of kind id) l.entities)) shown
+-- the numbers of the rows of a kind and an id
+abbrev pub numbers_of : ℤ → List ℕ → List EntityRow → List Row
+numbers_of kind id rows = map (λ (row : EntityRow). Int row.num ∷ []) (filter (is_of kind id) rows)
 
--- the number under which the tables have an entity is found, if they have it, and they stay as they are
+-- these numbers are shown, in any order, and the tables stay as they are
+abbrev pub ShowsNumbers : ℤ → List ℕ → List Row → Database → Database → Type 0
+ShowsNumbers kind id shown old new =
+    (l : Layout) → LaysOut old l
+    → (new ≡ old) × IsPermutation (numbers_of kind id l.entities) shown
+
+-- the number under which the tables have an entity is found, if they have it, and they stay as they
+-- are
 abbrev pub FindsNumber : EntityKey → Option ℤ → Database → Database → Type 0
-FindsNumber k found old new = (a : Airspace) (p : Spells old a) → (new ≡ old) × Finds (λ num. IsNumberOf num k p.groups) found
+FindsNumber k found old new =
+    (a : Airspace) (p : Spells old a)
+    → (new ≡ old) × Finds (λ num. IsNumberOf num k p.groups) found
 
 -- a change of the rows, after which they obey the schema
-abbrev pub RelaysSound : (P : Layout → Type 0) (change : Layout → Layout) → Database → Database → Type 0
-RelaysSound P change old new = Relays P change old new × ((l : Layout) → P l → LaysOut old l → IsDatabase new)
+abbrev pub RelaysSound : (P : Layout → Type 0) (change : Layout → Layout)
+    → Database → Database → Type 0
+RelaysSound P change old new =
+    Relays P change old new × ((l : Layout) → P l → LaysOut old l → IsDatabase new)
 
--- whatever airspace was spelt, if P holds of it, what comes of it is spelt, and the rows obey the schema
-abbrev pub SpellsChanged : (P : Airspace → Type 0) (change : Airspace → Airspace) → Database → Database → Type 0
-SpellsChanged P change old new = (a : Airspace) → Spells old a → P a → Spells new (change a) × IsDatabase new
+-- whatever airspace was spelt, if the change fits, what comes of it is spelt, and the rows obey the
+-- schema
+abbrev pub MakesChange : Change → Database → Database → Type 0
+MakesChange change old new =
+    (a : Airspace) → Spells old a → Fits change a → Spells new (changed change a) × IsDatabase new

@@ -1,12 +1,10 @@
 //! What a USS has set is replaced.
-ghost use Rattle.std.specs.Prelude.{◌≡◌, ◌<◌};
+ghost use Rattle.std.specs.Prelude.{◌≡◌};
 ghost use Rattle.sqlite.specs.Held.{state};
-ghost use Rattle.entity_core.specs.Serial.{greatest_serial};
 ghost use Rattle.space_core.specs.declared.space.Change.TheVariants.{Avail};
-ghost use Rattle.space_core.specs.Space.{Fits, changed};
 ghost use Rattle.space_tables.specs.Spelling.{IsStated, availability_number};
-ghost use Rattle.space_changes.specs.Layout.{Relays, ReplacesSetting, with_setting, without_setting};
-ghost use Rattle.space_changes.specs.Statements.{Runs, SpellsChanged};
+ghost use Rattle.space_changes.specs.Layout.{Always, Relays, ReplacesAvailability, with_availability_row, without_availability_row};
+ghost use Rattle.space_changes.specs.Statements.{Runs, MakesChange};
 
 use crate::serial::raise_serial;
 use entity_core::availability::Availability;
@@ -24,11 +22,11 @@ fn availability_number(availability: Availability) -> i64
     }
 }
 
-fn clear_setting<S: Alter>(tx: &mut Transaction<'_, S>, uss: &UssId) -> Result<usize, Error>
+fn clear_availability<S: Alter>(tx: &mut Transaction<'_, S>, uss: &UssId) -> Result<usize, Error>
     ensures same_reference { tx.new.conn.ghost_name ≡ tx.old.conn.ghost_name }
     ensures clears { let old = state S.Store tx.old.conn.now in
-        Runs (λ _. Relays (λ _. Unit {0}) (without_setting uss.now))
-            old (state S.Store tx.new.conn.now) result }
+        let new = state S.Store tx.new.conn.now in
+        Runs (λ _. Relays Always (without_availability_row uss.now)) old new result }
 {
     tx.execute(
         "DELETE FROM availability WHERE uss = ?1",
@@ -36,7 +34,7 @@ fn clear_setting<S: Alter>(tx: &mut Transaction<'_, S>, uss: &UssId) -> Result<u
     )
 }
 
-fn insert_setting<S: Alter>(
+fn insert_availability<S: Alter>(
     tx: &mut Transaction<'_, S>,
     uss: &UssId,
     availability: Availability,
@@ -45,8 +43,9 @@ fn insert_setting<S: Alter>(
     ensures same_reference { tx.new.conn.ghost_name ≡ tx.old.conn.ghost_name }
     ensures stated { IsStated (uss.now, (availability, version.now)) }
     ensures inserts { let old = state S.Store tx.old.conn.now in
-        Runs (λ _. Relays (λ _. Unit {0}) (with_setting uss.now (availability, version.now)))
-            old (state S.Store tx.new.conn.now) result }
+        let new = state S.Store tx.new.conn.now in
+        Runs (λ _. Relays Always (with_availability_row uss.now (availability, version.now)))
+        old new result }
 {
     tx.execute(
         "INSERT INTO availability (uss, state, version) VALUES (?1, ?2, ?3)",
@@ -58,7 +57,7 @@ fn insert_setting<S: Alter>(
     )
 }
 
-fn replace_setting<S: Alter>(
+fn replace_availability<S: Alter>(
     tx: &mut Transaction<'_, S>,
     uss: &UssId,
     availability: Availability,
@@ -66,11 +65,11 @@ fn replace_setting<S: Alter>(
 ) -> Result<(), Error>
     ensures same_reference { tx.new.conn.ghost_name ≡ tx.old.conn.ghost_name }
     ensures replaces { let old = state S.Store tx.old.conn.now in
-        Runs (λ _. ReplacesSetting uss.now (availability, version.now))
-            old (state S.Store tx.new.conn.now) result }
+        let new = state S.Store tx.new.conn.now in
+        Runs (λ _. ReplacesAvailability uss.now (availability, version.now)) old new result }
 {
-    clear_setting(tx, uss)?;
-    insert_setting(tx, uss, availability, version)?;
+    clear_availability(tx, uss)?;
+    insert_availability(tx, uss, availability, version)?;
     Ok(())
 }
 
@@ -83,11 +82,11 @@ pub(crate) fn set_availability<S: Alter>(
 ) -> Result<(), Error>
     ensures same_reference { tx.new.conn.ghost_name ≡ tx.old.conn.ghost_name }
     ensures changes { let old = state S.Store tx.old.conn.now in
+        let new = state S.Store tx.new.conn.now in
         let change = Avail uss.now availability version.now in
-        Runs (λ _. SpellsChanged (Fits change) (changed change))
-            old (state S.Store tx.new.conn.now) result }
+        Runs (λ _. MakesChange change) old new result }
 {
-    replace_setting(tx, uss, availability, version)?;
+    replace_availability(tx, uss, availability, version)?;
     raise_serial(tx)?;
     Ok(())
 }

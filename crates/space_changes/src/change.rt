@@ -3,7 +3,7 @@ ghost use Rattle.std.specs.Prelude.{◌≡◌, false};
 ghost use Rattle.sqlite.specs.Held.{state};
 ghost use Rattle.space_core.specs.Space.{Fits, changed};
 ghost use Rattle.space_changes.specs.Committing.{Commits};
-ghost use Rattle.space_changes.specs.Statements.{Runs, SpellsChanged};
+ghost use Rattle.space_changes.specs.Statements.{Runs, MakesChange};
 
 use crate::availability::set_availability;
 use crate::put::put_entity;
@@ -19,8 +19,8 @@ fn write_change<S: Alter>(
 ) -> Result<(), Error>
     ensures same_reference { tx.new.conn.ghost_name ≡ tx.old.conn.ghost_name }
     ensures changes { let old = state S.Store tx.old.conn.now in
-        Runs (λ _. SpellsChanged (Fits change.now) (changed change.now))
-            old (state S.Store tx.new.conn.now) result }
+        let new = state S.Store tx.new.conn.now in
+        Runs (λ _. MakesChange change.now) old new result }
 {
     match change {
         Change::Put(entity) => put_entity(alloc, tx, entity),
@@ -32,13 +32,13 @@ fn write_change<S: Alter>(
 }
 
 /// Makes a change in one transaction, and the serial goes on by one. It is for tables that spell an
-/// airspace in which the change fits: of others it is only told that what an Ok leaves is
-/// committed.
+/// airspace in which the change fits: of others it is told that what an Ok leaves is committed, and
+/// no more.
 ///
 /// # Errors
 ///
-/// An error of the database or want of memory. While the connection stays open, what is seen is
-/// what was committed before.
+/// An error of the database, or want of memory. While the connection stays open, it shows what was
+/// committed before.
 pub fn make_change<S: Alter>(
     alloc: Global,
     conn: &mut Connection<S>,

@@ -1,7 +1,7 @@
 //! The rows of an entity are inserted, those of a table before those that refer to them.
 ghost use Rattle.std.specs.Prelude.{◌≡◌, [], ◌∷◌};
 ghost use Rattle.sqlite.specs.Held.{state};
-ghost use Rattle.space_changes.specs.Layout.{Relays, with_cells, with_entity_row, with_rows, with_volumes};
+ghost use Rattle.space_changes.specs.Layout.{Always, Relays, with_cells, with_entity_row, with_rows, with_volumes};
 ghost use Rattle.space_changes.specs.Statements.{Runs};
 
 use space_rows::rows::{CellRow, EntityRow, VolumeRow};
@@ -10,8 +10,8 @@ use sqlite::{Alter, Error, Transaction, params};
 fn insert_row<S: Alter>(tx: &mut Transaction<'_, S>, row: &EntityRow) -> Result<usize, Error>
     ensures same_reference { tx.new.conn.ghost_name ≡ tx.old.conn.ghost_name }
     ensures inserts { let old = state S.Store tx.old.conn.now in
-        Runs (λ _. Relays (λ _. Unit {0}) (with_entity_row row.now))
-            old (state S.Store tx.new.conn.now) result }
+        let new = state S.Store tx.new.conn.now in
+        Runs (λ _. Relays Always (with_entity_row row.now)) old new result }
 {
     tx.execute(
         "INSERT INTO entity (num, kind, id, manager, state, version, serial, ovn, url) \
@@ -33,8 +33,8 @@ fn insert_row<S: Alter>(tx: &mut Transaction<'_, S>, row: &EntityRow) -> Result<
 fn insert_volume<S: Alter>(tx: &mut Transaction<'_, S>, row: &VolumeRow) -> Result<usize, Error>
     ensures same_reference { tx.new.conn.ghost_name ≡ tx.old.conn.ghost_name }
     ensures inserts { let old = state S.Store tx.old.conn.now in
-        Runs (λ _. Relays (λ _. Unit {0}) (with_volumes (row.now ∷ [])))
-            old (state S.Store tx.new.conn.now) result }
+        let new = state S.Store tx.new.conn.now in
+        Runs (λ _. Relays Always (with_volumes (row.now ∷ []))) old new result }
 {
     tx.execute(
         "INSERT INTO volume (entity, place, alt_lower, alt_upper, time_start, time_end) \
@@ -53,8 +53,8 @@ fn insert_volume<S: Alter>(tx: &mut Transaction<'_, S>, row: &VolumeRow) -> Resu
 fn insert_cell<S: Alter>(tx: &mut Transaction<'_, S>, row: &CellRow) -> Result<usize, Error>
     ensures same_reference { tx.new.conn.ghost_name ≡ tx.old.conn.ghost_name }
     ensures inserts { let old = state S.Store tx.old.conn.now in
-        Runs (λ _. Relays (λ _. Unit {0}) (with_cells (row.now ∷ [])))
-            old (state S.Store tx.new.conn.now) result }
+        let new = state S.Store tx.new.conn.now in
+        Runs (λ _. Relays Always (with_cells (row.now ∷ []))) old new result }
 {
     tx.execute(
         "INSERT INTO cell (entity, volume, place, token, lo, hi) VALUES (?1, ?2, ?3, ?4, ?5, ?6)",
@@ -78,8 +78,8 @@ pub(crate) fn insert_rows<S: Alter>(
 ) -> Result<(), Error>
     ensures same_reference { tx.new.conn.ghost_name ≡ tx.old.conn.ghost_name }
     ensures inserts { let old = state S.Store tx.old.conn.now in
-        Runs (λ _. Relays (λ _. Unit {0}) (with_rows row.now volumes.now cells.now))
-            old (state S.Store tx.new.conn.now) result }
+        let new = state S.Store tx.new.conn.now in
+        Runs (λ _. Relays Always (with_rows row.now volumes.now cells.now)) old new result }
 {
     insert_row(tx, row)?;
     for volume in volumes {

@@ -19,15 +19,11 @@ fn kind_number(kind: Kind) -> i64
 }
 
 // The numbers of the rows of a kind and an id.
-fn numbers<S: Alter>(
-    tx: &mut Transaction<'_, S>,
-    kind: i64,
-    id: &str,
-) -> Result<Vec<Row>, Error>
+fn numbers<S: Alter>(tx: &mut Transaction<'_, S>, kind: i64, id: &str) -> Result<Vec<Row>, Error>
     ensures same_reference { tx.new.conn.ghost_name ≡ tx.old.conn.ghost_name }
     ensures shows { let old = state S.Store tx.old.conn.now in
-        Runs (λ rows. ShowsNumbers kind id.now rows.items)
-            old (state S.Store tx.new.conn.now) result }
+        let new = state S.Store tx.new.conn.now in
+        Runs (λ rows. ShowsNumbers kind id.now rows.items) old new result }
 {
     tx.query_all(
         "SELECT num FROM entity WHERE kind = ?1 AND id = ?2",
@@ -44,7 +40,8 @@ pub(crate) fn number_of<S: Alter>(
 ) -> Result<Option<i64>, Error>
     ensures same_reference { tx.new.conn.ghost_name ≡ tx.old.conn.ghost_name }
     ensures finds { let old = state S.Store tx.old.conn.now in
-        Runs (FindsNumber (kind, id)) old (state S.Store tx.new.conn.now) result }
+        let new = state S.Store tx.new.conn.now in
+        Runs (FindsNumber (kind, id)) old new result }
 {
     let _number = id.number();
     let text = id.text(alloc)?;

@@ -2,8 +2,7 @@
 ghost use Rattle.std.specs.Prelude.{◌≡◌, ◌≤ℤ◌, pos, IfOk};
 ghost use Rattle.sqlite.specs.Held.{state};
 ghost use Rattle.space_core.specs.declared.space.Change.TheVariants.{Put};
-ghost use Rattle.space_core.specs.Space.{Fits, changed};
-ghost use Rattle.space_changes.specs.Statements.{Runs, SpellsChanged};
+ghost use Rattle.space_changes.specs.Statements.{Runs, MakesChange};
 ghost use Rattle.space_changes.specs.Putting.{InsertsEntity, MakesRoom};
 
 use crate::insert::insert_rows;
@@ -25,7 +24,8 @@ fn make_room<S: Alter>(
     ensures least { IfOk result (λ num. pos 1 ≤ℤ num) }
     ensures most { IfOk result (λ num. num ≤ℤ pos entity.now.serial) }
     ensures room { let old = state S.Store tx.old.conn.now in
-        Runs (MakesRoom entity.now) old (state S.Store tx.new.conn.now) result }
+        let new = state S.Store tx.new.conn.now in
+        Runs (MakesRoom entity.now) old new result }
 {
     let serial = entity.serial.number();
     match number_of(alloc, tx, entity.nature.kind(), entity.id)? {
@@ -50,7 +50,8 @@ fn insert_entity<S: Alter>(
     requires most { num ≤ℤ pos entity.now.serial }
     ensures same_reference { tx.new.conn.ghost_name ≡ tx.old.conn.ghost_name }
     ensures inserts { let old = state S.Store tx.old.conn.now in
-        Runs (λ _. InsertsEntity entity.now num) old (state S.Store tx.new.conn.now) result }
+        let new = state S.Store tx.new.conn.now in
+        Runs (λ _. InsertsEntity entity.now num) old new result }
 {
     let (row, volumes, cells) = rows_of(alloc, entity, num)?;
     insert_rows(tx, &row, &volumes, &cells)
@@ -64,8 +65,8 @@ pub(crate) fn put_entity<S: Alter>(
 ) -> Result<(), Error>
     ensures same_reference { tx.new.conn.ghost_name ≡ tx.old.conn.ghost_name }
     ensures changes { let old = state S.Store tx.old.conn.now in
-        Runs (λ _. SpellsChanged (Fits (Put entity.now)) (changed (Put entity.now)))
-            old (state S.Store tx.new.conn.now) result }
+        let new = state S.Store tx.new.conn.now in
+        Runs (λ _. MakesChange (Put entity.now)) old new result }
 {
     let num = make_room(alloc, tx, entity)?;
     insert_entity(alloc, tx, entity, num)?;

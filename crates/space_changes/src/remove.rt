@@ -3,9 +3,8 @@ ghost use Rattle.std.specs.Prelude.{◌≡◌, ◌<◌};
 ghost use Rattle.sqlite.specs.Held.{state};
 ghost use Rattle.entity_core.specs.Serial.{greatest_serial};
 ghost use Rattle.space_core.specs.declared.space.Change.TheVariants.{Remove};
-ghost use Rattle.space_core.specs.Space.{Fits, changed};
-ghost use Rattle.space_changes.specs.Layout.{LacksCells, LacksVolumes, Relays, with_next_serial, without_cells, without_entity_row, without_rows, without_volumes};
-ghost use Rattle.space_changes.specs.Statements.{RelaysSound, Runs, SpellsChanged};
+ghost use Rattle.space_changes.specs.Layout.{Always, LacksCells, LacksVolumes, Relays, with_next_serial, without_cells, without_entity_row, without_rows, without_volumes};
+ghost use Rattle.space_changes.specs.Statements.{RelaysSound, Runs, MakesChange};
 
 use crate::number::number_of;
 use crate::serial::raise_serial;
@@ -17,8 +16,8 @@ use std::alloc::Global;
 fn clear_cells<S: Alter>(tx: &mut Transaction<'_, S>, num: i64) -> Result<usize, Error>
     ensures same_reference { tx.new.conn.ghost_name ≡ tx.old.conn.ghost_name }
     ensures clears { let old = state S.Store tx.old.conn.now in
-        Runs (λ _. Relays (λ _. Unit {0}) (without_cells num))
-            old (state S.Store tx.new.conn.now) result }
+        let new = state S.Store tx.new.conn.now in
+        Runs (λ _. Relays Always (without_cells num)) old new result }
 {
     tx.execute("DELETE FROM cell WHERE entity = ?1", params![num])
 }
@@ -26,8 +25,8 @@ fn clear_cells<S: Alter>(tx: &mut Transaction<'_, S>, num: i64) -> Result<usize,
 fn clear_volumes<S: Alter>(tx: &mut Transaction<'_, S>, num: i64) -> Result<usize, Error>
     ensures same_reference { tx.new.conn.ghost_name ≡ tx.old.conn.ghost_name }
     ensures clears { let old = state S.Store tx.old.conn.now in
-        Runs (λ _. Relays (LacksCells num) (without_volumes num))
-            old (state S.Store tx.new.conn.now) result }
+        let new = state S.Store tx.new.conn.now in
+        Runs (λ _. Relays (LacksCells num) (without_volumes num)) old new result }
 {
     tx.execute("DELETE FROM volume WHERE entity = ?1", params![num])
 }
@@ -35,8 +34,8 @@ fn clear_volumes<S: Alter>(tx: &mut Transaction<'_, S>, num: i64) -> Result<usiz
 fn clear_row<S: Alter>(tx: &mut Transaction<'_, S>, num: i64) -> Result<usize, Error>
     ensures same_reference { tx.new.conn.ghost_name ≡ tx.old.conn.ghost_name }
     ensures clears { let old = state S.Store tx.old.conn.now in
-        Runs (λ _. Relays (LacksVolumes num) (without_entity_row num))
-            old (state S.Store tx.new.conn.now) result }
+        let new = state S.Store tx.new.conn.now in
+        Runs (λ _. Relays (LacksVolumes num) (without_entity_row num)) old new result }
 {
     tx.execute("DELETE FROM entity WHERE num = ?1", params![num])
 }
@@ -45,8 +44,8 @@ fn clear_row<S: Alter>(tx: &mut Transaction<'_, S>, num: i64) -> Result<usize, E
 fn clear_extents<S: Alter>(tx: &mut Transaction<'_, S>, num: i64) -> Result<(), Error>
     ensures same_reference { tx.new.conn.ghost_name ≡ tx.old.conn.ghost_name }
     ensures clears { let old = state S.Store tx.old.conn.now in
-        Runs (λ _. Relays (λ _. Unit {0}) (λ l. without_volumes num (without_cells num l)))
-            old (state S.Store tx.new.conn.now) result }
+        let new = state S.Store tx.new.conn.now in
+        Runs (λ _. Relays Always (λ l. without_volumes num (without_cells num l))) old new result }
 {
     clear_cells(tx, num)?;
     clear_volumes(tx, num)?;
@@ -57,20 +56,21 @@ fn clear_extents<S: Alter>(tx: &mut Transaction<'_, S>, num: i64) -> Result<(), 
 pub(crate) fn clear_entity<S: Alter>(tx: &mut Transaction<'_, S>, num: i64) -> Result<(), Error>
     ensures same_reference { tx.new.conn.ghost_name ≡ tx.old.conn.ghost_name }
     ensures clears { let old = state S.Store tx.old.conn.now in
-        Runs (λ _. Relays (λ _. Unit {0}) (without_rows num))
-            old (state S.Store tx.new.conn.now) result }
+        let new = state S.Store tx.new.conn.now in
+        Runs (λ _. Relays Always (without_rows num)) old new result }
 {
     clear_extents(tx, num)?;
     clear_row(tx, num)?;
     Ok(())
 }
 
-fn remove_rows<S: Alter>(tx: &mut Transaction<'_, S>, num: i64) -> Result<(), Error>
+// Removes the entity of a number, and the serial goes on by one.
+fn remove_numbered<S: Alter>(tx: &mut Transaction<'_, S>, num: i64) -> Result<(), Error>
     ensures same_reference { tx.new.conn.ghost_name ≡ tx.old.conn.ghost_name }
     ensures removes { let old = state S.Store tx.old.conn.now in
+        let new = state S.Store tx.new.conn.now in
         Runs (λ _. RelaysSound (λ l. l.serial < greatest_serial)
-            (λ l. with_next_serial (without_rows num l)))
-            old (state S.Store tx.new.conn.now) result }
+        (λ l. with_next_serial (without_rows num l))) old new result }
 {
     clear_entity(tx, num)?;
     raise_serial(tx)?;
@@ -86,11 +86,11 @@ pub(crate) fn remove_entity<S: Alter>(
 ) -> Result<(), Error>
     ensures same_reference { tx.new.conn.ghost_name ≡ tx.old.conn.ghost_name }
     ensures changes { let old = state S.Store tx.old.conn.now in
-        Runs (λ _. SpellsChanged (Fits (Remove kind id)) (changed (Remove kind id)))
-            old (state S.Store tx.new.conn.now) result }
+        let new = state S.Store tx.new.conn.now in
+        Runs (λ _. MakesChange (Remove kind id)) old new result }
 {
     let Some(num) = number_of(alloc, tx, kind, id)? else {
         return Err(Error::QueryReturnedNoRows);
     };
-    remove_rows(tx, num)
+    remove_numbered(tx, num)
 }

@@ -11,8 +11,8 @@ use sqlite::{Alter, Error, Transaction};
 pub(crate) fn raise_serial<S: Alter>(tx: &mut Transaction<'_, S>) -> Result<usize, Error>
     ensures same_reference { tx.new.conn.ghost_name ≡ tx.old.conn.ghost_name }
     ensures raises { let old = state S.Store tx.old.conn.now in
-        Runs (λ _. RelaysSound (λ l. l.serial < greatest_serial) with_next_serial)
-            old (state S.Store tx.new.conn.now) result }
+        let new = state S.Store tx.new.conn.now in
+        Runs (λ _. RelaysSound (λ l. l.serial < greatest_serial) with_next_serial) old new result }
 {
     tx.execute("UPDATE meta SET serial = serial + 1 WHERE one = 1", &[])
 }

@@ -3,21 +3,20 @@ use Rattle.sqlite.specs.Held.{state}
 use Rattle.entity_core.specs.Airspace.{Stated}
 use Rattle.entity_core.specs.Serial.{greatest_serial}
 use Rattle.space_core.specs.declared.space.Change.TheVariants.{Avail}
-use Rattle.space_core.specs.Space.{Fits, changed}
-use Rattle.space_changes.specs.Layout.{ReplacesSetting, with_next_serial}
-use Rattle.space_changes.specs.Statements.{RelaysSound, SpellsChanged}
+use Rattle.space_changes.specs.Layout.{ReplacesAvailability, with_next_serial}
+use Rattle.space_changes.specs.Statements.{RelaysSound, MakesChange}
 use Rattle.space_changes.proofs.Running.{runs_then}
-use Rattle.space_changes.proofs.Settings.{sets_availability}
+use Rattle.space_changes.proofs.Availabilities.{sets_availability}
 use Rattle.space_changes.proofs.availability.set_availability.Goals as goal
 
 pub returns-clause-changes : goal.returns-clause-changes
 returns-clause-changes g c =
     let a = state g.S.Store c.args.tx.now.conn.now in
-    let b = state g.S.Store c.replace_setting.new.tx.conn.now in
+    let b = state g.S.Store c.replace_availability.new.tx.conn.now in
     let d = state g.S.Store c.raise_serial.new.tx.conn.now in
     let uss = c.args.uss.now in
     let stated : Stated = (c.args.availability, c.args.version.now) in
     let change = Avail uss c.args.availability c.args.version.now in
-    runs_then (λ _. ReplacesSetting uss stated) (λ _. RelaysSound (λ l. l.serial < greatest_serial) with_next_serial) (λ _. SpellsChanged (Fits change) (changed change)) a b d _ _ _
+    runs_then (λ _. ReplacesAvailability uss stated) (λ _. RelaysSound (λ l. l.serial < greatest_serial) with_next_serial) (λ _. MakesChange change) a b d _ _ _
     (λ replaces raises. sets_availability a.now b.now d.now uss c.args.availability c.args.version.now replaces raises)
-    c.in_ok-replace_setting.ensures.replaces c.in_ok-raise_serial.ensures.raises
+    c.in_ok-replace_availability.ensures.replaces c.in_ok-raise_serial.ensures.raises

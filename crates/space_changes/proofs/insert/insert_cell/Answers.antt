@@ -1,6 +1,6 @@
 use Rattle.std.proofs.Common.{◌≡◌, [], ◌∷◌, rules, w64, to_z, of_z}
 use Rattle.sqlite.specs.Held.{state}
-use Rattle.space_changes.specs.Layout.{Relays, with_cells}
+use Rattle.space_changes.specs.Layout.{Always, Relays, with_cells}
 use Rattle.space_changes.proofs.Texts.{insert_cell_text}
 use Rattle.space_changes.proofs.Running.{runs_on}
 use Rattle.space_changes.proofs.Inserting.{inserts_cell}
@@ -16,5 +16,5 @@ returns-clause-inserts g c =
     let lo : to_z w64 (of_z w64 c.args.row.now.lo) ≡ c.args.row.now.lo = search rules in
     let hi : to_z w64 (of_z w64 c.args.row.now.hi) ≡ c.args.row.now.hi = search rules in
     let ran = rw (c.params-to_sql.ensures, c.params-to_sql-2.ensures, c.params-to_sql-3.ensures, c.params-to_sql-4.ensures, c.params-to_sql-5.ensures, c.params-to_sql-6.ensures, c.text.ensures, entity, volume, place, lo, hi) at c.execute.ensures.runs in
-    runs_on old new insert_cell_text _ c.execute.result (Relays (λ _. Unit {0}) (with_cells (c.args.row.now ∷ []))) ran c.execute.ensures.survives
+    runs_on old new insert_cell_text _ c.execute.result (Relays Always (with_cells (c.args.row.now ∷ []))) ran c.execute.ensures.survives
     (λ h. inserts_cell old new c.args.row.now c.execute.result h)

@@ -1,6 +1,6 @@
-use Rattle.std.proofs.Common.{◌≡◌, [], ◌∷◌, rules, w64, to_z, of_z}
+use Rattle.std.proofs.Common.{◌≡◌, rules, w64, to_z, of_z}
 use Rattle.sqlite.specs.Held.{state}
-use Rattle.space_changes.specs.Layout.{Relays, with_entity_row}
+use Rattle.space_changes.specs.Layout.{Always, Relays, with_entity_row}
 use Rattle.space_changes.proofs.Texts.{insert_row_text}
 use Rattle.space_changes.proofs.Running.{runs_on}
 use Rattle.space_changes.proofs.Inserting.{inserts_row}
@@ -16,5 +16,5 @@ returns-clause-inserts g c =
     let version : to_z w64 (of_z w64 c.args.row.now.version) ≡ c.args.row.now.version = search rules in
     let serial : to_z w64 (of_z w64 c.args.row.now.serial) ≡ c.args.row.now.serial = search rules in
     let ran = rw (c.params-to_sql.ensures, c.params-to_sql-2.ensures, c.params-to_sql-3.ensures, c.params-to_sql-4.ensures, c.params-to_sql-5.ensures, c.params-to_sql-6.ensures, c.params-to_sql-7.ensures, c.params-to_sql-8.ensures, c.params-to_sql-9.ensures, c.text.ensures, c.text-2.ensures, c.text-3.ensures, c.text-4.ensures, num, kind, state, version, serial) at c.execute.ensures.runs in
-    runs_on old new insert_row_text _ c.execute.result (Relays (λ _. Unit {0}) (with_entity_row c.args.row.now)) ran c.execute.ensures.survives
+    runs_on old new insert_row_text _ c.execute.result (Relays Always (with_entity_row c.args.row.now)) ran c.execute.ensures.survives
     (λ h. inserts_row old new c.args.row.now c.execute.result h)

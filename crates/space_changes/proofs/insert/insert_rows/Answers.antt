@@ -1,9 +1,9 @@
-use Rattle.std.proofs.Common.{◌≡◌, ◌+◌, ◌++◌, [], ◌∷◌, ◌∙◌, Ok, take, arith, subst, ap, sym}
+use Rattle.std.proofs.Common.{◌+◌, ◌++◌, [], ◌∷◌, ◌∙◌, take, arith, subst, ap, sym}
 use Rattle.std.proofs.lemmas.List.{take_more, take_all}
 use Rattle.sqlite.specs.Held.{state}
-use Rattle.space_changes.specs.Layout.{Layout, Relays, with_entity_row, with_rows, with_volumes, with_cells}
+use Rattle.space_changes.specs.Layout.{Always, Layout, Relays, with_entity_row, with_rows, with_volumes}
 use Rattle.space_changes.proofs.Running.{runs_then, runs_as_well}
-use Rattle.space_changes.proofs.Inserted.{Whatever, VolumesJoined, CellsJoined, one_volume, one_cell, no_cells}
+use Rattle.space_changes.proofs.Inserted.{VolumesJoined, CellsJoined, one_volume, one_cell, no_cells}
 use Rattle.space_changes.proofs.insert.insert_rows.Goals as goal
 
 pub loop-volume-preserved : goal.loop-volume-preserved
@@ -52,4 +52,4 @@ returns-clause-inserts g c =
     let a = state g.S.Store c.args.tx.now.conn.now in
     let b = state g.S.Store c.loop-cell.tx.conn.now in
     let all = take_all c.loop-cell.cell-index cs (omega arith) in
-    runs_as_well _ (λ _ x y. Relays Whatever (with_rows c.args.row.now c.args.volumes.now cs) x y) a b tt tt (λ h. subst (λ ds. CellsJoined f a.now ds b.now) all h) c.loop-cell.invariant.so_far
+    runs_as_well _ (λ _ x y. Relays Always (with_rows c.args.row.now c.args.volumes.now cs) x y) a b tt tt (λ h. subst (λ ds. CellsJoined f a.now ds b.now) all h) c.loop-cell.invariant.so_far

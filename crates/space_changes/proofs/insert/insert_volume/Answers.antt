@@ -1,6 +1,6 @@
 use Rattle.std.proofs.Common.{◌≡◌, [], ◌∷◌, rules, w64, to_z, of_z}
 use Rattle.sqlite.specs.Held.{state}
-use Rattle.space_changes.specs.Layout.{Relays, with_volumes}
+use Rattle.space_changes.specs.Layout.{Always, Relays, with_volumes}
 use Rattle.space_changes.proofs.Texts.{insert_volume_text}
 use Rattle.space_changes.proofs.Running.{runs_on}
 use Rattle.space_changes.proofs.Inserting.{inserts_volume}
@@ -17,5 +17,5 @@ returns-clause-inserts g c =
     let time_start : to_z w64 (of_z w64 c.args.row.now.time_start) ≡ c.args.row.now.time_start = search rules in
     let time_end : to_z w64 (of_z w64 c.args.row.now.time_end) ≡ c.args.row.now.time_end = search rules in
     let ran = rw (c.params-to_sql.ensures, c.params-to_sql-2.ensures, c.params-to_sql-3.ensures, c.params-to_sql-4.ensures, c.params-to_sql-5.ensures, c.params-to_sql-6.ensures, entity, place, alt_lower, alt_upper, time_start, time_end) at c.execute.ensures.runs in
-    runs_on old new insert_volume_text _ c.execute.result (Relays (λ _. Unit {0}) (with_volumes (c.args.row.now ∷ []))) ran c.execute.ensures.survives
+    runs_on old new insert_volume_text _ c.execute.result (Relays Always (with_volumes (c.args.row.now ∷ []))) ran c.execute.ensures.survives
     (λ h. inserts_volume old new c.args.row.now c.execute.result h)

@@ -1,6 +1,5 @@
-use Rattle.std.proofs.Common.{to_z-of_z, to_z, of_z, w64, Some, None, ◌≡◌, ◌∙◌, ◌^◌, ◌<◌, sym, subst, subst₂, rules, arith, length, ℕ, List}
+use Rattle.std.proofs.Common.{to_z, of_z, w64, Some, None, ◌≡◌, ◌∙◌, ◌^◌, ◌<◌, rules, arith, length}
 use Rattle.sqlite.specs.Held.{state}
-use Rattle.sqlite.specs.Order.{Row}
 use Rattle.entity_core.specs.EntityId.{printed}
 use Rattle.space_rows.specs.Rows.{kind_number}
 use Rattle.space_changes.specs.Statements.{ShowsNumbers, FindsNumber}

@@ -1,7 +1,7 @@
 use Rattle.std.proofs.Common.{to_z-of_z}
 use Rattle.sqlite.specs.Held.{state}
 use Rattle.space_rows.specs.declared.rows.CellRow.{CellRow}
-use Rattle.space_changes.specs.Layout.{Relays, LacksCells, without_cells, without_volumes}
+use Rattle.space_changes.specs.Layout.{Always, Relays, LacksCells, without_cells, without_volumes}
 use Rattle.space_changes.proofs.Rows.{none_left_of}
 use Rattle.space_changes.proofs.Running.{runs_then}
 use Rattle.space_changes.proofs.remove.clear_extents.Goals as goal
@@ -9,7 +9,7 @@ use Rattle.space_changes.proofs.remove.clear_extents.Goals as goal
 pub returns-clause-clears : goal.returns-clause-clears
 returns-clause-clears g c =
     let num = c.args.num in
-    runs_then (λ _. Relays (λ _. Unit {0}) (without_cells num)) (λ _. Relays (LacksCells num) (without_volumes num)) (λ _. Relays (λ _. Unit {0}) (λ l. without_volumes num (without_cells num l)))
+    runs_then (λ _. Relays Always (without_cells num)) (λ _. Relays (LacksCells num) (without_volumes num)) (λ _. Relays Always (λ l. without_volumes num (without_cells num l)))
     (state g.S.Store c.args.tx.now.conn.now) (state g.S.Store c.clear_cells.new.tx.conn.now) (state g.S.Store c.clear_volumes.new.tx.conn.now) _ _ _
     (λ first second l p has. second (without_cells num l) (none_left_of (λ (r : CellRow). r.entity) num l.cells) (first l p has))
     (rw (to_z-of_z c.ranges.num) at c.in_ok-clear_cells.ensures.clears) (rw (to_z-of_z c.ranges.num) at c.in_ok-clear_volumes.ensures.clears)

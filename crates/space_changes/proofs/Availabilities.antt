@@ -1,7 +1,6 @@
 -- What a USS has set is replaced.
-use Rattle.std.proofs.Common.{◌≡◌, ℕ, ◌+◌, ◌<◌, ℤ, List, [], ◌∷◌, ◌++◌, map, filter, not, ◌&&◌, Bool, true, false, Ok, Err, Result, OnOk, refl, sym, ap, subst, subst₂, ◌∙◌, arith, is_eq}
+use Rattle.std.proofs.Common.{◌≡◌, ℕ, ◌+◌, ◌<◌, ℤ, List, [], ◌∷◌, ◌++◌, map, filter, not, ◌&&◌, Bool, true, false, Ok, Err, Result, OnOk, refl, sym, ap, subst, ◌∙◌, arith}
 use Rattle.std.specs.Prelude.{IsPermutation}
-use Rattle.std.specs.List.{AllByRecursion}
 use Rattle.std.specs.Ordering.{eq_by_cmp}
 use Rattle.std.specs.FinMap.{entries, insert, nat_cmp-IsAntisymmetric, slice_cmp-IsAntisymmetric, IsAntisymmetric}
 use Rattle.std.proofs.lemmas.Cmp.{nat_list_cmp_total, eq_by_cmp_equiv}
@@ -35,14 +34,13 @@ use Rattle.entity_core.specs.declared.availability.Availability.{Availability}
 use Rattle.entity_core.specs.Airspace.{Airspace, Stated, text_cmp, with_availability}
 use Rattle.entity_core.specs.Serial.{greatest_serial}
 use Rattle.space_core.specs.declared.space.Change.TheVariants.{Avail}
-use Rattle.space_core.specs.Space.{Fits, changed}
 use Rattle.space_rows.proofs.Pieces.{all_turned}
 use Rattle.space_tables.specs.Tables.{dss_schema, availability}
-use Rattle.space_tables.specs.Spelling.{Spells, Group, IsGroup, IsStated, AreApart, availability_number, availability_values, three_columns}
+use Rattle.space_tables.specs.Spelling.{Spells, IsGroup, IsStated, AreApart, availability_number, availability_values, three_columns}
 use Rattle.space_tables.proofs.Steps.{cast_int, cast_null, inserts}
-use Rattle.space_changes.specs.Layout.{Layout, LaysOut, Relays, ReplacesSetting, layout_of, with_setting, without_setting, with_next_serial}
-use Rattle.space_changes.specs.Statements.{RelaysSound, SpellsChanged}
-use Rattle.space_changes.proofs.Texts.{clear_setting_text, insert_setting_text}
+use Rattle.space_changes.specs.Layout.{Always, Relays, ReplacesAvailability, layout_of, with_availability_row, without_availability_row, with_next_serial}
+use Rattle.space_changes.specs.Statements.{RelaysSound, MakesChange}
+use Rattle.space_changes.proofs.Texts.{clear_availability_text, insert_availability_text}
 use Rattle.space_changes.proofs.Means.{is_first, query_of}
 use Rattle.space_changes.proofs.Selecting.{clears_table}
 use Rattle.space_changes.proofs.Clear.{apart_kept}
@@ -55,13 +53,13 @@ use Rattle.space_changes.proofs.Spelt.{AreRowsOf, lay_out, spell_out}
 
 -- ---- the row is deleted
 
-clear_setting_is : command_of (understood dss_schema clear_setting_text) ≡ Delete 4 (record { lets = []; body = query_of 8 (is_first 1) (col 1 0 ∷ []) })
+clear_availability_is : command_of (understood dss_schema clear_availability_text) ≡ Delete 4 (record { lets = []; body = query_of 8 (is_first 1) (col 1 0 ∷ []) })
 unfolding understood everything
-clear_setting_is = refl
+clear_availability_is = refl
 
-clear_setting_plain : IsPlain (understood dss_schema clear_setting_text)
+clear_availability_plain : IsPlain (understood dss_schema clear_availability_text)
 unfolding understood everything
-clear_setting_plain = (refl, refl)
+clear_availability_plain = (refl, refl)
 
 no_works : (db : Trees) (ids : List ℤ) → works dss_schema Enforced 0 8 (taken_by db (edit_of db (availability 8) ids Given 0 [])) [] ≡ []
 unfolding everything
@@ -74,12 +72,12 @@ names uss c = is_true (binary (Compare Eq Binary) (column c 0) (Text uss)) && tr
 names_uss : (uss : List ℕ) (s : List ℕ × Stated) → names uss (availability_values s) ≡ eq_by_cmp text_cmp uss s.0
 names_uss uss s = and_true _ ∙ (at_texts false Eq s.0 uss ∙ (eq_by_cmp_equiv nat_list_cmp_total).symm s.0 uss)
 
-pub clears_setting : (old new : State) (uss : List ℕ) (r : Result ℕ Error) → Executes clear_setting_text (Text uss ∷ []) old new r → OnOk r (Relays (λ _. Unit {0}) (without_setting uss) old.now new.now)
-clears_setting old new uss (Err e) h = tt
-clears_setting old new uss (Ok count) h = λ l _ has.
+pub clears_availability : (old new : State) (uss : List ℕ) (r : Result ℕ Error) → Executes clear_availability_text (Text uss ∷ []) old new r → OnOk r (Relays Always (without_availability_row uss) old.now new.now)
+clears_availability old new uss (Err e) h = tt
+clears_availability old new uss (Ok count) h = λ l _ has.
     let db = old.now.trees in
-    let u = clears_table clear_setting_text (Text uss ∷ []) (availability 8) 4 (is_first 1) refl clear_setting_is clear_setting_plain old new count has.schema has.apart.2 refl h
-        (λ ids next same wrote. one_step dss_schema Enforced db next (edit_of db (availability 8) ids Given 0 []) (no_works db ids) wrote) in
+    let u = clears_table clear_availability_text (Text uss ∷ []) (availability 8) 4 (is_first 1) refl clear_availability_is clear_availability_plain old new count has.schema has.apart.2 refl h
+    (λ ids next same wrote. one_step dss_schema Enforced db next (edit_of db (availability 8) ids Given 0 []) (no_works db ids) wrote) in
     let at = λ (t : ℕ). ap (λ (d : Database). d.trees t) u.is in
     let eight = at 8 ∙ u.rows in
     let left = filter (λ (s : List ℕ × Stated). not (eq_by_cmp text_cmp uss s.0)) l.availabilities in
@@ -92,39 +90,39 @@ clears_setting old new uss (Ok count) h = λ l _ has.
 
 -- ---- and inserted
 
-insert_setting_is : command_of (understood dss_schema insert_setting_text) ≡ Insert 4 (Values (lit Null ∷ col 0 0 ∷ col 0 1 ∷ col 0 2 ∷ []) 4)
+insert_availability_is : command_of (understood dss_schema insert_availability_text) ≡ Insert 4 (Values (lit Null ∷ col 0 0 ∷ col 0 1 ∷ col 0 2 ∷ []) 4)
 unfolding understood everything
-insert_setting_is = refl
+insert_availability_is = refl
 
-insert_setting_plain : IsPlain (understood dss_schema insert_setting_text)
+insert_availability_plain : IsPlain (understood dss_schema insert_availability_text)
 unfolding understood everything
-insert_setting_plain = (refl, refl)
+insert_availability_plain = (refl, refl)
 
-abbrev setting_edit : Trees → List ℕ × Stated → Edit
-setting_edit db s = edit_of db (availability 8) [] Chosen 0 ((Null ∷ availability_values s) ∷ [])
+abbrev availability_edit : Trees → List ℕ × Stated → Edit
+availability_edit db s = edit_of db (availability 8) [] Chosen 0 ((Null ∷ availability_values s) ∷ [])
 
-abbrev stored_setting : Trees → List ℕ × Stated → Row
-stored_setting db s = Int (next_rowid (db 8)) ∷ availability_values s
+abbrev stored_availability : Trees → List ℕ × Stated → Row
+stored_availability db s = Int (next_rowid (db 8)) ∷ availability_values s
 
-new_setting : (db : Trees) (s : List ℕ × Stated) → (setting_edit db s).news ≡ stored_setting db s ∷ []
-new_setting db s = rw (cast_int (availability_number s.1.0), cast_null)
+new_availability : (db : Trees) (s : List ℕ × Stated) → (availability_edit db s).news ≡ stored_availability db s ∷ []
+new_availability db s = rw (cast_int (availability_number s.1.0), cast_null)
 
-setting_works : (db : Trees) (s : List ℕ × Stated) → works dss_schema Enforced 0 8 (taken_by db (setting_edit db s)) (setting_edit db s).news ≡ []
-setting_works db s = refl
+availability_works : (db : Trees) (s : List ℕ × Stated) → works dss_schema Enforced 0 8 (taken_by db (availability_edit db s)) (availability_edit db s).news ≡ []
+availability_works db s = refl
 
-pub inserts_setting : (old new : State) (s : List ℕ × Stated) (r : Result ℕ Error) → Executes insert_setting_text (availability_values s) old new r → OnOk r (Relays (λ _. Unit {0}) (with_setting s.0 s.1) old.now new.now)
-inserts_setting old new s (Err e) h = tt
-inserts_setting old new s (Ok count) h = λ l _ has.
+pub inserts_availability : (old new : State) (s : List ℕ × Stated) (r : Result ℕ Error) → Executes insert_availability_text (availability_values s) old new r → OnOk r (Relays Always (with_availability_row s.0 s.1) old.now new.now)
+inserts_availability old new s (Err e) h = tt
+inserts_availability old new s (Ok count) h = λ l _ has.
     let db = old.now.trees in
-    let w = runs_as insert_setting_text (availability_values s) old new dss_schema has.schema _ insert_setting_is insert_setting_plain count h in
-    let u = inserts dss_schema old new (availability_values s) (availability 8) 4 _ 4 (statement_of insert_setting_text (understood dss_schema insert_setting_text)) count has.schema refl refl w in
+    let w = runs_as insert_availability_text (availability_values s) old new dss_schema has.schema _ insert_availability_is insert_availability_plain count h in
+    let u = inserts dss_schema old new (availability_values s) (availability 8) 4 _ 4 (statement_of insert_availability_text (understood dss_schema insert_availability_text)) count has.schema refl refl w in
     let rows : u.rows ≡ (Null ∷ availability_values s) ∷ [] = u.given in
     let wrote = subst (λ rs. Acts dss_schema Enforced db (edit_of db (availability 8) [] Chosen 0 rs) (Ok u.next)) rows u.wrote in
-    let step = one_step dss_schema Enforced db u.next (setting_edit db s) (setting_works db s) wrote in
+    let step = one_step dss_schema Enforced db u.next (availability_edit db s) (availability_works db s) wrote in
     let at = λ (t : ℕ). ap (λ (d : Database). d.trees t) u.is in
-    let one = stored_setting db s in
-    let fresh = fresh_one db u.next (setting_edit db s) one (new_setting db s) refl step in
-    let put = at 8 ∙ one_put db u.next (setting_edit db s) one (new_setting db s) refl step in
+    let one = stored_availability db s in
+    let fresh = fresh_one db u.next (availability_edit db s) one (new_availability db s) refl step in
+    let put = at 8 ∙ one_put db u.next (availability_edit db s) one (new_availability db s) refl step in
     availabilities_relaid old.now new.now l has (ap (λ (d : Database). d.schema) u.is)
     (at 0 ∙ step.tables.0 (λ e. cc)) (at 1 ∙ step.tables.1.0 (λ e. cc)) (at 3 ∙ step.tables.1.1.0 (λ e. cc)) (at 5 ∙ step.tables.1.1.1.0 (λ e. cc))
     (l.availabilities ++ s ∷ [])
@@ -141,7 +139,7 @@ module _ (db : Database) (a : Airspace) (p : Spells db a) (uss : List ℕ) (stat
   together = inserted text_cmp nat_list_cmp_total text_exact a.availabilities uss stated
 
   -- its rows are those of the airspace with what is set
-  pub rows_set : a.serial < greatest_serial → AreRowsOf (with_next_serial (with_setting uss stated (without_setting uss (layout_of db a p)))) p.groups (with_availability a uss stated)
+  pub rows_set : a.serial < greatest_serial → AreRowsOf (with_next_serial (with_availability_row uss stated (without_availability_row uss (layout_of db a p)))) p.groups (with_availability a uss stated)
   rows_set room = record {
     serial = refl;
     most = omega (arith, room);
@@ -156,11 +154,11 @@ module _ (db : Database) (a : Airspace) (p : Spells db a) (uss : List ℕ) (stat
   }
 
 -- what a USS has set is replaced, and the serial goes on
-pub sets_availability : (old replaced new : Database) (uss : List ℕ) (availability : Availability) (version : List ℕ) → ReplacesSetting uss (availability, version) old replaced → RelaysSound (λ l. l.serial < greatest_serial) with_next_serial replaced new
-    → SpellsChanged (Fits (Avail uss availability version)) (changed (Avail uss availability version)) old new
+pub sets_availability : (old replaced new : Database) (uss : List ℕ) (availability : Availability) (version : List ℕ) → ReplacesAvailability uss (availability, version) old replaced → RelaysSound (λ l. l.serial < greatest_serial) with_next_serial replaced new
+    → MakesChange (Avail uss availability version) old new
 sets_availability old replaced new uss availability version replaces raises a p fits =
     let l = layout_of old a p in
     let stated : Stated = (availability, version) in
-    let set = with_setting uss stated (without_setting uss l) in
+    let set = with_availability_row uss stated (without_availability_row uss l) in
     let has = replaces.1 l tt (lay_out old a p) in
     (spell_out new (with_next_serial set) p.groups (with_availability a uss stated) (raises.0 set fits.room has) (rows_set old a p uss stated replaces.0 fits.room), raises.1 set fits.room has)
