@@ -1,12 +1,10 @@
 -- The rows of availability are read one after the other: what is left is settled exactly where the whole is.
-use Rattle.std.specs.Prelude.{◌≡◌, ℕ, ℤ, ◌↔◌, List, [], ◌∷◌, map, refl}
+use Rattle.std.specs.Prelude.{◌≡◌, ℕ, ◌↔◌, List, [], ◌∷◌, refl}
 use Rattle.std.specs.FinMap.{insert, empty}
 use Rattle.std.proofs.Common.{sym, ap, ◌∙◌, subst}
 use Rattle.sqlite_value.specs.Order.{Row}
-use Rattle.entity_core.specs.declared.availability.Availability.{Availability}
-use Rattle.entity_core.specs.declared.availability.Availability.TheVariants.{Unknown, Normal, Down}
 use Rattle.entity_core.specs.Airspace.{Availabilities, Stated}
-use Rattle.space_tables.specs.Spelling.{availability_values, IsStated}
+use Rattle.space_tables.specs.Spelling.{availability_values}
 use Rattle.space_tables.proofs.OneAirspace.{stated_of_values, stated_back}
 use Rattle.space_reading.specs.declared.settings.Setting.{Setting}
 use Rattle.space_reading.specs.Gathering.{Settles, IsSetting, stated_by}

@@ -1,30 +1,27 @@
 -- What a reading of a whole table shows.
-use Rattle.std.proofs.Common.{◌≡◌, ℕ, ℤ, pos, List, [], ◌∷◌, ◌++◌, map, filter, Bool, true, false, cond, ◌&&◌, Ok, Err, Result, IfOk, refl, sym, ap, subst, ◌∙◌, Ordering, Less, Equal, Greater}
+use Rattle.std.proofs.Common.{◌≡◌, ℕ, List, [], ◌∷◌, ◌++◌, map, filter, Bool, true, false, cond, refl, sym, ap, subst, ◌∙◌, Ordering, Less, Equal, Greater}
 use Rattle.std.specs.Prelude.{IsPermutation}
 use Rattle.std.specs.Ordering.{int_cmp, ordering_then}
 use Rattle.std.specs.List.{list_all, flat_map}
-use Rattle.std.proofs.lemmas.List.Sorted.{IsPermutation-map, IsPermutation-trans, IsPermutation-refl}
+use Rattle.std.proofs.lemmas.List.Sorted.{IsPermutation-map, IsPermutation-trans}
 use Rattle.sqlite_keyed.proofs.ListLemmas.{map-map, ascending-map, ascending_weaker, map_same}
 use Rattle.sqlite_keyed.proofs.SortLemmas.{sorted_unique}
 use Rattle.sqlite_sql.proofs.QueryLemmas.{output_cmp_total}
-use Rattle.sqlite_trees.specs.Tree.{Trees, IsAscending, rowid}
+use Rattle.sqlite_trees.specs.Tree.{Trees, IsAscending}
 use Rattle.sqlite_value.proofs.OrderLemmas.{value_cmp-Int}
-use Rattle.sqlite.specs.declared.types.Value.TheVariants.{Null, Int, Text}
+use Rattle.sqlite.specs.declared.types.Value.TheVariants.{Null}
 use Rattle.sqlite.specs.Order.{Row, column}
-use Rattle.sqlite.specs.Term.{Term, lit, col, eval_all, holds}
+use Rattle.sqlite.specs.Term.{Term, eval_all, holds}
 use Rattle.sqlite.specs.Program.{overlay}
 use Rattle.sqlite_sql.specs.Query.{Query, Output, output, output_cmp, IsAnswer}
 use Rattle.sqlite.specs.State.{State, Shown}
 use Rattle.sqlite.proofs.Callers.{reads_as}
-use Rattle.space_rows.specs.declared.rows.EntityRow.{EntityRow}
-use Rattle.space_rows.specs.declared.rows.VolumeRow.{VolumeRow}
-use Rattle.space_rows.specs.declared.rows.CellRow.{CellRow}
 use Rattle.space_tables.specs.Tables.{dss_schema}
 use Rattle.space_reading.proofs.Texts.{metas_read, entities_read, volumes_read, cells_read, settings_read, volume_ids_read, cell_ids_read, setting_ids_read}
-use Rattle.space_tables.specs.Spelling.{entity_values, volume_values, cell_values, entity_columns, six_columns, three_columns, meta_columns}
-use Rattle.space_reading.specs.Reading.{entity_order, volume_order, cell_order, rowid_column, ShowsRising, ShowsMeta, ShowsEntities, ShowsVolumes, ShowsCells, ShowsSettings, ShowsIds}
+use Rattle.space_tables.specs.Spelling.{entity_values, volume_values, cell_values, entity_columns, six_columns}
+use Rattle.space_reading.specs.Reading.{entity_order, volume_order, cell_order, rowid_column, ShowsMeta, ShowsEntities, ShowsVolumes, ShowsCells, ShowsSettings, ShowsIds}
 use Rattle.space_reading.specs.Rows.{number_values}
-use Rattle.space_reading.proofs.Means.{simple, Lists, listing, cols, up, metas_list, entities_list, volumes_list, cells_list, settings_list, volume_ids_list, cell_ids_list, setting_ids_list}
+use Rattle.space_reading.proofs.Means.{Lists, listing, cols, metas_list, entities_list, volumes_list, cells_list, settings_list, volume_ids_list, cell_ids_list, setting_ids_list}
 
 kept_as_filter : {X Y : Type 0} (p : X → Bool) (f : X → Y) (xs : List X) → flat_map (λ x. cond (p x) (f x ∷ []) []) xs ≡ map f (filter p xs)
 kept_as_filter p f [] = refl

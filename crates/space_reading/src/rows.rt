@@ -74,8 +74,7 @@ fn is_entity_row(row: &Row) -> bool
                     && (is_text(row, 3)
                         && (is_number(row, 4)
                             && (is_number(row, 5)
-                                && (is_number(row, 6)
-                                    && (is_text(row, 7) && is_text(row, 8)))))))))
+                                && (is_number(row, 6) && (is_text(row, 7) && is_text(row, 8)))))))))
 }
 
 fn is_volume_row(row: &Row) -> bool

@@ -88,11 +88,7 @@ fn is_free(out: &Availabilities, uss: &UssId) -> Result<bool, AllocError>
 }
 
 // What a row says, if it says what a supplier has set that is none of those before it.
-fn setting_of(
-    alloc: Global,
-    row: &Row,
-    out: &Availabilities,
-) -> Result<Option<Setting>, AllocError>
+fn setting_of(alloc: Global, row: &Row, out: &Availabilities) -> Result<Option<Setting>, AllocError>
     ensures { let before = availability_map out.now in
         IfOk result (λ o. Finds (λ s. IsSetting row.now before (stated_by s)) o) }
 {
@@ -120,13 +116,10 @@ fn setting_of(
 }
 
 /// What suppliers have set, if each row says what one has.
-pub(crate) fn settings_in(
-    alloc: Global,
-    rows: &[Row],
-) -> Result<Option<Availabilities>, AllocError>
+pub(crate) fn settings_in(alloc: Global, rows: &[Row]) -> Result<Option<Availabilities>, AllocError>
     ensures { let r = rows.now in
         IfOk result (λ o. MatchOption o ((m : Map) → ¬ Settles r empty m)
-            (λ es. Settles r empty (availability_map es))) }
+        (λ es. Settles r empty (availability_map es))) }
 {
     let mut out = Availabilities::new(alloc);
     for row in rows {
