@@ -1,7 +1,9 @@
 pub mod Texts
 pub mod Means
+pub mod Selected
 pub mod Shown
 pub mod Readings
+pub mod Selects
 pub mod Columns
 pub mod TypedRows
 pub mod MapEntries

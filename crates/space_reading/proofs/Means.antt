@@ -33,14 +33,14 @@ up place = (col 1 place, ascending Binary)
 abbrev pub cols : List ℕ → List Term
 cols places = map (col 1) places
 
--- all rows of a table, some columns of each, in an order
-abbrev pub listing : ℕ → List ℕ → List ℕ → Query
-listing t shown order = record (simple t [] (cols shown)) { order = map up order }
+-- the rows of a table that pass some tests, some columns of each, in an order
+abbrev pub listing : ℕ → List Term → List ℕ → List ℕ → Query
+listing t tests shown order = record (simple t tests (cols shown)) { order = map up order }
 
 -- what the text of a reading means
 pub record Lists (text : List ℕ) (t : ℕ) (shown order : List ℕ) : Type 0 where
   pub names : List (List ℕ)
-  pub is : command_of (understood dss_schema text) ≡ Select (record { lets = []; body = listing t shown order }) names
+  pub is : command_of (understood dss_schema text) ≡ Select (record { lets = []; body = listing t [] shown order }) names
   pub plain : IsPlain (understood dss_schema text)
   pub unlisted : reads_listing dss_schema text ≡ false
 

@@ -24,3 +24,6 @@ cell_ids_read = codes "SELECT rowid FROM cell ORDER BY rowid"
 
 abbrev pub setting_ids_read : List ℕ
 setting_ids_read = codes "SELECT rowid FROM availability ORDER BY rowid"
+
+abbrev pub serial_read : List ℕ
+serial_read = codes "SELECT serial FROM meta WHERE one = 1"

@@ -7,6 +7,8 @@ mod meta;
 pub mod reading;
 mod rising;
 mod rows;
+mod select;
 mod settings;
+pub mod single;
 mod tables;
 pub mod verdict;
