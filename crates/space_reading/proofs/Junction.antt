@@ -36,8 +36,8 @@ settled_from [] m all h = ([], refl, tt, IsPermutation-same _ _ (ap entries h))
 settled_from (r ∷ rows) m all h =
     let more = settled_from rows (insert m h.0.0 h.0.1) all h.2 in (
       h.0 ∷ more.0,
-      ap₂ ◌∷◌ h.1.values more.1,
-      (h.1.stated, more.2),
+      ap₂ ◌∷◌ h.1.says.values more.1,
+      (h.1.says.stated, more.2),
       IsPermutation-trans _ _ _ (IsPermutation-sym _ _ (moves_in text_cmp nat_list_cmp_total m h.0 more.0 h.1.new)) more.3,
     )
 
@@ -46,7 +46,7 @@ settles_from [] m all each same = one_map text_cmp nat_list_cmp_total m all same
 settles_from (s ∷ ss) m all each same =
     let new = new_key text_cmp nat_list_cmp_total m all s ss same in (
       s,
-      record { values = refl; stated = each.0; new = new },
+      record { says = record { values = refl; stated = each.0 }; new = new },
       settles_from ss (insert m s.0 s.1) all each.1 (IsPermutation-trans _ _ _ (moves_in text_cmp nat_list_cmp_total m s ss new) same),
     )
 

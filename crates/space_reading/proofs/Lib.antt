@@ -7,6 +7,10 @@ pub mod Selects
 pub mod Columns
 pub mod TypedRows
 pub mod MapEntries
+pub mod Found
+pub mod OwnRows
+pub mod Heads
+pub mod Entire
 pub mod Groups
 pub mod Gatherings
 pub mod Settlings

@@ -21,7 +21,7 @@ pub settles_more : (rows : List Row) (r : Row) (rest more : List Row) (m n : Ava
 settles_more rows r rest more m n s is t put g all = (
   (λ w.
       let a = subst (λ (l : List Row). Settles l m all) is ((g all).0 w) in
-      let same : a.0 ≡ s = one_setting a.0 s (sym a.1.values ∙ t.values) in
+      let same : a.0 ≡ s = one_setting a.0 s (sym a.1.says.values ∙ t.says.values) in
       subst (λ (k : Availabilities). Settles more k all) (ap (λ (p : List ℕ × Stated). insert m p.0 p.1) same ∙ sym put) a.2),
   (λ w. (g all).1 (subst (λ (l : List Row). Settles l m all) (sym is) (s, t, subst (λ (k : Availabilities). Settles more k all) put w))),
 )

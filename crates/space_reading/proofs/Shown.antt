@@ -24,7 +24,7 @@ use Rattle.space_reading.specs.Rows.{number_values}
 use Rattle.space_reading.proofs.Selected.{selects_all, selects_one}
 use Rattle.space_reading.proofs.Means.{Lists, listing, cols, metas_list, entities_list, volumes_list, cells_list, settings_list, volume_ids_list, cell_ids_list, setting_ids_list}
 
-then_equal : (o : Ordering) → ordering_then o Equal ≡ o
+pub then_equal : (o : Ordering) → ordering_then o Equal ≡ o
 then_equal Less = refl
 then_equal Equal = refl
 then_equal Greater = refl

@@ -4,6 +4,7 @@
 mod entities;
 mod judge;
 mod meta;
+mod own;
 pub mod reading;
 mod rising;
 mod rows;
