@@ -17,7 +17,7 @@ use Rattle.space_rows.specs.declared.rows.CellRow.{CellRow}
 use Rattle.space_rows.specs.Rows.{PlacedCell, placed, IsVolumeRow, IsCellRow, SpellsEntity}
 use Rattle.space_rows.proofs.OneEntity.{one_entity}
 use Rattle.space_rows.proofs.Pieces.{all_joined, all_turned}
-use Rattle.space_reading.specs.Gathering.{Gathers, Step, IsNext, StartsElse}
+use Rattle.space_reading.specs.Gathering.{Gathers, IsNext, StartsElse}
 
 -- the rows of the next entity, and the others
 pub record Front {X : Type 0} (P : X → Type 0) (rest own more : List X) : Type 0 where

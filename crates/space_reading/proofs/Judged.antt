@@ -1,5 +1,5 @@
 -- What is found of the rows is so of the database.
-use Rattle.std.proofs.Common.{◌≡◌, [], ◌∷◌, map, Ok, Err, Result, IfOk, sym, subst}
+use Rattle.std.proofs.Common.{◌≡◌, [], ◌∷◌, map, Ok, Err, Result, IfOk, subst}
 use Rattle.std.specs.Prelude.{IsPermutation}
 use Rattle.std.proofs.lemmas.List.Sorted.{IsPermutation-sym}
 use Rattle.sqlite.specs.Effect.{Database}

@@ -1,5 +1,5 @@
 -- What was read is listed exactly where it is spelt.
-use Rattle.std.proofs.Common.{◌≡◌, ◌⊎◌, ℕ, ℤ, pos, List, [], ◌∷◌, ◌++◌, map, flat_map, refl, sym, ap, ap₂, subst, subst₂, ◌∙◌, arith, Less, append-nil}
+use Rattle.std.proofs.Common.{◌≡◌, ℕ, ℤ, pos, List, [], ◌∷◌, ◌++◌, map, flat_map, refl, sym, ap, ap₂, subst, subst₂, ◌∙◌, arith, Less, append-nil}
 use Rattle.std.specs.Prelude.{IsPermutation}
 use Rattle.std.specs.List.{AllByRecursion}
 use Rattle.std.specs.Ordering.{int_cmp}
@@ -10,7 +10,7 @@ use Rattle.std.proofs.lemmas.List.Sorted.{IsPermutation-map, IsPermutation-trans
 use Rattle.std.proofs.lemmas.List.Elements.{All-from_recursion, recursion_from_All}
 use Rattle.sqlite_keyed.proofs.ListLemmas.{map-map, map_back, map-flat_map, IsPermutation-same, ascending-map}
 use Rattle.sqlite_keyed.proofs.KeyedLemmas.{Less-from_lt}
-use Rattle.sqlite_trees.specs.Tree.{IsAscending, rowid}
+use Rattle.sqlite_trees.specs.Tree.{rowid}
 use Rattle.sqlite_value.specs.declared.value.Value.TheVariants.{Int}
 use Rattle.sqlite.specs.Order.{Row, column}
 use Rattle.sqlite.specs.Effect.{Database}
@@ -24,8 +24,8 @@ use Rattle.space_tables.proofs.OneAirspace.{stated_of_values, stated_back, one_m
 use Rattle.space_tables.proofs.Making.{no_entries}
 use Rattle.space_reading.specs.declared.tables.Tables.{Tables}
 use Rattle.space_reading.specs.Rows.{number_values}
-use Rattle.space_reading.specs.Reading.{entity_order, volume_order, cell_order, rowid_column, ShowsTables, ShowsIds}
-use Rattle.space_reading.specs.Gathering.{Gathers, Settles, IsSetting, AreRising, IsListed}
+use Rattle.space_reading.specs.Reading.{entity_order, rowid_column, ShowsTables, ShowsIds}
+use Rattle.space_reading.specs.Gathering.{Settles, AreRising, IsListed}
 use Rattle.space_reading.proofs.MapEntries.{new_key, moves_in}
 use Rattle.space_reading.proofs.Groups.{groups_from, gathers_from}
 
@@ -36,8 +36,8 @@ settled_from [] m all h = ([], refl, tt, IsPermutation-same _ _ (ap entries h))
 settled_from (r ∷ rows) m all h =
     let more = settled_from rows (insert m h.0.0 h.0.1) all h.2 in (
       h.0 ∷ more.0,
-      ap₂ ◌∷◌ h.1.values more.1,
-      (h.1.stated, more.2),
+      ap₂ ◌∷◌ h.1.says.values more.1,
+      (h.1.says.stated, more.2),
       IsPermutation-trans _ _ _ (IsPermutation-sym _ _ (moves_in text_cmp nat_list_cmp_total m h.0 more.0 h.1.new)) more.3,
     )
 
@@ -46,7 +46,7 @@ settles_from [] m all each same = one_map text_cmp nat_list_cmp_total m all same
 settles_from (s ∷ ss) m all each same =
     let new = new_key text_cmp nat_list_cmp_total m all s ss same in (
       s,
-      record { values = refl; stated = each.0; new = new },
+      record { says = record { values = refl; stated = each.0 }; new = new },
       settles_from ss (insert m s.0 s.1) all each.1 (IsPermutation-trans _ _ _ (moves_in text_cmp nat_list_cmp_total m s ss new) same),
     )
 

@@ -1,10 +1,16 @@
 pub mod Texts
 pub mod Means
+pub mod Selected
 pub mod Shown
 pub mod Readings
+pub mod Selects
 pub mod Columns
 pub mod TypedRows
 pub mod MapEntries
+pub mod Found
+pub mod OwnRows
+pub mod Heads
+pub mod Entire
 pub mod Groups
 pub mod Gatherings
 pub mod Settlings

@@ -22,7 +22,7 @@ use Rattle.space_reading.proofs.TypedRows.{number_of_values, number_back}
 use Rattle.space_reading.proofs.Written.{gathered_written, all_written}
 
 -- rows are those of one typed list
-one_typed : {X : Type 0} (values : X → Row) (decode : Row → X) → ((x : X) → decode (values x) ≡ x) → (rows : List Row) (xs ys : List X) → rows ≡ map values xs → rows ≡ map values ys → xs ≡ ys
+pub one_typed : {X : Type 0} (values : X → Row) (decode : Row → X) → ((x : X) → decode (values x) ≡ x) → (rows : List Row) (xs ys : List X) → rows ≡ map values xs → rows ≡ map values ys → xs ≡ ys
 one_typed values decode back rows xs ys p q = sym (map_back values decode back xs) ∙ (ap (map decode) (sym p ∙ q) ∙ map_back values decode back ys)
 
 module _ (serial : ℕ) (t : EntityTables) where

@@ -1,5 +1,5 @@
 -- Maps by their entries.
-use Rattle.std.proofs.Common.{◌≡◌, ℕ, ◌≤◌, List, [], ◌∷◌, ◌++◌, filter, length, Bool, true, false, cond, Some, None, refl, sym, ap, subst, ◌∙◌, arith, Ordering, Less, Equal, Greater, length-append, is_eq}
+use Rattle.std.proofs.Common.{◌≡◌, ◌≤◌, List, [], ◌∷◌, ◌++◌, filter, length, Bool, true, false, cond, Some, None, refl, sym, ap, subst, ◌∙◌, arith, Ordering, Less, Equal, Greater, length-append, is_eq}
 use Rattle.std.specs.Prelude.{IsPermutation}
 use Rattle.std.specs.List.{AllByRecursion}
 use Rattle.std.specs.Ordering.{eq_by_cmp}
@@ -16,7 +16,7 @@ module _ {K X : Type 0} (R : K → K → Ordering) (o : IsTotalOrder R) where
   abbrev pub hits : K → K × X → Bool
   hits k e = eq_by_cmp R k e.0
 
-  below_misses : (k l : K) (es : List (K × X)) → R k l ≡ Equal → AllByRecursion (λ (e : K × X). R l e.0 ≡ Less) es → AllByRecursion (λ e. hits k e ≡ false) es
+  pub below_misses : (k l : K) (es : List (K × X)) → R k l ≡ Equal → AllByRecursion (λ (e : K × X). R l e.0 ≡ Less) es → AllByRecursion (λ e. hits k e ≡ false) es
   below_misses k l [] e all = tt
   below_misses k l (f ∷ es) e all = (ap is_eq (o.congr k l f.0 e ∙ all.0), below_misses k l es e all.1)
 

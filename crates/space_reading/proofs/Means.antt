@@ -1,13 +1,12 @@
 -- What the statements mean.
-use Rattle.std.proofs.Common.{◌≡◌, ℕ, List, Ok, refl, codes, [], ◌∷◌, None, Some, pos, negsuc, true, false, map}
-use Rattle.sqlite.specs.declared.types.Value.TheVariants.{Null, Int, Text as Words}
+use Rattle.std.proofs.Common.{◌≡◌, ℕ, List, refl, codes, [], ◌∷◌, None, pos, negsuc, false, map}
+use Rattle.sqlite.specs.declared.types.Value.TheVariants.{Int}
 use Rattle.sqlite_tied.specs.Compute.{everything}
 use Rattle.sqlite.specs.Listing.{understood, reads_listing}
-use Rattle.sqlite.proofs.Callers.{IsPlain, command_of, statement_of}
-use Rattle.sqlite.specs.Command.{Command}
-use Rattle.sqlite.specs.Command.TheVariants.{Insert, Update, Delete, Select}
+use Rattle.sqlite.proofs.Callers.{IsPlain, command_of}
+use Rattle.sqlite.specs.Command.TheVariants.{Select}
 use Rattle.sqlite.specs.Query.{Query, inner, end}
-use Rattle.sqlite.specs.Term.{Term, lit, col, op2, op1}
+use Rattle.sqlite.specs.Term.{Term, lit, col}
 use Rattle.sqlite_value.specs.Keys.{ascending}
 use Rattle.sqlite_value.specs.declared.keys.Key.{Key}
 use Rattle.sqlite.specs.Collation.TheVariants.{Binary}
@@ -34,14 +33,14 @@ up place = (col 1 place, ascending Binary)
 abbrev pub cols : List ℕ → List Term
 cols places = map (col 1) places
 
--- all rows of a table, some columns of each, in an order
-abbrev pub listing : ℕ → List ℕ → List ℕ → Query
-listing t shown order = record (simple t [] (cols shown)) { order = map up order }
+-- the rows of a table that pass some tests, some columns of each, in an order
+abbrev pub listing : ℕ → List Term → List ℕ → List ℕ → Query
+listing t tests shown order = record (simple t tests (cols shown)) { order = map up order }
 
 -- what the text of a reading means
 pub record Lists (text : List ℕ) (t : ℕ) (shown order : List ℕ) : Type 0 where
   pub names : List (List ℕ)
-  pub is : command_of (understood dss_schema text) ≡ Select (record { lets = []; body = listing t shown order }) names
+  pub is : command_of (understood dss_schema text) ≡ Select (record { lets = []; body = listing t [] shown order }) names
   pub plain : IsPlain (understood dss_schema text)
   pub unlisted : reads_listing dss_schema text ≡ false
 

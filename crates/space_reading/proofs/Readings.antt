@@ -1,5 +1,5 @@
 -- Readings in a transaction, alone and one after the other.
-use Rattle.std.proofs.Common.{◌≡◌, ◌⊎◌, inl, inr, List, ℕ, [], Ok, Err, Result, IfOk, OnOk, refl, sym, ap, subst, ◌∙◌, arith}
+use Rattle.std.proofs.Common.{◌≡◌, ◌⊎◌, inl, inr, List, ℕ, Ok, Err, Result, IfOk, OnOk, sym, ap, subst, ◌∙◌, arith}
 use Rattle.std.specs.Prelude.{IfErr, Vec}
 use Rattle.std.specs.Global.{Global}
 use Rattle.sqlite.specs.Order.{Row}

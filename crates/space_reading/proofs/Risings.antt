@@ -1,12 +1,9 @@
 -- Numbers rise where each is below the next one.
-use Rattle.std.specs.Prelude.{◌≡◌, ℕ, ℤ, ◌<ℤ◌, ◌↔◌, List, [], ◌∷◌, Bool, true, false, IsTrue}
-use Rattle.std.specs.List.{AllByRecursion}
-use Rattle.std.specs.Ordering.{int_cmp, MatchOrdering}
-use Rattle.std.specs.Cmp.{int_ranks, int_cmp_is}
-use Rattle.std.specs.declared.cmp.Ordering.{Ordering}
+use Rattle.std.specs.Prelude.{◌≡◌, ℤ, ◌↔◌, List, [], ◌∷◌}
+use Rattle.std.specs.Ordering.{int_cmp}
+use Rattle.std.specs.Cmp.{int_cmp_is}
 use Rattle.std.specs.declared.cmp.Ordering.TheVariants.{Less}
-use Rattle.std.proofs.Common.{sym, ap, ◌∙◌, subst, arith}
-use Rattle.std.proofs.lemmas.Int.{ints}
+use Rattle.std.proofs.Common.{sym, subst}
 use Rattle.space_rows.proofs.Pieces.{all_turned}
 use Rattle.sqlite_trees.specs.Tree.{IsAscending}
 use Rattle.space_reading.proofs.Gatherings.{less, trans}

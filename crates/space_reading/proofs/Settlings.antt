@@ -1,12 +1,10 @@
 -- The rows of availability are read one after the other: what is left is settled exactly where the whole is.
-use Rattle.std.specs.Prelude.{◌≡◌, ℕ, ℤ, ◌↔◌, List, [], ◌∷◌, map, refl}
+use Rattle.std.specs.Prelude.{◌≡◌, ℕ, ◌↔◌, List, [], ◌∷◌, refl}
 use Rattle.std.specs.FinMap.{insert, empty}
 use Rattle.std.proofs.Common.{sym, ap, ◌∙◌, subst}
 use Rattle.sqlite_value.specs.Order.{Row}
-use Rattle.entity_core.specs.declared.availability.Availability.{Availability}
-use Rattle.entity_core.specs.declared.availability.Availability.TheVariants.{Unknown, Normal, Down}
 use Rattle.entity_core.specs.Airspace.{Availabilities, Stated}
-use Rattle.space_tables.specs.Spelling.{availability_values, IsStated}
+use Rattle.space_tables.specs.Spelling.{availability_values}
 use Rattle.space_tables.proofs.OneAirspace.{stated_of_values, stated_back}
 use Rattle.space_reading.specs.declared.settings.Setting.{Setting}
 use Rattle.space_reading.specs.Gathering.{Settles, IsSetting, stated_by}
@@ -23,7 +21,7 @@ pub settles_more : (rows : List Row) (r : Row) (rest more : List Row) (m n : Ava
 settles_more rows r rest more m n s is t put g all = (
   (λ w.
       let a = subst (λ (l : List Row). Settles l m all) is ((g all).0 w) in
-      let same : a.0 ≡ s = one_setting a.0 s (sym a.1.values ∙ t.values) in
+      let same : a.0 ≡ s = one_setting a.0 s (sym a.1.says.values ∙ t.says.values) in
       subst (λ (k : Availabilities). Settles more k all) (ap (λ (p : List ℕ × Stated). insert m p.0 p.1) same ∙ sym put) a.2),
   (λ w. (g all).1 (subst (λ (l : List Row). Settles l m all) (sym is) (s, t, subst (λ (k : Availabilities). Settles more k all) put w))),
 )

@@ -1,41 +1,30 @@
 -- What a reading of a whole table shows.
-use Rattle.std.proofs.Common.{◌≡◌, ℕ, ℤ, pos, List, [], ◌∷◌, ◌++◌, map, filter, Bool, true, false, cond, ◌&&◌, Ok, Err, Result, IfOk, refl, sym, ap, subst, ◌∙◌, Ordering, Less, Equal, Greater}
+use Rattle.std.proofs.Common.{◌≡◌, ℕ, List, [], ◌∷◌, ◌++◌, map, filter, Bool, true, false, cond, refl, sym, ap, subst, ◌∙◌, Ordering, Less, Equal, Greater}
 use Rattle.std.specs.Prelude.{IsPermutation}
 use Rattle.std.specs.Ordering.{int_cmp, ordering_then}
 use Rattle.std.specs.List.{list_all, flat_map}
-use Rattle.std.proofs.lemmas.List.Sorted.{IsPermutation-map, IsPermutation-trans, IsPermutation-refl}
+use Rattle.std.proofs.lemmas.List.Sorted.{IsPermutation-map, IsPermutation-trans}
 use Rattle.sqlite_keyed.proofs.ListLemmas.{map-map, ascending-map, ascending_weaker, map_same}
 use Rattle.sqlite_keyed.proofs.SortLemmas.{sorted_unique}
 use Rattle.sqlite_sql.proofs.QueryLemmas.{output_cmp_total}
-use Rattle.sqlite_trees.specs.Tree.{Trees, IsAscending, rowid}
+use Rattle.sqlite_trees.specs.Tree.{Trees, IsAscending}
 use Rattle.sqlite_value.proofs.OrderLemmas.{value_cmp-Int}
-use Rattle.sqlite.specs.declared.types.Value.TheVariants.{Null, Int, Text}
+use Rattle.sqlite.specs.declared.types.Value.TheVariants.{Null}
 use Rattle.sqlite.specs.Order.{Row, column}
-use Rattle.sqlite.specs.Term.{Term, lit, col, eval_all, holds}
+use Rattle.sqlite.specs.Term.{Term, eval_all, holds}
 use Rattle.sqlite.specs.Program.{overlay}
 use Rattle.sqlite_sql.specs.Query.{Query, Output, output, output_cmp, IsAnswer}
 use Rattle.sqlite.specs.State.{State, Shown}
 use Rattle.sqlite.proofs.Callers.{reads_as}
-use Rattle.space_rows.specs.declared.rows.EntityRow.{EntityRow}
-use Rattle.space_rows.specs.declared.rows.VolumeRow.{VolumeRow}
-use Rattle.space_rows.specs.declared.rows.CellRow.{CellRow}
 use Rattle.space_tables.specs.Tables.{dss_schema}
 use Rattle.space_reading.proofs.Texts.{metas_read, entities_read, volumes_read, cells_read, settings_read, volume_ids_read, cell_ids_read, setting_ids_read}
-use Rattle.space_tables.specs.Spelling.{entity_values, volume_values, cell_values, entity_columns, six_columns, three_columns, meta_columns}
-use Rattle.space_reading.specs.Reading.{entity_order, volume_order, cell_order, rowid_column, ShowsRising, ShowsMeta, ShowsEntities, ShowsVolumes, ShowsCells, ShowsSettings, ShowsIds}
+use Rattle.space_tables.specs.Spelling.{entity_values, volume_values, cell_values, entity_columns, six_columns}
+use Rattle.space_reading.specs.Reading.{entity_order, volume_order, cell_order, rowid_column, ShowsMeta, ShowsEntities, ShowsVolumes, ShowsCells, ShowsSettings, ShowsIds}
 use Rattle.space_reading.specs.Rows.{number_values}
-use Rattle.space_reading.proofs.Means.{simple, Lists, listing, cols, up, metas_list, entities_list, volumes_list, cells_list, settings_list, volume_ids_list, cell_ids_list, setting_ids_list}
+use Rattle.space_reading.proofs.Selected.{selects_all, selects_one}
+use Rattle.space_reading.proofs.Means.{Lists, listing, cols, metas_list, entities_list, volumes_list, cells_list, settings_list, volume_ids_list, cell_ids_list, setting_ids_list}
 
-kept_as_filter : {X Y : Type 0} (p : X → Bool) (f : X → Y) (xs : List X) → flat_map (λ x. cond (p x) (f x ∷ []) []) xs ≡ map f (filter p xs)
-kept_as_filter p f [] = refl
-kept_as_filter p f (x ∷ xs) = elim (p x) as (λ b. cond b (f x ∷ []) [] ++ flat_map (λ x. cond (p x) (f x ∷ []) []) xs ≡ map f (cond b (x ∷ filter p xs) (filter p xs)))
-    [ true ↦ ap (λ l. f x ∷ l) (kept_as_filter p f xs) | false ↦ kept_as_filter p f xs ]
-
-filtered : (t : ℕ) (fs : List Term) (db : Trees) (params : Row) → overlay db [] t ≡ db t
-    → flat_map (λ r. cond (list_all (holds (params ∷ r ∷ [])) fs) ((params ∷ r ∷ []) ∷ []) []) (overlay db [] t) ≡ map (λ r. params ∷ r ∷ []) (filter (λ r. list_all (holds (params ∷ r ∷ [])) fs) (db t))
-filtered t fs db params here = ap (flat_map (λ r. cond (list_all (holds (params ∷ r ∷ [])) fs) ((params ∷ r ∷ []) ∷ []) [])) here ∙ kept_as_filter _ (λ r. params ∷ r ∷ []) (db t)
-
-then_equal : (o : Ordering) → ordering_then o Equal ≡ o
+pub then_equal : (o : Ordering) → ordering_then o Equal ≡ o
 then_equal Less = refl
 then_equal Equal = refl
 then_equal Greater = refl
@@ -45,42 +34,20 @@ all_pass [] = refl
 all_pass (x ∷ xs) = ap (λ l. x ∷ l) (all_pass xs)
 
 module _ (text : List ℕ) (t : ℕ) (shown order : List ℕ) (l : Lists text t shown order) (old new : State) (rows : List Row) (has : old.now.schema ≡ dss_schema) (h : Shown text [] old new rows) (here : overlay old.now.trees [] t ≡ old.now.trees t) where
-  abbrev q : Query
-  q = listing t shown order
-
-  answer : IsAnswer q (overlay old.now.trees []) [] rows
-  answer = let read = reads_as text [] old new dss_schema has _ l.is l.plain l.unlisted rows h in read.answer Null
-
-  kept_are : answer.kept ≡ map (λ r. output q ([] ∷ r ∷ [])) (old.now.trees t)
-  kept_are =
-      let a = answer in
-      let staged : a.staged ≡ map (λ r. [] ∷ r ∷ []) (filter (λ r. list_all (holds ([] ∷ r ∷ [])) []) (old.now.trees t)) = a.grouped ∙ filtered t [] old.now.trees [] here in
-      a.distinct ∙ (ap (map (output q)) (staged ∙ ap (map (λ r. [] ∷ r ∷ [])) (all_pass (old.now.trees t))) ∙ map-map (output q) (λ r. [] ∷ r ∷ []) (old.now.trees t))
+  answer : IsAnswer (listing t [] shown order) (overlay old.now.trees []) [] rows
+  answer =
+      let read = reads_as text [] old new dss_schema has _ l.is l.plain l.unlisted rows h in
+      read.answer Null
 
   -- the rows of the table, in some order
-  pub lists_all : IsPermutation (map (λ r. eval_all (cols shown) ([] ∷ r ∷ [])) (old.now.trees t)) rows
-  lists_all =
-      let a = answer in
-      let moved = IsPermutation-map (λ (o : Output). o.1) _ _ a.same in
-      let from = ap (map (λ (o : Output). o.1)) kept_are ∙ map-map (λ (o : Output). o.1) (λ r. output q ([] ∷ r ∷ [])) (old.now.trees t) in
-      subst (λ k. IsPermutation k rows) from (subst (IsPermutation (map (λ (o : Output). o.1) a.kept)) (sym a.shown) moved)
+  lists_all : IsPermutation (map (λ r. eval_all (cols shown) ([] ∷ r ∷ [])) (old.now.trees t)) rows
+  lists_all = subst (λ l. IsPermutation (map (λ r. eval_all (cols shown) ([] ∷ r ∷ [])) l) rows) (all_pass (old.now.trees t)) (selects_all t [] shown order old.now.trees [] rows here answer)
 
   -- where the columns are those of a list that rises, the rows are that list
-  pub lists_one : {X : Type 0} (encode : X → Row) (columns : Row → Row) (pick : Row → Output) (cmp : X → X → Ordering) → ((r : Row) → output q ([] ∷ r ∷ []) ≡ pick (columns r)) → ((c : Row) → (pick c).1 ≡ c)
-      → ((x y : X) → cmp x y ≡ Less → output_cmp q (pick (encode x)) (pick (encode y)) ≡ Less) → (xs : List X) → IsAscending (λ x y. cmp x y ≡ Less) xs → IsPermutation (map encode xs) (map columns (old.now.trees t)) → rows ≡ map encode xs
-  lists_one {X} encode columns pick cmp picks whole less xs rises same =
-      let a = answer in
-      let outs = map pick (map encode xs) in
-      let moved : IsPermutation outs (map pick (map columns (old.now.trees t))) = IsPermutation-map pick _ _ same in
-      let mine : map pick (map columns (old.now.trees t)) ≡ a.kept = map-map pick columns (old.now.trees t) ∙ (sym (map_same (λ r. output q ([] ∷ r ∷ [])) (λ r. pick (columns r)) picks (old.now.trees t)) ∙ sym kept_are) in
-      let strict : IsAscending (λ a b. output_cmp q a b ≡ Less) outs = ascending-map (λ a b. output_cmp q a b ≡ Less) pick (map encode xs)
-      (ascending-map (λ a b. output_cmp q (pick a) (pick b) ≡ Less) encode xs (ascending_weaker (λ x y. cmp x y ≡ Less) (λ x y. output_cmp q (pick (encode x)) (pick (encode y)) ≡ Less) less xs rises)) in
-      let found = sorted_unique (output_cmp q) (output_cmp_total q) outs a.ordered strict (IsPermutation-trans _ _ _ (subst (IsPermutation outs) mine moved) a.same) a.sorted in
-      a.shown ∙ (ap (map (λ (o : Output). o.1)) found ∙ (map-map (λ (o : Output). o.1) pick (map encode xs) ∙ (map_same (λ c. (pick c).1) (λ c. c) whole (map encode xs) ∙ same_map (map encode xs))))
-    where
-      same_map : (l : List Row) → map (λ c. c) l ≡ l
-      same_map [] = refl
-      same_map (x ∷ l) = ap (λ m. x ∷ m) (same_map l)
+  lists_one : {X : Type 0} (encode : X → Row) (columns : Row → Row) (pick : Row → Output) (cmp : X → X → Ordering) → ((r : Row) → output (listing t [] shown order) ([] ∷ r ∷ []) ≡ pick (columns r)) → ((c : Row) → (pick c).1 ≡ c)
+      → ((x y : X) → cmp x y ≡ Less → output_cmp (listing t [] shown order) (pick (encode x)) (pick (encode y)) ≡ Less) → (xs : List X) → IsAscending (λ x y. cmp x y ≡ Less) xs → IsPermutation (map encode xs) (map columns (old.now.trees t)) → rows ≡ map encode xs
+  lists_one encode columns pick cmp picks whole less xs rises same =
+      selects_one t [] shown order old.now.trees [] rows here answer encode columns pick cmp picks whole less xs rises (subst (λ l. IsPermutation (map encode xs) (map columns l)) (sym (all_pass (old.now.trees t))) same)
 
 -- ---- the tables
 

@@ -24,3 +24,18 @@ cell_ids_read = codes "SELECT rowid FROM cell ORDER BY rowid"
 
 abbrev pub setting_ids_read : List ℕ
 setting_ids_read = codes "SELECT rowid FROM availability ORDER BY rowid"
+
+abbrev pub serial_read : List ℕ
+serial_read = codes "SELECT serial FROM meta WHERE one = 1"
+
+abbrev pub availability_read : List ℕ
+availability_read = codes "SELECT uss, state, version FROM availability WHERE uss = ?1"
+
+abbrev pub head_read : List ℕ
+head_read = codes "SELECT num, kind, id, manager, state, version, serial, ovn, url FROM entity WHERE kind = ?1 AND id = ?2"
+
+abbrev pub own_volumes_read : List ℕ
+own_volumes_read = codes "SELECT entity, place, alt_lower, alt_upper, time_start, time_end FROM volume WHERE entity = ?1 ORDER BY entity, place"
+
+abbrev pub own_cells_read : List ℕ
+own_cells_read = codes "SELECT entity, volume, place, token, lo, hi FROM cell WHERE entity = ?1 ORDER BY entity, volume, place"

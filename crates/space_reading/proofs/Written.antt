@@ -1,7 +1,7 @@
 -- The texts of rows that spell something are UTF-8.
-use Rattle.std.specs.Prelude.{◌≡◌, ◌⊎◌, ◌&&◌, ℕ, zero, suc, ℤ, pos, ◌<◌, Bool, true, false, IsTrue, List, [], ◌∷◌, ◌++◌, length, None, Some, Option, if◌then◌else◌, IsUtf8, IsAscii, slice_index, refl}
+use Rattle.std.specs.Prelude.{◌≡◌, ℕ, zero, suc, ℤ, ◌<◌, Bool, true, false, IsTrue, List, [], ◌∷◌, length, None, Some, Option, if◌then◌else◌, IsUtf8, IsAscii, slice_index, refl}
 use Rattle.std.specs.List.{AllByRecursion, AllZip, list_all}
-use Rattle.std.proofs.Common.{sym, ap, ◌∙◌, subst, arith, inl, inr}
+use Rattle.std.proofs.Common.{sym, subst, arith, inl, inr}
 use Rattle.std.proofs.lemmas.Bool.{cases_lt}
 use Rattle.std.proofs.lemmas.Str.{IsUtf8-from_ascii}
 use Rattle.std.specs.FinMap.{insert}
@@ -15,7 +15,7 @@ use Rattle.entity_core.specs.declared.id_fault.IdFault.TheVariants.{Form, Length
 use Rattle.entity_core.specs.declared.entity.Entity.{Entity}
 use Rattle.entity_core.specs.Airspace.{Entities, key_of}
 use Rattle.entity_core.specs.EntityId.{printed}
-use Rattle.entity_core.specs.IdTexts.{first_fault, is_from, is_name_byte, is_visible_byte, name_fault, ovn_fault, url_fault}
+use Rattle.entity_core.specs.IdTexts.{first_fault, is_from, is_name_byte, is_visible_byte, name_fault, ovn_fault}
 use Rattle.space_rows.specs.declared.rows.EntityRow.{EntityRow}
 use Rattle.space_rows.specs.declared.rows.VolumeRow.{VolumeRow}
 use Rattle.space_rows.specs.declared.rows.CellRow.{CellRow}
@@ -38,10 +38,10 @@ ascii_all is_right low (b ∷ text) all =
     at first rest (suc i) = rest i
 
 visible_low : (b : ℕ) → IsTrue (is_visible_byte b) → b < 128
-visible_low b h = elim (cases_lt b 128) [ | inl lt ↦ lt | inr ge ↦ grind (arith, h) ]
+visible_low b h = elim (cases_lt b 128) [ inl lt ↦ lt | inr ge ↦ grind (arith, h) ]
 
 name_low : (b : ℕ) → IsTrue (is_name_byte b) → b < 128
-name_low b h = elim (cases_lt b 128) [ | inl lt ↦ lt | inr ge ↦ grind (arith, h) ]
+name_low b h = elim (cases_lt b 128) [ inl lt ↦ lt | inr ge ↦ grind (arith, h) ]
 
 faultless : (fits right : Bool) → ◌≡◌ {A = Option IdFault} (if fits then (if right then None else Some Form) else Some Length) None → IsTrue right
 faultless true true e = refl

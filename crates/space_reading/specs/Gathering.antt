@@ -70,10 +70,14 @@ pub record ListsEntities (serial : ℕ) (t : EntityTables) (all : Entities) : Ty
 
 -- ---- availabilities
 
--- a row of availability is what a USS has set that is none of those before it
-pub record IsSetting (row : Row) (before : Availabilities) (s : List ℕ × Stated) : Type 0 where
+-- a row of availability is what a USS has set
+pub record SaysSetting (row : Row) (s : List ℕ × Stated) : Type 0 where
   pub values : row ≡ availability_values s
   pub stated : IsStated s
+
+-- and the USS is none of those before it
+pub record IsSetting (row : Row) (before : Availabilities) (s : List ℕ × Stated) : Type 0 where
+  pub says : SaysSetting row s
   pub new : get before s.0 ≡ None
 
 abbrev pub stated_by : Setting → List ℕ × Stated

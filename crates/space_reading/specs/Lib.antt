@@ -2,3 +2,4 @@ pub mod Rows
 pub mod Reading
 pub mod Gathering
 pub mod Judging
+pub mod Selecting

@@ -98,7 +98,7 @@ fn gathered(
         let v = volumes.now in
         let c = cells.now in
         IfOk result (λ o. MatchOption o ((m : Map) → ¬ Gathers serial (pos 0) r v c empty m)
-            (λ es. Gathers serial (pos 0) r v c empty (entity_map es))) }
+        (λ es. Gathers serial (pos 0) r v c empty (entity_map es))) }
 {
     let mut out = Entities::new(alloc);
     let mut last = 0i64;
@@ -133,7 +133,7 @@ pub(crate) fn entities_in(
 ) -> Result<Option<Entities>, Error>
     ensures { let t = tables.now in
         IfOk result (λ o. MatchOption o ((m : Map) → ¬ ListsEntities serial t m)
-            (λ es. ListsEntities serial t (entity_map es))) }
+        (λ es. ListsEntities serial t (entity_map es))) }
 {
     let Some(rows) = entity_rows(alloc, tables.entities.as_slice())? else {
         return Ok(None);
@@ -144,5 +144,11 @@ pub(crate) fn entities_in(
     let Some(cells) = cell_rows(alloc, tables.cells.as_slice())? else {
         return Ok(None);
     };
-    Ok(gathered(alloc, serial, rows.as_slice(), volumes.as_slice(), cells.as_slice())?)
+    Ok(gathered(
+        alloc,
+        serial,
+        rows.as_slice(),
+        volumes.as_slice(),
+        cells.as_slice(),
+    )?)
 }

@@ -4,9 +4,12 @@
 mod entities;
 mod judge;
 mod meta;
+mod own;
 pub mod reading;
 mod rising;
 mod rows;
+mod select;
 mod settings;
+pub mod single;
 mod tables;
 pub mod verdict;

@@ -74,8 +74,7 @@ fn is_entity_row(row: &Row) -> bool
                     && (is_text(row, 3)
                         && (is_number(row, 4)
                             && (is_number(row, 5)
-                                && (is_number(row, 6)
-                                    && (is_text(row, 7) && is_text(row, 8)))))))))
+                                && (is_number(row, 6) && (is_text(row, 7) && is_text(row, 8)))))))))
 }
 
 fn is_volume_row(row: &Row) -> bool
@@ -104,7 +103,8 @@ fn is_number_row(row: &Row) -> bool
     row.column_count() == 1 && is_number(row, 0)
 }
 
-fn entity_row(row: &Row) -> Result<Option<EntityRow>, Error>
+/// The row as one of `entity`, if its values are of its kinds and its texts are UTF-8.
+pub(crate) fn entity_row(row: &Row) -> Result<Option<EntityRow>, Error>
     ensures { IfOk result (λ o. Finds (IsRowOf entity_values IsWrittenEntity row.now) o) }
 {
     if !is_entity_row(row) {

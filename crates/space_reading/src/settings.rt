@@ -8,7 +8,7 @@ ghost use Rattle.entity_core.specs.Airspace.{Availabilities as Map};
 ghost use Rattle.space_core.specs.Availabilities.{availability_map};
 ghost use Rattle.space_rows.specs.Finds.{Finds};
 ghost use Rattle.space_tables.specs.Spelling.{availability_number};
-ghost use Rattle.space_reading.specs.Gathering.{IsSetting, Settles, stated_by};
+ghost use Rattle.space_reading.specs.Gathering.{IsSetting, SaysSetting, Settles, stated_by};
 
 use crate::rows::{number_in, text_in};
 use entity_core::availability::Availability;
@@ -87,14 +87,9 @@ fn is_free(out: &Availabilities, uss: &UssId) -> Result<bool, AllocError>
     }
 }
 
-// What a row says, if it says what a supplier has set that is none of those before it.
-fn setting_of(
-    alloc: Global,
-    row: &Row,
-    out: &Availabilities,
-) -> Result<Option<Setting>, AllocError>
-    ensures { let before = availability_map out.now in
-        IfOk result (λ o. Finds (λ s. IsSetting row.now before (stated_by s)) o) }
+/// What a row says that a supplier has set, if it says that.
+pub(crate) fn setting_in(alloc: Global, row: &Row) -> Result<Option<Setting>, AllocError>
+    ensures { IfOk result (λ o. Finds (λ s. SaysSetting row.now (stated_by s)) o) }
 {
     if row.column_count() != 3 {
         return Ok(None);
@@ -105,32 +100,44 @@ fn setting_of(
     let Some(availability) = availability_in(row, 1) else {
         return Ok(None);
     };
-    let Some(version) = version_in(alloc, row, 2)? else {
-        return Ok(None);
-    };
-    if is_free(out, &uss)? {
-        Ok(Some(Setting {
+    match version_in(alloc, row, 2)? {
+        Some(version) => Ok(Some(Setting {
             uss,
             availability,
             version,
-        }))
+        })),
+        None => Ok(None),
+    }
+}
+
+// The same, if the supplier is none of those before it.
+fn new_setting(
+    alloc: Global,
+    row: &Row,
+    out: &Availabilities,
+) -> Result<Option<Setting>, AllocError>
+    ensures { let before = availability_map out.now in
+        IfOk result (λ o. Finds (λ s. IsSetting row.now before (stated_by s)) o) }
+{
+    let Some(setting) = setting_in(alloc, row)? else {
+        return Ok(None);
+    };
+    if is_free(out, &setting.uss)? {
+        Ok(Some(setting))
     } else {
         Ok(None)
     }
 }
 
 /// What suppliers have set, if each row says what one has.
-pub(crate) fn settings_in(
-    alloc: Global,
-    rows: &[Row],
-) -> Result<Option<Availabilities>, AllocError>
+pub(crate) fn settings_in(alloc: Global, rows: &[Row]) -> Result<Option<Availabilities>, AllocError>
     ensures { let r = rows.now in
         IfOk result (λ o. MatchOption o ((m : Map) → ¬ Settles r empty m)
-            (λ es. Settles r empty (availability_map es))) }
+        (λ es. Settles r empty (availability_map es))) }
 {
     let mut out = Availabilities::new(alloc);
     for row in rows {
-        match setting_of(alloc, row, &out)? {
+        match new_setting(alloc, row, &out)? {
             Some(setting) => out.put(setting.uss, setting.availability, setting.version)?,
             None => return Ok(None),
         }

@@ -1,4 +1,4 @@
-use Rattle.std.proofs.Common.{List, ℤ, subst}
+use Rattle.std.proofs.Common.{List, subst}
 use Rattle.sqlite.specs.Order.{Row}
 use Rattle.space_rows.specs.declared.rows.EntityRow.{EntityRow}
 use Rattle.space_rows.specs.declared.rows.VolumeRow.{VolumeRow}

@@ -1,4 +1,4 @@
-use Rattle.std.proofs.Common.{◌≡◌, ◌∙◌, ◌+◌, ◌<◌, sym, ap, subst, ℕ, ℤ, List, drop, pos, to_z, of_z, w64, rules, MatchOption}
+use Rattle.std.proofs.Common.{◌≡◌, ◌∙◌, ◌+◌, sym, ap, subst, ℤ, drop, to_z, of_z, w64, rules}
 use Rattle.entity_core.specs.declared.entity.Entity.{Entity}
 use Rattle.entity_core.specs.Airspace.{key_cmp}
 use Rattle.space_core.specs.Entities.{entity_map, pair_of}
@@ -6,7 +6,7 @@ use Rattle.space_core.proofs.Maps.{map_of_none}
 use Rattle.space_rows.specs.declared.rows.VolumeRow.{VolumeRow}
 use Rattle.space_rows.specs.declared.rows.CellRow.{CellRow}
 use Rattle.space_reading.specs.Gathering.{IsNext}
-use Rattle.space_reading.proofs.Gatherings.{GathersOn, Front, front_of, gathers_start, gathers_more, gathers_none, gathers_all, gathers_over}
+use Rattle.space_reading.proofs.Gatherings.{GathersOn, Front, front_of, gathers_start, gathers_more, gathers_none}
 use Rattle.space_rows.proofs.ReadSoFar.{front}
 use Rattle.space_reading.proofs.entities.gathered.Goals as goal
 

@@ -1,4 +1,4 @@
-use Rattle.std.proofs.Common.{◌≡◌, ℕ, ap, subst}
+use Rattle.std.proofs.Common.{ℕ, subst}
 use Rattle.entity_core.specs.Airspace.{Airspace}
 use Rattle.space_reading.specs.Gathering.{ListsEntities}
 use Rattle.space_reading.proofs.Listings.{one_serial, not_other}

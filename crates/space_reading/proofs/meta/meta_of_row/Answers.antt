@@ -1,4 +1,4 @@
-use Rattle.std.proofs.Common.{◌≡◌, ◌∷◌, [], refl, ap, sym, ◌∙◌}
+use Rattle.std.proofs.Common.{◌∷◌, [], refl, ap, sym, ◌∙◌}
 use Rattle.sqlite.specs.Order.{column}
 use Rattle.space_rows.proofs.ReadSoFar.{not_so}
 use Rattle.space_reading.proofs.Columns.{three_are}

@@ -1,4 +1,3 @@
-use Rattle.std.proofs.Common.{List, ℤ}
 use Rattle.space_reading.proofs.Listings.{rising_rows, not_rising}
 use Rattle.space_reading.proofs.rising.are_rising.Goals as goal
 

@@ -1,4 +1,4 @@
-use Rattle.std.proofs.Common.{◌≡◌, ◌∙◌, ◌+◌, ◌∷◌, sym, ap, subst, ℕ, ℤ, List, drop, pos, to_z, of_z, w64, rules, get_or}
+use Rattle.std.proofs.Common.{◌≡◌, ◌∙◌, ◌+◌, ◌∷◌, sym, ap, ℕ, ℤ, drop, pos, to_z, of_z, w64, rules, get_or}
 use Rattle.space_rows.proofs.ReadSoFar.{front_at}
 use Rattle.space_reading.proofs.Risings.{rises_more}
 use Rattle.space_reading.proofs.rising.is_rising_from.Goals as goal

@@ -1,10 +1,10 @@
-use Rattle.std.proofs.Common.{◌≡◌, ◌∙◌, ◌+◌, ap, drop}
+use Rattle.std.proofs.Common.{◌∙◌, ◌+◌, ap, drop}
 use Rattle.space_rows.proofs.ReadSoFar.{front}
 use Rattle.entity_core.specs.Airspace.{text_cmp}
 use Rattle.space_core.specs.Availabilities.{availability_map, pair_of}
 use Rattle.space_core.proofs.Maps.{map_of_none}
 use Rattle.space_reading.specs.Gathering.{stated_by}
-use Rattle.space_reading.proofs.Settlings.{settles_start, settles_more, settles_none, settles_all}
+use Rattle.space_reading.proofs.Settlings.{settles_start, settles_more, settles_none}
 use Rattle.space_reading.proofs.settings.settings_in.Goals as goal
 
 pub loop-row-init : goal.loop-row-init
