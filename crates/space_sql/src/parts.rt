@@ -8,7 +8,7 @@ ghost use Rattle.space_core.specs.Space.{Changes, Fits, Reads, Tells, changed};
 ghost use Rattle.space_sql.specs.Holding.{IsKeeping, IsSound, holds_in, holds_of, is_sound_of, is_whole_of, kept};
 
 use crate::answer::settled;
-use crate::reading::{read_all, read_availability, read_entity, read_meeting, read_serial};
+use crate::reading::{read_all, read_meeting};
 use entity_core::availability::Availability;
 use entity_core::entity::Entity;
 use entity_core::entity_id::EntityId;
@@ -19,6 +19,7 @@ use grid_core::volume::Area;
 use space_changes::change::make_change;
 use space_core::space::{Change, SpaceFault};
 use space_reading::reading::known;
+use space_reading::single::{read_availability, read_entity, read_serial};
 use sqlite::{Alter, Connection};
 use std::alloc::Global;
 
@@ -114,7 +115,6 @@ pub(crate) fn availability<S: Alter>(
 }
 
 pub(crate) fn serial<S: Alter>(
-    alloc: Global,
     conn: &mut Connection<S>,
     refusals: &mut u64,
     broken: &mut bool,
@@ -130,7 +130,7 @@ pub(crate) fn serial<S: Alter>(
         return Err(SpaceFault::Broken);
     }
     known(conn);
-    let read = read_serial(alloc, conn);
+    let read = read_serial(conn);
     settled(conn, refusals, broken, read)
 }
 

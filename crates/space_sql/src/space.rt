@@ -122,13 +122,7 @@ impl<S: Alter> Space for SqlSpace<S> {
     }
 
     fn serial(&mut self) -> Result<u64, SpaceFault> {
-        let alloc = self.alloc;
-        parts::serial(
-            alloc,
-            &mut self.conn,
-            &mut self.refusals,
-            &mut self.broken,
-        )
+        parts::serial(&mut self.conn, &mut self.refusals, &mut self.broken)
     }
 
     fn apply(&mut self, change: Change) -> Result<(), SpaceFault> {

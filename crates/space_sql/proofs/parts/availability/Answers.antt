@@ -16,4 +16,4 @@ returns-clause-reads g c =
     } in
     let after : Laws new = record { settled = λ db o may. g.met.S.Store.settled _ db o may; stays = λ o. g.met.S.Store.stays _ o } in
     reads_settled g.S.Store c.args.conn.now c.read_availability-read.new.conn c.settled.new.conn c.args.refusals.now c.settled.new.refusals c.args.broken.now c.settled.new.broken (λ a found. found ≡ get a.availabilities c.args.uss.now) rests after (λ clean. c.requires.live clean c.if-broken.false)
-    c.read_availability-read.result c.settled.result c.read_availability-read.ensures.reads c.settled.ensures.passes c.settled.ensures.same c.settled.ensures.survives
+    c.read_availability-read.result c.settled.result (record { answer = c.read_availability-read.ensures.availability; is_open = c.read_availability-read.ensures.open; survives = c.read_availability-read.ensures.survives }) c.settled.ensures.passes c.settled.ensures.same c.settled.ensures.survives

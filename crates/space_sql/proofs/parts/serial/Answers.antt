@@ -16,4 +16,4 @@ returns-clause-reads g c =
     } in
     let after : Laws new = record { settled = λ db o may. g.met.S.Store.settled _ db o may; stays = λ o. g.met.S.Store.stays _ o } in
     reads_settled g.S.Store c.args.conn.now c.read_serial-read.new.conn c.settled.new.conn c.args.refusals.now c.settled.new.refusals c.args.broken.now c.settled.new.broken (λ a found. found ≡ a.serial) rests after (λ clean. c.requires.live clean c.if-broken.false)
-    c.read_serial-read.result c.settled.result c.read_serial-read.ensures.reads c.settled.ensures.passes c.settled.ensures.same c.settled.ensures.survives
+    c.read_serial-read.result c.settled.result (record { answer = c.read_serial-read.ensures.serial; is_open = c.read_serial-read.ensures.open; survives = c.read_serial-read.ensures.survives }) c.settled.ensures.passes c.settled.ensures.same c.settled.ensures.survives

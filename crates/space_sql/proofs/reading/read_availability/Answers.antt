@@ -1,9 +1,0 @@
-use Rattle.std.proofs.Common.{◌≡◌}
-use Rattle.std.specs.FinMap.{get}
-use Rattle.sqlite.specs.Held.{state}
-use Rattle.entity_core.specs.Search.{all_in, meeting_in}
-use Rattle.space_sql.proofs.Readings.{found_in}
-use Rattle.space_sql.proofs.reading.read_availability.Goals as goal
-
-pub returns-in-Ok-clause-reads : goal.returns-in-Ok-clause-reads
-returns-in-Ok-clause-reads g c = found_in (state g.S.Store c.args.conn.now) (state g.S.Store c.read_listed.new.conn) c.in-Ok.listed c.availability_in.result (λ a found. found ≡ get a.availabilities c.args.uss.now) c.in-Ok.ensures.reads c.availability_in.ensures
