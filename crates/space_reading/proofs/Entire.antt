@@ -1,9 +1,8 @@
 -- The entity that is read by its kind and id is the one that is spelt.
-use Rattle.std.proofs.Common.{◌≡◌, ◌⊎◌, inl, inr, ℕ, ℤ, ◌<◌, ◌^◌, List, [], ◌∷◌, map, Option, Some, None, refl, sym, ap, subst, ◌∙◌}
+use Rattle.std.proofs.Common.{◌≡◌, inl, inr, ℤ, ◌<◌, ◌^◌, List, [], ◌∷◌, map, Option, Some, None, sym, ap, subst, ◌∙◌}
 use Rattle.std.specs.FinMap.{get}
 use Rattle.sqlite.specs.Order.{Row}
 use Rattle.sqlite.specs.Effect.{Database}
-use Rattle.sqlite_rules.specs.Lists.{Has}
 use Rattle.entity_core.specs.declared.entity.Entity.{Entity}
 use Rattle.entity_core.specs.Airspace.{Airspace, EntityKey}
 use Rattle.space_rows.specs.declared.rows.EntityRow.{EntityRow}
@@ -11,8 +10,8 @@ use Rattle.space_rows.specs.declared.rows.VolumeRow.{VolumeRow}
 use Rattle.space_rows.specs.declared.rows.CellRow.{CellRow}
 use Rattle.space_rows.specs.Rows.{SpellsEntity}
 use Rattle.space_tables.specs.Tables.{dss_schema}
-use Rattle.space_tables.specs.Spelling.{Spells, Group, entity_values, volume_values, cell_values}
-use Rattle.space_reading.specs.Selecting.{AnswersHead, AnswersExtents, AnswersVolumes, AnswersCells}
+use Rattle.space_tables.specs.Spelling.{Spells, entity_values, volume_values, cell_values}
+use Rattle.space_reading.specs.Selecting.{AnswersHead, AnswersExtents}
 use Rattle.space_reading.proofs.Heads.{ShowsHead, head_shown}
 use Rattle.space_reading.proofs.OwnRows.{own_volumes_shown, own_cells_shown, alone}
 

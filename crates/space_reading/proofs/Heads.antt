@@ -1,13 +1,13 @@
 -- The row of the entity of a kind and an id.
-use Rattle.std.proofs.Common.{◌≡◌, ◌⊎◌, inl, inr, ℕ, ℤ, pos, ◌<◌, ◌^◌, List, [], ◌∷◌, ◌&&◌, map, filter, Bool, true, false, cond, codes, Option, Some, None, refl, sym, ap, ap₂, subst, ◌∙◌, is_eq, int_eq, Ordering, Equal, Less, Greater}
+use Rattle.std.proofs.Common.{◌≡◌, ◌⊎◌, inl, inr, ℕ, ℤ, ◌<◌, ◌^◌, List, [], ◌∷◌, ◌&&◌, map, filter, Bool, true, false, cond, codes, Option, Some, None, refl, sym, ap, ap₂, subst, ◌∙◌, is_eq, int_eq, Ordering, Equal, Less, Greater}
 use Rattle.std.specs.Prelude.{IsPermutation}
 use Rattle.std.specs.List.{AllByRecursion, list_all}
 use Rattle.std.specs.FinMap.{get, entries}
 use Rattle.std.proofs.Common.{arith}
 use Rattle.std.proofs.lemmas.Int.{ints}
 use Rattle.std.proofs.lemmas.Cmp.{tied_itself}
-use Rattle.std.proofs.lemmas.List.Sorted.{IsPermutation-trans, IsPermutation-sym, length_permutation}
-use Rattle.sqlite_keyed.proofs.ListLemmas.{map-map, filter-map, IsPermutation-filter}
+use Rattle.std.proofs.lemmas.List.Sorted.{IsPermutation-trans, length_permutation}
+use Rattle.sqlite_keyed.proofs.ListLemmas.{filter-map, IsPermutation-filter}
 use Rattle.sqlite_rules.specs.Lists.{Has}
 use Rattle.sqlite_typed.specs.Tests.{bytes_cmp}
 use Rattle.sqlite_typed.proofs.TestLemmas.{at_ints, at_texts, last_term, then_term, same_bytes, bytes_eq_refl}
@@ -36,7 +36,7 @@ use Rattle.space_reading.proofs.Texts.{head_read}
 use Rattle.space_reading.proofs.Means.{listing}
 use Rattle.space_reading.proofs.MapEntries.{hits}
 use Rattle.space_reading.proofs.Found.{same, entry_of, found_in}
-use Rattle.space_reading.proofs.OwnRows.{equal_numbers, other_numbers}
+use Rattle.space_reading.proofs.OwnRows.{equal_numbers}
 use Rattle.space_reading.proofs.Selected.{selects_all}
 
 pub head_select : IsSelect head_read

@@ -1,17 +1,16 @@
 -- The rows of one entity among those of all.
-use Rattle.std.proofs.Common.{◌≡◌, ◌≢◌, ◌⊎◌, inl, inr, ℕ, ℤ, pos, ◌<◌, ◌^◌, List, [], ◌∷◌, ◌++◌, ◌&&◌, map, filter, flat_map, Bool, true, false, cond, codes, Option, Some, None, Ok, Err, Result, IfOk, refl, sym, ap, ap₂, subst, ◌∙◌, Less, is_eq, int_eq, append-nil}
+use Rattle.std.proofs.Common.{◌≡◌, ◌≢◌, inl, inr, ℕ, ℤ, List, [], ◌∷◌, ◌++◌, map, filter, flat_map, Bool, true, false, cond, codes, refl, sym, ap, ap₂, subst, ◌∙◌, Less, int_eq, append-nil}
 use Rattle.std.specs.Prelude.{IsPermutation}
 use Rattle.std.specs.List.{AllByRecursion, list_all}
-use Rattle.std.proofs.lemmas.List.Sorted.{IsPermutation-trans, IsPermutation-map, length_permutation}
-use Rattle.sqlite_keyed.proofs.ListLemmas.{map-map, map-flat_map, filter-map, filter_none, filter_same, IsPermutation-filter}
+use Rattle.sqlite_keyed.proofs.ListLemmas.{map-flat_map, filter-map, filter_none, filter_same, IsPermutation-filter}
 use Rattle.sqlite_rules.specs.Lists.{Has}
 use Rattle.sqlite_trees.specs.Tree.{IsAscending}
-use Rattle.sqlite_typed.proofs.TestLemmas.{at_ints, at_texts, last_term, then_term}
+use Rattle.sqlite_typed.proofs.TestLemmas.{at_ints, last_term}
 use Rattle.sqlite_sql.specs.declared.ops.CompareOp.TheVariants.{Eq}
 use Rattle.sqlite_tied.specs.Compute.{everything}
 use Rattle.sqlite_schema.specs.declared.command.Command.TheVariants.{Select}
 use Rattle.sqlite_value.proofs.OrderLemmas.{value_cmp-Int}
-use Rattle.sqlite.specs.declared.types.Value.TheVariants.{Null, Int, Text}
+use Rattle.sqlite.specs.declared.types.Value.TheVariants.{Null, Int}
 use Rattle.sqlite.specs.Order.{Row, column}
 use Rattle.sqlite.specs.Term.{Term, col, holds}
 use Rattle.sqlite.specs.Effect.{Database, Reads}
@@ -23,7 +22,7 @@ use Rattle.entity_core.specs.Airspace.{Airspace}
 use Rattle.space_rows.specs.declared.rows.VolumeRow.{VolumeRow}
 use Rattle.space_rows.specs.declared.rows.CellRow.{CellRow}
 use Rattle.space_rows.proofs.Pieces.{Borne, Differ, all_turned}
-use Rattle.space_tables.specs.Spelling.{Spells, Group, IsGroup, IsBefore, volume_values, cell_values, six_columns}
+use Rattle.space_tables.specs.Spelling.{Spells, Group, IsGroup, volume_values, cell_values, six_columns}
 use Rattle.space_tables.proofs.Rising.{all_volumes_rise, all_cells_rise}
 use Rattle.space_tables.proofs.OneAirspace.{numbers_differ, volumes_borne, cells_borne}
 use Rattle.space_reading.specs.Reading.{volume_order, cell_order}
@@ -72,7 +71,7 @@ module _ {A B : Type 0} (key : B → ℤ) (of : A → ℤ) (f : A → List B) wh
       subst (λ (y : A). filter (bears (of y)) (flat_map f (x ∷ xs)) ≡ f y) (sym e)
       (filter_joined (bears (of x)) (f x) (flat_map f xs)
       ∙ (ap₂ ◌++◌ (filter_all (bears (of x)) (f x) (all_turned (λ b. key b ≡ of x) (λ b. bears (of x) b ≡ true) (λ b e. equal_numbers (key b) (of x) e) (f x) borne.0))
-          (none_borne (of x) xs borne.1 (all_turned (λ y. of x ≢ of y) (λ y. of y ≢ of x) (λ y d e. d (sym e)) xs apart.0)) ∙ append-nil (f x)))
+      (none_borne (of x) xs borne.1 (all_turned (λ y. of x ≢ of y) (λ y. of y ≢ of x) (λ y d e. d (sym e)) xs apart.0)) ∙ append-nil (f x)))
   own_of (x ∷ xs) a borne apart (inr has) =
       let other = has_all (λ y. of x ≢ of y) xs a apart.0 has in
       filter_joined (bears (of a)) (f x) (flat_map f xs)

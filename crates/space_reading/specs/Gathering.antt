@@ -32,8 +32,8 @@ abbrev pub StartsElse : {X : Type 0} → (X → Type 0) → List X → Type 0
 StartsElse P [] = Unit {0}
 StartsElse P (x ∷ xs) = ¬ P x
 
--- A row of entity and its rows of volume and cell spell an entity: its number is over the last one, its serial is not
--- over that of the airspace, and its key is none of those before it.
+-- A row of entity and its rows of volume and cell spell an entity: its number is over the last one,
+-- its serial is not over that of the airspace, and its key is none of those before it.
 pub record IsNext (serial : ℕ) (last : ℤ) (row : EntityRow) (volumes : List VolumeRow) (cells : List CellRow) (before : Entities) (e : Entity) : Type 0 where
   pub rising : int_cmp last row.num ≡ Less
   pub spelt : SpellsEntity row volumes cells e
@@ -52,11 +52,13 @@ pub record Step (serial : ℕ) (last : ℤ) (row : EntityRow) (volumes : List Vo
   pub next : IsNext serial last row own_volumes own_cells before entity
 
 -- entity by entity, the rows spell what `all` has beside `before`
-abbrev pub Gathers : ℕ → ℤ → List EntityRow → List VolumeRow → List CellRow → Entities → Entities → Type 0
+abbrev pub Gathers : ℕ → ℤ → List EntityRow → List VolumeRow → List CellRow
+    → Entities → Entities → Type 0
 Gathers serial last [] volumes cells before all = (volumes ≡ []) × (cells ≡ []) × (before ≡ all)
 Gathers serial last (row ∷ rows) volumes cells before all =
     (step : Step serial last row volumes cells before)
-    × Gathers serial row.num rows step.more_volumes step.more_cells (insert before (key_of step.entity) step.entity) all
+    × Gathers serial row.num rows step.more_volumes step.more_cells
+    (insert before (key_of step.entity) step.entity) all
 
 -- the rows that were read spell these entities and no more
 pub record ListsEntities (serial : ℕ) (t : EntityTables) (all : Entities) : Type 0 where
@@ -86,17 +88,21 @@ stated_by s = (s.uss, (s.availability, s.version))
 -- row by row, they are what `all` has beside `before`
 abbrev pub Settles : List Row → Availabilities → Availabilities → Type 0
 Settles [] before all = before ≡ all
-Settles (row ∷ rows) before all = (s : List ℕ × Stated) × IsSetting row before s × Settles rows (insert before s.0 s.1) all
+Settles (row ∷ rows) before all =
+    (s : List ℕ × Stated) × IsSetting row before s × Settles rows (insert before s.0 s.1) all
 
 -- ---- the airspace
 
 -- the rows are numbers that rise
 abbrev pub AreRising : List Row → Type 0
-AreRising rows = (ids : List ℤ) × (rows ≡ map number_values ids) × IsAscending (λ m n. int_cmp m n ≡ Less) ids
+AreRising rows =
+    (ids : List ℤ) × (rows ≡ map number_values ids)
+    × IsAscending (λ m n. int_cmp m n ≡ Less) ids
 
 abbrev pub HaveRisingIds : Tables → Type 0
 HaveRisingIds t =
-    AreRising t.rowids.volumes.items × AreRising t.rowids.cells.items × AreRising t.rowids.settings.items
+    AreRising t.rowids.volumes.items × AreRising t.rowids.cells.items
+    × AreRising t.rowids.settings.items
 
 pub record IsListed (t : Tables) (a : Airspace) : Type 0 where
   pub meta : t.metas.items ≡ meta_values 1 a.serial ∷ []

@@ -43,7 +43,7 @@ pub(crate) fn select_head<S: Alter>(
     ensures rows { let old = state S.Store conn.old in
         HasCleanDisk (state S.Store conn.new)
         → IfOk result (λ rows. old.now.schema ≡ dss_schema
-            → AnswersHead (kind, id) old.now rows.items) }
+        → AnswersHead (kind, id) old.now rows.items) }
     ensures at_rest { let new = state S.Store conn.new in
         HasCleanDisk new → OnOk result (RestsAs (state S.Store conn.old) new) }
     ensures open { let new = state S.Store conn.new in
@@ -59,16 +59,13 @@ pub(crate) fn select_head<S: Alter>(
     )
 }
 
-fn select_volumes<S: Alter>(
-    conn: &mut Connection<S>,
-    num: i64,
-) -> Result<Vec<Row>, Error>
+fn select_volumes<S: Alter>(conn: &mut Connection<S>, num: i64) -> Result<Vec<Row>, Error>
     requires { conn.old.in_transaction ≡ false }
     ensures outside { conn.new.in_transaction ≡ false }
     ensures rows { let old = state S.Store conn.old in
         HasCleanDisk (state S.Store conn.new)
         → IfOk result (λ rows. old.now.schema ≡ dss_schema
-            → AnswersVolumes num old.now rows.items) }
+        → AnswersVolumes num old.now rows.items) }
     ensures at_rest { let new = state S.Store conn.new in
         HasCleanDisk new → OnOk result (RestsAs (state S.Store conn.old) new) }
     ensures open { let new = state S.Store conn.new in
@@ -83,16 +80,13 @@ fn select_volumes<S: Alter>(
     )
 }
 
-fn select_cells<S: Alter>(
-    conn: &mut Connection<S>,
-    num: i64,
-) -> Result<Vec<Row>, Error>
+fn select_cells<S: Alter>(conn: &mut Connection<S>, num: i64) -> Result<Vec<Row>, Error>
     requires { conn.old.in_transaction ≡ false }
     ensures outside { conn.new.in_transaction ≡ false }
     ensures rows { let old = state S.Store conn.old in
         HasCleanDisk (state S.Store conn.new)
         → IfOk result (λ rows. old.now.schema ≡ dss_schema
-            → AnswersCells num old.now rows.items) }
+        → AnswersCells num old.now rows.items) }
     ensures at_rest { let new = state S.Store conn.new in
         HasCleanDisk new → OnOk result (RestsAs (state S.Store conn.old) new) }
     ensures open { let new = state S.Store conn.new in
@@ -117,7 +111,7 @@ pub(crate) fn select_extents<S: Alter>(
     ensures rows { let old = state S.Store conn.old in
         HasCleanDisk (state S.Store conn.new)
         → IfOk result (λ r. old.now.schema ≡ dss_schema
-            → AnswersExtents num old.now r.0.items r.1.items) }
+        → AnswersExtents num old.now r.0.items r.1.items) }
     ensures at_rest { let new = state S.Store conn.new in
         HasCleanDisk new → OnOk result (RestsAs (state S.Store conn.old) new) }
     ensures open { let new = state S.Store conn.new in

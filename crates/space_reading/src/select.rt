@@ -36,7 +36,7 @@ fn query_alone<S: Alter>(
     ensures read { let old = state S.Store conn.old in
         HasCleanDisk (state S.Store conn.new)
         → IfOk result (λ rows. old.now.schema ≡ dss_schema
-            → Answers sql.now (bound params.now) old.now rows.items) }
+        → Answers sql.now (bound params.now) old.now rows.items) }
     ensures back { let old = state S.Store conn.old in
         let new = state S.Store conn.new in
         HasCleanDisk new → IsTrue new.is_open → old.now.schema ≡ dss_schema → GoesBack old new }
@@ -60,7 +60,7 @@ pub(crate) fn select<S: Alter>(
     ensures read { let old = state S.Store conn.old in
         HasCleanDisk (state S.Store conn.new)
         → IfOk result (λ rows. old.now.schema ≡ dss_schema
-            → Answers sql.now (bound params.now) old.now rows.items) }
+        → Answers sql.now (bound params.now) old.now rows.items) }
     ensures at_rest { let new = state S.Store conn.new in
         HasCleanDisk new → OnOk result (RestsAs (state S.Store conn.old) new) }
     ensures open { let new = state S.Store conn.new in

@@ -48,7 +48,8 @@ fn availability_of(
     }
 }
 
-/// The serial of the airspace that the tables spell. Where they spell none, any number may come of it.
+/// The serial of the airspace that the tables spell. Where they spell none, any number may come of
+/// it.
 pub fn read_serial<S: Alter>(conn: &mut Connection<S>) -> Result<u64, Error>
     requires { conn.old.in_transaction ≡ false }
     ensures outside { conn.new.in_transaction ≡ false }
@@ -77,7 +78,7 @@ pub fn read_availability<S: Alter>(
     ensures availability { let old = state S.Store conn.old in
         HasCleanDisk (state S.Store conn.new)
         → IfOk result (λ o. (a : Airspace) → Spells old.now a
-            → o ≡ get a.availabilities uss.now) }
+        → o ≡ get a.availabilities uss.now) }
     ensures at_rest { let new = state S.Store conn.new in
         HasCleanDisk new → OnOk result (RestsAs (state S.Store conn.old) new) }
     ensures open { let new = state S.Store conn.new in

@@ -104,7 +104,8 @@ fn read_cell_ids<S: Alter>(tx: &mut Transaction<'_, S>) -> Result<Vec<Row>, Erro
 fn read_setting_ids<S: Alter>(tx: &mut Transaction<'_, S>) -> Result<Vec<Row>, Error>
     ensures same_reference { tx.new.conn.ghost_name ≡ tx.old.conn.ghost_name }
     ensures reads { let old = state S.Store tx.old.conn.now in
-        Reads (λ db rows. ShowsSettingIds db rows.items) old (state S.Store tx.new.conn.now) result }
+        Reads (λ db rows. ShowsSettingIds db rows.items)
+        old (state S.Store tx.new.conn.now) result }
 {
     tx.query_all("SELECT rowid FROM availability ORDER BY rowid", &[])
 }
