@@ -42,6 +42,7 @@ fn serve<S: Space + Drop, R: Read, W: Write>(
 }
 
 // What the command `run` was given.
+#[derive(Clone, Copy)]
 struct Run<'a> {
     now: u64,
     database: Option<&'a str>,
