@@ -43,7 +43,7 @@ fn serve<S: Space + Drop, R: Read, W: Write>(
 
 // What the command `run` was given.
 #[derive(Clone, Copy)]
-struct Run<'a> {
+struct Settings<'a> {
     now: u64,
     database: Option<&'a str>,
     requests: &'a str,
@@ -54,15 +54,15 @@ fn serve_requests<S: Space + Drop, R: Read, W: Write>(
     rt: &HostRuntime,
     service: &mut Service<S>,
     tokens: &TokenTable,
-    run: &Run<'_>,
+    given: &Settings<'_>,
     input: &mut R,
     output: &mut W,
 ) -> Result<(), Fault> {
-    if run.requests == "-" {
-        return serve(rt.alloc(), service, tokens, run.now, input, output);
+    if given.requests == "-" {
+        return serve(rt.alloc(), service, tokens, given.now, input, output);
     }
-    match File::open(rt, run.requests) {
-        Ok(mut file) => serve(rt.alloc(), service, tokens, run.now, &mut file, output),
+    match File::open(rt, given.requests) {
+        Ok(mut file) => serve(rt.alloc(), service, tokens, given.now, &mut file, output),
         Err(error) => Err(unread(&error, Fault::RequestsUnread)),
     }
 }
@@ -73,7 +73,7 @@ fn serve_database<R: Read, W: Write>(
     name: &str,
     salt: Salt,
     tokens: &TokenTable,
-    run: &Run<'_>,
+    given: &Settings<'_>,
     input: &mut R,
     output: &mut W,
 ) -> Result<(), Fault> {
@@ -82,7 +82,7 @@ fn serve_database<R: Read, W: Write>(
         Err(fault) => return Err(Fault::Database(fault)),
     };
     let mut service = Service::new(space, salt);
-    let served = serve_requests(rt, &mut service, tokens, run, input, output);
+    let served = serve_requests(rt, &mut service, tokens, given, input, output);
     let closed = service.into_space().close();
     served?;
     match closed {
@@ -95,7 +95,7 @@ fn serve_database<R: Read, W: Write>(
 fn run<R: Read, W: Write>(
     rt: &HostRuntime,
     tokens: &str,
-    run: &Run<'_>,
+    given: &Settings<'_>,
     input: &mut R,
     output: &mut W,
 ) -> Result<(), Fault> {
@@ -103,11 +103,11 @@ fn run<R: Read, W: Write>(
     let Ok(salt) = tokens.salt().clone() else {
         return Err(Fault::Memory);
     };
-    match run.database {
-        Some(name) => serve_database(rt, name, salt, &tokens, run, input, output),
+    match given.database {
+        Some(name) => serve_database(rt, name, salt, &tokens, given, input, output),
         None => {
             let mut service = Service::new(ListSpace::new(rt.alloc()), salt);
-            serve_requests(rt, &mut service, &tokens, run, input, output)
+            serve_requests(rt, &mut service, &tokens, given, input, output)
         }
     }
 }
@@ -168,7 +168,7 @@ pub fn run_line<'a, R: Read, O: Write, E: Write>(
                 requests,
             },
         ) => {
-            let given = Run {
+            let given = Settings {
                 now,
                 database,
                 requests,
