@@ -2,6 +2,7 @@
 import collections
 import json
 import pathlib
+import sqlite3
 import tempfile
 
 import plain_policy
@@ -10,18 +11,22 @@ from program import BUILT, CASES, TOP, content, run
 
 MOST_GROWTHS = 20_000
 FAULT = (500, '{"message":"fault"}')
+STOPPED = (503, '{"message":"stopped"}')
+# of the growths of memory of a stream over a database, one in so many is refused
+STEP = 61
 NOW = 1000
 
 
-def each_refused(command, given=b""):
-    """Runs a command with each growth of its memory refused in turn. Yields the number of the growth,
-    what came, and whether there was such a growth, which is so for all but the last."""
+def each_refused(command, given=b"", step=1, before=lambda: None):
+    """Runs a command with each growth of its memory refused in turn, or one of each few, after something was done.
+    Yields the number of the growth, what came, and whether there was such a growth, which is so for all but the last."""
     with tempfile.TemporaryDirectory() as room:
         library, mark = f"{room}/refuse_memory.so", pathlib.Path(room, "refused")
         built = run(["cc", "-shared", "-fPIC", "-O1", "-o", library, str(TOP / "tests" / "refuse_memory.c")])
         if built[0]:
             raise OSError(f"cc: {built[2]!r}")
-        for at in range(1, MOST_GROWTHS):
+        for at in range(1, MOST_GROWTHS * step, step):
+            before()
             mark.unlink(missing_ok=True)
             got = run(command, given, more={"LD_PRELOAD": library, "REFUSE_AT": str(at), "REFUSED": str(mark)})
             yield at, got, mark.exists()
@@ -99,3 +104,44 @@ def stream():
     print(f"eight calls: {at - 1} growths of memory refused in turn: faults {each}, ends of the stream after so "
           f"many answers {[ends[it] for it in range(len(calls))]}, without a trace {others}")
     return [] if all(each) else ["not each of the calls was answered with a fault"]
+
+
+def stream_over_database():
+    """The same over a database, for some of the growths. A call may also stop the service, which then stands as before
+    that call or after it, and the database may not be opened. What was acknowledged is kept."""
+    calls = eight_calls()
+    fault, stopped = wire.answer(*FAULT), wire.answer(*STOPPED)
+    ends = collections.Counter()
+    with tempfile.TemporaryDirectory() as room:
+        database = pathlib.Path(room, "dss.db")
+        words = ["--tokens", str(TOP / "examples" / "tokens.toml"), "--now", str(NOW), "--db", str(database), "-"]
+
+        def anew():
+            for file in pathlib.Path(room).glob("dss.db*"):
+                file.unlink()
+
+        given = b"".join(wire.request(*it) for it in calls)
+        for at, got, is_refused in each_refused([BUILT, "run", *words], given, STEP, anew):
+            status, output, error = got
+            found = wire.answers_of(output)
+            faulted = found.index(fault) if fault in found else None
+            wanted = answers(calls, faulted)
+            if stopped in found:
+                first = found.index(stopped)
+                wanted[first:] = [stopped] * (len(calls) - first)
+            ended = {b"": "done", b"dss: memory\n": "memory", b"dss: db: fault 3 Store\n": "store", b"dss: db: fault\n": "close"}.get(error)
+            is_right = found == wanted[: len(found)] and ended is not None and status == (ended != "done")
+            if not is_right or not is_refused and (ended, faulted, stopped in found) != ("done", None, False):
+                return [f"growth {at}, refused: {is_refused}: {got!r}"]
+            ends["stopped" if stopped in found else "fault" if faulted is not None else ended] += 1
+            run([BUILT, "run", *words])
+            made = sum(it.startswith((b"HTTP/1.1 200", b"HTTP/1.1 201")) for it, (method, *_) in zip(found, calls) if method != "POST")
+            with sqlite3.connect(database) as reader:
+                serial = reader.execute("SELECT serial FROM meta").fetchone()[0]
+                check = reader.execute("PRAGMA integrity_check").fetchall()
+            reader.close()
+            most = made + (stopped in found or ended == "memory")
+            if not made <= serial <= most or check != [("ok",)]:
+                return [f"growth {at}: {made} were acknowledged, the serial is {serial}, {check}"]
+    print(f"eight calls over a database: of {at} growths of memory one in {STEP} refused: {dict(ends)}")
+    return [] if ends["fault"] and ends["store"] else [f"{dict(ends)}"]
