@@ -27,14 +27,7 @@ fn serve<S: Space + Drop, R: Read, W: Write>(
     let mut reader = Counted::new(input);
     let mut writer = Counted::new(output);
     let mut clock = Fixed::new(now);
-    match serve_stream(
-        alloc,
-        service,
-        tokens,
-        &mut clock,
-        &mut reader,
-        &mut writer,
-    ) {
+    match serve_stream(alloc, service, tokens, &mut clock, &mut reader, &mut writer) {
         Ok(_) => Ok(()),
         Err(StreamFault::Memory) => Err(Fault::Memory),
         Err(fault) => Err(Fault::Stream(fault)),

@@ -4,7 +4,14 @@ ghost use Rattle.clap.specs.Faults.{fault_of as mistakes_of};
 ghost use Rattle.clap.specs.Words.{app_of, found_of, rows_of, rule_of, subcommand_of, subcommand_rows_of};
 ghost use Rattle.clap.specs.declared.builder.command.Command.TheViews.{out-Command};
 ghost use Rattle.dss_line.specs.Grammar.{
-    cell_app, database_rule, dss_app, now_rule, option_rule, requests_rule, run_app, tokens_rule
+  cell_app,
+  database_rule,
+  dss_app,
+  now_rule,
+  option_rule,
+  requests_rule,
+  run_app,
+  tokens_rule,
 };
 ghost use Rattle.dss_line.specs.Line.{Asks, AsksNothing, Explains, texts};
 
@@ -68,10 +75,9 @@ fn database_option<'a>(alloc: Global) -> Arg<'a>
     ensures rule { rule_of result ≡ database_rule }
     ensures local { result.global ≡ false }
 {
-    Arg::new(alloc, "db")
-        .long("db")
-        .value_name("FILE")
-        .help("The database, made where there is none; without it the airspace is in memory")
+    Arg::new(alloc, "db").long("db").value_name("FILE").help(
+        "The database, made where there is none; without it the airspace is in memory",
+    )
 }
 
 fn requests_word<'a>(alloc: Global) -> Arg<'a>

@@ -1,20 +1,18 @@
 -- What a change tells of a space.
-use Rattle.std.proofs.Common.{◌≡◌, ◌⊎◌, inl, inr, Ok, Err, Result, OnErr, OnOk, refl, sym, ap, subst, ◌∙◌, arith}
-use Rattle.std.specs.Prelude.{ℕ, Bool, true, false, IsTrue, IsErr, IsErrOf, MatchResult, ◌↔◌}
+use Rattle.std.proofs.Common.{◌≡◌, ◌⊎◌, inl, inr, Ok, Err, Result, refl, sym, ap, subst, ◌∙◌, arith}
+use Rattle.std.specs.Prelude.{ℕ, Bool, false, IsTrue, IsErr, IsErrOf, MatchResult, ◌↔◌}
 use Rattle.sqlite_trees.specs.Tree.{Trees}
 use Rattle.sqlite_trees.specs.declared.store.Store.{Ghosts}
 use Rattle.sqlite.specs.Effect.{Database, IsDatabase}
 use Rattle.sqlite.specs.Held.{Held, state}
 use Rattle.sqlite.specs.State.{State, HasCleanDisk, IsUnchanged, Survives}
 use Rattle.sqlite.specs.declared.error.Error.{Error}
-use Rattle.sqlite.proofs.StateLemmas.{survives_then}
 use Rattle.entity_core.specs.Airspace.{Airspace}
 use Rattle.space_core.specs.declared.space.SpaceFault.{SpaceFault}
-use Rattle.space_core.specs.declared.space.SpaceFault.TheVariants.{Unchanged, Broken}
+use Rattle.space_core.specs.declared.space.SpaceFault.TheVariants.{Unchanged}
 use Rattle.space_core.specs.Space.{Changes, IsContent}
 use Rattle.space_tables.specs.Making.{IsUndone}
 use Rattle.space_tables.specs.Spelling.{Spells}
-use Rattle.space_tables.specs.Tables.{dss_schema}
 use Rattle.space_tables.proofs.OneAirspace.{one_airspace}
 use Rattle.space_changes.specs.Committing.{Commits, MayBeChanged}
 use Rattle.space_sql.specs.Holding.{Keeps, holds_in, is_whole_in, holds_of, is_sound_of, is_whole_of, kept, with_tables}
@@ -54,9 +52,10 @@ module _ (P : Airspace → Type 0) (change : Airspace → Airspace) (old mid new
 
   pub change_refused : IsUndone old mid → IsUnchanged mid new → (a : Airspace) → holds_in old a ↔ holds_in new a
   change_refused undone same a =
-      let last : old.committed.trees ≡ new.committed.trees = ap (λ (d : Database). d.trees) (sym undone.1 ∙ sym same.0.committed_is) in
-      ((λ h. (new.committed.trees, after.stays same.0.is_open, subst (λ t. Keeps t a) (rests.laws.settled h.0 (live old_clean) h.1 ∙ last) h.2)),
-       (λ h. (old.committed.trees, rests.laws.stays (live old_clean), subst (λ t. Keeps t a) (after.settled h.0 same.0.is_open h.1 ∙ sym last) h.2)))
+      let last : old.committed.trees ≡ new.committed.trees = ap (λ (d : Database). d.trees) (sym undone.1 ∙ sym same.0.committed_is) in (
+        (λ h. (new.committed.trees, after.stays same.0.is_open, subst (λ t. Keeps t a) (rests.laws.settled h.0 (live old_clean) h.1 ∙ last) h.2)),
+        (λ h. (old.committed.trees, rests.laws.stays (live old_clean), subst (λ t. Keeps t a) (after.settled h.0 same.0.is_open h.1 ∙ sym last) h.2)),
+      )
 
 -- the answer of a space, for what a change of its tables told
 module _ {S : Type 0} (g : Ghosts S) (P : Airspace → Type 0) (change : Airspace → Airspace) (old mid new : Held S) (n m : ℕ) (d : Bool) (rests : Rests (state g old)) (rested : Rests (state g mid)) (after : Laws (state g new)) (live : HasCleanDisk (state g old) → IsTrue (state g old).is_open) (fits : HasCleanDisk (state g old) → (a : Airspace) → holds_in (state g old) a → P a) where
@@ -78,7 +77,7 @@ module _ {S : Type 0} (g : Ghosts S) (P : Airspace → Type 0) (change : Airspac
             (record { held = spelt_is_held (state g mid) rested made.1.0 (change a) spelt; only = λ b. spelt_alone (state g mid) rested made.1.0 (change a) b spelt });
         refused = λ s e. absurd cc;
         broken = λ s e. absurd cc;
-        frozen = λ s e. absurd cc
+        frozen = λ s e. absurd cc;
       }
   changes_settled (Ok x) (Err e) it passes same tried = absurd (let e = passes.0 in cc)
   changes_settled (Err e) (Ok y) it passes same tried = absurd (let e = passes in cc)
@@ -91,5 +90,5 @@ module _ {S : Type 0} (g : Ghosts S) (P : Airspace → Type 0) (change : Airspac
             let unchanged = same s.clean is in
             change_refused P change (state g old) (state g mid) (state g new) rests rested after live fits it.crash tried s.clean (it.err (omega (arith, tried.clean, s.clean)) unchanged.0.was_open) unchanged;
         broken = λ s is. change_only P change (state g old) (state g mid) (state g new) rests rested after live fits it.crash tried s.clean;
-        frozen = λ s e. absurd cc
+        frozen = λ s e. absurd cc;
       }

@@ -1,5 +1,5 @@
 -- What a crash may leave of a store before and after a call.
-use Rattle.std.proofs.Common.{◌≡◌, ◌⊎◌, inl, inr, refl, sym, ap, subst, ◌∙◌, arith}
+use Rattle.std.proofs.Common.{◌≡◌, inl, inr, refl, sym, ap, subst, ◌∙◌, arith}
 use Rattle.std.specs.Prelude.{IsTrue}
 use Rattle.sqlite_trees.specs.Tree.{Trees}
 use Rattle.sqlite_trees.specs.Objects.{catalog_tree}
@@ -8,7 +8,6 @@ use Rattle.sqlite_catalog.proofs.ReadLemmas.{lists_once}
 use Rattle.sqlite.specs.Effect.{Database, IsDatabase}
 use Rattle.sqlite.specs.State.{State, HasCleanDisk, IsLive, Survives}
 use Rattle.entity_core.specs.Airspace.{Airspace}
-use Rattle.space_tables.specs.Making.{IsSettled}
 use Rattle.space_tables.specs.Spelling.{Spells}
 use Rattle.space_tables.specs.Tables.{dss_schema}
 use Rattle.space_tables.proofs.OneAirspace.{one_airspace}

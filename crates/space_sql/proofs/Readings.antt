@@ -1,6 +1,6 @@
 -- What a reading tells of a space.
-use Rattle.std.proofs.Common.{◌≡◌, Ok, Err, Result, IfOk, refl, sym, ap, subst, ◌∙◌}
-use Rattle.std.specs.Prelude.{ℕ, Bool, false, IsTrue, IsErr, IsErrOf, MatchResult}
+use Rattle.std.proofs.Common.{◌≡◌, Ok, Err, Result, IfOk, refl, sym, subst}
+use Rattle.std.specs.Prelude.{ℕ, Bool, IsTrue, IsErr, IsErrOf, MatchResult}
 use Rattle.sqlite_trees.specs.declared.store.Store.{Ghosts}
 use Rattle.sqlite.specs.Held.{Held, state}
 use Rattle.sqlite.specs.State.{State, HasCleanDisk, IsUnchanged, Survives}
@@ -36,7 +36,7 @@ module _ {S T : Type 0} (g : Ghosts S) (old mid new : Held S) (n m : ℕ) (b d :
         whole = λ s whole. stays_whole (state g old) (state g new) all s.clean whole;
         stays = λ s. stays_held (state g old) (state g new) all s.clean rests.laws after (live (clean_before (state g old) (state g new) all s.clean)) (subst (λ h. IsTrue (state g h).is_open) (sym passes.1) (it.is_open (cleaned s.clean)));
         no_other = λ s. no_other (state g old) (state g new) all s.clean;
-        answer = λ s a h. subst (P a) (sym is) (it.answer (cleaned s.clean) a (held_is_spelt (state g old) rests (live (clean_before (state g old) (state g new) all s.clean)) a h))
+        answer = λ s a h. subst (P a) (sym is) (it.answer (cleaned s.clean) a (held_is_spelt (state g old) rests (live (clean_before (state g old) (state g new) all s.clean)) a h));
       }
   reads_settled (Ok x) (Err e) it passes same went = absurd (let e = passes.0 in cc)
   reads_settled (Err e) (Ok y) it passes same went = absurd (let e = passes in cc)
@@ -47,7 +47,7 @@ module _ {S T : Type 0} (g : Ghosts S) (old mid new : Held S) (n m : ℕ) (b d :
         whole = λ s whole. stays_whole (state g old) (state g new) all s.clean whole;
         stays = λ s. stays_held (state g old) (state g new) all s.clean rests.laws after (live (clean_before (state g old) (state g new) all s.clean)) (same s.clean refl).0.is_open;
         no_other = λ s. no_other (state g old) (state g new) all s.clean;
-        answer = λ s. tt
+        answer = λ s. tt;
       }
   reads_settled (Err e) (Err Broken) it passes same went =
       let all = survives_then (state g old) (state g mid) (state g new) _ _ (λ _. ⊥) (λ _ db none. none) (λ _ db none. none) it.survives went in
@@ -56,7 +56,7 @@ module _ {S T : Type 0} (g : Ghosts S) (old mid new : Held S) (n m : ℕ) (b d :
         whole = λ s whole. stays_whole (state g old) (state g new) all s.clean whole;
         stays = λ s. tt;
         no_other = λ s. no_other (state g old) (state g new) all s.clean;
-        answer = λ s. tt
+        answer = λ s. tt;
       }
 
 -- a space that is broken tells so, and is left

@@ -1,5 +1,5 @@
 -- What a reading tells of the tables.
-use Rattle.std.specs.Prelude.{◌≡◌, Result, IfOk, OnOk, IsTrue}
+use Rattle.std.specs.Prelude.{Result, IfOk, OnOk, IsTrue}
 use Rattle.sqlite.specs.State.{State, HasCleanDisk, Survives}
 use Rattle.sqlite.specs.declared.error.Error.{Error}
 use Rattle.entity_core.specs.Airspace.{Airspace}

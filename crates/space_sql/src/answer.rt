@@ -37,10 +37,7 @@ fn note<T>(refusals: &mut u64, broken: &mut bool, answer: &Result<T, SpaceFault>
 }
 
 // The answer for what a connection told; after an error the store is tried, which writes nothing.
-fn told<S: Alter, T>(
-    conn: &mut Connection<S>,
-    answer: Result<T, Error>,
-) -> Result<T, SpaceFault>
+fn told<S: Alter, T>(conn: &mut Connection<S>, answer: Result<T, Error>) -> Result<T, SpaceFault>
     requires outside { conn.old.in_transaction ≡ false }
     ensures outside { conn.new.in_transaction ≡ false }
     ensures passes { MatchResult answer (λ x. (result ≡ Ok x) × (conn.new ≡ conn.old))

@@ -14,8 +14,8 @@ ghost use Rattle.space_sql.specs.declared.open_fault.OpenFault.TheVariants.{Stor
 use crate::open_fault::OpenFault;
 use crate::space::SqlSpace;
 use space_core::space::{Space, SpaceFault};
-use space_reading::verdict::Verdict;
 use space_reading::reading::{known, read_airspace};
+use space_reading::verdict::Verdict;
 use space_tables::make::make_tables;
 use space_tables::standing::{Standing, standing_of};
 use sqlite::{Alter, Connection, File, FileStore, MemStore};
@@ -53,7 +53,7 @@ fn examined<S: Alter>(alloc: Global, conn: &mut Connection<S>) -> Result<(), Ope
     ensures at_rest { HasCleanDisk (state S.Store conn.new)
         → (state S.Store conn.old).now.schema ≡ dss_schema → result ≢ Err Store
         → IsSettled (state S.Store conn.new)
-            × ((state S.Store conn.new).now ≡ (state S.Store conn.old).now) }
+        × ((state S.Store conn.new).now ≡ (state S.Store conn.old).now) }
     ensures survives { Survives (state S.Store conn.old) (state S.Store conn.new) (λ _. ⊥) }
 {
     match read_airspace(alloc, conn) {
@@ -100,7 +100,7 @@ fn take_old<S: Alter>(
     ensures taken { IfOk result (λ s. ⟦<SqlSpace<S> as Space>⟧.is_sound s
         → (state S.Store conn).now.schema ≡ dss_schema
         → (a : Airspace) × Spells (state S.Store conn).now a
-            × IsContent ⟦<SqlSpace<S> as Space>⟧.holds s a) }
+        × IsContent ⟦<SqlSpace<S> as Space>⟧.holds s a) }
     ensures fresh { IfOk result (λ s. (s.refusals ≡ 0) × (s.broken ≡ false)) }
     ensures refused { IfErr result (λ e. HasCleanDisk (state S.Store e.1)
         → (state S.Store conn).now.schema ≡ dss_schema
@@ -136,7 +136,7 @@ impl<S: Alter> SqlSpace<S> {
         ensures taken { IfOk result (λ s. ⟦<SqlSpace<S> as Space>⟧.is_sound s
             → (state S.Store conn).now.schema ≡ dss_schema
             → (a : Airspace) × Spells (state S.Store conn).now a
-                × IsContent ⟦<SqlSpace<S> as Space>⟧.holds s a) }
+            × IsContent ⟦<SqlSpace<S> as Space>⟧.holds s a) }
         ensures fresh { IfOk result (λ s. (⟦<SqlSpace<S> as Space>⟧.refusals s ≡ 0)
             × (⟦<SqlSpace<S> as Space>⟧.is_broken s ≡ false)) }
         ensures new { IfErr result (λ e. (state S.Store conn).now.schema ≡ no_schema
@@ -147,7 +147,7 @@ impl<S: Alter> SqlSpace<S> {
         ensures unwritten { IfErr result (λ e. HasCleanDisk (state S.Store e.1)
             → (state S.Store conn).now.schema ≡ dss_schema → e.0 ≢ OpenFault.Store
             → IsSettled (state S.Store e.1)
-                × ((state S.Store e.1).now ≡ (state S.Store conn).now)) }
+            × ((state S.Store e.1).now ≡ (state S.Store conn).now)) }
         ensures left { IfErr result (λ e. Survives (state S.Store conn) (state S.Store e.1)
             (MayBeOpened (state S.Store conn) e.0)) }
         ensures back { IfErr result (λ e. e.1.in_transaction ≡ false) }

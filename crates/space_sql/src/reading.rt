@@ -9,8 +9,8 @@ use entity_core::entity::Entity;
 use entity_core::entity_id::EntityId;
 use entity_core::nature::Kind;
 use grid_core::volume::Area;
-use space_reading::verdict::{Listed, Verdict};
 use space_reading::reading::read_airspace;
+use space_reading::verdict::{Listed, Verdict};
 use sqlite::{Alter, Connection, Error, ErrorCode};
 use std::alloc::Global;
 

@@ -19,7 +19,11 @@ fn setting(alloc: Global) -> Option<Call> {
     let version = Text::from_string(String::from_str(alloc, "").ok()?);
     Some(Call {
         caller: Some(Caller { uss, scopes }),
-        op: Operation::SetAvail(UssId::read(alloc, "uss-b").ok()?, version, Availability::Down),
+        op: Operation::SetAvail(
+            UssId::read(alloc, "uss-b").ok()?,
+            version,
+            Availability::Down,
+        ),
     })
 }
 

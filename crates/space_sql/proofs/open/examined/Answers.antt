@@ -1,4 +1,3 @@
-use Rattle.sqlite.specs.Held.{state}
 use Rattle.space_reading.specs.Judging.{listed_airspace}
 use Rattle.space_sql.proofs.open.examined.Goals as goal
 

@@ -1,7 +1,5 @@
 use Rattle.std.proofs.Common.{◌≡◌}
-use Rattle.std.specs.FinMap.{get}
 use Rattle.sqlite.specs.Held.{state}
-use Rattle.entity_core.specs.Search.{all_in, meeting_in}
 use Rattle.space_sql.proofs.Outcomes.{Laws, Rests}
 use Rattle.space_sql.proofs.Readings.{reads_settled}
 use Rattle.space_sql.proofs.parts.serial.Goals as goal

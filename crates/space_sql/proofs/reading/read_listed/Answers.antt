@@ -1,4 +1,4 @@
-use Rattle.std.proofs.Common.{◌≡◌, refl}
+use Rattle.std.proofs.Common.{refl}
 use Rattle.sqlite.specs.Held.{state}
 use Rattle.space_tables.proofs.OneAirspace.{one_airspace}
 use Rattle.space_sql.proofs.reading.read_listed.Goals as goal

@@ -1,4 +1,4 @@
-use Rattle.std.proofs.Common.{◌≡◌, ◌∙◌}
+use Rattle.std.proofs.Common.{◌∙◌}
 use Rattle.sqlite.specs.Held.{state}
 use Rattle.space_sql.proofs.Openings.{left_made, left_nothing, missing_is_not_whole}
 use Rattle.space_sql.proofs.space.SqlSpace.adopt.Goals as goal

@@ -1,5 +1,4 @@
-use Rattle.std.proofs.Common.{◌≡◌, subst, sym}
-use Rattle.sqlite.specs.Held.{state}
+use Rattle.std.proofs.Common.{subst, sym}
 use Rattle.entity_core.specs.Airspace.{Airspace}
 use Rattle.space_core.specs.Space.{Changes, Fits, changed}
 use Rattle.space_sql.specs.Holding.{Kept, holds_of, is_sound_of, is_whole_of, kept}

@@ -1,6 +1,5 @@
 use Rattle.std.proofs.Common.{◌≡◌, subst}
 use Rattle.std.specs.FinMap.{get}
-use Rattle.entity_core.specs.Search.{all_in, meeting_in}
 use Rattle.space_core.specs.Space.{Reads}
 use Rattle.space_sql.specs.Holding.{holds_of, is_sound_of, is_whole_of, kept}
 use Rattle.space_sql.proofs.space.SqlSpaceSpace.entity.Goals as goal
