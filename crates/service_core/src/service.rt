@@ -155,11 +155,11 @@ impl<S: Space + Drop> Service<S> {
 
     /// Answers one call at a moment (in seconds since 1970) with what the policy says of it.
     ///
-    /// After `Fault` (want of memory, or the space answered `Unchanged`) the content is as before. It
-    /// does not come for a call that breaks one of P1 to P6, and for one that breaks one of P7 to P13
-    /// only where the space's count of refusals rose, or is at its greatest. `Stopped` comes for the
-    /// call in which the space answered `Broken`, and for each call after it. A call that breaks one
-    /// of P1 to P6 is denied without memory, and the space is not asked.
+    /// After `Fault` (want of memory, or the space answered `Unchanged`) the content is as before.
+    /// It does not come for a call that breaks one of P1 to P6, and for one that breaks one of P7
+    /// to P13 only where the space's count of refusals rose, or is at its greatest. `Stopped` comes
+    /// for the call in which the space answered `Broken`, and for each call after it. A call that
+    /// breaks one of P1 to P6 is denied without memory, and the space is not asked.
     ///
     /// A put that needs to know an entity, and whose key has OVNs of other serials alone, is not
     /// done: it is denied by one of P1 to P14, and where it is P14, the entity is listed.
