@@ -219,7 +219,7 @@ fn first_standing(
 ) -> Option<Rule>
     ensures { (serial : ℕ) → result
         ≡ find (breaks_given (lent_facts found.entry kept.entry serial) now call.now)
-            standing_rules }
+        standing_rules }
 {
     if breaks_found(&call.op, found) {
         return Some(Rule::Found);
@@ -257,7 +257,7 @@ pub fn standing(
 ) -> Findings
     ensures first { result.first
         ≡ find (breaks_given (lent_facts found.entry kept.entry serial) now call.now)
-            standing_rules }
+        standing_rules }
     ensures limit { result.limit
         ≡ breaks_given (lent_facts found.entry kept.entry serial) now call.now Rule.Limit }
     ensures first_in { (a : Airspace) → Regards a call.now.op

@@ -99,7 +99,7 @@ fn missing_kind<S: Space>(
     requires areas { areas.now ≡ map region_of put.now.volumes }
     ensures { Looks S.Space space.old space.new result (λ a references.
         references ≡ map (view_of a caller.now.uss)
-            (missing_from put.now.key (needed_put kind a (Some caller.now) id put.now))) }
+        (missing_from put.now.key (needed_put kind a (Some caller.now) id put.now))) }
 {
     let needed = needed_put(space, alloc, kind, caller, id, put, areas)?;
     missing_from(space, alloc, &caller.uss, put.key.items(), &needed)

@@ -80,8 +80,8 @@ pub fn listing<S: Space>(
 ) -> Result<Made, Halt>
     ensures { Looks S.Space space.old space.new result
         (λ a made. (made.change ≡ None) ×
-            (made.answer ≡ Answer.Listed kind
-            (map (view_of a uss.now) (meeting_in a.entities kind (area.now ∷ []) None)))) }
+        (made.answer ≡ Answer.Listed kind
+        (map (view_of a uss.now) (meeting_in a.entities kind (area.now ∷ []) None)))) }
 {
     let met = look_meeting(space, kind, from_ref(area), None)?;
     let shown = references(space, alloc, uss, &met)?;
@@ -95,7 +95,7 @@ pub fn listing<S: Space>(
 pub fn reading<S: Space>(space: &mut S, uss: &UssId, entity: &Entity) -> Result<Made, Halt>
     ensures { Looks S.Space space.old space.new result
         (λ a made. (made.change ≡ None) ×
-            (made.answer ≡ Answer.Found (view_of a uss.now entity.now))) }
+        (made.answer ≡ Answer.Found (view_of a uss.now entity.now))) }
 {
     let shown = reference(space, uss, entity)?;
     Ok(Made {
@@ -116,8 +116,8 @@ pub fn creation<S: Space>(
 ) -> Result<Made, Halt>
     ensures { Looks S.Space space.old space.new result
         (λ a made. (made.change ≡ Some (Change.Put (kept_as salt.now serial uss.now 1 id put.now)))
-            × (made.answer ≡ Answer.Created
-            (view_of a uss.now (kept_as salt.now serial uss.now 1 id put.now)))) }
+        × (made.answer ≡ Answer.Created
+        (view_of a uss.now (kept_as salt.now serial uss.now 1 id put.now)))) }
 {
     let entity = entity_of(alloc, salt, serial, uss, Version::first(), id, put)?;
     let shown = reference(space, uss, &entity)?;
@@ -140,10 +140,10 @@ pub fn update<S: Space>(
 ) -> Result<Made, Halt>
     ensures { Looks S.Space space.old space.new result
         (λ a made. old.now.version < greatest_version
-            → (made.change ≡ Some (Change.Put
-            (kept_as salt.now serial old.now.manager (old.now.version + 1) id put.now)))
+        → (made.change ≡ Some (Change.Put
+        (kept_as salt.now serial old.now.manager (old.now.version + 1) id put.now)))
         × (made.answer ≡ Answer.Changed (view_of a uss.now
-            (kept_as salt.now serial old.now.manager (old.now.version + 1) id put.now)))) }
+        (kept_as salt.now serial old.now.manager (old.now.version + 1) id put.now)))) }
 {
     let version = next_version(old.version);
     let entity = entity_of(alloc, salt, serial, &old.manager, version, id, put)?;
@@ -164,7 +164,7 @@ pub fn removal<S: Space>(
 ) -> Result<Made, Halt>
     ensures { Looks S.Space space.old space.new result
         (λ a made. (made.change ≡ Some (Change.Remove kind id))
-            × (made.answer ≡ Answer.Changed (view_of a uss.now entity.now))) }
+        × (made.answer ≡ Answer.Changed (view_of a uss.now entity.now))) }
 {
     let shown = reference(space, uss, entity)?;
     Ok(Made {

@@ -168,7 +168,7 @@ impl<S: Space + Drop> Service<S> {
         ensures stale { is_shut self.old ≡ false → S.is_sound (space_of self.new)
             → (a : Airspace) → IsContent S.holds (space_of self.old) a
             → (kind : Kind) (y : Entity) → IsStale (salt_of self.old) kind a call.now y
-                → FailsOrIsRefused kind a call.now y result }
+            → FailsOrIsRefused kind a call.now y result }
     {
         if self.stopped {
             return Reply::Stopped;

@@ -131,7 +131,7 @@ pub(crate) fn left_after(received: Received<'_>, count: u32) -> u32
     requires { IsReceived received }
     ensures { result ≡ (if closes_by received.entry.spans.version
         (map (header_bytes received.entry.buffer.now)
-            (take received.entry.spans.headers received.entry.fields.now))
+        (take received.entry.spans.headers received.entry.fields.now))
         then 0 else count) }
 {
     let Received {

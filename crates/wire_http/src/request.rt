@@ -47,7 +47,7 @@ fn take_body<R: Read>(
         IfSome (prepend_known buffer.old.items (R.remaining (inner_of reader.old)))
         (λ rest. (h : RequestHead) → IsKind rest (whole h)
         → Covers buffer.old.items fields.now spans h
-            → IsNext rest buffer.new.items fields.now next)) }
+        → IsNext rest buffer.new.items fields.now next)) }
     ensures within { IfOk result (NextFits buffer.new.items fields.now) }
     ensures turns { Spends turns.old turns.new (calls_of reader.old) (calls_of reader.new) }
     ensures good { OnOk result (failures_of reader.new ≡ failures_of reader.old) }

@@ -208,7 +208,7 @@ pub fn serve_stream<S: Space + Drop, M: Moments, R: Read, W: Write>(
         ⊎ (M.failures moments.new ≡ M.failures moments.old) }
     ensures turns { result ≡ Err StreamFault.Turns
         → (calls_of reader.new ≡ calls_of reader.old + most_reads) ⊎ IsGreatest
-            (calls_of reader.new) }
+        (calls_of reader.new) }
     ensures reads { (calls_of reader.new ≤ calls_of reader.old + most_reads)
         ⊎ IsGreatest (calls_of reader.new) }
 

@@ -86,7 +86,7 @@ fn one_word(word: &str, is_right: bool) -> Option<PathWords<'_>>
 fn halves(rest: &str) -> Option<(&str, &str)>
     ensures { MatchOption result (has_slash rest.now ≡ false)
         (λ half. (rest.now ≡ half.0.now ++ (codes "/" ++ half.1.now))
-            × (has_slash half.0.now ≡ false)) }
+        × (has_slash half.0.now ≡ false)) }
 {
     rest.split_once('/')
 }
