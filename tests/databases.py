@@ -195,6 +195,12 @@ DONE = [
     ("ALTER TABLE availability RENAME TO others", NOT_A_DSS),
     ("ALTER TABLE volume RENAME COLUMN place TO number", NOT_A_DSS),
     ("CREATE TABLE more (x)", None),
+    # another format is told before what is lacking, as long as meta is there
+    ("UPDATE meta SET format = 7; DROP TABLE cell", VERSION),
+    ("UPDATE meta SET format = 7; ALTER TABLE volume RENAME COLUMN place TO number", VERSION),
+    ("UPDATE meta SET format = 7; ALTER TABLE meta DROP COLUMN serial", NOT_A_DSS),
+    ("DELETE FROM meta; DROP TABLE cell", NOT_A_DSS),
+    ("DROP TABLE meta", NOT_A_DSS),
     # a kind that is none, a state of no intent, an intent as a constraint
     ("UPDATE entity SET kind = 2 WHERE num = 1", STORE),
     ("UPDATE entity SET state = 4 WHERE num = 1", NOT_A_DSS),

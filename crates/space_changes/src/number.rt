@@ -1,22 +1,13 @@
 //! The number under which the tables have an entity.
 ghost use Rattle.std.specs.Prelude.{◌≡◌};
 ghost use Rattle.sqlite.specs.Held.{state};
-ghost use Rattle.space_rows.specs.Rows.{kind_number};
 ghost use Rattle.space_changes.specs.Statements.{Runs, FindsNumber, ShowsNumbers};
 
 use entity_core::entity_id::EntityId;
 use entity_core::nature::Kind;
+use space_rows::numbers::kind_number;
 use sqlite::{Alter, Error, Row, Transaction, params};
 use std::alloc::Global;
-
-fn kind_number(kind: Kind) -> i64
-    ensures { result ≡ kind_number kind }
-{
-    match kind {
-        Kind::Intent => 0,
-        Kind::Constraint => 1,
-    }
-}
 
 // The numbers of the rows of a kind and an id.
 fn numbers<S: Alter>(tx: &mut Transaction<'_, S>, kind: i64, id: &str) -> Result<Vec<Row>, Error>

@@ -1,5 +1,5 @@
 -- What the SELECTs of single things answer.
-use Rattle.std.proofs.Common.{◌≡◌, ℕ, pos, List, [], ◌∷◌, map, filter, codes, false, Ok, Err, Result, IfOk, refl, ap, subst, ◌∙◌}
+use Rattle.std.proofs.Common.{◌≡◌, ◌↔◌, ℕ, pos, List, [], ◌∷◌, map, filter, codes, Bool, IsTrue, false, Ok, Err, Result, IfOk, refl, ap, subst, ◌∙◌}
 use Rattle.std.specs.Prelude.{IsPermutation}
 use Rattle.std.specs.Prelude.{Vec}
 use Rattle.std.specs.Global.{Global}
@@ -22,7 +22,12 @@ use Rattle.entity_core.specs.Airspace.{Airspace}
 use Rattle.space_tables.specs.Tables.{dss_schema, is_number}
 use Rattle.space_tables.specs.Spelling.{Spells, meta_columns, meta_values}
 use Rattle.space_reading.specs.Selecting.{IsSelect, Answers, command_of, command_in}
-use Rattle.space_reading.proofs.Texts.{serial_read}
+use Rattle.space_reading.specs.Reading.{ShowsMeta}
+use Rattle.space_reading.specs.Gathering.{AreOtherFormat}
+use Rattle.space_reading.specs.Judging.{IsOtherFormat}
+use Rattle.space_reading.proofs.Texts.{metas_read, serial_read}
+use Rattle.space_reading.proofs.Shown.{all_pass}
+use Rattle.space_reading.proofs.Judged.{other_database, other_rows}
 use Rattle.space_reading.proofs.Means.{listing}
 use Rattle.space_reading.proofs.Selected.{selects_all}
 
@@ -70,3 +75,26 @@ pub serial_told : (db : Database) (r : Result ℕ Error) (rows sliced : List Row
     → (db.schema ≡ dss_schema → Answers serial_read [] db rows) → IfOk r (λ n. (a : Airspace) → Spells db a → n ≡ a.serial)
 serial_told db (Ok n) rows sliced e told h = λ a s. told a.serial (e ∙ serial_shown db a rows s (h s.schema))
 serial_told db (Err x) rows sliced e told h = tt
+
+-- ---- the format
+
+metas_are : command_of metas_read ≡ Select (record { lets = []; body = listing 0 [] (0 ∷ 2 ∷ 3 ∷ []) [] }) (codes "one" ∷ codes "format" ∷ codes "serial" ∷ [])
+unfolding understood everything
+metas_are = refl
+
+pub metas_select : IsSelect metas_read
+unfolding understood everything
+metas_select = record { plain = (refl, refl); unlisted = refl }
+
+metas_answered : (db : Database) (rows : List Row) → Answers metas_read [] db rows → ShowsMeta db rows
+metas_answered db rows h =
+    let read = subst (λ k. Reads k db [] rows) metas_are h in
+    let all = selects_all 0 [] (0 ∷ 2 ∷ 3 ∷ []) [] db.trees [] rows refl (read.answer Null) in
+    subst (λ l. IsPermutation (map meta_columns l) rows) (all_pass (db.trees 0)) all
+
+pub other_told : (db : Database) (rows sliced : List Row) (b : Bool) → sliced ≡ rows → IsTrue b ↔ AreOtherFormat sliced → (db.schema ≡ dss_schema → Answers metas_read [] db rows)
+    → db.schema ≡ dss_schema → IsTrue b ↔ IsOtherFormat db
+other_told db rows sliced b e is h has =
+    let shows = metas_answered db rows (h has) in
+    let told = subst (λ l. IsTrue b ↔ AreOtherFormat l) e is in
+    ((λ yes. other_database db rows shows (told.0 yes)), (λ other. told.1 (other_rows db rows shows other)))

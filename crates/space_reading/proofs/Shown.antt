@@ -24,7 +24,7 @@ then_equal Less = refl
 then_equal Equal = refl
 then_equal Greater = refl
 
-all_pass : {X : Type 0} (xs : List X) → filter (λ _. true) xs ≡ xs
+pub all_pass : {X : Type 0} (xs : List X) → filter (λ _. true) xs ≡ xs
 all_pass [] = refl
 all_pass (x ∷ xs) = ap (λ l. x ∷ l) (all_pass xs)
 

@@ -34,14 +34,16 @@ StartsElse P (x ∷ xs) = ¬ P x
 
 -- A row of entity and its rows of volume and cell spell an entity: its number is over the last one,
 -- its serial is not over that of the airspace, and its key is none of those before it.
-pub record IsNext (serial : ℕ) (last : ℤ) (row : EntityRow) (volumes : List VolumeRow) (cells : List CellRow) (before : Entities) (e : Entity) : Type 0 where
+pub record IsNext (serial : ℕ) (last : ℤ) (row : EntityRow) (volumes : List VolumeRow)
+    (cells : List CellRow) (before : Entities) (e : Entity) : Type 0 where
   pub rising : int_cmp last row.num ≡ Less
   pub spelt : SpellsEntity row volumes cells e
   pub most : e.serial ≤ serial
   pub new : get before (key_of e) ≡ None
 
 -- it is spelt with the first rows of volume and cell
-pub record Step (serial : ℕ) (last : ℤ) (row : EntityRow) (volumes : List VolumeRow) (cells : List CellRow) (before : Entities) : Type 0 where
+pub record Step (serial : ℕ) (last : ℤ) (row : EntityRow) (volumes : List VolumeRow)
+    (cells : List CellRow) (before : Entities) : Type 0 where
   pub own_volumes : List VolumeRow
   pub more_volumes : List VolumeRow
   pub own_cells : List CellRow

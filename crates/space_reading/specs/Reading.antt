@@ -26,7 +26,8 @@ abbrev pub ShowsAll : (Row → Row) → ℕ → Database → List Row → Type 0
 ShowsAll columns tree db rows = IsPermutation (map columns (db.trees tree)) rows
 
 -- and where the table has the values of a list that rises, they show that list
-pub record ShowsRising {X : Type 0} (compare : X → X → Ordering) (values : X → Row) (columns : Row → Row) (tree : ℕ) (db : Database) (rows : List Row) : Type 0 where
+pub record ShowsRising {X : Type 0} (compare : X → X → Ordering) (values : X → Row)
+    (columns : Row → Row) (tree : ℕ) (db : Database) (rows : List Row) : Type 0 where
   pub all : ShowsAll columns tree db rows
   pub rising : (xs : List X) → IsAscending (λ x y. compare x y ≡ Less) xs
       → IsPermutation (map values xs) (map columns (db.trees tree)) → rows ≡ map values xs
@@ -98,7 +99,8 @@ pub record ShowsTables (db : Database) (t : Tables) : Type 0 where
 -- A reading in a transaction: where the tables are those of format 1, its answer has P of what is
 -- seen, which stays. Whatever comes of it, the last commit stands, and a crash leaves what it would
 -- have left before.
-pub record Reads {X : Type 0} (P : Database → X → Type 0) (old new : State) (result : Result X Error) : Type 0 where
+pub record Reads {X : Type 0} (P : Database → X → Type 0) (old new : State)
+    (result : Result X Error) : Type 0 where
   pub answer : HasCleanDisk new → IfOk result (λ x. old.now.schema ≡ dss_schema → P old.now x)
   pub same : HasCleanDisk new → OnOk result (old.now.schema ≡ dss_schema → new.now ≡ old.now)
   pub kept : HasCleanDisk new → old.now.schema ≡ dss_schema → KeepsCommit old new

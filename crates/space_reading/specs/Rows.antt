@@ -60,11 +60,13 @@ abbrev pub IsWrittenNumber : ℤ → Type 0
 IsWrittenNumber n = Unit {0}
 
 -- the values are those of a typed row whose texts are UTF-8
-pub record IsRowOf {X : Type 0} (values : X → Row) (IsWritten : X → Type 0) (row : Row) (x : X) : Type 0 where
+pub record IsRowOf {X : Type 0} (values : X → Row) (IsWritten : X → Type 0) (row : Row) (x : X)
+    : Type 0 where
   pub written : IsWritten x
   pub values_are : row ≡ values x
 
 -- the rows are those of typed rows whose texts are UTF-8
-pub record AreRowsOf {X : Type 0} (values : X → Row) (IsWritten : X → Type 0) (rows : List Row) (xs : List X) : Type 0 where
+pub record AreRowsOf {X : Type 0} (values : X → Row) (IsWritten : X → Type 0) (rows : List Row)
+    (xs : List X) : Type 0 where
   pub written : AllByRecursion IsWritten xs
   pub values_are : rows ≡ map values xs

@@ -2,7 +2,7 @@
 ghost use Rattle.std.specs.Prelude.{◌≡◌, ◌↔◌, [], ◌∷◌, IsTrue};
 ghost use Rattle.sqlite_value.specs.Order.{column};
 ghost use Rattle.sqlite_value.specs.declared.value.Value.TheVariants.{Int};
-ghost use Rattle.space_reading.specs.Gathering.{IsMeta};
+ghost use Rattle.space_reading.specs.Gathering.{AreOtherFormat, IsMeta};
 
 use crate::rows::number_in;
 use sqlite::Row;
@@ -63,5 +63,16 @@ pub(crate) fn meta_of(rows: &[Row]) -> Meta
             }
         }
         None => Meta::Neither,
+    }
+}
+
+/// Whether they say another format.
+pub(crate) fn is_other(rows: &[Row]) -> bool
+    ensures { IsTrue result ↔ AreOtherFormat rows.now }
+{
+    match meta_of(rows) {
+        Meta::Other => true,
+        Meta::Ours(_) => false,
+        Meta::Neither => false,
     }
 }

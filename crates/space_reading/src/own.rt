@@ -2,7 +2,7 @@
 ghost use Rattle.std.specs.Prelude.{◌≡◌, false, List, [], ◌∷◌, map, Some, None, IfOk, OnOk, IsTrue};
 ghost use Rattle.sqlite.specs.Held.{state};
 ghost use Rattle.sqlite.specs.State.{HasCleanDisk, Survives};
-ghost use Rattle.space_rows.specs.Rows.{kind_number, SpellsEntity};
+ghost use Rattle.space_rows.specs.Rows.{SpellsEntity};
 ghost use Rattle.entity_core.specs.declared.entity.Entity.{Entity as AnEntity};
 ghost use Rattle.space_tables.specs.Tables.{dss_schema};
 ghost use Rattle.space_tables.specs.Spelling.{entity_values, volume_values, cell_values};
@@ -18,18 +18,10 @@ use entity_core::entity::Entity;
 use entity_core::entity_id::EntityId;
 use entity_core::nature::Kind;
 use space_rows::entity::entity_of;
+use space_rows::numbers::kind_number;
 use space_rows::rows::EntityRow;
 use sqlite::{Alter, Connection, Error, Row, params};
 use std::alloc::Global;
-
-fn kind_number(kind: Kind) -> i64
-    ensures { result ≡ kind_number kind }
-{
-    match kind {
-        Kind::Intent => 0,
-        Kind::Constraint => 1,
-    }
-}
 
 /// The row of `entity` of a kind and an id.
 pub(crate) fn select_head<S: Alter>(

@@ -12,10 +12,10 @@ ghost use Rattle.space_reading.specs.Gathering.{IsSetting, SaysSetting, Settles,
 
 use crate::rows::{number_in, text_in};
 use entity_core::availability::Availability;
-use entity_core::id_fault::IdFault;
 use entity_core::ovn::Ovn;
 use entity_core::uss_id::UssId;
 use space_core::availabilities::Availabilities;
+use space_rows::texts;
 use sqlite::Row;
 use std::alloc::{AllocError, Global};
 
@@ -42,14 +42,9 @@ fn uss_in(alloc: Global, row: &Row, at: usize) -> Result<Option<UssId>, AllocErr
     ensures { let value = column row.now at in
         IfOk result (λ o. Finds (λ t. (value ≡ Words t) × (name_fault t ≡ None)) o) }
 {
-    let Some(text) = text_in(row, at) else {
-        return Ok(None);
-    };
-    match UssId::read(alloc, text) {
-        Ok(uss) => Ok(Some(uss)),
-        Err(IdFault::Memory) => Err(AllocError),
-        Err(IdFault::Length) => Ok(None),
-        Err(IdFault::Form) => Ok(None),
+    match text_in(row, at) {
+        Some(text) => texts::uss_in(alloc, text),
+        None => Ok(None),
     }
 }
 
@@ -57,14 +52,9 @@ fn version_in(alloc: Global, row: &Row, at: usize) -> Result<Option<Ovn>, AllocE
     ensures { let value = column row.now at in
         IfOk result (λ o. Finds (λ t. (value ≡ Words t) × (ovn_fault t ≡ None)) o) }
 {
-    let Some(text) = text_in(row, at) else {
-        return Ok(None);
-    };
-    match Ovn::read(alloc, text) {
-        Ok(version) => Ok(Some(version)),
-        Err(IdFault::Memory) => Err(AllocError),
-        Err(IdFault::Length) => Ok(None),
-        Err(IdFault::Form) => Ok(None),
+    match text_in(row, at) {
+        Some(text) => texts::ovn_in(alloc, text),
+        None => Ok(None),
     }
 }
 

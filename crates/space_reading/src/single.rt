@@ -1,14 +1,17 @@
 //! Single things are read of a connection: each call reads their rows and no others.
-ghost use Rattle.std.specs.Prelude.{◌≡◌, false, ℕ, Option, pos, [], ◌∷◌, IfOk, OnOk, IsTrue};
+ghost use Rattle.std.specs.Prelude.{◌≡◌, ◌↔◌, false, ℕ, Option, pos, [], ◌∷◌, IfOk, OnOk, IsTrue};
 ghost use Rattle.std.specs.FinMap.{get};
 ghost use Rattle.sqlite_value.specs.declared.value.Value.TheVariants.{Int};
 ghost use Rattle.sqlite.specs.Held.{state};
 ghost use Rattle.sqlite.specs.State.{HasCleanDisk, Survives};
 ghost use Rattle.entity_core.specs.Airspace.{Airspace, Stated};
 ghost use Rattle.space_tables.specs.Spelling.{Spells};
+ghost use Rattle.space_tables.specs.Tables.{dss_schema};
+ghost use Rattle.space_reading.specs.Judging.{IsOtherFormat};
 ghost use Rattle.space_reading.specs.Reading.{RestsAs};
 ghost use Rattle.space_reading.specs.Selecting.{IsSelect, rows_of_setting};
 
+use crate::meta::is_other;
 use crate::own::{entity_in, head_of, select_extents, select_head};
 use crate::select::select;
 use crate::settings::setting_in;
@@ -64,6 +67,20 @@ pub fn read_serial<S: Alter>(conn: &mut Connection<S>) -> Result<u64, Error>
 {
     let rows = select(conn, "SELECT serial FROM meta WHERE one = 1", &[])?;
     serial_in(rows.as_slice())
+}
+
+/// Whether the table `meta` has one row, of another format. It may be asked of a database with any
+/// tables; what it says is promised of one with the schema of format 1.
+pub fn has_other_format<S: Alter>(conn: &mut Connection<S>) -> Result<bool, Error>
+    requires { conn.old.in_transaction ≡ false }
+    ensures outside { conn.new.in_transaction ≡ false }
+    ensures told { let old = state S.Store conn.old in
+        HasCleanDisk (state S.Store conn.new)
+        → IfOk result (λ b. old.now.schema ≡ dss_schema → IsTrue b ↔ IsOtherFormat old.now) }
+    ensures survives { Survives (state S.Store conn.old) (state S.Store conn.new) (λ _. ⊥) }
+{
+    let rows = select(conn, "SELECT one, format, serial FROM meta", &[])?;
+    Ok(is_other(rows.as_slice()))
 }
 
 /// What a supplier has set, if it has set anything, as the tables spell it. Where they spell no

@@ -17,7 +17,8 @@ pub record SpellsCell (num : ℤ) (volume place : ℕ) (row : CellRow) (c : Cell
   pub valid : IsCell c
 
 -- the rows of cells of one volume, their places counted from a number
-pub record SpellsCells (num : ℤ) (volume place : ℕ) (rows : List CellRow) (cs : List Cell) : Type 0 where
+pub record SpellsCells (num : ℤ) (volume place : ℕ) (rows : List CellRow) (cs : List Cell)
+    : Type 0 where
   pub rows_are : AllZip (IsCellRow num) rows (cells_at volume place cs)
   pub valid : AllByRecursion IsCell cs
 

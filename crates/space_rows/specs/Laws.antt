@@ -8,4 +8,5 @@ use Rattle.space_rows.specs.Rows.{SpellsEntity}
 
 -- rows spell one entity at most
 abbrev pub OneEntity : Type 0
-OneEntity = (row : EntityRow) (volumes : List VolumeRow) (cells : List CellRow) (e f : Entity) → SpellsEntity row volumes cells e → SpellsEntity row volumes cells f → e ≡ f
+OneEntity = (row : EntityRow) (volumes : List VolumeRow) (cells : List CellRow) (e f : Entity)
+    → SpellsEntity row volumes cells e → SpellsEntity row volumes cells f → e ≡ f

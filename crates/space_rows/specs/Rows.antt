@@ -105,10 +105,11 @@ pub record IsCellRow (num : ℤ) (row : CellRow) (c : PlacedCell) : Type 0 where
   pub lo : row.lo ≡ pos (lo_of c.cell)
   pub hi : row.hi ≡ pos (hi_of c.cell)
 
--- A row of `entity`, the rows of `volume` by rising places, and those of `cell` by rising volumes and
--- places, spell an entity: each reads by its types, and places count from 0 without gaps. There is a
--- volume, and each volume has a cell, as `IsEntity` and `region_fault` say.
-pub record SpellsEntity (row : EntityRow) (volumes : List VolumeRow) (cells : List CellRow) (e : Entity) : Type 0 where
+-- A row of `entity`, the rows of `volume` by rising places, and those of `cell` by rising volumes
+-- and places, spell an entity: each reads by its types, and places count from 0 without gaps. There
+-- is a volume, and each volume has a cell, as `IsEntity` and `region_fault` say.
+pub record SpellsEntity (row : EntityRow) (volumes : List VolumeRow) (cells : List CellRow)
+    (e : Entity) : Type 0 where
   pub entity : IsEntityRow row e
   pub volumes_are : AllZip (IsVolumeRow row.num) volumes (placed 0 e.volumes)
   pub cells_are : AllZip (IsCellRow row.num) cells (all_cells e.volumes)

@@ -8,7 +8,8 @@ use Rattle.space_rows.specs.declared.rows.CellRow.{CellRow}
 use Rattle.space_rows.specs.Rows.{IsVolume, IsVolumeRow, IsCellRow, placed, placed_cells}
 
 -- the row of the volume at this place, and the rows of its cells
-pub record SpellsVolume (num : ℤ) (place : ℕ) (row : VolumeRow) (cells : List CellRow) (v : Extent) : Type 0 where
+pub record SpellsVolume (num : ℤ) (place : ℕ) (row : VolumeRow) (cells : List CellRow) (v : Extent)
+    : Type 0 where
   pub row_is : IsVolumeRow num row (place, v)
   pub cells_are : AllZip (IsCellRow num) cells (placed_cells (place, v))
   pub kept : IsVolume v
@@ -23,7 +24,8 @@ pub record HasBounds (row : VolumeRow) (cs : List Cell) (v : Extent) : Type 0 wh
   pub limits : region_fault (region_of v) ≡ None
 
 -- the rows of volumes, their places counted from a number, and the rows of their cells
-pub record SpellsVolumes (num : ℤ) (place : ℕ) (rows : List VolumeRow) (cells : List CellRow) (vs : List Extent) : Type 0 where
+pub record SpellsVolumes (num : ℤ) (place : ℕ) (rows : List VolumeRow) (cells : List CellRow)
+    (vs : List Extent) : Type 0 where
   pub volumes_are : AllZip (IsVolumeRow num) rows (placed place vs)
   pub cells_are : AllZip (IsCellRow num) cells (flat_map placed_cells (placed place vs))
   pub kept : AllByRecursion IsVolume vs

@@ -9,8 +9,9 @@ ghost use Rattle.space_rows.specs.Finds.{Finds};
 ghost use Rattle.space_rows.specs.Head.{SpellsNature, SpellsId, SpellsCount, SpellsHead, head_part};
 
 use crate::cells::is_same;
+use crate::numbers::{kind_number, state_number};
 use crate::rows::EntityRow;
-use crate::texts::{manager_of, ovn_of, text_of, url_of};
+use crate::texts::{ovn_in, text_of, url_in, uss_in};
 use entity_core::base_url::BaseUrl;
 use entity_core::entity::Entity;
 use entity_core::entity_id::EntityId;
@@ -133,13 +134,13 @@ pub(crate) fn head_of(alloc: Global, row: &EntityRow) -> Result<Option<Head>, Al
     let Some(id) = id_of(alloc, row.id.text())? else {
         return Ok(None);
     };
-    let Some(manager) = manager_of(alloc, row.manager.text())? else {
+    let Some(manager) = uss_in(alloc, row.manager.text())? else {
         return Ok(None);
     };
-    let Some(ovn) = ovn_of(alloc, row.ovn.text())? else {
+    let Some(ovn) = ovn_in(alloc, row.ovn.text())? else {
         return Ok(None);
     };
-    let Some(url) = url_of(alloc, row.url.text())? else {
+    let Some(url) = url_in(alloc, row.url.text())? else {
         return Ok(None);
     };
     Ok(Some(Head {
@@ -151,27 +152,6 @@ pub(crate) fn head_of(alloc: Global, row: &EntityRow) -> Result<Option<Head>, Al
         ovn,
         url,
     }))
-}
-
-fn kind_number(kind: Kind) -> i64
-    ensures { result ≡ kind_number kind }
-{
-    match kind {
-        Kind::Intent => 0,
-        Kind::Constraint => 1,
-    }
-}
-
-fn state_number(nature: Nature) -> i64
-    ensures { result ≡ state_number nature }
-{
-    match nature {
-        Nature::Intent(State::Accepted) => 0,
-        Nature::Intent(State::Activated) => 1,
-        Nature::Intent(State::Nonconforming) => 2,
-        Nature::Intent(State::Contingent) => 3,
-        Nature::Constraint => 4,
-    }
 }
 
 /// The row of an entity under a number.

@@ -5,6 +5,7 @@ mod cells;
 pub mod entity;
 mod head;
 pub mod laws;
+pub mod numbers;
 pub mod rows;
-mod texts;
+pub mod texts;
 mod volumes;

@@ -11,8 +11,8 @@ use entity_core::text::Text;
 use entity_core::uss_id::UssId;
 use std::alloc::{AllocError, Global};
 
-/// The supplier of a text, if it is one.
-pub(crate) fn manager_of(alloc: Global, text: &str) -> Result<Option<UssId>, AllocError>
+/// The supplier that a text names, if it names one.
+pub fn uss_in(alloc: Global, text: &str) -> Result<Option<UssId>, AllocError>
     ensures { IfOk result (λ o. Finds (SpellsText name_fault text.now) o) }
 {
     match UssId::read(alloc, text) {
@@ -23,8 +23,8 @@ pub(crate) fn manager_of(alloc: Global, text: &str) -> Result<Option<UssId>, All
     }
 }
 
-/// The version number of a text.
-pub(crate) fn ovn_of(alloc: Global, text: &str) -> Result<Option<Ovn>, AllocError>
+/// The version number that a text is, if it is one.
+pub fn ovn_in(alloc: Global, text: &str) -> Result<Option<Ovn>, AllocError>
     ensures { IfOk result (λ o. Finds (SpellsText ovn_fault text.now) o) }
 {
     match Ovn::read(alloc, text) {
@@ -35,8 +35,8 @@ pub(crate) fn ovn_of(alloc: Global, text: &str) -> Result<Option<Ovn>, AllocErro
     }
 }
 
-/// The address of a text.
-pub(crate) fn url_of(alloc: Global, text: &str) -> Result<Option<BaseUrl>, AllocError>
+/// The address that a text is, if it is one.
+pub(crate) fn url_in(alloc: Global, text: &str) -> Result<Option<BaseUrl>, AllocError>
     ensures { IfOk result (λ o. Finds (SpellsText url_fault text.now) o) }
 {
     match BaseUrl::read(alloc, text) {

@@ -2,3 +2,4 @@ pub mod Outcomes
 pub mod Readings
 pub mod Changing
 pub mod Openings
+pub mod Crashes

@@ -20,6 +20,9 @@ module _ {X C : Type 0} (old : State) (shown : C → State) where
   left_made (Ok x) other store left = tt
   left_made (Err e) other store left = survives_weaker old (shown e.1) _ _ (λ clean db made. (store, made, other)) left
 
+  pub nothing_left : (fault : OpenFault) (new : State) → Survives old new (λ _. ⊥) → Survives old new (MayBeOpened old fault)
+  nothing_left fault new left = survives_weaker old new _ _ (λ clean db none. absurd none) left
+
   pub left_nothing : (r : Result X (OpenFault × C)) → IfErr r (λ e. Survives old (shown e.1) (λ _. ⊥)) → IfErr r (λ e. Survives old (shown e.1) (MayBeOpened old e.0))
   left_nothing (Ok x) left = tt
-  left_nothing (Err e) left = survives_weaker old (shown e.1) _ _ (λ clean db none. absurd none) left
+  left_nothing (Err e) left = nothing_left e.0 (shown e.1) left

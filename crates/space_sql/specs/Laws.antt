@@ -1,4 +1,5 @@
--- What the outcomes of a crash keep. Proved, so nothing has to be believed here: a law of an `impl` cites `specs/` alone.
+-- What the outcomes of a crash keep. Proved, so nothing has to be believed here: a law of an `impl`
+-- cites `specs/` alone.
 use Rattle.std.specs.Prelude.{◌≡◌, true, false, List, [], ◌∷◌, map, Some, cond, refl}
 use Rattle.std.proofs.Common.{sym, ap, subst, ◌∙◌}
 use Rattle.std.proofs.Math.Logic.{∥∥₁_map}

@@ -3,3 +3,4 @@ pub mod Reading
 pub mod Laws
 pub mod Opening
 pub mod OpenFault
+pub mod Crash

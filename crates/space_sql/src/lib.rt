@@ -2,6 +2,7 @@
 #![tactic(auto)]
 
 mod answer;
+pub mod laws;
 pub mod open;
 pub mod open_fault;
 mod parts;

@@ -15,9 +15,10 @@ use crate::open_fault::OpenFault;
 use crate::space::SqlSpace;
 use space_core::space::{Space, SpaceFault};
 use space_reading::reading::{known, read_airspace};
+use space_reading::single::has_other_format;
 use space_reading::verdict::Verdict;
 use space_tables::make::make_tables;
-use space_tables::standing::{Standing, standing_of};
+use space_tables::standing::{Standing, has_meta, standing_of};
 use sqlite::{Alter, Connection, File, FileStore, MemStore};
 use std::alloc::Global;
 
@@ -118,11 +119,39 @@ fn take_old<S: Alter>(
     }
 }
 
+// Why a database with only some of the tables is not taken: `meta`, where it is there, may tell
+// another format.
+fn partial_fault<S: Alter>(conn: &mut Connection<S>) -> OpenFault
+    requires { conn.old.in_transaction ≡ false }
+    ensures outside { conn.new.in_transaction ≡ false }
+    ensures survives { Survives (state S.Store conn.old) (state S.Store conn.new) (λ _. ⊥) }
+{
+    if !has_meta(conn.schema()) {
+        return OpenFault::NotADss;
+    }
+    match has_other_format(conn) {
+        Ok(true) => OpenFault::Version,
+        Ok(false) => OpenFault::NotADss,
+        Err(_) => OpenFault::Store,
+    }
+}
+
+// The same, with the connection that goes back.
+fn refused<S: Alter>(mut conn: Connection<S>) -> (OpenFault, Connection<S>)
+    requires { conn.in_transaction ≡ false }
+    ensures back { result.1.in_transaction ≡ false }
+    ensures left { Survives (state S.Store conn) (state S.Store result.1) (λ _. ⊥) }
+{
+    let fault = partial_fault(&mut conn);
+    (fault, conn)
+}
+
 impl<S: Alter> SqlSpace<S> {
     /// Takes a connection that is outside a transaction, and makes the tables where it has none of
-    /// them. A database with only some of them, or with rows that are no airspace, is `NotADss`. On
-    /// a fault the connection comes back: after `NotADss` and `Version` nothing was written, and
-    /// after `Store` the tables are as before, or as this call would have made them.
+    /// them. A database whose `meta` has one row, of another format, is `Version`; else one with
+    /// only some of the tables, or with rows that are no airspace, is `NotADss`. On a fault the
+    /// connection comes back: after `NotADss` and `Version` nothing was written, and after `Store`
+    /// the tables are as before, or as this call would have made them.
     pub fn adopt(
         alloc: Global,
         conn: Connection<S>,
@@ -155,7 +184,7 @@ impl<S: Alter> SqlSpace<S> {
         match standing_of(conn.schema()) {
             Standing::Missing => make_new(alloc, conn),
             Standing::Whole => take_old(alloc, conn),
-            Standing::Partial => Err((OpenFault::NotADss, conn)),
+            Standing::Partial => Err(refused(conn)),
         }
     }
 

@@ -6,4 +6,5 @@ use Rattle.space_tables.specs.Spelling.{Spells}
 
 -- databases with the same rows spell one airspace at most
 abbrev pub OneAirspace : Type 0
-OneAirspace = (D E : Database) (a b : Airspace) → D.trees ≡ E.trees → Spells D a → Spells E b → a ≡ b
+OneAirspace = (D E : Database) (a b : Airspace) → D.trees ≡ E.trees → Spells D a → Spells E b
+    → a ≡ b

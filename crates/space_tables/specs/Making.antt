@@ -18,9 +18,11 @@ IsBare schema db = (db.schema ≡ schema) × AllByRecursion (λ t. db.trees t.tr
 abbrev pub StepsOn : (A B : Database → Type 0) → State → State → Type 0
 StepsOn A B old new = (A old.now → B new.now) × Shows old new new.now old.committed true
 
--- What statements of a transaction do: they lead from a database of which A holds to one of which B does. Whatever
--- comes of them, the last commit stands, and a crash leaves what it would have left before.
-pub record Leads {X : Type 0} (A B : Database → Type 0) (old new : State) (result : Result X Error) : Type 0 where
+-- What statements of a transaction do: they lead from a database of which A holds to one of which B
+-- does. Whatever comes of them, the last commit stands, and a crash leaves what it would have left
+-- before.
+pub record Leads {X : Type 0} (A B : Database → Type 0) (old new : State) (result : Result X Error)
+    : Type 0 where
   pub done : HasCleanDisk new → OnOk result (StepsOn A B old new)
   pub kept : HasCleanDisk new → KeepsCommit old new
   pub survives : Survives old new (λ _. ⊥)
@@ -43,4 +45,5 @@ IsUndone old new = (new.now ≡ old.committed) × (new.committed ≡ old.committ
 
 -- trees that a commit may have left: those of an empty airspace, where there was no table
 abbrev pub MayBeMade : State → Trees → Type 0
-MayBeMade old trees = old.now.schema ≡ no_schema → (db : Database) × (trees ≡ db.trees) × SpellsEmpty db
+MayBeMade old trees = old.now.schema ≡ no_schema → (db : Database) × (trees ≡ db.trees)
+    × SpellsEmpty db

@@ -16,7 +16,8 @@ has_column name table = list_any (λ c. same_name c.name name) table.columns
 
 -- the table has the name of ours, and all our columns
 abbrev pub stands_for : Table → Table → Bool
-stands_for ours table = is_named ours.name table && list_all (λ c. has_column c.name table) ours.columns
+stands_for ours table =
+    is_named ours.name table && list_all (λ c. has_column c.name table) ours.columns
 
 -- each of our tables is there
 abbrev pub has_all : List Table → Bool
@@ -24,7 +25,8 @@ has_all tables = list_all (λ ours. list_any (stands_for ours) tables) dss_schem
 
 -- a table has the name of one of ours
 abbrev pub has_some : List Table → Bool
-has_some tables = list_any (λ table. list_any (λ ours. is_named ours.name table) dss_schema.tables) tables
+has_some tables =
+    list_any (λ table. list_any (λ ours. is_named ours.name table) dss_schema.tables) tables
 
 abbrev pub standing_in : List Table → Standing
 standing_in tables = if has_all tables then Whole else if has_some tables then Partial else Missing

@@ -164,3 +164,10 @@ pub fn standing_of(schema: &Schema) -> Standing
 {
     standing_in(schema.tables.as_slice())
 }
+
+/// Whether a schema has the table `meta` with its columns. It takes no memory.
+pub fn has_meta(schema: &Schema) -> bool
+    ensures { result ≡ list_any (stands_for (meta 0)) schema.now.tables }
+{
+    any_meta(schema.tables.as_slice())
+}

@@ -1,6 +1,6 @@
 use Rattle.std.proofs.Common.{◌∙◌}
 use Rattle.sqlite.specs.Held.{state}
-use Rattle.space_sql.proofs.Openings.{left_made, left_nothing, missing_is_not_whole}
+use Rattle.space_sql.proofs.Openings.{left_made, left_nothing, missing_is_not_whole, nothing_left}
 use Rattle.space_sql.proofs.space.SqlSpace.adopt.Goals as goal
 
 pub returns-in-Missing-clause-left : goal.returns-in-Missing-clause-left
@@ -8,3 +8,6 @@ returns-in-Missing-clause-left g c = left_made (state g.S.Store c.args.conn) (λ
 
 pub returns-in-Whole-clause-left : goal.returns-in-Whole-clause-left
 returns-in-Whole-clause-left g c = left_nothing (state g.S.Store c.args.conn) (λ h. state g.S.Store h) c.take_old.result c.take_old.ensures.left
+
+pub returns-in_default-clause-left : goal.returns-in_default-clause-left
+returns-in_default-clause-left g c = nothing_left (state g.S.Store c.args.conn) (λ h. state g.S.Store h) c.refused.result.0 (state g.S.Store c.refused.result.1) c.refused.ensures.left

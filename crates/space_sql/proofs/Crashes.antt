@@ -1,0 +1,76 @@
+-- From a crash to the next opening.
+use Rattle.std.specs.Prelude.{◌≡◌, ◌∷◌, List, [], IsTrue, Result, Ok, Err, IfErr, IfOk, refl}
+use Rattle.std.proofs.Common.{sym, ap, subst, ◌∙◌}
+use Rattle.std.proofs.Math.Logic.{∥∥₁_map}
+use Rattle.std.proofs.lemmas.Grind.{not_there}
+use Rattle.sqlite_trees.specs.Tree.{Trees}
+use Rattle.sqlite_value.specs.declared.value.Value.{Value}
+use Rattle.sqlite_value.specs.declared.value.Value.TheVariants.{Null}
+use Rattle.sqlite_value.specs.Order.{Row, column}
+use Rattle.sqlite.specs.Effect.{Database}
+use Rattle.sqlite.specs.State.{State, IsLive}
+use Rattle.entity_core.specs.Airspace.{Airspace}
+use Rattle.space_core.specs.Space.{IsContent}
+use Rattle.space_reading.specs.Judging.{IsOtherFormat}
+use Rattle.space_tables.specs.Spelling.{Spells}
+use Rattle.space_tables.specs.Tables.{dss_schema}
+use Rattle.space_tables.proofs.OneAirspace.{one_airspace}
+use Rattle.space_sql.specs.Holding.{Keeps, holds_in, is_whole_in, with_tables}
+use Rattle.space_sql.specs.Opening.{Refuses}
+use Rattle.space_sql.specs.declared.open_fault.OpenFault.{OpenFault}
+use Rattle.space_sql.specs.declared.open_fault.OpenFault.TheVariants.{NotADss, Version, Store}
+use Rattle.space_sql.proofs.Outcomes.{one_schema, respell}
+
+pub leaves_held : (s : State) → is_whole_in s → (db : Trees) → s.may_leave db → (a : Airspace) × holds_in s a × Keeps db a
+leaves_held s whole db may = let it = whole db may in (it.0, (db, may, it.1), it.1)
+
+pub leaves_content : (s : State) (a : Airspace) → ((b : Airspace) → holds_in s b → b ≡ a) → is_whole_in s → (db : Trees) → s.may_leave db → Keeps db a
+leaves_content s a only whole db may = let it = leaves_held s whole db may in subst (λ b. Keeps db b) (only it.0 it.2.0) it.2.1
+
+-- what a connection sees that was opened over what a crash left
+pub found_again : (old opened : State) → is_whole_in old → IsLive opened → IsTrue opened.is_open → opened.now ≡ opened.committed → old.may_leave opened.committed.trees
+    → (opened.now.schema ≡ dss_schema) × ((a : Airspace) × holds_in old a × Spells opened.now a)
+found_again old opened whole live is_open settled may =
+    let it = leaves_held old whole opened.committed.trees may in
+    let committed = one_schema opened.committed.trees opened.committed.schema dss_schema (live is_open).1 it.2.1.0 in
+    let now : opened.now.schema ≡ dss_schema = ap (λ (d : Database). d.schema) settled ∙ committed in
+    (now, (it.0, it.2.0, respell (with_tables opened.committed.trees) opened.now it.0 now (ap (λ (d : Database). d.trees) (sym settled)) it.2.1.1))
+
+format_in : List Row → Value
+format_in [] = Null
+format_in (r ∷ rows) = column r 1
+
+not_other : (db : Database) (a : Airspace) → Spells db a → IsOtherFormat db → ⊥
+not_other db a p other = other.other (ap format_in (sym other.only ∙ p.meta))
+
+not_refused : (db : Database) (a : Airspace) (fault : OpenFault) → Spells db a → Refuses db fault → (fault ≡ Store → ⊥) → ⊥
+not_refused db a NotADss p r other = r.0 a p
+not_refused db a Version p r other = not_other db a p r
+not_refused db a Store p r other = other refl
+
+-- the fault is the one of the store, if each other one is impossible
+is_store : (fault : OpenFault) → ((fault ≡ Store → ⊥) → ⊥) → fault ≡ Store
+is_store NotADss h = absurd (h (λ e. cc))
+is_store Version h = absurd (h (λ e. cc))
+is_store Store h = refl
+
+if_ok_as : {X E : Type 0} {P Q : X → Type 0} (r : Result X E) → ((x : X) → P x → Q x) → IfOk r P → IfOk r Q
+if_ok_as (Ok x) f p = f x p
+if_ok_as (Err e) f p = tt
+
+if_err_as : {X E : Type 0} {P Q : E → Type 0} (r : Result X E) → ((e : E) → P e → Q e) → IfErr r P → IfErr r Q
+if_err_as (Ok x) f p = tt
+if_err_as (Err e) f p = f e p
+
+module _ (old opened : State) (live : IsLive opened) (settled : IsTrue opened.is_open → opened.now ≡ opened.committed) {X C : Type 0} (r : Result X (OpenFault × C)) (Left : Type 0) (sees : Left → IsTrue opened.is_open × ∥ old.may_leave opened.committed.trees ∥₁) where
+  pub taken_again : {Sound : X → Type 0} {Holds : X → Airspace → Type 0} → IfOk r (λ s. Sound s → opened.now.schema ≡ dss_schema → (a : Airspace) × Spells opened.now a × IsContent Holds s a)
+      → IfOk r (λ s. Sound s → is_whole_in old → Left → ∥ ((a : Airspace) × holds_in old a × IsContent Holds s a) ∥₁)
+  taken_again taken = if_ok_as r (λ s got sound whole left. ∥∥₁_map (sees left).1 (λ may.
+      let it = found_again old opened whole live (sees left).0 (settled (sees left).0) may in
+      let own = got sound it.0 in
+      (own.0, subst (λ a. holds_in old a) (one_airspace _ _ it.1.0 own.0 refl it.1.2 own.1) it.1.1, own.2))) taken
+
+  pub refused_again : {Clean : C → Type 0} → IfErr r (λ e. Clean e.1 → opened.now.schema ≡ dss_schema → Refuses opened.now e.0) → IfErr r (λ e. Clean e.1 → is_whole_in old → Left → e.0 ≡ Store)
+  refused_again refuses = if_err_as r (λ e why clean whole left. is_store e.0 (λ other. not_there (sees left).1 (λ may.
+      let it = found_again old opened whole live (sees left).0 (settled (sees left).0) may in
+      not_refused opened.now it.1.0 e.0 it.1.2 (why clean it.0) other))) refuses

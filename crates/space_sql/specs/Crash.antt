@@ -1,0 +1,30 @@
+-- What a crash leaves of a space over tables, and what is found again of it.
+use Rattle.std.specs.Prelude.{IsTrue}
+use Rattle.sqlite_trees.specs.Tree.{Trees}
+use Rattle.sqlite_trees.specs.declared.store.Store.{Ghosts}
+use Rattle.sqlite.specs.Held.{Held, state}
+use Rattle.entity_core.specs.Airspace.{Airspace}
+use Rattle.space_core.specs.Space.{IsContent}
+use Rattle.space_sql.specs.Holding.{Keeps, Kept, holds_of, is_whole_of}
+
+-- trees that a crash at this moment may leave
+abbrev pub may_leave_of : {S : Type 0} → Ghosts S → Kept S → Trees → Type 0
+may_leave_of g k db = (state g k.conn).may_leave db
+
+-- Whatever a crash leaves are the tables of format 1, and they spell an airspace that is held.
+abbrev pub LeavesHeld : {S : Type 0} → Ghosts S → Kept S → Type 0
+LeavesHeld g k =
+    is_whole_of g k → (db : Trees) → may_leave_of g k db
+    → (a : Airspace) × holds_of g k a × Keeps db a
+
+-- Where one airspace is held and no other, whatever a crash leaves spells that one.
+abbrev pub LeavesContent : {S : Type 0} → Ghosts S → Kept S → Type 0
+LeavesContent g k =
+    (a : Airspace) → IsContent (holds_of g) k a → is_whole_of g k
+    → (db : Trees) → may_leave_of g k db → Keeps db a
+
+-- The connection is open, and what it has committed is what a crash may have left of the space.
+pub record SeesLeft {S T : Type 0} (g : Ghosts S) (k : Kept S) (h : Ghosts T) (conn : Held T)
+    : Type 0 where
+  pub is_open : IsTrue (state h conn).is_open
+  pub left : ∥ may_leave_of g k (state h conn).committed.trees ∥₁
