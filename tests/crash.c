@@ -1,0 +1,115 @@
+/* Stops the machine at a call that changes a file. CRASH_AT is the number of the call; what it would have done is not
+   done, and the program ends with status 99. CRASH_KEEPS says what the disk has then: `all` that was written; only what
+   was `synced`, file by file; or `half` of the call's own bytes, too. At a regular end the number of calls goes to the
+   file that CRASH_CALLS names. To be loaded before the C library. */
+#define _GNU_SOURCE
+#include <fcntl.h>
+#include <stdio.h>
+#include <stdlib.h>
+#include <string.h>
+#include <sys/stat.h>
+#include <sys/syscall.h>
+#include <unistd.h>
+
+/* What a call replaced in a file, and the file's size before it; the newest is first. */
+struct change {
+    struct change *before;
+    int file;
+    off_t at, size;
+    size_t count;
+    char bytes[];
+};
+
+static struct change *unsynced;
+static long calls;
+
+static int keeps(const char *what) {
+    const char *kept = getenv("CRASH_KEEPS");
+    return kept && strcmp(kept, what) == 0;
+}
+
+static off_t size_of(int file) {
+    struct stat status;
+    return fstat(file, &status) == 0 ? status.st_size : 0;
+}
+
+static void note(int file, off_t at, size_t count) {
+    struct change *change = malloc(sizeof *change + count);
+    if (!change)
+        _exit(98);
+    change->before = unsynced;
+    change->file = file;
+    change->at = at;
+    change->size = size_of(file);
+    ssize_t had = syscall(SYS_pread64, file, change->bytes, count, at);
+    change->count = had > 0 ? had : 0;
+    unsynced = change;
+}
+
+static void stop(void) {
+    for (struct change *it = unsynced; it && keeps("synced"); it = it->before) {
+        if (it->file < 0)
+            continue;
+        syscall(SYS_pwrite64, it->file, it->bytes, it->count, it->at);
+        syscall(SYS_ftruncate, it->file, it->size);
+    }
+    _exit(99);
+}
+
+/* Whether the call that is made now is the last. */
+static int is_last(void) {
+    const char *last = getenv("CRASH_AT");
+    return ++calls == (last ? atol(last) : 0);
+}
+
+ssize_t pwrite(int file, const void *bytes, size_t count, off_t at) {
+    int last = is_last();
+    if (last && !keeps("half"))
+        stop();
+    note(file, at, count);
+    ssize_t put = syscall(SYS_pwrite64, file, bytes, last ? count / 2 : count, at);
+    if (last)
+        stop();
+    return put;
+}
+
+ssize_t pwrite64(int file, const void *bytes, size_t count, off_t at) { return pwrite(file, bytes, count, at); }
+
+int ftruncate(int file, off_t size) {
+    if (is_last())
+        stop();
+    off_t old = size_of(file);
+    note(file, size, old > size ? old - size : 0);
+    return syscall(SYS_ftruncate, file, size);
+}
+
+int ftruncate64(int file, off_t size) { return ftruncate(file, size); }
+
+static void synced(int file) {
+    for (struct change *it = unsynced; it; it = it->before)
+        if (it->file == file)
+            it->file = -1;
+}
+
+int fsync(int file) {
+    if (is_last())
+        stop();
+    synced(file);
+    return syscall(SYS_fsync, file);
+}
+
+int fdatasync(int file) {
+    if (is_last())
+        stop();
+    synced(file);
+    return syscall(SYS_fdatasync, file);
+}
+
+__attribute__((destructor)) static void ended(void) {
+    const char *name = getenv("CRASH_CALLS");
+    FILE *file = name ? fopen(name, "w") : NULL;
+    if (file) {
+        fprintf(file, "%ld\n", calls);
+        fclose(file);
+    }
+}
