@@ -53,10 +53,10 @@ class Draw:
 
 
 class Drawn:
-    """Draws calls over an airspace."""
+    """Draws calls over an airspace, with times around a moment."""
 
-    def __init__(self, draw, airspace):
-        self.draw, self.airspace = draw, airspace
+    def __init__(self, draw, airspace, now=NOW):
+        self.draw, self.airspace, self.now = draw, airspace, now
 
     def call(self):
         """A method, a target, the value of the Authorization field or None, and a body or None."""
@@ -204,8 +204,8 @@ class Drawn:
 
     def bounds(self, flaw=None):
         low, high = self.draw.of(((0, 500), (500, 1_000), (501, 2_000), (-100_000, 0), (501, 1_000_000)))
-        start = NOW - self.draw.below(300)
-        end = NOW - self.draw.below(2) if flaw == "time" else NOW + self.draw.below(900) + 1
+        start = self.now - self.draw.below(300)
+        end = self.now - self.draw.below(2) if flaw == "time" else self.now + self.draw.below(900) + 1
         return (
             ("altitude_lower", low),
             ("altitude_upper", high),

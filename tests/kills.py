@@ -3,59 +3,59 @@ that it was at all or nothing."""
 import pathlib
 import shutil
 import sqlite3
-import subprocess
 import threading
 import time
 
 import drawn_calls
 import plain_policy
 import wire
-from databases import Room
 from program import first_difference
+from serving import Service
 
 ROUNDS = 200
 CALLS = 60
 SEED = 11
+# the service has the clock of the machine, so all times that are drawn lie around a moment far ahead of it
+AHEAD = 4_000_000_000
 
 
 class Asked:
     """Drawn calls with what the plain policy answers, and the serial before each and after the last."""
 
-    def __init__(self, seed, count=CALLS):
+    def __init__(self, seed):
         self.draw = drawn_calls.Draw(seed)
-        airspace = plain_policy.Airspace(drawn_calls.NOW, drawn_calls.ALL_TOKENS)
-        drawn = drawn_calls.Drawn(self.draw, airspace)
+        airspace = plain_policy.Airspace(int(time.time()), drawn_calls.ALL_TOKENS)
+        drawn = drawn_calls.Drawn(self.draw, airspace, AHEAD)
         self.requests, self.answers, self.serials = [], [], [0]
-        for _ in range(count):
+        for _ in range(CALLS):
             call = drawn.call()
             self.requests.append(wire.request(*call))
             self.answers.append(airspace.ask(*call).text())
             self.serials.append(airspace.serial)
 
 
-def killed(words, requests, seen, wait):
-    """The answers of a program that is killed a while after so many bytes of them have come."""
-    program = subprocess.Popen(words, stdin=subprocess.PIPE, stdout=subprocess.PIPE, stderr=subprocess.DEVNULL)
+def killed(service, requests, seen, wait):
+    """The answers of a service that is killed a while after so many bytes of them have come."""
+    output = b""
+    with service.connect() as connection:
 
-    def send():
+        def send():
+            try:
+                connection.sendall(b"".join(requests))
+            except OSError:
+                pass
+
+        sender = threading.Thread(target=send)
+        sender.start()
+        while len(output) < seen:
+            output += connection.recv(1 << 16)
+        time.sleep(wait)
+        service.kill()
+        sender.join()
         try:
-            program.stdin.write(b"".join(requests))
-            program.stdin.flush()
-        except BrokenPipeError:
+            output += b"".join(iter(lambda: connection.recv(1 << 16), b""))
+        except ConnectionResetError:
             pass
-
-    sender = threading.Thread(target=send)
-    sender.start()
-    output = program.stdout.read(seen)
-    time.sleep(wait)
-    program.kill()
-    output += program.stdout.read()
-    program.wait()
-    sender.join()
-    try:
-        program.stdin.close()
-    except BrokenPipeError:
-        pass
     return wire.answers_of(output)
 
 
@@ -74,25 +74,22 @@ def serial_in(folder):
 def one(seed):
     """What is wrong after one kill, and how many calls were answered before it."""
     asked = Asked(seed)
-    whole = sum(map(len, asked.answers))
-    with Room() as room:
-        # the database is made before, so that each kill falls among changes
-        room.serve([], drawn_calls.NOW)
-        seen, wait = asked.draw.below(whole), asked.draw.below(40) / 10_000
-        got = killed(room.words(drawn_calls.NOW), asked.requests, seen, wait)
+    with Service(drawn_calls.ALL_TOKENS) as service:
+        seen, wait = asked.draw.below(sum(map(len, asked.answers))), asked.draw.below(40) / 10_000
+        got = killed(service, asked.requests, seen, wait)
         count = len(got)
         why = first_difference(asked.answers[:count], got)
         if why:
             return [f"seed {seed}, before the kill: {why}"], count
-        wrong, serial = serial_in(room.folder.name)
+        wrong, serial = serial_in(service.folder)
         # the call after the last answer may have been done
         done = [it for it in (count, count + 1) if asked.serials[min(it, CALLS)] == serial]
         if wrong or not done:
             return [f"seed {seed}: {count} answers, serial {serial}, {wrong}"], count
-        status, output, error = room.serve(asked.requests[done[0] :], drawn_calls.NOW)
-        why = first_difference(asked.answers[done[0] :], wire.answers_of(output))
-        if why or (status, error) != (0, b""):
-            return [f"seed {seed}, after {count} answers: {status}, {error!r}, {why}"], count
+        service.start()
+        why = first_difference(asked.answers[done[0] :], service.ask(asked.requests[done[0] :]))
+        if why:
+            return [f"seed {seed}, after {count} answers: {why}"], count
     return [], count
 
 
