@@ -1,12 +1,12 @@
 -- Sets of marks, spans and ids: what an insertion or a removal leaves, and loops over them.
-use Rattle.std.specs.Prelude.{◌≡◌, ℕ, ◌+◌, ◌<◌, ◌≤◌, Bool, true, false, cond, not, ◌&&◌, ◌||◌, ◌⊎◌, List, [], ◌∷◌, length, take, filter, Option, Some, None, Result, Ok, Err, OnOk, OnErr, refl}
+use Rattle.std.specs.Prelude.{◌≡◌, ℕ, ◌+◌, ◌<◌, ◌≤◌, Bool, true, false, cond, not, ◌&&◌, ◌||◌, ◌⊎◌, List, [], ◌∷◌, length, take, filter, refl}
 use Rattle.std.proofs.Common.{arith, sym, ap, ◌∙◌, subst, inl, inr, get_or}
 use Rattle.std.specs.List.{list_any, All}
 use Rattle.std.specs.Ordering.{nat_cmp, is_eq, is_le, ordering_then}
 use Rattle.std.specs.declared.cmp.Ordering.{Ordering}
 use Rattle.std.specs.declared.cmp.Ordering.TheVariants.{Less, Equal, Greater}
 use Rattle.std.specs.declared.ops.Bound.TheVariants.{Included, Excluded}
-use Rattle.std.specs.BTreeSet.{BTreeSet, contains, Updates, IsUnchanged}
+use Rattle.std.specs.BTreeSet.{BTreeSet, contains, Updates}
 use Rattle.std.specs.BTreeMap.Range.{range_contains}
 use Rattle.std.proofs.lemmas.Map.Lookups.{CmpEqualImpliesEq, exact_unsigned, exact_pairs}
 use Rattle.std.proofs.lemmas.List.{take_all}
@@ -60,21 +60,21 @@ left_all cmp all rest P e = λ q h. inl (ap (λ ks. list_any (λ k. is_eq (cmp q
 
 one_or_rest : {K : Type 0} (cmp : K → K → Ordering) → CmpEqualImpliesEq cmp → (x q : K) (rest : List K) (P : K → Type 0) → P x → list_any (λ k. is_eq (cmp q k)) (x ∷ rest) ≡ true → (list_any (λ k. is_eq (cmp q k)) rest ≡ true) ⊎ P q
 one_or_rest cmp exact x q rest P p h = elim (is_eq (cmp q x)) as (λ b. is_eq (cmp q x) ≡ b → (b || list_any (λ k. is_eq (cmp q k)) rest) ≡ true → (list_any (λ k. is_eq (cmp q k)) rest ≡ true) ⊎ P q) [
-    | true ↦ λ is g. inr (subst P (sym (exact q x (equal_is (cmp q x) is))) p)
-    | false ↦ λ is g. inl g
-  ] refl h
+  | true ↦ λ is g. inr (subst P (sym (exact q x (equal_is (cmp q x) is))) p)
+  | false ↦ λ is g. inl g
+] refl h
 
 pub left_less : {K : Type 0} (cmp : K → K → Ordering) → CmpEqualImpliesEq cmp → (all rest rest' : List K) (x : K) (P P' : K → Type 0) → Left cmp all rest P → rest ≡ x ∷ rest' → P' x → ((q : K) → P q → P' q) → Left cmp all rest' P'
 left_less cmp exact all rest rest' x P P' l e p more = λ q h. elim (l q h) [
-    | inl g ↦ one_or_rest cmp exact x q rest' P' p (subst (λ ks. list_any (λ k. is_eq (cmp q k)) ks ≡ true) e g)
-    | inr g ↦ inr (more q g)
-  ]
+  | inl g ↦ one_or_rest cmp exact x q rest' P' p (subst (λ ks. list_any (λ k. is_eq (cmp q k)) ks ≡ true) e g)
+  | inr g ↦ inr (more q g)
+]
 
 pub left_none : {K : Type 0} (cmp : K → K → Ordering) (all rest : List K) (P : K → Type 0) → Left cmp all rest P → rest ≡ [] → (q : K) → list_any (λ k. is_eq (cmp q k)) all ≡ true → P q
 left_none cmp all rest P l e q h = elim (l q h) [
-    | inl g ↦ let no : false ≡ true = subst (λ ks. list_any (λ k. is_eq (cmp q k)) ks ≡ true) e g in cc
-    | inr g ↦ g
-  ]
+  | inl g ↦ let no : false ≡ true = subst (λ ks. list_any (λ k. is_eq (cmp q k)) ks ≡ true) e g in cc
+  | inr g ↦ g
+]
 
 or_right : (a b : Bool) → b ≡ true → (a || b) ≡ true
 or_right true b h = refl
@@ -87,9 +87,9 @@ any_kept cmp exact p q (k ∷ ks) t h =
     elim (is_eq (cmp q k)) as (λ b. is_eq (cmp q k) ≡ b → (b || list_any (λ k. is_eq (cmp q k)) ks) ≡ true → list_any (λ k. is_eq (cmp q k)) (cond (p k) (k ∷ filter p ks) (filter p ks)) ≡ true) [
       | true ↦ λ is g. subst (λ b. list_any (λ k. is_eq (cmp q k)) (cond b (k ∷ filter p ks) (filter p ks)) ≡ true) (sym (ap p (sym (exact q k (equal_is (cmp q k) is))) ∙ t)) (ap (λ b. b || list_any (λ k. is_eq (cmp q k)) (filter p ks)) is)
       | false ↦ λ is g. elim (p k) as (λ b. list_any (λ k. is_eq (cmp q k)) (cond b (k ∷ filter p ks) (filter p ks)) ≡ true) [
-          | true ↦ or_right (is_eq (cmp q k)) _ (any_kept cmp exact p q ks t g)
-          | false ↦ any_kept cmp exact p q ks t g
-        ]
+        | true ↦ or_right (is_eq (cmp q k)) _ (any_kept cmp exact p q ks t g)
+        | false ↦ any_kept cmp exact p q ks t g
+      ]
     ] refl h
 
 -- ---- a loop over a list, of which all up to some place is done

@@ -1,5 +1,5 @@
 -- An index of the entities of a map, as entities come and go.
-use Rattle.std.specs.Prelude.{◌≡◌, ℕ, ◌+◌, ◌*◌, ◌≤◌, true, false, cond, List, [], Option, Some, None, refl}
+use Rattle.std.specs.Prelude.{◌≡◌, ℕ, ◌+◌, ◌*◌, ◌≤◌, true, false, cond, List, [], Some, None, refl}
 use Rattle.std.proofs.Common.{arith, sym, ap, ◌∙◌, subst}
 use Rattle.std.proofs.lemmas.Option.{same_Some}
 use Rattle.std.proofs.lemmas.List.Elements.{All-weaker}
@@ -68,9 +68,9 @@ pub forgotten_indexed : (es : List Entity) (g : Entity) (old new : BTreeSet Mark
     → ((x : Entity) → get (entity_map es) (key_of g) ≡ Some x → x.serial ≡ g.serial → ⊥) → IsIndexOf (entity_map es) old → IsIndexOf (entity_map es) new
 forgotten_indexed es g old new keeps gone h = λ k x at.
     let other : tag_of x ≡ tag_of g → x.id ≡ g.id → ⊥ = λ tag id.
-      let same = same_tag x.serial g.serial (kind_index (kind_of x.nature)) (kind_index (kind_of g.nature)) (small_kind (kind_of x.nature)) (small_kind (kind_of g.nature)) tag in
-      let kind : kind_of x.nature ≡ kind_of g.nature = same_kind (kind_of x.nature) (kind_of g.nature) same.1 in
-      let keys : key_of x ≡ key_of g = λ i. (kind i, id i) in
-      let own : key_of x ≡ k = own_key es k x (sym (get-from_entries key_total (keyed pair_of es) k) ∙ at) in
-      gone x (ap (λ (q : EntityKey). get (entity_map es) q) (sym keys ∙ own) ∙ at) same.0 in
+    let same = same_tag x.serial g.serial (kind_index (kind_of x.nature)) (kind_index (kind_of g.nature)) (small_kind (kind_of x.nature)) (small_kind (kind_of g.nature)) tag in
+    let kind : kind_of x.nature ≡ kind_of g.nature = same_kind (kind_of x.nature) (kind_of g.nature) same.1 in
+    let keys : key_of x ≡ key_of g = λ i. (kind i, id i) in
+    let own : key_of x ≡ k = own_key es k x (sym (get-from_entries key_total (keyed pair_of es) k) ∙ at) in
+    gone x (ap (λ (q : EntityKey). get (entity_map es) q) (sym keys ∙ own) ∙ at) same.0 in
     all_marked old new x (λ c m. record { cell = m.cell; narrow = m.narrow; mark = keeps (mark_of x c) other m.mark }) (h k x at)

@@ -29,9 +29,11 @@ module _ (kind : Kind) (areas : List Region) (except : Option ℕ) (es : List En
   finds_it h a d e is also copy sought =
       let e_is : e ≡ h.element = copy ∙ read_hit key_cmp pair_of es k i h d also in
       let a_is : a ≡ h.element = read_hit key_cmp pair_of es k i h a is in
-      let own : key_of e ≡ k = ap key_of e_is ∙ key_exact (key_of h.element) k h.level in
-      (sym (found_hit key_cmp pair_of key_total es k i h) ∙ ap (λ (x : Entity). Some x) (sym e_is), own,
-      subst (λ (q : EntityKey). is_sought kind areas except (q, e) ≡ true) own (subst (λ (x : Entity). is_sought kind areas except (pair_of x) ≡ true) (a_is ∙ sym e_is) sought))
+      let own : key_of e ≡ k = ap key_of e_is ∙ key_exact (key_of h.element) k h.level in (
+        sym (found_hit key_cmp pair_of key_total es k i h) ∙ ap (λ (x : Entity). Some x) (sym e_is),
+        own,
+        subst (λ (q : EntityKey). is_sought kind areas except (q, e) ≡ true) own (subst (λ (x : Entity). is_sought kind areas except (pair_of x) ≡ true) (a_is ∙ sym e_is) sought),
+      )
 
   pub finds_none_sought : (h : Hit key_cmp pair_of es k i) (a : Entity) → a ≡ get_or es i a → is_sought kind areas except (pair_of a) ≡ false
       → FindsSought (find key_cmp k (keyed pair_of es)) kind areas except k None

@@ -4,8 +4,7 @@ use Rattle.std.proofs.Common.{arith, sym, ap, ◌∙◌, subst, inl, inr}
 use Rattle.std.proofs.lemmas.Option.{same_Some}
 use Rattle.std.proofs.lemmas.Bool.Decides.{nat_tests}
 use Rattle.std.proofs.lemmas.Cmp.{eq_by_cmp_equiv}
-use Rattle.std.specs.Ordering.{eq_by_cmp, is_eq, nat_cmp}
-use Rattle.std.specs.declared.cmp.Ordering.{Ordering}
+use Rattle.std.specs.Ordering.{eq_by_cmp, nat_cmp}
 use Rattle.std.specs.BTreeSet.{BTreeSet, contains}
 use Rattle.std.specs.FinMap as maps
 use Rattle.std.specs.FinMap.{entries, entries_sorted, entries-from_sorted, from_sorted, get, get-entries, get-from_entries, get-from_sorted, get-insert, insert, same_map}
@@ -17,13 +16,12 @@ use Rattle.entity_core.specs.Airspace.{Entities, EntityKey, key_cmp, key_of}
 use Rattle.entity_core.specs.Entity.{kind_index}
 use Rattle.entity_core.specs.Search.{has_kind, is_not, is_sought, meeting_in}
 use Rattle.entity_core.proofs.Keys.{key_total, key_exact, one_key}
-use Rattle.space_core.specs.CellIndex.{AddsSought, AllMarked, FindsSoughtAmong, HasMeeting, IsIndexOf, Mark}
+use Rattle.space_core.specs.CellIndex.{AddsSought, FindsSoughtAmong, HasMeeting, IsIndexOf, Mark}
 use Rattle.space_core.specs.Entities.{FindsSought, InOrder, entity_map, pair_of}
 use Rattle.space_core.specs.Proper.{own_key}
 use Rattle.space_core.specs.Sorted.{keyed}
-use Rattle.space_core.proofs.CellSets.{Left, left_less, left_none}
 use Rattle.space_core.proofs.IndexedMaps.{same_kind}
-use Rattle.space_core.proofs.Maps.{entries_of, first, kept_values, second, sorted_kept}
+use Rattle.space_core.proofs.Maps.{entries_of, first, second, sorted_kept}
 use Rattle.space_core.proofs.Risings.{none_below}
 
 -- ---- what passes a test
@@ -40,9 +38,9 @@ found_kept p q x (e ∷ es) h t =
           let own : e ≡ (q, x) = λ i. (key i, same_Some e.1 x g i) in
           subst (λ b. maps.find key_cmp q (cond b (e ∷ filter p es) (filter p es)) ≡ Some x) (sym (ap p own ∙ t)) (ap (λ b. cond b (Some e.1) (maps.find key_cmp q (filter p es))) is ∙ g)
       | false ↦ λ is g. elim (p e) as (λ b. maps.find key_cmp q (cond b (e ∷ filter p es) (filter p es)) ≡ Some x) [
-          | true ↦ ap (λ b. cond b (Some e.1) (maps.find key_cmp q (filter p es))) is ∙ found_kept p q x es g t
-          | false ↦ found_kept p q x es g t
-        ]
+        | true ↦ ap (λ b. cond b (Some e.1) (maps.find key_cmp q (filter p es))) is ∙ found_kept p q x es g t
+        | false ↦ found_kept p q x es g t
+      ]
     ] refl h
 
 pub kept_found : (p : EntityKey × Entity → Bool) (q : EntityKey) (x : Entity) (es : Pairs) → T (is_sorted key_cmp es) → maps.find key_cmp q (filter p es) ≡ Some x → (maps.find key_cmp q es ≡ Some x) × (p (q, x) ≡ true)
@@ -51,12 +49,12 @@ kept_found p q x (e ∷ es) s h =
     let rest = kept_found p q x es (second (below_all key_cmp e.0 es) _ s) in
     elim (p e) as (λ b. p e ≡ b → maps.find key_cmp q (cond b (e ∷ filter p es) (filter p es)) ≡ Some x → (maps.find key_cmp q (e ∷ es) ≡ Some x) × (p (q, x) ≡ true)) [
       | true ↦ λ t g. elim (eq_by_cmp key_cmp q e.0) as (λ b. eq_by_cmp key_cmp q e.0 ≡ b → cond b (Some e.1) (maps.find key_cmp q (filter p es)) ≡ Some x → (cond b (Some e.1) (maps.find key_cmp q es) ≡ Some x) × (p (q, x) ≡ true)) [
-          | true ↦ λ is f.
-              let key : e.0 ≡ q = sym (one_key q e.0 is) in
-              let own : e ≡ (q, x) = λ i. (key i, same_Some e.1 x f i) in
-              (f, ap p (sym own) ∙ t)
-          | false ↦ λ is f. rest f
-        ] refl g
+        | true ↦ λ is f.
+            let key : e.0 ≡ q = sym (one_key q e.0 is) in
+            let own : e ≡ (q, x) = λ i. (key i, same_Some e.1 x f i) in
+            (f, ap p (sym own) ∙ t)
+        | false ↦ λ is f. rest f
+      ] refl g
       | false ↦ λ t g.
           let r = rest g in
           elim (eq_by_cmp key_cmp q e.0) as (λ b. eq_by_cmp key_cmp q e.0 ≡ b → (cond b (Some e.1) (maps.find key_cmp q es) ≡ Some x) × (p (q, x) ≡ true)) [
@@ -125,9 +123,9 @@ module _ (m : Entities) (kind : Kind) (areas : List Region) (except : Option ℕ
 
   pub only_more : (k : EntityKey) (old new : Entities) → AddsSought m kind areas except k old new → Only old → Only new
   only_more k old new a only = λ q x at. elim (a.only q x at) [
-      | inl there ↦ only q x there
-      | inr it ↦ it
-    ]
+    | inl there ↦ only q x there
+    | inr it ↦ it
+  ]
 
   pub done_more : (k : EntityKey) (old new : Entities) → AddsSought m kind areas except k old new → (i : ℕ) → Done old i → Done new i
   done_more k old new a i d = λ x at s. a.kept (kind, i) x (d x at s) at
@@ -136,9 +134,9 @@ module _ (m : Entities) (kind : Kind) (areas : List Region) (except : Option ℕ
   found_among ids found only done = record {
     only = only;
     all = λ k x at s has.
-      let own : kind ≡ k.0 = sym (has_the_kind kind k (first_of (has_kind kind k) (is_not except k && any_meet x.volumes areas) s)) in
-      let key : (kind, k.1) ≡ k = λ i. (own i, k.1) in
-      subst (λ (q : EntityKey). get found q ≡ Some x) key (done k.1 has x (ap (λ (q : EntityKey). get m q) key ∙ at) (ap (λ (q : EntityKey). is_sought kind areas except (q, x)) key ∙ s));
+        let own : kind ≡ k.0 = sym (has_the_kind kind k (first_of (has_kind kind k) (is_not except k && any_meet x.volumes areas) s)) in
+        let key : (kind, k.1) ≡ k = λ i. (own i, k.1) in
+        subst (λ (q : EntityKey). get found q ≡ Some x) key (done k.1 has x (ap (λ (q : EntityKey). get m q) key ∙ at) (ap (λ (q : EntityKey). is_sought kind areas except (q, x)) key ∙ s));
   }
 
   pub none_added : (k : EntityKey) (old : Entities) → FindsSought (get m k) kind areas except k None → AddsSought m kind areas except k old old
@@ -152,21 +150,21 @@ module _ (m : Entities) (kind : Kind) (areas : List Region) (except : Option ℕ
   pub one_added : (k : EntityKey) (y : Entity) (old new : Entities) → FindsSought (get m k) kind areas except k (Some y) → new ≡ insert old (key_of y) y → AddsSought m kind areas except k old new
   one_added k y old new f e = record {
     only = λ q x at.
-      let now : cond (eq_by_cmp key_cmp q (key_of y)) (Some y) (get old q) ≡ Some x = sym (ap (λ (n : Entities). get n q) e ∙ get-insert key_total old (key_of y) y q) ∙ at in
-      elim (eq_by_cmp key_cmp q (key_of y)) as (λ b. eq_by_cmp key_cmp q (key_of y) ≡ b → cond b (Some y) (get old q) ≡ Some x → (get old q ≡ Some x) ⊎ ((get m q ≡ Some x) × (is_sought kind areas except (q, x) ≡ true))) [
-        | true ↦ λ is g.
-            let key : k ≡ q = sym (one_key q (key_of y) is ∙ f.1) in
-            let same : y ≡ x = same_Some y x g in
-            inr (ap (λ (r : EntityKey). get m r) (sym key) ∙ (f.0 ∙ g), ap (λ (r : EntityKey). is_sought kind areas except (r, x)) (sym key) ∙ (ap (λ (z : Entity). is_sought kind areas except (k, z)) (sym same) ∙ f.2))
-        | false ↦ λ is g. inl g
-      ] refl now;
+        let now : cond (eq_by_cmp key_cmp q (key_of y)) (Some y) (get old q) ≡ Some x = sym (ap (λ (n : Entities). get n q) e ∙ get-insert key_total old (key_of y) y q) ∙ at in
+        elim (eq_by_cmp key_cmp q (key_of y)) as (λ b. eq_by_cmp key_cmp q (key_of y) ≡ b → cond b (Some y) (get old q) ≡ Some x → (get old q ≡ Some x) ⊎ ((get m q ≡ Some x) × (is_sought kind areas except (q, x) ≡ true))) [
+          | true ↦ λ is g.
+              let key : k ≡ q = sym (one_key q (key_of y) is ∙ f.1) in
+              let same : y ≡ x = same_Some y x g in
+              inr (ap (λ (r : EntityKey). get m r) (sym key) ∙ (f.0 ∙ g), ap (λ (r : EntityKey). is_sought kind areas except (r, x)) (sym key) ∙ (ap (λ (z : Entity). is_sought kind areas except (k, z)) (sym same) ∙ f.2))
+          | false ↦ λ is g. inl g
+        ] refl now;
     here = λ x at s. ap (λ (n : Entities). get n k) e ∙ (get-insert key_total old (key_of y) y k ∙ (ap (λ b. cond b (Some y) (get old k)) (equal_key k (key_of y) f.1) ∙ (sym f.0 ∙ at)));
     kept = λ q x at there.
-      ap (λ (n : Entities). get n q) e ∙ (get-insert key_total old (key_of y) y q ∙
-      elim (eq_by_cmp key_cmp q (key_of y)) as (λ b. eq_by_cmp key_cmp q (key_of y) ≡ b → cond b (Some y) (get old q) ≡ Some x) [
-        | true ↦ λ is. sym f.0 ∙ (ap (λ (r : EntityKey). get m r) (sym (one_key q (key_of y) is ∙ f.1)) ∙ there)
-        | false ↦ λ is. at
-      ] refl);
+        ap (λ (n : Entities). get n q) e ∙ (get-insert key_total old (key_of y) y q ∙
+        elim (eq_by_cmp key_cmp q (key_of y)) as (λ b. eq_by_cmp key_cmp q (key_of y) ≡ b → cond b (Some y) (get old q) ≡ Some x) [
+          | true ↦ λ is. sym f.0 ∙ (ap (λ (r : EntityKey). get m r) (sym (one_key q (key_of y) is ∙ f.1)) ∙ there)
+          | false ↦ λ is. at
+        ] refl);
   }
 
 -- ---- the whole search

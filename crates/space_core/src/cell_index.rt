@@ -159,11 +159,7 @@ fn spans_of(alloc: Global, areas: &[Area]) -> Result<BTreeSet<Span>, AllocError>
 
 // ---- what is found
 
-fn gather(
-    ids: &mut BTreeSet<u128>,
-    marks: &BTreeSet<Mark>,
-    span: Span,
-) -> Result<(), AllocError>
+fn gather(ids: &mut BTreeSet<u128>, marks: &BTreeSet<Mark>, span: Span) -> Result<(), AllocError>
     ensures kept { Grows nat_cmp ids.old ids.new }
     ensures gathered { OnOk result (Gathers marks.now span ids.new) }
 {

@@ -316,7 +316,12 @@ impl Entities {
         ensures { result ≡ false → (x : Entity) → get (entity_map self.now) (key_of entity.now)
             ≡ Some x → x.serial ≡ entity.now.serial → ⊥ }
     {
-        was_put_at(&self.items, entity.nature.kind(), entity.id, entity.serial.number())
+        was_put_at(
+            &self.items,
+            entity.nature.kind(),
+            entity.id,
+            entity.serial.number(),
+        )
     }
 
     /// The entities themselves. It takes no memory.

@@ -6,7 +6,7 @@ ghost use Rattle.entity_core.specs.Search.{meeting_in, all_in};
 ghost use Rattle.space_core.specs.Entities.{entity_map};
 ghost use Rattle.space_core.specs.CellIndex.{AddsSought, AllMarked, IsIndexOf, FindsSoughtAmong};
 
-use crate::cell_index::{mark_entity, near, unmark_entity, Mark};
+use crate::cell_index::{Mark, mark_entity, near, unmark_entity};
 use crate::entities::Entities;
 use entity_core::entity::Entity;
 use entity_core::entity_id::EntityId;
@@ -48,11 +48,7 @@ fn forget(marks: &mut BTreeSet<Mark>, entities: &Entities, gone: &Entity)
 }
 
 // Marks an entity that will be put. What was marked before an error goes out again.
-fn enter(
-    marks: &mut BTreeSet<Mark>,
-    entities: &Entities,
-    entity: &Entity,
-) -> Result<(), AllocError>
+fn enter(marks: &mut BTreeSet<Mark>, entities: &Entities, entity: &Entity) -> Result<(), AllocError>
     ensures kept { IsIndexOf (entity_map entities.now) marks.old
         → IsIndexOf (entity_map entities.now) marks.new }
     ensures marked { OnOk result (AllMarked marks.new entity.now) }
@@ -86,12 +82,7 @@ fn put_in(
     Ok(())
 }
 
-fn remove_from(
-    entities: &mut Entities,
-    marks: &mut BTreeSet<Mark>,
-    kind: Kind,
-    id: EntityId,
-)
+fn remove_from(entities: &mut Entities, marks: &mut BTreeSet<Mark>, kind: Kind, id: EntityId)
     requires { IsIndexOf (entity_map entities.old) marks.old }
     ensures index { IsIndexOf (entity_map entities.new) marks.new }
     ensures removed { entity_map entities.new ≡ remove (entity_map entities.old) (kind, id) }

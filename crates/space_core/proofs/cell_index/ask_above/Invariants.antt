@@ -1,4 +1,4 @@
-use Rattle.std.proofs.Common.{◌≡◌, ◌<◌, true, ℕ, take}
+use Rattle.std.proofs.Common.{◌≡◌, ◌<◌, true, ℕ}
 use Rattle.std.specs.BTreeSet.{contains}
 use Rattle.grid_core.specs.Cell.{parent_of}
 use Rattle.space_core.specs.CellIndex.{span_cmp, Grows, exactly}

@@ -1,4 +1,4 @@
-use Rattle.std.proofs.Common.{◌≡◌, ◌<◌, true, ℕ, take}
+use Rattle.std.proofs.Common.{take}
 use Rattle.std.specs.List.{All}
 use Rattle.space_core.specs.CellIndex.{span_cmp, Grows, IsAsked}
 use Rattle.space_core.proofs.cell_index.ask_cells.Given as goal

@@ -1,4 +1,4 @@
-use Rattle.std.proofs.Common.{◌≡◌, ◌<◌, true, ℕ, take}
+use Rattle.std.proofs.Common.{◌≡◌, true}
 use Rattle.std.specs.Ordering.{nat_cmp}
 use Rattle.std.specs.BTreeSet.{contains}
 use Rattle.space_core.specs.CellIndex.{mark_cmp, Grows}

@@ -1,4 +1,3 @@
-use Rattle.std.proofs.Common.{◌≡◌, ◌<◌, true, ℕ, take}
 use Rattle.space_core.specs.CellIndex.{span_cmp, Gathers}
 use Rattle.space_core.proofs.CellSets.{Left}
 use Rattle.space_core.proofs.cell_index.gather_all.Given as goal

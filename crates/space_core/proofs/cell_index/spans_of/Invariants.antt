@@ -1,4 +1,4 @@
-use Rattle.std.proofs.Common.{◌≡◌, ◌<◌, true, ℕ, take}
+use Rattle.std.proofs.Common.{take}
 use Rattle.space_core.specs.CellIndex.{AllAsked}
 use Rattle.space_core.proofs.cell_index.spans_of.Given as goal
 

@@ -1,5 +1,4 @@
-use Rattle.std.proofs.Common.{List, ◌∙◌, subst}
-use Rattle.entity_core.specs.declared.entity.Entity.{Entity}
+use Rattle.std.proofs.Common.{◌∙◌}
 use Rattle.space_core.proofs.SoughtMaps.{meeting_found}
 use Rattle.space_core.proofs.indexed.meeting_in.Goals as goal
 

@@ -1,4 +1,4 @@
-use Rattle.std.proofs.Common.{sym, ap, ◌∙◌, subst}
+use Rattle.std.proofs.Common.{sym, ap, ◌∙◌}
 use Rattle.std.specs.FinMap.{find}
 use Rattle.entity_core.specs.declared.nature.Kind.{Kind}
 use Rattle.entity_core.specs.Airspace.{key_cmp, key_of}
