@@ -23,7 +23,7 @@ use Rattle.space_core.proofs.Maps.{first, second, less, sorted_kept}
 abbrev Own : EntityKey × Entity → Type 0
 Own e = key_of e.1 ≡ e.0
 
-none_below : (q : EntityKey) (es : List (EntityKey × Entity)) → T (below_all key_cmp q es) → maps.find key_cmp q es ≡ None
+pub none_below : (q : EntityKey) (es : List (EntityKey × Entity)) → T (below_all key_cmp q es) → maps.find key_cmp q es ≡ None
 none_below q [] h = refl
 none_below q (e ∷ es) h =
     ap (λ (r : Ordering). cond (is_eq r) (Some e.1) (maps.find key_cmp q es)) (less (key_cmp q e.0) (first _ _ h))

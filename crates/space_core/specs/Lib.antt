@@ -4,3 +4,4 @@ pub mod Entities
 pub mod Availabilities
 pub mod List
 pub mod Proper
+pub mod CellIndex

@@ -14,7 +14,7 @@ use Rattle.space_core.specs.Entities.{pair_of}
 use Rattle.space_core.specs.List.{content_of}
 use Rattle.space_core.specs.Sorted.{keyed}
 
-own_key : (es : List Entity) (k : EntityKey) (x : Entity) → maps.find key_cmp k (keyed pair_of es) ≡ Some x → key_of x ≡ k
+pub own_key : (es : List Entity) (k : EntityKey) (x : Entity) → maps.find key_cmp k (keyed pair_of es) ≡ Some x → key_of x ≡ k
 own_key [] k x h = cc
 own_key (e ∷ es) k x h =
     elim (eq_by_cmp key_cmp k (key_of e)) as (λ b. eq_by_cmp key_cmp k (key_of e) ≡ b → cond b (Some e) (maps.find key_cmp k (keyed pair_of es)) ≡ Some x → key_of x ≡ k) [

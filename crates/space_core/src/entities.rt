@@ -1,5 +1,5 @@
 //! Entities in the order of their kinds and ids.
-ghost use Rattle.std.specs.Prelude.{◌≡◌, not, [], OnOk, OnErr, IfOk, IfErr, filter, length};
+ghost use Rattle.std.specs.Prelude.{◌≡◌, not, false, [], OnOk, OnErr, IfOk, IfErr, Some, filter, length};
 ghost use Rattle.std.specs.List.Sorted.{IsBinarySearchResult, IsSearchInRange};
 ghost use Rattle.std.specs.Ordering.{eq_by_cmp};
 ghost use Rattle.std.specs.FinMap.{find, get, insert, remove};
@@ -7,7 +7,9 @@ ghost use Rattle.std.specs.FinMap.Entries.{put};
 ghost use Rattle.entity_core.specs.Airspace.{key_cmp, key_of};
 ghost use Rattle.entity_core.specs.Search.{has_kind, is_not, is_sought, meeting_in, all_in};
 ghost use Rattle.space_core.specs.Sorted.{keyed, Hit, Gap};
-ghost use Rattle.space_core.specs.Entities.{pair_of, entity_map, InOrder};
+ghost use Rattle.entity_core.specs.Entity.{kind_index};
+ghost use Rattle.entity_core.specs.declared.entity.Entity.{Entity};
+ghost use Rattle.space_core.specs.Entities.{pair_of, entity_map, FindsSought, InOrder};
 
 use entity_core::entity::Entity;
 use entity_core::entity_id::EntityId;
@@ -16,6 +18,7 @@ use grid_core::volume::Area;
 use std::alloc::{AllocError, Global};
 use std::cmp::Ordering;
 use std::marker::Model;
+use std::mem::replace;
 
 /// Entities in their order, each kind and id once. Contracts see their list.
 #[derive(Debug, Drop)]
@@ -35,11 +38,41 @@ impl Model for Entities {
     ghost invariant = { λ a. InOrder a.items.items };
 }
 
-fn searched(items: &[Entity], kind: Kind, id: EntityId) -> Result<usize, usize>
-    ensures bound { IsSearchInRange result (length items.now) }
-    ensures position { IsBinarySearchResult (λ e. key_cmp (key_of e) (kind, id)) items.now result }
+/// The place of a kind in the order of kinds.
+pub(crate) fn kind_index(kind: Kind) -> u8
+    ensures { result ≡ kind_index kind }
 {
-    items.binary_search_by(|entity| entity.order(kind, id))
+    match kind {
+        Kind::Intent => 0,
+        Kind::Constraint => 1,
+    }
+}
+
+// How the kind and the id of an entity stand to a kind and the number of an id.
+fn order(entity: &Entity, kind: Kind, number: u128) -> Ordering
+    ensures { result ≡ key_cmp (key_of entity.now) (kind, number) }
+{
+    match kind_index(entity.nature.kind()).cmp(&kind_index(kind)) {
+        Ordering::Less => Ordering::Less,
+        Ordering::Equal => entity.id.number().cmp(&number),
+        Ordering::Greater => Ordering::Greater,
+    }
+}
+
+fn searched(items: &[Entity], kind: Kind, number: u128) -> Result<usize, usize>
+    ensures bound { IsSearchInRange result (length items.now) }
+    ensures position { IsBinarySearchResult (λ e. key_cmp (key_of e) (kind, number))
+        items.now result }
+{
+    items.binary_search_by(|entity| order(entity, kind, number))
+}
+
+// Where the entity of a kind and the number of an id stands, or would stand.
+fn place_at(items: &[Entity], kind: Kind, number: u128) -> Result<usize, usize>
+    ensures hit { InOrder items.now → IfOk result (Hit key_cmp pair_of items.now (kind, number)) }
+    ensures gap { InOrder items.now → IfErr result (Gap key_cmp pair_of items.now (kind, number)) }
+{
+    searched(items, kind, number)
 }
 
 // Where an entity stands, or would stand.
@@ -47,7 +80,7 @@ fn place_of(items: &[Entity], kind: Kind, id: EntityId) -> Result<usize, usize>
     ensures hit { InOrder items.now → IfOk result (Hit key_cmp pair_of items.now (kind, id)) }
     ensures gap { InOrder items.now → IfErr result (Gap key_cmp pair_of items.now (kind, id)) }
 {
-    searched(items, kind, id)
+    place_at(items, kind, id.number())
 }
 
 fn found(
@@ -113,31 +146,68 @@ fn all_of(alloc: Global, items: &[Entity], kind: Kind) -> Result<Vec<Entity>, Al
     Ok(wanted)
 }
 
-fn put_in_place(items: &mut Vec<Entity>, entity: Entity) -> Result<(), AllocError>
+// The entity of a kind and the number of an id, if it is sought.
+fn wanted(
+    alloc: Global,
+    items: &[Entity],
+    kind: Kind,
+    number: u128,
+    areas: &[Area],
+    except: Option<EntityId>,
+) -> Result<Option<Entity>, AllocError>
+    requires { InOrder items.now }
+    ensures { IfOk result (λ found. FindsSought (find key_cmp (kind, number)
+        (keyed pair_of items.now)) kind areas.now except (kind, number) found) }
+{
+    match place_at(items, kind, number) {
+        Ok(i) => {
+            if is_wanted(&items[i], kind, areas, except) {
+                Ok(Some(items[i].clone(alloc)?))
+            } else {
+                Ok(None)
+            }
+        }
+        Err(_) => Ok(None),
+    }
+}
+
+// Whether the entity of a kind and an id was last put at a serial.
+fn was_put_at(items: &[Entity], kind: Kind, id: EntityId, serial: u64) -> bool
+    requires { InOrder items.now }
+    ensures { result ≡ false → (x : Entity) → find key_cmp (kind, id) (keyed pair_of items.now)
+        ≡ Some x → x.serial ≡ serial → ⊥ }
+{
+    match place_of(items, kind, id) {
+        Ok(i) => items[i].serial.number() == serial,
+        Err(_) => false,
+    }
+}
+
+// Gives what stood in its place.
+fn put_in_place(items: &mut Vec<Entity>, entity: Entity) -> Result<Option<Entity>, AllocError>
     requires { InOrder items.old.items }
     ensures ok { OnOk result (keyed pair_of items.new.items
         ≡ put key_cmp (key_of entity) entity (keyed pair_of items.old.items)) }
     ensures err { OnErr result (items.new.items ≡ items.old.items) }
 {
     match place_of(items, entity.nature.kind(), entity.id) {
-        Ok(i) => {
-            items[i] = entity;
-            Ok(())
+        Ok(i) => Ok(Some(replace(&mut items[i], entity))),
+        Err(i) => {
+            items.insert(i, entity)?;
+            Ok(None)
         }
-        Err(i) => Ok(items.insert(i, entity)?),
     }
 }
 
-fn remove_from(items: &mut Vec<Entity>, kind: Kind, id: EntityId)
+// Gives what stood there.
+fn remove_from(items: &mut Vec<Entity>, kind: Kind, id: EntityId) -> Option<Entity>
     requires { InOrder items.old.items }
     ensures { filter (λ e. not (eq_by_cmp key_cmp (kind, id) (key_of e))) items.old.items
         ≡ items.new.items }
 {
     match place_of(items, kind, id) {
-        Ok(i) => {
-            let _gone = items.remove(i);
-        }
-        Err(_) => {}
+        Ok(i) => Some(items.remove(i)),
+        Err(_) => None,
     }
 }
 
@@ -192,6 +262,16 @@ impl Entities {
             ≡ insert (entity_map self.old) (key_of entity) entity) }
         ensures err { OnErr result (self.new ≡ self.old) }
     {
+        let _old = self.replace(entity)?;
+        Ok(())
+    }
+
+    /// The same, and gives the one that had its kind and id.
+    pub(crate) fn replace(&mut self, entity: Entity) -> Result<Option<Entity>, AllocError>
+        ensures ok { OnOk result (entity_map self.new
+            ≡ insert (entity_map self.old) (key_of entity) entity) }
+        ensures err { OnErr result (self.new ≡ self.old) }
+    {
         put_in_place(&mut self.items, entity)
     }
 
@@ -199,6 +279,57 @@ impl Entities {
     pub fn remove(&mut self, kind: Kind, id: EntityId)
         ensures { entity_map self.new ≡ remove (entity_map self.old) (kind, id) }
     {
+        let _gone = self.take(kind, id);
+    }
+
+    /// The same, and gives the one that was removed.
+    pub(crate) fn take(&mut self, kind: Kind, id: EntityId) -> Option<Entity>
+        ensures { entity_map self.new ≡ remove (entity_map self.old) (kind, id) }
+    {
         remove_from(&mut self.items, kind, id)
+    }
+
+    /// Makes room for one more entity, so that putting one takes no memory then.
+    pub(crate) fn make_room(&mut self) -> Result<(), AllocError>
+        ensures { self.new ≡ self.old }
+    {
+        self.items.reserve(1)
+    }
+
+    /// The entity of a kind and the number of an id, if it is sought.
+    pub(crate) fn sought(
+        &self,
+        alloc: Global,
+        kind: Kind,
+        number: u128,
+        areas: &[Area],
+        except: Option<EntityId>,
+    ) -> Result<Option<Entity>, AllocError>
+        ensures { IfOk result (λ found. FindsSought (get (entity_map self.now) (kind, number))
+            kind areas.now except (kind, number) found) }
+    {
+        wanted(alloc, &self.items, kind, number, areas, except)
+    }
+
+    /// Whether an entity of the same kind, id and serial is among them.
+    pub(crate) fn has_put(&self, entity: &Entity) -> bool
+        ensures { result ≡ false → (x : Entity) → get (entity_map self.now) (key_of entity.now)
+            ≡ Some x → x.serial ≡ entity.now.serial → ⊥ }
+    {
+        was_put_at(
+            &self.items,
+            entity.nature.kind(),
+            entity.id,
+            entity.serial.number(),
+        )
+    }
+
+    /// The entities themselves. It takes no memory.
+    pub(crate) fn into_vec(self) -> Vec<Entity>
+        ensures items { result.items ≡ self }
+        ensures order { InOrder self }
+    {
+        let Entities { items } = self;
+        items
     }
 }

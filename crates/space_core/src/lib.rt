@@ -2,7 +2,9 @@
 #![tactic(auto)]
 
 pub mod availabilities;
+mod cell_index;
 pub mod entities;
+pub mod indexed;
 pub mod laws;
 pub mod list;
 pub mod space;

@@ -9,7 +9,7 @@ ghost use Rattle.space_core.specs.declared.space.SpaceFault.TheVariants.{Unchang
 ghost use Rattle.std.proofs.Common.{sym, ◌∙◌, refl, subst};
 
 use crate::availabilities::Availabilities;
-use crate::entities::Entities;
+use crate::indexed::IndexedEntities;
 use crate::space::{Change, Space, SpaceFault};
 use entity_core::availability::Availability;
 use entity_core::entity::Entity;
@@ -24,7 +24,7 @@ use std::alloc::{AllocError, Global};
 #[derive(Debug, Drop)]
 pub struct ListSpace {
     alloc: Global,
-    entities: Entities,
+    entities: IndexedEntities,
     availabilities: Availabilities,
     serial: u64,
     refusals: u64,
@@ -47,7 +47,7 @@ impl ListSpace {
     {
         ListSpace {
             alloc,
-            entities: Entities::new(alloc),
+            entities: IndexedEntities::new(alloc),
             availabilities: Availabilities::new(alloc),
             serial,
             refusals: 0,
@@ -144,7 +144,7 @@ impl Space for ListSpace {
 
 // Makes the change, but for the serial.
 fn make(
-    entities: &mut Entities,
+    entities: &mut IndexedEntities,
     availabilities: &mut Availabilities,
     change: Change,
 ) -> Result<(), AllocError>

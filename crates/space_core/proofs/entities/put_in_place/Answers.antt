@@ -1,4 +1,4 @@
-use Rattle.std.proofs.Common.{List, subst, sym, ap, ◌∙◌}
+use Rattle.std.proofs.Common.{List, subst, sym, ap, ◌∙◌, set}
 use Rattle.entity_core.specs.declared.entity.Entity.{Entity}
 use Rattle.entity_core.specs.declared.nature.Kind.{Kind}
 use Rattle.entity_core.specs.Airspace.{key_cmp}
@@ -12,7 +12,8 @@ pub returns-in-Ok-clause-ok : goal.returns-in-Ok-clause-ok
 returns-in-Ok-clause-ok c =
     let there = c.in-Ok.ensures.hit (subst InOrder (sym c.deref.ensures.value) c.requires) in
     let hit = subst (λ (es : List Entity). Hit key_cmp pair_of es (c.kind.result, c.args.entity.id) c.in-Ok.i) c.deref.ensures.value there in
-    put_hit key_cmp pair_of key_total key_exact c.args.items.now.items c.args.entity c.in-Ok.i
+    ap (λ (e : Entity). keyed pair_of (set c.args.items.now.items c.in-Ok.i e)) c.replace.ensures.after
+    ∙ put_hit key_cmp pair_of key_total key_exact c.args.items.now.items c.args.entity c.in-Ok.i
     (subst (λ (kind : Kind). Hit key_cmp pair_of c.args.items.now.items (kind, c.args.entity.id) c.in-Ok.i) c.kind.ensures hit)
 
 pub returns-in_ok-insert-in-Err-clause-ok : goal.returns-in_ok-insert-in-Err-clause-ok

@@ -10,7 +10,7 @@ use Rattle.space_core.proofs.entities.remove_from.Goals as goal
 pub returns-in-Ok : goal.returns-in-Ok
 returns-in-Ok c =
     let hit = subst (λ (es : List Entity). Hit key_cmp pair_of es (c.args.kind, c.args.id) c.in-Ok.i) c.deref.ensures.value (c.in-Ok.ensures.hit (subst InOrder (sym c.deref.ensures.value) c.requires)) in
-    removed_hit key_cmp pair_of key_total c.args.items.now.items (c.args.kind, c.args.id) c.in-Ok.i hit c.requires ∙ sym c.remove-gone.ensures.items
+    removed_hit key_cmp pair_of key_total c.args.items.now.items (c.args.kind, c.args.id) c.in-Ok.i hit c.requires ∙ sym c.remove.ensures.items
 
 pub returns-in-Err : goal.returns-in-Err
 returns-in-Err c =

@@ -2,7 +2,7 @@ use Rattle.entity_core.specs.Airspace.{key_cmp}
 use Rattle.space_core.specs.Entities.{pair_of}
 use Rattle.space_core.proofs.Keys.{key_total}
 use Rattle.space_core.proofs.Places.{put_order, put_map}
-use Rattle.space_core.proofs.entities.Entities.put.Goals as goal
+use Rattle.space_core.proofs.entities.Entities.replace.Goals as goal
 
 pub invariant_of-self : goal.invariant_of-self
 invariant_of-self c = put_order key_cmp pair_of key_total c.put_in_place.result c.self.inside.items.items c.put_in_place.new.items.items c.args.entity c.self.invariant c.put_in_place.ensures.ok c.put_in_place.ensures.err

@@ -1,0 +1,107 @@
+-- An index of entities by the cells of their volumes.
+use Rattle.std.specs.Prelude.{◌≡◌, ℕ, ◌+◌, ◌*◌, ◌<◌, ◌≤◌, ◌⊎◌, true, List, length, Option, Some}
+use Rattle.std.specs.List.{All}
+use Rattle.std.specs.Ordering.{nat_cmp, ordering_then}
+use Rattle.std.specs.declared.cmp.Ordering.{Ordering}
+use Rattle.std.specs.BTreeSet.{BTreeSet, contains}
+use Rattle.std.specs.FinMap.{get}
+use Rattle.grid_core.specs.Cell.{Cell, IsCell, lo_of, hi_of, parent_of}
+use Rattle.grid_core.specs.Extent.{Region, any_meet}
+use Rattle.entity_core.specs.Airspace.{Entities, EntityKey}
+use Rattle.entity_core.specs.declared.entity.Entity.{Entity}
+use Rattle.entity_core.specs.declared.nature.Kind.{Kind}
+use Rattle.entity_core.specs.Entity.{kind_index, kind_of}
+use Rattle.entity_core.specs.Search.{is_sought}
+
+-- the place of a cell, the put of the entity that has the cell, and that entity's id
+abbrev pub Mark : Type 0
+Mark = ℕ × ℕ × ℕ
+
+abbrev pub mark_cmp : Mark → Mark → Ordering
+mark_cmp a b = ordering_then (ordering_then (nat_cmp a.0 b.0) (nat_cmp a.1 b.1)) (nat_cmp a.2 b.2)
+
+-- the interval of a cell as one number; those that begin earlier come first
+abbrev pub place_of : Cell → ℕ
+place_of c = lo_of c * 4294967296 + hi_of c
+
+-- the serial of an entity and its kind as one number
+abbrev pub tag_of : Entity → ℕ
+tag_of e = 2 * e.serial + kind_index (kind_of e.nature)
+
+abbrev pub mark_of : Entity → Cell → Mark
+mark_of e c = (place_of c, tag_of e, e.id)
+
+-- a cell of an entity stands in an index
+pub record IsMarked (marks : BTreeSet Mark) (e : Entity) (c : Cell) : Type 0 where
+  pub cell : IsCell c
+  pub narrow : hi_of c < 4294967296
+  pub mark : contains mark_cmp marks (mark_of e c) ≡ true
+
+-- and so does each cell of its volumes
+abbrev pub AllMarked : BTreeSet Mark → Entity → Type 0
+AllMarked marks e = All (λ v. All (IsMarked marks e) v.cells) e.volumes
+
+-- each entity of a map stands in an index, which may have other marks, too
+abbrev pub IsIndexOf : Entities → BTreeSet Mark → Type 0
+IsIndexOf m marks = (k : EntityKey) (x : Entity) → get m k ≡ Some x → AllMarked marks x
+
+-- a set has what another has
+abbrev pub Grows : {K : Type 0} → (K → K → Ordering) → BTreeSet K → BTreeSet K → Type 0
+Grows cmp old new = (q : _) → contains cmp old q ≡ true → contains cmp new q ≡ true
+
+-- what is not of a put of an entity stays
+abbrev pub KeepsOthers : Entity → BTreeSet Mark → BTreeSet Mark → Type 0
+KeepsOthers e old new = (q : Mark) → (q.1 ≡ tag_of e → q.2 ≡ e.id → ⊥) → contains mark_cmp old q ≡ true → contains mark_cmp new q ≡ true
+
+-- ---- what is asked of an index
+
+-- from a place on, up to but not with another
+abbrev pub Span : Type 0
+Span = ℕ × ℕ
+
+abbrev pub span_cmp : Span → Span → Ordering
+span_cmp a b = ordering_then (nat_cmp a.0 b.0) (nat_cmp a.1 b.1)
+
+-- where the cells begin that begin inside a cell
+abbrev pub inside_of : Cell → Span
+inside_of c = (lo_of c * 4294967296, (hi_of c + 1) * 4294967296)
+
+-- the place of a cell alone
+abbrev pub exactly : Cell → Span
+exactly c = (place_of c, place_of c + 1)
+
+-- it is asked for the cells of coarser levels, below level 13, that hold a cell
+abbrev pub IsAskedAbove : BTreeSet Span → Cell → Type 0
+IsAskedAbove spans c = (k : ℕ) → k < length c.digits → k < 13 → contains span_cmp spans (exactly (parent_of c k)) ≡ true
+
+-- it is asked for all cells that touch a cell
+pub record IsAsked (spans : BTreeSet Span) (c : Cell) : Type 0 where
+  pub cell : IsCell c
+  pub inside : contains span_cmp spans (inside_of c) ≡ true
+  pub above : IsAskedAbove spans c
+
+-- and so for each cell of some areas
+abbrev pub AllAsked : BTreeSet Span → List Region → Type 0
+AllAsked spans areas = All (λ a. All (IsAsked spans) a.cells) areas
+
+-- the ids of the marks whose places are in a span are among some ids
+abbrev pub Gathers : BTreeSet Mark → Span → BTreeSet ℕ → Type 0
+Gathers marks span ids = (q : Mark) → contains mark_cmp marks q ≡ true → span.0 ≤ q.0 → q.0 < span.1 → contains nat_cmp ids q.2 ≡ true
+
+abbrev pub GathersAll : BTreeSet Mark → BTreeSet Span → BTreeSet ℕ → Type 0
+GathersAll marks spans ids = (r : Span) → contains span_cmp spans r ≡ true → Gathers marks r ids
+
+-- the ids of the entities that stand in an index and meet some area are among some ids
+abbrev pub HasMeeting : BTreeSet Mark → List Region → BTreeSet ℕ → Type 0
+HasMeeting marks areas ids = (e : Entity) → AllMarked marks e → any_meet e.volumes areas ≡ true → contains nat_cmp ids e.id ≡ true
+
+-- what a map has under a key is added to some entities, where it is sought
+pub record AddsSought (m : Entities) (kind : Kind) (areas : List Region) (except : Option ℕ) (k : EntityKey) (old new : Entities) : Type 0 where
+  pub only : (q : EntityKey) (x : Entity) → get new q ≡ Some x → (get old q ≡ Some x) ⊎ ((get m q ≡ Some x) × (is_sought kind areas except (q, x) ≡ true))
+  pub here : (x : Entity) → get m k ≡ Some x → is_sought kind areas except (k, x) ≡ true → get new k ≡ Some x
+  pub kept : (q : EntityKey) (x : Entity) → get old q ≡ Some x → get m q ≡ Some x → get new q ≡ Some x
+
+-- some entities are nothing but what a map has and is sought, and have of what stands there under some ids all that is sought
+pub record FindsSoughtAmong (m : Entities) (ids : BTreeSet ℕ) (kind : Kind) (areas : List Region) (except : Option ℕ) (found : Entities) : Type 0 where
+  pub only : (k : EntityKey) (x : Entity) → get found k ≡ Some x → (get m k ≡ Some x) × (is_sought kind areas except (k, x) ≡ true)
+  pub all : (k : EntityKey) (x : Entity) → get m k ≡ Some x → is_sought kind areas except (k, x) ≡ true → contains nat_cmp ids k.1 ≡ true → get found k ≡ Some x
