@@ -1,19 +1,22 @@
 -- Elements of lists, and lists that rise.
-use Rattle.std.proofs.Common.{◌≡◌, ◌⊎◌, inl, inr, ◌++◌, Bool, true, ◌&&◌, int_eq, arith, List, [], ◌∷◌, map, flat_map, refl, sym, ap, ap₂, subst, ◌∙◌}
+use Rattle.std.proofs.Common.{◌≡◌, ◌⊎◌, inl, inr, ◌++◌, Bool, true, ◌&&◌, ℤ, int_eq, int_cmp, is_eq, arith, List, [], ◌∷◌, map, flat_map, refl, sym, ap, ap₂, subst, ◌∙◌}
 use Rattle.std.specs.Prelude.{IsPermutation}
 use Rattle.std.specs.List.{AllByRecursion, AllZip}
 use Rattle.std.proofs.lemmas.Int.{ints}
 use Rattle.std.proofs.lemmas.Bool.{and_parts}
+use Rattle.std.proofs.lemmas.Bool.Decides.{nat_tests}
+use Rattle.std.specs.Ordering.{ordering_then}
 use Rattle.std.specs.declared.cmp.Ordering.{Ordering}
 use Rattle.std.specs.declared.cmp.Ordering.TheVariants.{Less, Equal, Greater}
 use Rattle.std.specs.Cmp.{IsTotalOrder, IsEquivalence}
-use Rattle.std.proofs.lemmas.Cmp.{tied_itself, int_eq_equiv, on_equiv, and_equiv}
+use Rattle.std.proofs.lemmas.Cmp.{tied_itself, int_eq_equiv, on_equiv, and_equiv, int_cmp_total, on_total, then_total}
 use Rattle.std.proofs.lemmas.List.Sorted.{Contains-permutation}
 use Rattle.sqlite_rules.specs.Lists.{Has}
 use Rattle.sqlite_rules.proofs.ListLemmas.{all_has, has_contained, contains_had, has_left, has_right, has_either}
 use Rattle.sqlite_trees.specs.Tree.{IsAscending}
 use Rattle.space_rows.proofs.Pieces.{all_joined}
 use Rattle.space_finding.specs.declared.interval.Interval.{Interval}
+use Rattle.space_finding.specs.Asked.{interval_cmp}
 
 -- ---- intervals that are equal are one
 
@@ -29,6 +32,20 @@ equal_intervals i j e =
     let lo : i.lo ≡ j.lo = let h = parts.0 in grind (arith, ints, h) in
     let hi : i.hi ≡ j.hi = let h = parts.1 in grind (arith, ints, h) in
     λ k. record { lo = lo k; hi = hi k }
+
+pub intervals_total : IsTotalOrder interval_cmp
+intervals_total = then_total (on_total (λ (i : Interval). i.lo) int_cmp_total) (on_total (λ (i : Interval). i.hi) int_cmp_total)
+
+both_ties : (o p : Ordering) (a b : Bool) → a ≡ is_eq o → b ≡ is_eq p → (a && b) ≡ is_eq (ordering_then o p)
+both_ties Less p a b e f = ap (λ x. x && b) e
+both_ties Equal p a b e f = ap (λ x. x && b) e ∙ f
+both_ties Greater p a b e f = ap (λ x. x && b) e
+
+number_ties : (m n : ℤ) → int_eq m n ≡ is_eq (int_cmp m n)
+number_ties m n = grind (arith, ints, nat_tests)
+
+pub interval_ties : (i j : Interval) → same_interval i j ≡ is_eq (interval_cmp i j)
+interval_ties i j = both_ties (int_cmp i.lo j.lo) (int_cmp i.hi j.hi) (int_eq i.lo j.lo) (int_eq i.hi j.hi) (number_ties i.lo j.lo) (number_ties i.hi j.hi)
 
 -- ---- elements
 

@@ -1,6 +1,9 @@
 -- What the index on the intervals of cells is asked for.
 use Rattle.std.specs.Prelude.{ℕ, pos, ◌<◌, List, length}
 use Rattle.std.specs.List.{AllByRecursion}
+use Rattle.std.specs.List.Sorted.{IsStrictlySortedBy}
+use Rattle.std.specs.Ordering.{int_cmp, ordering_then}
+use Rattle.std.specs.declared.cmp.Ordering.{Ordering}
 use Rattle.sqlite_rules.specs.Lists.{Has}
 use Rattle.grid_core.specs.Cell.{Cell, IsCell, lo_of, hi_of, parent_of}
 use Rattle.grid_core.specs.Extent.{Region}
@@ -8,6 +11,13 @@ use Rattle.space_finding.specs.declared.interval.Interval.{Interval}
 
 abbrev pub interval_of : Cell → Interval
 interval_of c = record { lo = pos (lo_of c); hi = pos (hi_of c) }
+
+-- no interval stands twice: they rise by their first places, and then by their last ones
+abbrev pub interval_cmp : Interval → Interval → Ordering
+interval_cmp i j = ordering_then (int_cmp i.lo j.lo) (int_cmp i.hi j.hi)
+
+abbrev pub AreEachOnce : List Interval → Type 0
+AreEachOnce asked = IsStrictlySortedBy interval_cmp asked
 
 -- what stands in the first list stands in the second
 abbrev pub Keeps : {X : Type 0} → List X → List X → Type 0

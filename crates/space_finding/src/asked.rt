@@ -2,7 +2,7 @@
 //! them.
 ghost use Rattle.std.specs.Prelude.{IfOk, OnOk};
 ghost use Rattle.std.specs.List.{AllByRecursion};
-ghost use Rattle.space_finding.specs.Asked.{Keeps, HasRange, HasAncestors, HasRanges, HasAllAncestors};
+ghost use Rattle.space_finding.specs.Asked.{AreEachOnce, Keeps, HasRange, HasAncestors, HasRanges, HasAllAncestors};
 
 use crate::interval::{Interval, interval_of};
 use grid_core::cell::CellId;
@@ -41,9 +41,9 @@ fn add_all_ancestors(out: &mut Vec<Interval>, cells: &[CellId]) -> Result<(), Al
     Ok(())
 }
 
-// Each of them once.
 fn put_in_order(intervals: &mut Vec<Interval>)
-    ensures { Keeps intervals.old.items intervals.new.items }
+    ensures keeps { Keeps intervals.old.items intervals.new.items }
+    ensures once { AreEachOnce intervals.new.items }
 {
     intervals.sort_unstable();
     intervals.dedup();
@@ -51,7 +51,8 @@ fn put_in_order(intervals: &mut Vec<Interval>)
 
 /// The intervals of the cells of areas, each once.
 pub(crate) fn ranges_of(alloc: Global, areas: &[Area]) -> Result<Vec<Interval>, AllocError>
-    ensures { IfOk result (λ out. HasRanges out.items areas.now) }
+    ensures each { IfOk result (λ out. HasRanges out.items areas.now) }
+    ensures once { IfOk result (λ out. AreEachOnce out.items) }
 {
     let mut out = Vec::new(alloc);
     for area in areas {
@@ -63,7 +64,8 @@ pub(crate) fn ranges_of(alloc: Global, areas: &[Area]) -> Result<Vec<Interval>, 
 
 /// The intervals of the cells of levels below 13 that hold the cells of areas, each once.
 pub(crate) fn ancestors_of(alloc: Global, areas: &[Area]) -> Result<Vec<Interval>, AllocError>
-    ensures { IfOk result (λ out. HasAllAncestors out.items areas.now) }
+    ensures each { IfOk result (λ out. HasAllAncestors out.items areas.now) }
+    ensures once { IfOk result (λ out. AreEachOnce out.items) }
 {
     let mut out = Vec::new(alloc);
     for area in areas {

@@ -1,6 +1,8 @@
 //! The numbers of the entities that have a cell in an interval, or one with an interval, which the
 //! index on `lo` and `hi` finds.
 ghost use Rattle.std.specs.Prelude.{◌≡◌, ℤ, [], ◌∷◌, OnOk, IfOk};
+ghost use Rattle.std.specs.List.Sorted.{IsStrictlySortedBy};
+ghost use Rattle.std.specs.Ordering.{int_cmp};
 ghost use Rattle.sqlite_value.specs.declared.value.Value.TheVariants.{Int};
 ghost use Rattle.sqlite_rules.specs.Lists.{Has};
 ghost use Rattle.sqlite.specs.Held.{state};
@@ -90,7 +92,8 @@ fn find_ancestor<S: Alter>(
 }
 
 fn put_in_order(numbers: &mut Vec<i64>)
-    ensures { Keeps numbers.old.items numbers.new.items }
+    ensures keeps { Keeps numbers.old.items numbers.new.items }
+    ensures once { IsStrictlySortedBy int_cmp numbers.new.items }
 {
     numbers.sort_unstable();
     numbers.dedup();
@@ -105,6 +108,7 @@ pub(crate) fn find_numbers<S: Alter>(
     ancestors: &[Interval],
 ) -> Result<Vec<i64>, Error>
     ensures same_reference { tx.new.conn.ghost_name ≡ tx.old.conn.ghost_name }
+    ensures once { IfOk result (λ found. IsStrictlySortedBy int_cmp found.items) }
     ensures finds { let old = state S.Store tx.old.conn.now in
         Reads (λ db found. FindsNumbers ranges.now ancestors.now db found.items)
         old (state S.Store tx.new.conn.now) result }

@@ -17,10 +17,10 @@ loop-area-preserved c =
     (all_turned (λ (r : Region). AllByRecursion (HasRange before) r.cells) (λ (r : Region). AllByRecursion (HasRange after) r.cells) (λ r. all_turned (HasRange before) (HasRange after) (λ d h. (h.0, keeps _ h.1)) r.cells) (take c.loop-area.area-index c.args.areas.now) c.loop-area.invariant)
     (subst (λ (l : List Cell). AllByRecursion (HasRange after) l) c.cells.ensures c.in_ok-add_ranges.ensures.each)
 
-pub returns : goal.returns
-returns c =
+pub returns-clause-each : goal.returns-clause-each
+returns-clause-each c =
     let before = c.loop-area.out.items in
     let after = c.put_in_order.new.intervals.items in
-    let keeps = c.put_in_order.ensures in
+    let keeps = c.put_in_order.ensures.keeps in
     all_turned (λ (r : Region). AllByRecursion (HasRange before) r.cells) (λ (r : Region). AllByRecursion (HasRange after) r.cells) (λ r. all_turned (HasRange before) (HasRange after) (λ d h. (h.0, keeps _ h.1)) r.cells) c.args.areas.now
     (subst (λ (l : List Region). HasRanges before l) (take_all c.loop-area.area-index c.args.areas.now (omega arith)) c.loop-area.invariant)

@@ -65,7 +65,7 @@ returns-clause-finds g c =
     let ancestors = c.args.ancestors.now in
     let before = c.loop-ancestor.found.items in
     let after = c.put_in_order.new.numbers.items in
-    let keeps = c.put_in_order.ensures in
+    let keeps = c.put_in_order.ensures.keeps in
     let a = state g.S.Store c.args.tx.now.conn.now in
     let b = state g.S.Store c.loop-ancestor.tx.conn.now in
     reads_as _ (λ db found. FindsNumbers ranges ancestors db found.items) a b tt c.put_in_order.new.numbers
