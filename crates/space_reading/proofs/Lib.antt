@@ -19,3 +19,4 @@ pub mod Written
 pub mod Listings
 pub mod Junction
 pub mod Judged
+pub mod OwnEntity

@@ -39,3 +39,6 @@ own_volumes_read = codes "SELECT entity, place, alt_lower, alt_upper, time_start
 
 abbrev pub own_cells_read : List ℕ
 own_cells_read = codes "SELECT entity, volume, place, token, lo, hi FROM cell WHERE entity = ?1 ORDER BY entity, volume, place"
+
+abbrev pub numbered_read : List ℕ
+numbered_read = codes "SELECT num, kind, id, manager, state, version, serial, ovn, url FROM entity WHERE num = ?1"

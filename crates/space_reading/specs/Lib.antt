@@ -3,3 +3,4 @@ pub mod Reading
 pub mod Gathering
 pub mod Judging
 pub mod Selecting
+pub mod Numbered

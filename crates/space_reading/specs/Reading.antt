@@ -8,12 +8,13 @@ use Rattle.sqlite_trees.specs.Tree.{IsAscending, rowid}
 use Rattle.sqlite.specs.Effect.{Database}
 use Rattle.sqlite.specs.State.{State, HasCleanDisk, KeepsCommit, Survives}
 use Rattle.sqlite.specs.declared.error.Error.{Error}
+use Rattle.entity_core.specs.Airspace.{Airspace}
 use Rattle.space_rows.specs.declared.rows.EntityRow.{EntityRow}
 use Rattle.space_rows.specs.declared.rows.VolumeRow.{VolumeRow}
 use Rattle.space_rows.specs.declared.rows.CellRow.{CellRow}
 use Rattle.space_tables.specs.Tables.{dss_schema}
 use Rattle.space_tables.specs.Making.{IsSettled}
-use Rattle.space_tables.specs.Spelling.{entity_values, volume_values, cell_values, meta_columns, entity_columns, six_columns, three_columns}
+use Rattle.space_tables.specs.Spelling.{Spells, entity_values, volume_values, cell_values, meta_columns, entity_columns, six_columns, three_columns}
 use Rattle.space_reading.specs.declared.tables.EntityTables.{EntityTables}
 use Rattle.space_reading.specs.declared.tables.Rowids.{Rowids}
 use Rattle.space_reading.specs.declared.tables.Tables.{Tables}
@@ -115,3 +116,12 @@ pub record GoesBack (old new : State) : Type 0 where
 -- where the tables are those of format 1, what was seen is seen and committed
 abbrev pub RestsAs : State → State → Type 0
 RestsAs old new = old.now.schema ≡ dss_schema → IsSettled new × (new.now ≡ old.now)
+
+-- What is read has P of the airspace that the tables spell, if they spell one. Nothing is committed, and after an
+-- answer the store is open.
+pub record ReadsTables {X : Type 0} (old new : State) (result : Result X Error)
+    (P : Airspace → X → Type 0) : Type 0 where
+  pub answer : HasCleanDisk new → IfOk result (λ found. (a : Airspace) → Spells old.now a
+      → P a found)
+  pub is_open : HasCleanDisk new → OnOk result (IsTrue new.is_open)
+  pub survives : Survives old new (λ _. ⊥)

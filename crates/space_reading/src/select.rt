@@ -1,4 +1,4 @@
-//! One SELECT, outside a transaction.
+//! One SELECT, in a transaction and outside one.
 ghost use Rattle.std.specs.Prelude.{◌≡◌, false, IfOk, OnOk, IsTrue};
 ghost use Rattle.sqlite.specs.Held.{state};
 ghost use Rattle.sqlite.specs.State.{HasCleanDisk, Survives};
@@ -11,7 +11,8 @@ use crate::reading::{alive, known};
 use sqlite::types::ValueRef;
 use sqlite::{Alter, Connection, Error, Row, Transaction};
 
-fn query<S: Alter>(
+/// The answer of a SELECT in a transaction.
+pub(crate) fn query<S: Alter>(
     tx: &mut Transaction<'_, S>,
     sql: &str,
     params: &[ValueRef<'_>],

@@ -13,7 +13,7 @@ use Rattle.space_core.specs.Space.{Reads}
 use Rattle.space_reading.specs.declared.verdict.Listed.{Listed}
 use Rattle.space_sql.specs.Holding.{holds_of, is_sound_of, is_whole_of, kept}
 use Rattle.space_reading.specs.Judging.{listed_airspace}
-use Rattle.space_sql.specs.Reading.{ReadsTables}
+use Rattle.space_reading.specs.Reading.{ReadsTables}
 use Rattle.space_sql.proofs.Outcomes.{Laws, Rests, clean_before, held_is_spelt, no_other, stays_held, stays_whole}
 
 -- what is found in the airspace that was read

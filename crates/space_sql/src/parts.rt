@@ -8,7 +8,7 @@ ghost use Rattle.space_core.specs.Space.{Changes, Fits, Reads, Tells, changed};
 ghost use Rattle.space_sql.specs.Holding.{IsKeeping, IsSound, holds_in, holds_of, is_sound_of, is_whole_of, kept};
 
 use crate::answer::settled;
-use crate::reading::{read_all, read_meeting};
+use crate::reading::read_all;
 use entity_core::availability::Availability;
 use entity_core::entity::Entity;
 use entity_core::entity_id::EntityId;
@@ -18,6 +18,7 @@ use entity_core::uss_id::UssId;
 use grid_core::volume::Area;
 use space_changes::change::make_change;
 use space_core::space::{Change, SpaceFault};
+use space_finding::meeting::read_meeting;
 use space_reading::reading::known;
 use space_reading::single::{read_availability, read_entity, read_serial};
 use sqlite::{Alter, Connection};

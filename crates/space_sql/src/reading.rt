@@ -1,14 +1,12 @@
-//! What is found among all entities of the tables.
+//! All entities of a kind are read of the tables.
 ghost use Rattle.std.specs.Prelude.{◌≡◌, false, IfOk};
 ghost use Rattle.sqlite.specs.Held.{state};
-ghost use Rattle.entity_core.specs.Search.{all_in, meeting_in};
+ghost use Rattle.entity_core.specs.Search.{all_in};
 ghost use Rattle.space_reading.specs.Judging.{listed_airspace};
-ghost use Rattle.space_sql.specs.Reading.{ReadsTables};
+ghost use Rattle.space_reading.specs.Reading.{ReadsTables};
 
 use entity_core::entity::Entity;
-use entity_core::entity_id::EntityId;
 use entity_core::nature::Kind;
-use grid_core::volume::Area;
 use space_reading::reading::read_airspace;
 use space_reading::verdict::{Listed, Verdict};
 use sqlite::{Alter, Connection, Error, ErrorCode};
@@ -28,45 +26,12 @@ fn read_listed<S: Alter>(alloc: Global, conn: &mut Connection<S>) -> Result<List
     }
 }
 
-fn meeting_among(
-    alloc: Global,
-    listed: &Listed,
-    kind: Kind,
-    areas: &[Area],
-    except: Option<EntityId>,
-) -> Result<Vec<Entity>, Error>
-    ensures { IfOk result (λ found.
-        found.items ≡ meeting_in (listed_airspace listed.now).entities kind areas.now except) }
-{
-    let found = listed.entities.meeting(alloc, kind, areas, except)?;
-    Ok(found)
-}
-
 fn all_among(alloc: Global, listed: &Listed, kind: Kind) -> Result<Vec<Entity>, Error>
     ensures { IfOk result (λ found. found.items
         ≡ all_in (listed_airspace listed.now).entities kind) }
 {
     let found = listed.entities.all(alloc, kind)?;
     Ok(found)
-}
-
-/// The entities of a kind, but the one of an id, of which some volume meets some area.
-pub(crate) fn read_meeting<S: Alter>(
-    alloc: Global,
-    conn: &mut Connection<S>,
-    kind: Kind,
-    areas: &[Area],
-    except: Option<EntityId>,
-) -> Result<Vec<Entity>, Error>
-    requires { conn.old.in_transaction ≡ false }
-    ensures outside { conn.new.in_transaction ≡ false }
-    ensures reads { ReadsTables (state S.Store conn.old) (state S.Store conn.new) result
-        (λ a found. found.items ≡ meeting_in a.entities kind areas.now except) }
-{
-    match read_listed(alloc, conn) {
-        Ok(listed) => meeting_among(alloc, &listed, kind, areas, except),
-        Err(error) => Err(error),
-    }
 }
 
 /// The entities of a kind.

@@ -1,0 +1,5 @@
+pub mod Lists
+pub mod Shown
+pub mod Counted
+pub mod Found
+pub mod Exact

@@ -1,0 +1,40 @@
+-- What the index on the intervals of cells is asked for.
+use Rattle.std.specs.Prelude.{ℕ, pos, ◌<◌, List, length}
+use Rattle.std.specs.List.{AllByRecursion}
+use Rattle.std.specs.List.Sorted.{IsStrictlySortedBy}
+use Rattle.std.specs.Ordering.{int_cmp, ordering_then}
+use Rattle.std.specs.declared.cmp.Ordering.{Ordering}
+use Rattle.sqlite_rules.specs.Lists.{Has}
+use Rattle.grid_core.specs.Cell.{Cell, IsCell, lo_of, hi_of, parent_of}
+use Rattle.grid_core.specs.Extent.{Region}
+use Rattle.space_finding.specs.declared.interval.Interval.{Interval}
+
+abbrev pub interval_of : Cell → Interval
+interval_of c = record { lo = pos (lo_of c); hi = pos (hi_of c) }
+
+-- no interval stands twice: they rise by their first places, and then by their last ones
+abbrev pub interval_cmp : Interval → Interval → Ordering
+interval_cmp i j = ordering_then (int_cmp i.lo j.lo) (int_cmp i.hi j.hi)
+
+abbrev pub AreEachOnce : List Interval → Type 0
+AreEachOnce asked = IsStrictlySortedBy interval_cmp asked
+
+-- what stands in the first list stands in the second
+abbrev pub Keeps : {X : Type 0} → List X → List X → Type 0
+Keeps {X} xs ys = (x : X) → Has xs x → Has ys x
+
+-- the interval of a cell is asked for
+abbrev pub HasRange : List Interval → Cell → Type 0
+HasRange asked c = IsCell c × Has asked (interval_of c)
+
+-- and so are those of the cells of levels below 13 that hold it
+abbrev pub HasAncestors : List Interval → Cell → Type 0
+HasAncestors asked c = (k : ℕ) → k < length c.digits → k < 13
+    → Has asked (interval_of (parent_of c k))
+
+-- of all cells of areas
+abbrev pub HasRanges : List Interval → List Region → Type 0
+HasRanges asked areas = AllByRecursion (λ r. AllByRecursion (HasRange asked) r.cells) areas
+
+abbrev pub HasAllAncestors : List Interval → List Region → Type 0
+HasAllAncestors asked areas = AllByRecursion (λ r. AllByRecursion (HasAncestors asked) r.cells) areas

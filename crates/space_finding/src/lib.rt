@@ -1,0 +1,8 @@
+//! The entities that meet areas, found by the index on the intervals of cells.
+#![tactic(auto)]
+
+mod asked;
+mod candidates;
+mod interval;
+pub mod meeting;
+mod numbers;
