@@ -1,109 +1,11 @@
 //! One command line, run.
 use crate::cell::token_line;
 use crate::fault::Fault;
-use crate::tokens::{token_table, unread};
+use crate::{connections, loopback, run};
 use dss_line::fault::LineFault;
 use dss_line::line::{Line, parse};
-use entity_core::salt::Salt;
-use service_core::service::Service;
-use space_core::list::ListSpace;
-use space_core::space::Space;
-use space_sql::space::SqlSpace;
 use std::alloc::Global;
-use std::fs::File;
 use std::io::{Read, Write};
-use token_conf::token_table::TokenTable;
-use wire_http::{Counted, Fixed, StreamFault, serve_stream};
-
-// Serves one stream, each moment being `now`.
-fn serve<S: Space + Drop, R: Read, W: Write>(
-    alloc: Global,
-    service: &mut Service<S>,
-    tokens: &TokenTable,
-    now: u64,
-    input: &mut R,
-    output: &mut W,
-) -> Result<(), Fault> {
-    let mut reader = Counted::new(input);
-    let mut writer = Counted::new(output);
-    let mut clock = Fixed::new(now);
-    match serve_stream(alloc, service, tokens, &mut clock, &mut reader, &mut writer) {
-        Ok(_) => Ok(()),
-        Err(StreamFault::Memory) => Err(Fault::Memory),
-        Err(fault) => Err(Fault::Stream(fault)),
-    }
-}
-
-// What the command `run` was given.
-#[derive(Clone, Copy)]
-struct Settings<'a> {
-    now: u64,
-    database: Option<&'a str>,
-    requests: &'a str,
-}
-
-// Serves the requests of a file, or of the standard input.
-fn serve_requests<S: Space + Drop, R: Read, W: Write>(
-    rt: &HostRuntime,
-    service: &mut Service<S>,
-    tokens: &TokenTable,
-    given: &Settings<'_>,
-    input: &mut R,
-    output: &mut W,
-) -> Result<(), Fault> {
-    if given.requests == "-" {
-        return serve(rt.alloc(), service, tokens, given.now, input, output);
-    }
-    match File::open(rt, given.requests) {
-        Ok(mut file) => serve(rt.alloc(), service, tokens, given.now, &mut file, output),
-        Err(error) => Err(unread(&error, Fault::RequestsUnread)),
-    }
-}
-
-// The same over a database, which is closed last.
-fn serve_database<R: Read, W: Write>(
-    rt: &HostRuntime,
-    name: &str,
-    salt: Salt,
-    tokens: &TokenTable,
-    given: &Settings<'_>,
-    input: &mut R,
-    output: &mut W,
-) -> Result<(), Fault> {
-    let space = match SqlSpace::open(rt, name) {
-        Ok(space) => space,
-        Err(fault) => return Err(Fault::Database(fault)),
-    };
-    let mut service = Service::new(space, salt);
-    let served = serve_requests(rt, &mut service, tokens, given, input, output);
-    let closed = service.into_space().close();
-    served?;
-    match closed {
-        Ok(()) => Ok(()),
-        Err(_) => Err(Fault::DatabaseFailed),
-    }
-}
-
-// The command `run`.
-fn run<R: Read, W: Write>(
-    rt: &HostRuntime,
-    tokens: &str,
-    given: &Settings<'_>,
-    input: &mut R,
-    output: &mut W,
-) -> Result<(), Fault> {
-    let tokens = token_table(rt, tokens)?;
-    let Ok(salt) = tokens.salt().clone() else {
-        return Err(Fault::Memory);
-    };
-    match given.database {
-        Some(name) => serve_database(rt, name, salt, &tokens, given, input, output),
-        None => {
-            let mut service = Service::new(ListSpace::new(rt.alloc()), salt);
-            serve_requests(rt, &mut service, &tokens, given, input, output)
-        }
-    }
-}
 
 // The command `cell`.
 fn cell<W: Write>(alloc: Global, token: &str, output: &mut W) -> Result<(), Fault> {
@@ -142,6 +44,60 @@ fn refused<O: Write, E: Write>(fault: LineFault, output: &mut O, error: &mut E) 
     status
 }
 
+// Does what a command line asks for.
+fn done<R: Read, O: Write, E: Write>(
+    rt: &HostRuntime,
+    line: Line<'_>,
+    input: &mut R,
+    output: &mut O,
+    error: &mut E,
+) -> Result<(), Fault> {
+    match line {
+        Line::Run {
+            tokens,
+            now,
+            database,
+            requests,
+        } => {
+            let given = run::Settings {
+                tokens,
+                now,
+                database,
+                requests,
+            };
+            run::run(rt, &given, input, output)
+        }
+        Line::Serve {
+            tokens,
+            database,
+            port,
+            count,
+        } => {
+            let given = connections::Settings {
+                tokens,
+                database,
+                port,
+                count,
+            };
+            connections::serve(rt, &given, error)
+        }
+        Line::Loopback {
+            tokens,
+            now,
+            request,
+        } => {
+            let given = loopback::Settings {
+                tokens,
+                now,
+                request,
+            };
+            loopback::loop_back(rt, &given, input, output)
+        }
+        Line::Cell { token } => cell(rt.alloc(), token, output),
+        Line::Report { database: _ } => Ok(()),
+    }
+}
+
 /// Runs one command line, whose first word is the program's name, over a reader and two writers,
 /// and answers the exit status: 0 where it is done, 1 after a fault, which is told on one line of
 /// `error`, and 2 for a command line that is refused.
@@ -153,23 +109,10 @@ pub fn run_line<'a, R: Read, O: Write, E: Write>(
     error: &mut E,
 ) -> u8 {
     match parse(rt.alloc(), words) {
-        Ok(
-            Line::Run {
-                tokens,
-                now,
-                database,
-                requests,
-            },
-        ) => {
-            let given = Settings {
-                now,
-                database,
-                requests,
-            };
-            let done = run(rt, tokens, &given, input, output);
+        Ok(line) => {
+            let done = done(rt, line, input, output, error);
             ended(done, error)
         }
-        Ok(Line::Cell { token }) => ended(cell(rt.alloc(), token, output), error),
         Err(fault) => refused(fault, output, error),
     }
 }

@@ -17,8 +17,14 @@ pub enum Fault {
     Database(OpenFault),
     /// The database failed after it was taken.
     DatabaseFailed,
-    /// The file of requests does not open.
+    /// The file of requests does not open, or the request of `self` fails to be read.
     RequestsUnread,
+    /// The request of `self` has over 16,384 bytes.
+    RequestTooLong,
+    /// The answers to it have over 16,384 bytes.
+    AnswerTooLong,
+    /// A socket failed outside a stream of requests.
+    Socket,
     /// The stream of requests was given up.
     Stream(StreamFault),
     /// The token is of no cell.
@@ -45,6 +51,9 @@ impl fmt::Display for Fault {
             }
             Fault::DatabaseFailed => write!(f, "dss: db: fault"),
             Fault::RequestsUnread => write!(f, "dss: requests: cannot read"),
+            Fault::RequestTooLong => write!(f, "dss: self: request too long"),
+            Fault::AnswerTooLong => write!(f, "dss: self: answer too long"),
+            Fault::Socket => write!(f, "dss: socket"),
             Fault::Stream(fault) => {
                 let number = fault.number();
                 let name = fault.name();
@@ -58,5 +67,29 @@ impl fmt::Display for Fault {
             Fault::Output => write!(f, "dss: output"),
             Fault::Memory => write!(f, "dss: memory"),
         }
+    }
+}
+
+impl From<StreamFault> for Fault {
+    ghost use Rattle.dss_cli.specs.Fault.{IsOfStream};
+
+    ghost from_gives = { IsOfStream };
+
+    fn from(fault: StreamFault) -> Fault {
+        match fault {
+            StreamFault::Memory => Fault::Memory,
+            fault => Fault::Stream(fault),
+        }
+    }
+}
+
+impl From<OpenFault> for Fault {
+    ghost use Rattle.std.specs.Prelude.{◌≡◌};
+    ghost use Rattle.dss_cli.specs.declared.fault.Fault.TheVariants as fault;
+
+    ghost from_gives = { λ e found. found ≡ fault.Database e };
+
+    fn from(fault: OpenFault) -> Fault {
+        Fault::Database(fault)
     }
 }

@@ -2,6 +2,11 @@
 #![tactic(auto)]
 
 pub mod cell;
+mod clock;
 pub mod command;
+mod connections;
+mod database;
 pub mod fault;
+mod loopback;
+mod run;
 pub mod tokens;

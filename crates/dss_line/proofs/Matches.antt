@@ -1,7 +1,11 @@
 -- What the getters of `clap`'s matches read, by the rows of the matches.
-use Rattle.std.proofs.Common.{◌≡◌, ◌<◌, ◌≤◌, ◌^◌, ℕ, List, Option, Some, None, codes, refl, sym, inl, inr, ap, ◌∙◌, arith, slice_index, nat_eq, true, eq-eqb}
+use Rattle.std.proofs.Common.{◌≡◌, ◌<◌, ◌≤◌, ◌^◌, ℕ, List, Option, Some, None, codes, refl, sym, inl, inr, ap, ◌∙◌, arith, false}
 use Rattle.std.specs.Prelude.{IfNone, ◌⊎◌}
+use Rattle.std.specs.Borrow.{Bor}
+use Rattle.std.specs.Str.{bytes_eq}
 use Rattle.std.specs.Str.Parse.{IsNumeral, digits_value, without_leading_plus}
+use Rattle.std.proofs.lemmas.Bool.Decides.{not_from_Decides}
+use Rattle.std.proofs.lemmas.Slice.Eq.{bytes_eq-Decides}
 use Rattle.clap.specs.Matches.{one_text}
 use Rattle.clap.specs.Kinds.{IsAmong}
 use Rattle.clap.specs.Words.{Row, Text, first_of, rows_of}
@@ -9,12 +13,11 @@ use Rattle.clap.specs.declared.parser.matches.Found.{Found}
 use Rattle.clap.proofs.WalkLemmas.{one_text-rows}
 use Rattle.clap.specs.declared.error.kind.ErrorKind.{ErrorKind}
 use Rattle.clap.specs.declared.error.kind.ErrorKind.TheVariants.{DisplayHelp, DisplayVersion, OutOfMemory}
-use Rattle.dss_line.specs.Line.{AsksNothing, Explains, HasNumber}
+use Rattle.dss_line.specs.Line.{AsksNothing, Explains, HasNumber, HasValues}
 use Rattle.dss_line.specs.LineFault.{IsFaultOf}
 use Rattle.dss_line.specs.declared.fault.LineFault.{LineFault}
 use Rattle.dss_line.specs.declared.fault.LineFault.TheVariants as fault
-use Rattle.dss_line.specs.declared.line.TheConstants.{LAST_MOMENT}
-use Rattle.dss_line.specs.declared.line.Line.TheVariants.{Cell, Run}
+use Rattle.dss_line.specs.declared.line.Line.TheVariants.{Cell, Loopback, Report, Run, Serve}
 
 -- a number that was read is that of the argument's text
 pub number_from_text : (f : Found) (id : Text) (n : ℕ) → (one_text f id ≡ None → Some n ≡ None) → ((t : List ℕ) → one_text f id ≡ Some t → (IsNumeral 10 (without_leading_plus t) × (digits_value 10 (without_leading_plus t) < 2 ^ 64)) × (n ≡ digits_value 10 (without_leading_plus t))) → HasNumber id (rows_of f) n
@@ -24,9 +27,9 @@ number_from_text f id n none some = go (one_text f id) refl
     go None e = let bad : Some n ≡ None = none e in cc
     go (Some t) e = (t, sym (one_text-rows f id) ∙ e, (some t e).0.0, (some t e).1)
 
--- where no number was read, no moment is the argument's
-pub no_moment : (f : Found) (id : Text) → ((t : List ℕ) → one_text f id ≡ Some t → IsNumeral 10 (without_leading_plus t) × (digits_value 10 (without_leading_plus t) < 2 ^ 64) → ⊥) → (n : ℕ) → HasNumber id (rows_of f) n → n ≤ LAST_MOMENT → ⊥
-no_moment f id none n (text, is, numeral, value) within = none text (one_text-rows f id ∙ is) (numeral, omega arith)
+-- where no number was read, no number of 64 bits is the argument's
+pub no_number : (f : Found) (id : Text) → ((t : List ℕ) → one_text f id ≡ Some t → IsNumeral 10 (without_leading_plus t) × (digits_value 10 (without_leading_plus t) < 2 ^ 64) → ⊥) → (n : ℕ) → HasNumber id (rows_of f) n → n < 2 ^ 64 → ⊥
+no_number f id none n (text, is, numeral, value) within = none text (one_text-rows f id ∙ is) (numeral, omega arith)
 
 -- the argument has one number
 pub same_number : (id : Text) (rows : List Row) (m n : ℕ) → HasNumber id rows m → HasNumber id rows n → m ≡ n
@@ -35,31 +38,55 @@ same_number id rows m n (t, t_is, t_numeral, m_is) (u, u_is, u_numeral, n_is) =
     let texts : t ≡ u = cc in
     m_is ∙ ap (λ x. digits_value 10 (without_leading_plus x)) texts ∙ sym n_is
 
--- the names of the commands differ
-other_name : codes "run" ≡ codes "cell" → ⊥
-other_name same = differ (ap first same)
-  where
-    first : List ℕ → ℕ
-    first text = slice_index text 0
+-- ---- what asks for nothing
 
-    differ : first (codes "run") ≡ first (codes "cell") → ⊥
-    differ e = let bad : nat_eq 114 99 ≡ true = eq-eqb (first (codes "run")) (first (codes "cell")) e in cc
+-- texts that differ somewhere are two
+other : (a b : Text) → bytes_eq a b ≡ false → a ≡ b → ⊥
+other a b differ same = not_from_Decides (bytes_eq a b) (bytes_eq-Decides a b) differ same
 
-pub nothing_by_tokens : (rows : List Row) → first_of (codes "tokens") rows ≡ None → AsksNothing (Some (codes "run", rows))
-nothing_by_tokens rows none (Run tokens now database requests) asks = let bad : None ≡ Some tokens.now = sym none ∙ asks.1 in cc
-nothing_by_tokens rows none (Cell token) asks = other_name asks.0
+-- the command `run` asks for nothing where no line of it has the values
+pub nothing_of_run : (rows : List Row) → ((tokens : Bor (List ℕ)) (now : ℕ) (database : Option (Bor (List ℕ))) (requests : Bor (List ℕ)) → HasValues rows (Run tokens now database requests) → ⊥) → AsksNothing (Some (codes "run", rows))
+nothing_of_run rows none (Run tokens now database requests) asks = none tokens now database requests asks.1
+nothing_of_run rows none (Serve tokens database port count) asks = other _ _ refl asks.0
+nothing_of_run rows none (Loopback tokens now request) asks = other _ _ refl asks.0
+nothing_of_run rows none (Cell token) asks = other _ _ refl asks.0
+nothing_of_run rows none (Report database) asks = other _ _ refl asks.0
 
-pub nothing_by_requests : (rows : List Row) → first_of (codes "requests") rows ≡ None → AsksNothing (Some (codes "run", rows))
-nothing_by_requests rows none (Run tokens now database requests) asks = let bad : None ≡ Some requests.now = sym none ∙ asks.5 in cc
-nothing_by_requests rows none (Cell token) asks = other_name asks.0
+-- the command `serve` asks for nothing where no line of it has the values
+pub nothing_of_serve : (rows : List Row) → ((tokens : Bor (List ℕ)) (database : Bor (List ℕ)) (port : ℕ) (count : ℕ) → HasValues rows (Serve tokens database port count) → ⊥) → AsksNothing (Some (codes "serve", rows))
+nothing_of_serve rows none (Run tokens now database requests) asks = other _ _ refl asks.0
+nothing_of_serve rows none (Serve tokens database port count) asks = none tokens database port count asks.1
+nothing_of_serve rows none (Loopback tokens now request) asks = other _ _ refl asks.0
+nothing_of_serve rows none (Cell token) asks = other _ _ refl asks.0
+nothing_of_serve rows none (Report database) asks = other _ _ refl asks.0
 
-pub nothing_by_now : (rows : List Row) → ((n : ℕ) → HasNumber (codes "now") rows n → n ≤ LAST_MOMENT → ⊥) → AsksNothing (Some (codes "run", rows))
-nothing_by_now rows none (Run tokens now database requests) asks = none now asks.2 asks.3
-nothing_by_now rows none (Cell token) asks = other_name asks.0
+-- the command `self` asks for nothing where no line of it has the values
+pub nothing_of_self : (rows : List Row) → ((tokens : Bor (List ℕ)) (now : ℕ) (request : Bor (List ℕ)) → HasValues rows (Loopback tokens now request) → ⊥) → AsksNothing (Some (codes "self", rows))
+nothing_of_self rows none (Run tokens now database requests) asks = other _ _ refl asks.0
+nothing_of_self rows none (Serve tokens database port count) asks = other _ _ refl asks.0
+nothing_of_self rows none (Loopback tokens now request) asks = none tokens now request asks.1
+nothing_of_self rows none (Cell token) asks = other _ _ refl asks.0
+nothing_of_self rows none (Report database) asks = other _ _ refl asks.0
 
-pub nothing_by_token : (rows : List Row) → first_of (codes "token") rows ≡ None → AsksNothing (Some (codes "cell", rows))
-nothing_by_token rows none (Run tokens now database requests) asks = other_name (sym asks.0)
-nothing_by_token rows none (Cell token) asks = let bad : None ≡ Some token.now = sym none ∙ asks.1 in cc
+-- the command `cell` asks for nothing where no line of it has the values
+pub nothing_of_cell : (rows : List Row) → ((token : Bor (List ℕ)) → HasValues rows (Cell token) → ⊥) → AsksNothing (Some (codes "cell", rows))
+nothing_of_cell rows none (Run tokens now database requests) asks = other _ _ refl asks.0
+nothing_of_cell rows none (Serve tokens database port count) asks = other _ _ refl asks.0
+nothing_of_cell rows none (Loopback tokens now request) asks = other _ _ refl asks.0
+nothing_of_cell rows none (Cell token) asks = none token asks.1
+nothing_of_cell rows none (Report database) asks = other _ _ refl asks.0
+
+-- the command `report` asks for nothing where no line of it has the values
+pub nothing_of_report : (rows : List Row) → ((database : Bor (List ℕ)) → HasValues rows (Report database) → ⊥) → AsksNothing (Some (codes "report", rows))
+nothing_of_report rows none (Run tokens now database requests) asks = other _ _ refl asks.0
+nothing_of_report rows none (Serve tokens database port count) asks = other _ _ refl asks.0
+nothing_of_report rows none (Loopback tokens now request) asks = other _ _ refl asks.0
+nothing_of_report rows none (Cell token) asks = other _ _ refl asks.0
+nothing_of_report rows none (Report database) asks = none database asks.1
+
+-- an argument that is not there has no value
+pub absent : (found : Option Text) (text : Text) → found ≡ None → found ≡ Some text → ⊥
+absent found text none some = let bad : None ≡ Some text = sym none ∙ some in cc
 
 -- a fact that holds anyway holds where there is no value
 pub anyway : {A : Type 0} (o : Option A) (P : Type 0) → P → IfNone o P

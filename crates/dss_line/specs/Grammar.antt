@@ -1,12 +1,14 @@
 -- The command line's grammar, in `clap`'s words: its commands, and the rule of each argument.
 use Rattle.std.specs.Prelude.{List, ℕ, Some, codes, true}
 use Rattle.clap.specs.Simple.{on_top}
-use Rattle.clap.specs.Words.{App, Rule, new_app, new_rule, with_rule, with_subcommand}
+use Rattle.clap.specs.Words.{App, Rule, Text, new_app, new_rule, with_rule, with_subcommand}
 use Rattle.clap.specs.declared.builder.value_parser.ValueParser.TheVariants.{Unsigned}
-use Rattle.dss_line.specs.declared.line.TheConstants.{LAST_MOMENT}
+use Rattle.dss_line.specs.declared.line.TheConstants.{LAST_MOMENT, LAST_PORT, MOST_CONNECTIONS}
+
+-- ---- arguments
 
 -- an option that has to be there, with a value
-abbrev pub option_rule : List ℕ → Rule
+abbrev pub option_rule : Text → Rule
 option_rule name = record (new_rule name) { long = Some name; required = true }
 
 abbrev pub tokens_rule : Rule
@@ -20,22 +22,61 @@ now_rule = record (option_rule (codes "now")) { value_names = 1; parser = Some (
 abbrev pub database_rule : Rule
 database_rule = record (new_rule (codes "db")) { long = Some (codes "db"); value_names = 1 }
 
+-- the database of a command that keeps nothing in memory
+abbrev pub store_rule : Rule
+store_rule = record (option_rule (codes "db")) { value_names = 1 }
+
+-- the value is a number from 1 to the last port
+abbrev pub port_rule : Rule
+port_rule = record (option_rule (codes "port")) { value_names = 1; parser = Some (Unsigned 1 LAST_PORT) }
+
+-- the value is a number from 1 to the most connections
+abbrev pub count_rule : Rule
+count_rule = record (option_rule (codes "count")) { value_names = 1; parser = Some (Unsigned 1 MOST_CONNECTIONS) }
+
 -- a word that has to be there
+abbrev pub word_rule : Text → Rule
+word_rule name = record (new_rule name) { required = true }
+
 abbrev pub requests_rule : Rule
-requests_rule = record (new_rule (codes "requests")) { value_names = 1; required = true }
+requests_rule = record (word_rule (codes "requests")) { value_names = 1 }
+
+abbrev pub request_rule : Rule
+request_rule = record (word_rule (codes "request")) { value_names = 1 }
+
+abbrev pub token_rule : Rule
+token_rule = record (word_rule (codes "token")) { value_names = 1 }
+
+-- ---- commands
 
 abbrev pub run_app : App
 run_app =
     with_rule (with_rule (with_rule (with_rule (new_app (codes "run")) tokens_rule) now_rule) database_rule)
     requests_rule
 
--- the one word of the command `cell`
-abbrev pub token_rule : Rule
-token_rule = record (new_rule (codes "token")) { value_names = 1; required = true }
+abbrev pub serve_app : App
+serve_app =
+    with_rule (with_rule (with_rule (with_rule (new_app (codes "serve")) tokens_rule) store_rule) port_rule)
+    count_rule
+
+abbrev pub self_app : App
+self_app = with_rule (with_rule (with_rule (new_app (codes "self")) tokens_rule) now_rule) request_rule
 
 abbrev pub cell_app : App
 cell_app = with_rule (new_app (codes "cell")) token_rule
 
+abbrev pub report_app : App
+report_app = with_rule (new_app (codes "report")) store_rule
+
 -- one of the commands has to be there
 abbrev pub dss_app : App
-dss_app = with_subcommand (with_subcommand (on_top (λ s. record s { subcommand_required = true }) (new_app (codes "dss"))) run_app.top) cell_app.top
+dss_app =
+    with_subcommand
+    (with_subcommand
+    (with_subcommand
+    (with_subcommand
+    (with_subcommand (on_top (λ s. record s { subcommand_required = true }) (new_app (codes "dss"))) run_app.top)
+    serve_app.top)
+    self_app.top)
+    cell_app.top)
+    report_app.top

@@ -8,9 +8,9 @@ use Rattle.clap.specs.declared.error.kind.ErrorKind.{ErrorKind}
 use Rattle.dss_line.specs.LineFault.{IsFaultOf}
 use Rattle.dss_line.specs.declared.fault.LineFault.{LineFault}
 use Rattle.dss_line.specs.declared.fault.LineFault.TheVariants as fault
-use Rattle.dss_line.specs.declared.line.TheConstants.{LAST_MOMENT}
+use Rattle.dss_line.specs.declared.line.TheConstants.{LAST_MOMENT, LAST_PORT, MOST_CONNECTIONS}
 use Rattle.dss_line.specs.declared.line.Line.{Line}
-use Rattle.dss_line.specs.declared.line.Line.TheVariants.{Cell, Run}
+use Rattle.dss_line.specs.declared.line.Line.TheVariants.{Cell, Loopback, Report, Run, Serve}
 
 -- the texts of some words
 abbrev pub texts : List (Bor (List ℕ)) → List Text
@@ -21,15 +21,41 @@ abbrev pub HasNumber : Text → List Row → ℕ → Type 0
 HasNumber id rows n =
     (text : List ℕ) × (one_of id rows ≡ Some text) × IsNumeral 10 (without_leading_plus text) × (n ≡ digits_value 10 (without_leading_plus text))
 
+-- it is one from the least to the greatest
+abbrev pub HasNumberIn : Text → ℕ → ℕ → List Row → ℕ → Type 0
+HasNumberIn id least greatest rows n = HasNumber id rows n × (least ≤ n) × (n ≤ greatest)
+
+-- the name of the command that asks for the line
+abbrev pub name_of : Line → Text
+name_of (Run tokens now database requests) = codes "run"
+name_of (Serve tokens database port count) = codes "serve"
+name_of (Loopback tokens now request) = codes "self"
+name_of (Cell token) = codes "cell"
+name_of (Report database) = codes "report"
+
+-- the arguments have the values of the line
+abbrev pub HasValues : List Row → Line → Type 0
+HasValues rows (Run tokens now database requests) =
+    (first_of (codes "tokens") rows ≡ Some tokens.now)
+    × HasNumberIn (codes "now") 0 LAST_MOMENT rows now
+    × (first_of (codes "db") rows ≡ option_map (λ word. word.now) database)
+    × (first_of (codes "requests") rows ≡ Some requests.now)
+HasValues rows (Serve tokens database port count) =
+    (first_of (codes "tokens") rows ≡ Some tokens.now)
+    × (first_of (codes "db") rows ≡ Some database.now)
+    × HasNumberIn (codes "port") 1 LAST_PORT rows port
+    × HasNumberIn (codes "count") 1 MOST_CONNECTIONS rows count
+HasValues rows (Loopback tokens now request) =
+    (first_of (codes "tokens") rows ≡ Some tokens.now)
+    × HasNumberIn (codes "now") 0 LAST_MOMENT rows now
+    × (first_of (codes "request") rows ≡ Some request.now)
+HasValues rows (Cell token) = first_of (codes "token") rows ≡ Some token.now
+HasValues rows (Report database) = first_of (codes "db") rows ≡ Some database.now
+
 -- the subcommand of that name with the values of these arguments asks for the line
 abbrev pub Asks : Option (Text × List Row) → Line → Type 0
 Asks None line = ⊥
-Asks (Some (name, rows)) (Run tokens now database requests) =
-    (name ≡ codes "run") × (first_of (codes "tokens") rows ≡ Some tokens.now)
-    × HasNumber (codes "now") rows now × (now ≤ LAST_MOMENT)
-    × (first_of (codes "db") rows ≡ option_map (λ word. word.now) database)
-    × (first_of (codes "requests") rows ≡ Some requests.now)
-Asks (Some (name, rows)) (Cell token) = (name ≡ codes "cell") × (first_of (codes "token") rows ≡ Some token.now)
+Asks (Some (name, rows)) line = (name ≡ name_of line) × HasValues rows line
 
 -- the subcommand, if there is one, asks for no line
 abbrev pub AsksNothing : Option (Text × List Row) → Type 0

@@ -3,4 +3,5 @@
 #![tactic(auto)]
 
 pub mod fault;
+mod grammar;
 pub mod line;

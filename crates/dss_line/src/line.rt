@@ -1,27 +1,23 @@
 //! What a command line asks for.
-ghost use Rattle.std.specs.Prelude.{◌≡◌, IfErr, IfNone, IfOk, IfSome, Some, codes, false};
+ghost use Rattle.std.specs.Prelude.{ℕ, ◌≤◌, ◌≡◌, IfErr, IfNone, IfOk, IfSome, Some, codes};
 ghost use Rattle.clap.specs.Faults.{fault_of as mistakes_of};
-ghost use Rattle.clap.specs.Words.{app_of, found_of, rows_of, rule_of, subcommand_of, subcommand_rows_of};
-ghost use Rattle.clap.specs.declared.builder.command.Command.TheViews.{out-Command};
-ghost use Rattle.dss_line.specs.Grammar.{
-  cell_app,
-  database_rule,
-  dss_app,
-  now_rule,
-  option_rule,
-  requests_rule,
-  run_app,
-  tokens_rule,
-};
-ghost use Rattle.dss_line.specs.Line.{Asks, AsksNothing, Explains, texts};
+ghost use Rattle.clap.specs.Words.{found_of, rows_of, subcommand_of, subcommand_rows_of};
+ghost use Rattle.dss_line.specs.Grammar.{dss_app};
+ghost use Rattle.dss_line.specs.Line.{Asks, AsksNothing, Explains, HasNumberIn, texts};
 
 use crate::fault::{LineFault, fault_of};
-use clap::builder::ValueParser;
-use clap::{Arg, ArgMatches, Command};
-use std::alloc::{AllocError, Global};
+use crate::grammar::command;
+use clap::ArgMatches;
+use std::alloc::Global;
 
 /// The last moment that a command line may name, in seconds since 1970: the end of the year 9999.
 pub const LAST_MOMENT: u64 = 253_402_300_799;
+
+/// The greatest number of a TCP port.
+pub const LAST_PORT: u64 = 65_535;
+
+/// The most connections that one call may serve.
+pub const MOST_CONNECTIONS: u64 = 1_000_000;
 
 /// What a command line asks for.
 #[derive(Clone, Copy, Debug, PartialEq, Eq)]
@@ -37,93 +33,53 @@ pub enum Line<'a> {
         /// The name of the file of requests; `-` is the standard input.
         requests: &'a str,
     },
+    /// Serve connections to a port of this machine, one after the other.
+    Serve {
+        /// The name of the token file.
+        tokens: &'a str,
+        /// The name of the database's file.
+        database: &'a str,
+        /// The port, at least 1.
+        port: u16,
+        /// How many connections, from 1 to a million.
+        count: u64,
+    },
+    /// Serve one stream of requests in memory, through a socket of the program's own.
+    Loopback {
+        /// The name of the token file.
+        tokens: &'a str,
+        /// The moment of each request, in seconds since 1970.
+        now: u64,
+        /// The name of the file of requests; `-` is the standard input.
+        request: &'a str,
+    },
     /// Say what a token's cell is.
     Cell {
         /// The token, as it was given.
         token: &'a str,
     },
+    /// Say what a database keeps.
+    Report {
+        /// The name of the database's file.
+        database: &'a str,
+    },
 }
 
-// An option that has to be there, with its value.
-fn option<'a>(alloc: Global, name: &'a str) -> Arg<'a>
-    ensures rule { rule_of result ≡ option_rule name.entry.now }
-    ensures local { result.global ≡ false }
+// The number of an argument, where it has one from the least to the greatest.
+fn number_in(matches: &ArgMatches<'_>, name: &str, least: u64, greatest: u64) -> Option<u64>
+    ensures some { IfSome result (HasNumberIn name.now least greatest
+        (rows_of (found_of matches.now))) }
+    ensures none { IfNone result ((n : ℕ) → HasNumberIn name.now least greatest
+        (rows_of (found_of matches.now)) n → ⊥) }
 {
-    Arg::new(alloc, name).long(name).required(true)
-}
-
-fn tokens_option<'a>(alloc: Global) -> Arg<'a>
-    ensures rule { rule_of result ≡ tokens_rule }
-    ensures local { result.global ≡ false }
-{
-    option(alloc, "tokens")
-        .value_name("FILE")
-        .help("The token file")
-}
-
-fn now_option<'a>(alloc: Global) -> Arg<'a>
-    ensures rule { rule_of result ≡ now_rule }
-    ensures local { result.global ≡ false }
-{
-    option(alloc, "now")
-        .value_name("SECONDS")
-        .help("The moment of each request, in seconds since 1970")
-        .value_parser(ValueParser::unsigned(0, LAST_MOMENT))
-}
-
-fn database_option<'a>(alloc: Global) -> Arg<'a>
-    ensures rule { rule_of result ≡ database_rule }
-    ensures local { result.global ≡ false }
-{
-    Arg::new(alloc, "db").long("db").value_name("FILE").help(
-        "The database, made where there is none; without it the airspace is in memory",
-    )
-}
-
-fn requests_word<'a>(alloc: Global) -> Arg<'a>
-    ensures rule { rule_of result ≡ requests_rule }
-    ensures local { result.global ≡ false }
-{
-    Arg::new(alloc, "requests")
-        .required(true)
-        .value_name("REQUESTS")
-        .help("The file of requests, or - for standard input")
-}
-
-fn run_command<'a>(alloc: Global) -> Result<Command<'a>, AllocError>
-    ensures { IfOk result (λ command. (app_of command ≡ run_app)
-        × ((out-Command command).has_globals ≡ false)) }
-{
-    Command::new(alloc, "run")
-        .about("Serves one stream of requests")
-        .arg(tokens_option(alloc))?
-        .arg(now_option(alloc))?
-        .arg(database_option(alloc))?
-        .arg(requests_word(alloc))
-}
-
-fn cell_command<'a>(alloc: Global) -> Result<Command<'a>, AllocError>
-    ensures { IfOk result (λ command. (app_of command ≡ cell_app)
-        × ((out-Command command).has_globals ≡ false)) }
-{
-    let token = Arg::new(alloc, "token")
-        .required(true)
-        .value_name("TOKEN")
-        .help("The token of the cell");
-    Command::new(alloc, "cell")
-        .about("Prints the cell of a token")
-        .arg(token)
-}
-
-fn command<'a>(alloc: Global) -> Result<Command<'a>, AllocError>
-    ensures { IfOk result (λ command. (app_of command ≡ dss_app)
-        × ((out-Command command).has_globals ≡ false)) }
-{
-    Command::new(alloc, "dss")
-        .about("A discovery and synchronization service for drone suppliers")
-        .subcommand_required(true)
-        .subcommand(run_command(alloc)?)?
-        .subcommand(cell_command(alloc)?)
+    let number = matches.get_one::<u64>(name)?;
+    if number < least {
+        return None;
+    }
+    if number > greatest {
+        return None;
+    }
+    Some(number)
 }
 
 // What the matches of the subcommand `run` ask for; `None` where a value is not there or out of its
@@ -133,15 +89,52 @@ fn run_line<'a>(matches: &ArgMatches<'a>) -> Option<Line<'a>>
     ensures none { IfNone result (AsksNothing
         (Some (codes "run", rows_of (found_of matches.now)))) }
 {
-    let now = matches.get_one::<u64>("now")?;
-    if now > LAST_MOMENT {
-        return None;
-    }
     Some(Line::Run {
         tokens: matches.get_str("tokens")?,
-        now,
+        now: number_in(matches, "now", 0, LAST_MOMENT)?,
         database: matches.get_str("db"),
         requests: matches.get_str("requests")?,
+    })
+}
+
+// The port of the matches, where it is there and in its range.
+fn port_in(matches: &ArgMatches<'_>) -> Option<u16>
+    ensures some { IfSome result (HasNumberIn (codes "port") 1 LAST_PORT
+        (rows_of (found_of matches.now))) }
+    ensures none { IfNone result ((n : ℕ) → HasNumberIn (codes "port") 1 LAST_PORT
+        (rows_of (found_of matches.now)) n → ⊥) }
+{
+    let number = number_in(matches, "port", 1, LAST_PORT)?;
+    match u16::try_from(number) {
+        Ok(port) => Some(port),
+        Err(_) => None,
+    }
+}
+
+// The same of the subcommand `serve`.
+fn serve_line<'a>(matches: &ArgMatches<'a>) -> Option<Line<'a>>
+    ensures some { IfSome result (Asks (Some (codes "serve", rows_of (found_of matches.now)))) }
+    ensures none { IfNone result (AsksNothing
+        (Some (codes "serve", rows_of (found_of matches.now)))) }
+{
+    Some(Line::Serve {
+        tokens: matches.get_str("tokens")?,
+        database: matches.get_str("db")?,
+        port: port_in(matches)?,
+        count: number_in(matches, "count", 1, MOST_CONNECTIONS)?,
+    })
+}
+
+// The same of the subcommand `self`.
+fn loopback_line<'a>(matches: &ArgMatches<'a>) -> Option<Line<'a>>
+    ensures some { IfSome result (Asks (Some (codes "self", rows_of (found_of matches.now)))) }
+    ensures none { IfNone result (AsksNothing
+        (Some (codes "self", rows_of (found_of matches.now)))) }
+{
+    Some(Line::Loopback {
+        tokens: matches.get_str("tokens")?,
+        now: number_in(matches, "now", 0, LAST_MOMENT)?,
+        request: matches.get_str("request")?,
     })
 }
 
@@ -156,6 +149,17 @@ fn cell_line<'a>(matches: &ArgMatches<'a>) -> Option<Line<'a>>
     })
 }
 
+// What the matches of the subcommand `report` ask for; `None` where the database is not named.
+fn report_line<'a>(matches: &ArgMatches<'a>) -> Option<Line<'a>>
+    ensures some { IfSome result (Asks (Some (codes "report", rows_of (found_of matches.now)))) }
+    ensures none { IfNone result (AsksNothing
+        (Some (codes "report", rows_of (found_of matches.now)))) }
+{
+    Some(Line::Report {
+        database: matches.get_str("db")?,
+    })
+}
+
 // What the matches of a subcommand ask for; `None` where no subcommand has that name.
 fn line_of<'a>(name: &str, matches: &ArgMatches<'a>) -> Option<Line<'a>>
     ensures some { IfSome result (Asks (Some (name.now, rows_of (found_of matches.now)))) }
@@ -163,7 +167,10 @@ fn line_of<'a>(name: &str, matches: &ArgMatches<'a>) -> Option<Line<'a>>
 {
     match name {
         "run" => run_line(matches),
+        "serve" => serve_line(matches),
+        "self" => loopback_line(matches),
         "cell" => cell_line(matches),
+        "report" => report_line(matches),
         _ => None,
     }
 }

@@ -1,10 +1,11 @@
 -- What is kept of an entity.
-use Rattle.std.specs.Prelude.{◌≡◌, ℕ, ◌≤◌, nat_le, if◌then◌else◌, List, [], ◌∷◌, Option, Some, None, sum_by}
+use Rattle.std.specs.Prelude.{◌≡◌, ℕ, ◌≤◌, nat_le, if◌then◌else◌, List, [], ◌∷◌, Option, Some, None, codes, sum_by}
 use Rattle.std.specs.List.{Any, AllByRecursion, fold}
 use Rattle.grid_core.specs.Extent.{Extent, covered_by}
 use Rattle.entity_core.specs.declared.nature.Kind.{Kind}
 use Rattle.entity_core.specs.declared.nature.Kind.TheVariants as kind
 use Rattle.entity_core.specs.declared.nature.State.{State}
+use Rattle.entity_core.specs.declared.nature.State.TheVariants.{Accepted, Activated, Nonconforming, Contingent}
 use Rattle.entity_core.specs.declared.nature.Nature.{Nature}
 use Rattle.entity_core.specs.declared.nature.Nature.TheVariants as nature
 
@@ -23,6 +24,13 @@ kind_of nature.Constraint = kind.Constraint
 abbrev pub state_of : Nature → Option State
 state_of (nature.Intent state) = Some state
 state_of nature.Constraint = None
+
+-- the name of a state
+abbrev pub state_name : State → List ℕ
+state_name Accepted = codes "Accepted"
+state_name Activated = codes "Activated"
+state_name Nonconforming = codes "Nonconforming"
+state_name Contingent = codes "Contingent"
 
 -- a time at which the first of some volumes begins, and one at which the last of them ends
 pub record IsSpan (es : List Extent) (span : ℕ × ℕ) : Type 0 where

@@ -1,6 +1,6 @@
 //! What an entity is.
 ghost use Rattle.std.specs.Prelude.{◌≡◌, nat_eq};
-ghost use Rattle.entity_core.specs.Entity.{kind_index, kind_of, state_of};
+ghost use Rattle.entity_core.specs.Entity.{kind_index, kind_of, state_name, state_of};
 
 /// The kinds of entities. Each has ids of its own.
 #[derive(Clone, Copy, Debug, PartialEq, Eq)]
@@ -41,6 +41,20 @@ pub enum State {
     Nonconforming,
     /// It cannot be flown as it was planned any more.
     Contingent,
+}
+
+impl State {
+    /// Its name.
+    pub fn name(self) -> &'static str
+        ensures { result.now ≡ state_name self }
+    {
+        match self {
+            State::Accepted => "Accepted",
+            State::Activated => "Activated",
+            State::Nonconforming => "Nonconforming",
+            State::Contingent => "Contingent",
+        }
+    }
 }
 
 /// The kind of an entity, with what only that kind has: a state stands exactly for an intent.

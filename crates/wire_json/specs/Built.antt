@@ -3,7 +3,7 @@ use Rattle.std.specs.Prelude.{ℕ, List, Option, Some, None, map, codes}
 use Rattle.serde_json.specs.Data.{Data, Members, string, number, unsigned, array, object, member, no_members, no_items, put}
 use Rattle.serde_json.specs.View.{items_of}
 use Rattle.entity_core.specs.EntityId.{printed}
-use Rattle.entity_core.specs.Entity.{kind_of}
+use Rattle.entity_core.specs.Entity.{kind_of, state_name}
 use Rattle.entity_core.specs.declared.availability.Availability.{Availability}
 use Rattle.entity_core.specs.declared.nature.Kind.{Kind}
 use Rattle.entity_core.specs.declared.nature.Nature.{Nature}
@@ -19,7 +19,6 @@ use Rattle.service_core.specs.declared.reply.Reply.TheVariants.{Done, Denied, Fa
 use Rattle.wire_json.specs.Answer.{rule_words}
 use Rattle.wire_json.specs.Availability as availabilities
 use Rattle.wire_json.specs.Reference.{reference_name, references_name, no_subscription}
-use Rattle.wire_json.specs.State as states
 
 -- the members, with the OVN where the reader is shown it
 abbrev pub with_ovn : Option (List ℕ) → Members → Members
@@ -28,7 +27,7 @@ with_ovn (Some ovn) ms = put (codes "ovn") (string ovn) ms
 
 -- the members, with what references of one kind alone have
 abbrev pub with_nature : Nature → Members → Members
-with_nature (Intent state) ms = put (codes "subscription_id") (string no_subscription) (put (codes "state") (string (states.name_of state)) ms)
+with_nature (Intent state) ms = put (codes "subscription_id") (string no_subscription) (put (codes "state") (string (state_name state)) ms)
 with_nature Constraint ms = ms
 
 abbrev pub reference_data : Reference → Data

@@ -3,6 +3,7 @@ use Rattle.std.specs.Prelude.{ℕ, List, [], ◌∷◌, ◌++◌, Option, Some, 
 use Rattle.std.specs.Fmt.{decimal}
 use Rattle.json.specs.Print.{quoted}
 use Rattle.entity_core.specs.EntityId.{printed}
+use Rattle.entity_core.specs.Entity.{state_name}
 use Rattle.entity_core.specs.declared.nature.Kind.{Kind}
 use Rattle.entity_core.specs.declared.nature.Kind.TheVariants as kinds
 use Rattle.entity_core.specs.declared.nature.Nature.{Nature}
@@ -10,7 +11,6 @@ use Rattle.entity_core.specs.declared.nature.Nature.TheVariants.{Intent, Constra
 use Rattle.policy_core.specs.declared.reference.Reference.{Reference}
 use Rattle.wire_json.specs.Json.{object_text, array_text}
 use Rattle.wire_json.specs.Availability as availabilities
-use Rattle.wire_json.specs.State as states
 
 -- the name under which an answer has the reference of one entity
 abbrev pub reference_name : Kind → List ℕ
@@ -33,7 +33,7 @@ ovn_members (Some ovn) = (codes "ovn", quoted ovn) ∷ []
 
 -- what references of one kind alone have
 abbrev pub nature_members : Nature → List (List ℕ × List ℕ)
-nature_members (Intent state) = (codes "state", quoted (states.name_of state)) ∷ (codes "subscription_id", quoted no_subscription) ∷ []
+nature_members (Intent state) = (codes "state", quoted (state_name state)) ∷ (codes "subscription_id", quoted no_subscription) ∷ []
 nature_members Constraint = []
 
 -- the members of a reference, in byte order of their names

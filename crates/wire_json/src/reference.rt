@@ -5,7 +5,7 @@ ghost use Rattle.serde_json.specs.View.{view, members_view};
 ghost use Rattle.wire_json.specs.Built.{with_ovn, with_nature, reference_data, references_data};
 ghost use Rattle.wire_json.specs.Reference.{reference_name, references_name};
 
-use crate::{availability, state};
+use crate::availability;
 use entity_core::nature::{Kind, Nature};
 use entity_core::ovn::Ovn;
 use policy_core::reference::{Reference, References};
@@ -87,7 +87,7 @@ fn put_nature(
 {
     match nature {
         Nature::Intent(state) => {
-            put_text(members, alloc, "state", state::name_of(state))?;
+            put_text(members, alloc, "state", state.name())?;
             put_text(members, alloc, "subscription_id", NO_SUBSCRIPTION)
         }
         Nature::Constraint => Ok(()),

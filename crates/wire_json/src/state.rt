@@ -1,20 +1,8 @@
 //! States of operational intents by name.
 ghost use Rattle.std.specs.Prelude.{◌≡◌};
-ghost use Rattle.wire_json.specs.State.{name_of, state_named};
+ghost use Rattle.wire_json.specs.State.{state_named};
 
 use entity_core::nature::State;
-
-/// The name of a state.
-pub(crate) fn name_of(state: State) -> &'static str
-    ensures { result.now ≡ name_of state }
-{
-    match state {
-        State::Accepted => "Accepted",
-        State::Activated => "Activated",
-        State::Nonconforming => "Nonconforming",
-        State::Contingent => "Contingent",
-    }
-}
 
 /// The state of that name, with case.
 #[tactic(auto, unfolding(crate::specs::State::state_named))]

@@ -1,0 +1,47 @@
+//! The clock of the system.
+use std::time::{SystemTime, UNIX_EPOCH};
+use wire_http::{ClockFault, Moments};
+
+/// The clock of the system: each moment is a reading of it, in whole seconds since 1970. It fails
+/// where the system gives no time, or one before 1970.
+#[derive(Clone, Copy)]
+pub(crate) struct SystemClock<'a> {
+    rt: &'a HostRuntime,
+    failures: u64,
+}
+
+impl<'a> SystemClock<'a> {
+    /// The clock of that system.
+    pub(crate) fn new(rt: &'a HostRuntime) -> SystemClock<'a> {
+        SystemClock { rt, failures: 0 }
+    }
+
+    // One reading.
+    fn read(&self) -> Option<u64> {
+        let Ok(now) = SystemTime::now(self.rt) else {
+            return None;
+        };
+        match now.duration_since(UNIX_EPOCH) {
+            Ok(since) => Some(since.as_secs()),
+            Err(_) => None,
+        }
+    }
+}
+
+impl<'a> Moments for SystemClock<'a> {
+    ghost use Rattle.dss_cli.specs.Clock.{Reads, failures_of};
+
+    ghost gives = { Reads };
+
+    ghost failures = { failures_of };
+
+    fn next(&mut self) -> Result<u64, ClockFault> {
+        match self.read() {
+            Some(moment) => Ok(moment),
+            None => {
+                self.failures = self.failures.saturating_add(1);
+                Err(ClockFault)
+            }
+        }
+    }
+}

@@ -1,0 +1,115 @@
+//! The command `serve`: connections to a port of this machine, one after the other.
+use crate::clock::SystemClock;
+use crate::database::after_closing;
+use crate::fault::Fault;
+use crate::tokens::{salt_of, token_table, unread};
+use service_core::service::Service;
+use space_core::space::Space;
+use space_sql::space::SqlSpace;
+use std::io::{Read, Write};
+use std::net::{Ipv4Addr, Shutdown, TcpListener, TcpStream};
+use std::time::Duration;
+use token_conf::token_table::TokenTable;
+use wire_http::{Counted, serve_stream};
+
+// How long a client that sends nothing more is waited for, once its last answer was written.
+const PATIENCE_MILLIS: u64 = 200;
+
+// The most pieces that are read of what it still sends, and the bytes of a piece.
+const LAST_READS: u32 = 64;
+const PIECE: usize = 16_384;
+
+/// What the command `serve` was given.
+#[derive(Clone, Copy)]
+pub(crate) struct Settings<'a> {
+    /// The name of the token file.
+    pub(crate) tokens: &'a str,
+    /// The name of the database's file.
+    pub(crate) database: &'a str,
+    /// The port of 127.0.0.1.
+    pub(crate) port: u16,
+    /// How many connections are served.
+    pub(crate) count: u64,
+}
+
+// Ends a connection with nothing left to write. A socket that is closed before all its bytes were
+// read resets the connection, which takes away the answers that the client has not read yet.
+fn end(mut stream: &TcpStream) {
+    if stream.shutdown(Shutdown::Write).is_err() {
+        return;
+    }
+    let patience = Duration::from_millis(PATIENCE_MILLIS);
+    if stream.set_read_timeout(Some(patience)).is_err() {
+        return;
+    }
+    let mut piece = [0; PIECE];
+    for _ in 0..LAST_READS {
+        match stream.read(&mut piece) {
+            Ok(0) => return,
+            Ok(_) => {}
+            Err(_) => return,
+        }
+    }
+}
+
+// Serves one connection, and tells its fault if it has one.
+fn serve_connection<S: Space + Drop, E: Write>(
+    rt: &HostRuntime,
+    service: &mut Service<S>,
+    tokens: &TokenTable,
+    stream: &TcpStream,
+    error: &mut E,
+) {
+    let _ = stream.set_nodelay(true);
+    let mut clock = SystemClock::new(rt);
+    let mut reader = Counted::new(stream);
+    let mut writer = Counted::new(stream);
+    let served = serve_stream(
+        rt.alloc(),
+        service,
+        tokens,
+        &mut clock,
+        &mut reader,
+        &mut writer,
+    );
+    if let Err(fault) = served {
+        let _ = writeln!(error, "{}", Fault::from(fault));
+    }
+    end(stream);
+}
+
+// Serves the connections of the port.
+fn serve_port<S: Space + Drop, E: Write>(
+    rt: &HostRuntime,
+    service: &mut Service<S>,
+    tokens: &TokenTable,
+    given: &Settings<'_>,
+    error: &mut E,
+) -> Result<(), Fault> {
+    let port = given.port;
+    let listener = match TcpListener::bind(rt, (Ipv4Addr::LOCALHOST, port)) {
+        Ok(listener) => listener,
+        Err(cause) => return Err(unread(&cause, Fault::Socket)),
+    };
+    let _ = writeln!(error, "dss: listening on 127.0.0.1:{port}");
+    for _ in 0..given.count {
+        match listener.accept() {
+            Ok((stream, _)) => serve_connection(rt, service, tokens, &stream, error),
+            Err(cause) => return Err(unread(&cause, Fault::Socket)),
+        }
+    }
+    Ok(())
+}
+
+/// Runs the command.
+pub(crate) fn serve<E: Write>(
+    rt: &HostRuntime,
+    given: &Settings<'_>,
+    error: &mut E,
+) -> Result<(), Fault> {
+    let tokens = token_table(rt, given.tokens)?;
+    let salt = salt_of(&tokens)?;
+    let mut service = Service::new(SqlSpace::open(rt, given.database)?, salt);
+    let served = serve_port(rt, &mut service, &tokens, given, error);
+    after_closing(served, service.into_space().close())
+}

@@ -1,0 +1,198 @@
+//! The command line's grammar: the commands of the program, with their arguments.
+ghost use Rattle.std.specs.Prelude.{◌≡◌, IfOk, false};
+ghost use Rattle.clap.specs.Words.{app_of, rule_of};
+ghost use Rattle.clap.specs.declared.builder.command.Command.TheViews.{out-Command};
+ghost use Rattle.dss_line.specs.Grammar.{
+  cell_app,
+  count_rule,
+  database_rule,
+  dss_app,
+  now_rule,
+  option_rule,
+  port_rule,
+  report_app,
+  request_rule,
+  requests_rule,
+  run_app,
+  self_app,
+  serve_app,
+  store_rule,
+  token_rule,
+  tokens_rule,
+  word_rule,
+};
+
+use crate::line::{LAST_MOMENT, LAST_PORT, MOST_CONNECTIONS};
+use clap::builder::ValueParser;
+use clap::{Arg, Command};
+use std::alloc::{AllocError, Global};
+
+// An option that has to be there, with its value.
+fn option<'a>(alloc: Global, name: &'a str) -> Arg<'a>
+    ensures rule { rule_of result ≡ option_rule name.entry.now }
+    ensures local { result.global ≡ false }
+{
+    Arg::new(alloc, name).long(name).required(true)
+}
+
+fn tokens_option<'a>(alloc: Global) -> Arg<'a>
+    ensures rule { rule_of result ≡ tokens_rule }
+    ensures local { result.global ≡ false }
+{
+    option(alloc, "tokens")
+        .value_name("FILE")
+        .help("The token file")
+}
+
+fn now_option<'a>(alloc: Global) -> Arg<'a>
+    ensures rule { rule_of result ≡ now_rule }
+    ensures local { result.global ≡ false }
+{
+    option(alloc, "now")
+        .value_name("SECONDS")
+        .help("The moment of each request, in seconds since 1970")
+        .value_parser(ValueParser::unsigned(0, LAST_MOMENT))
+}
+
+// The database of a command that may do without.
+fn database_option<'a>(alloc: Global) -> Arg<'a>
+    ensures rule { rule_of result ≡ database_rule }
+    ensures local { result.global ≡ false }
+{
+    Arg::new(alloc, "db").long("db").value_name("FILE").help(
+        "The database, made where there is none; without it the airspace is in memory",
+    )
+}
+
+// The database of a command that keeps nothing in memory.
+fn store_option<'a>(alloc: Global) -> Arg<'a>
+    ensures rule { rule_of result ≡ store_rule }
+    ensures local { result.global ≡ false }
+{
+    option(alloc, "db")
+        .value_name("FILE")
+        .help("The database, made where there is none")
+}
+
+fn port_option<'a>(alloc: Global) -> Arg<'a>
+    ensures rule { rule_of result ≡ port_rule }
+    ensures local { result.global ≡ false }
+{
+    option(alloc, "port")
+        .value_name("PORT")
+        .help("The port of 127.0.0.1, from 1 to 65535")
+        .value_parser(ValueParser::unsigned(1, LAST_PORT))
+}
+
+fn count_option<'a>(alloc: Global) -> Arg<'a>
+    ensures rule { rule_of result ≡ count_rule }
+    ensures local { result.global ≡ false }
+{
+    option(alloc, "count")
+        .value_name("NUMBER")
+        .help("How many connections to serve before it ends, from 1 to 1000000")
+        .value_parser(ValueParser::unsigned(1, MOST_CONNECTIONS))
+}
+
+// A word that has to be there.
+fn word<'a>(alloc: Global, name: &'a str) -> Arg<'a>
+    ensures rule { rule_of result ≡ word_rule name.entry.now }
+    ensures local { result.global ≡ false }
+{
+    Arg::new(alloc, name).required(true)
+}
+
+fn requests_word<'a>(alloc: Global) -> Arg<'a>
+    ensures rule { rule_of result ≡ requests_rule }
+    ensures local { result.global ≡ false }
+{
+    word(alloc, "requests")
+        .value_name("REQUESTS")
+        .help("The file of requests, or - for standard input")
+}
+
+fn request_word<'a>(alloc: Global) -> Arg<'a>
+    ensures rule { rule_of result ≡ request_rule }
+    ensures local { result.global ≡ false }
+{
+    word(alloc, "request").value_name("REQUEST").help(
+        "The file of requests, at most 16384 bytes, or - for standard input",
+    )
+}
+
+fn token_word<'a>(alloc: Global) -> Arg<'a>
+    ensures rule { rule_of result ≡ token_rule }
+    ensures local { result.global ≡ false }
+{
+    word(alloc, "token")
+        .value_name("TOKEN")
+        .help("The token of the cell")
+}
+
+fn run_command<'a>(alloc: Global) -> Result<Command<'a>, AllocError>
+    ensures { IfOk result (λ command. (app_of command ≡ run_app)
+        × ((out-Command command).has_globals ≡ false)) }
+{
+    Command::new(alloc, "run")
+        .about("Serves one stream of requests")
+        .arg(tokens_option(alloc))?
+        .arg(now_option(alloc))?
+        .arg(database_option(alloc))?
+        .arg(requests_word(alloc))
+}
+
+fn serve_command<'a>(alloc: Global) -> Result<Command<'a>, AllocError>
+    ensures { IfOk result (λ command. (app_of command ≡ serve_app)
+        × ((out-Command command).has_globals ≡ false)) }
+{
+    Command::new(alloc, "serve")
+        .about("Serves connections to a port of this machine, one after the other")
+        .arg(tokens_option(alloc))?
+        .arg(store_option(alloc))?
+        .arg(port_option(alloc))?
+        .arg(count_option(alloc))
+}
+
+fn self_command<'a>(alloc: Global) -> Result<Command<'a>, AllocError>
+    ensures { IfOk result (λ command. (app_of command ≡ self_app)
+        × ((out-Command command).has_globals ≡ false)) }
+{
+    Command::new(alloc, "self")
+        .about("Serves one stream of requests in memory, through a socket of its own")
+        .arg(tokens_option(alloc))?
+        .arg(now_option(alloc))?
+        .arg(request_word(alloc))
+}
+
+fn cell_command<'a>(alloc: Global) -> Result<Command<'a>, AllocError>
+    ensures { IfOk result (λ command. (app_of command ≡ cell_app)
+        × ((out-Command command).has_globals ≡ false)) }
+{
+    Command::new(alloc, "cell")
+        .about("Prints the cell of a token")
+        .arg(token_word(alloc))
+}
+
+fn report_command<'a>(alloc: Global) -> Result<Command<'a>, AllocError>
+    ensures { IfOk result (λ command. (app_of command ≡ report_app)
+        × ((out-Command command).has_globals ≡ false)) }
+{
+    Command::new(alloc, "report")
+        .about("Prints the references that a database keeps, and its serial")
+        .arg(store_option(alloc))
+}
+
+/// The commands of the program.
+pub(crate) fn command<'a>(alloc: Global) -> Result<Command<'a>, AllocError>
+    ensures { IfOk result (λ command. (app_of command ≡ dss_app)
+        × ((out-Command command).has_globals ≡ false)) }
+{
+    Command::new(alloc, "dss")
+        .about("A discovery and synchronization service for drone suppliers")
+        .subcommand_required(true)
+        .subcommand(run_command(alloc)?)?
+        .subcommand(serve_command(alloc)?)?
+        .subcommand(self_command(alloc)?)?
+        .subcommand(cell_command(alloc)?)?
+        .subcommand(report_command(alloc)?)
+}
