@@ -19,7 +19,8 @@ texts words = map (λ word. word.now) words
 -- the value of an argument is a decimal number
 abbrev pub HasNumber : Text → List Row → ℕ → Type 0
 HasNumber id rows n =
-    (text : List ℕ) × (one_of id rows ≡ Some text) × IsNumeral 10 (without_leading_plus text) × (n ≡ digits_value 10 (without_leading_plus text))
+    (text : List ℕ) × (one_of id rows ≡ Some text) × IsNumeral 10 (without_leading_plus text)
+        × (n ≡ digits_value 10 (without_leading_plus text))
 
 -- it is one from the least to the greatest
 abbrev pub HasNumberIn : Text → ℕ → ℕ → List Row → ℕ → Type 0
@@ -61,10 +62,12 @@ Asks (Some (name, rows)) line = (name ≡ name_of line) × HasValues rows line
 abbrev pub AsksNothing : Option (Text × List Row) → Type 0
 AsksNothing subcommand = (line : Line) → Asks subcommand line → ⊥
 
--- The fault explains a command line whose words have these mistakes and else this subcommand: it is of one
--- of the mistakes, or no line is asked for. Memory may run out at any line.
+-- The fault explains a command line whose words have these mistakes and else this subcommand: it is
+-- of one of the mistakes, or no line is asked for. Memory may run out at any line.
 abbrev pub Explains : List ErrorKind → Option (Text × List Row) → LineFault → Type 0
 Explains mistakes subcommand fault.Memory = Unit {0}
-Explains mistakes subcommand (fault.Shown text) = (kind : ErrorKind) × IsAmong kind mistakes × IsFaultOf kind (fault.Shown text)
+Explains mistakes subcommand (fault.Shown text) = (kind : ErrorKind) × IsAmong kind mistakes
+    × IsFaultOf kind (fault.Shown text)
 Explains mistakes subcommand (fault.Refused text) =
-    ((kind : ErrorKind) × IsAmong kind mistakes × IsFaultOf kind (fault.Refused text)) ⊎ AsksNothing subcommand
+    ((kind : ErrorKind) × IsAmong kind mistakes
+        × IsFaultOf kind (fault.Refused text)) ⊎ AsksNothing subcommand

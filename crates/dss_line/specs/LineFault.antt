@@ -11,9 +11,10 @@ status_of (fault.Shown _) = 0
 status_of (fault.Refused _) = 2
 status_of fault.Memory = 1
 
--- the fault of an error of this kind: help and the version are shown, other mistakes are refused, and
--- memory may run out at any
+-- the fault of an error of this kind: help and the version are shown, other mistakes are refused,
+-- and memory may run out at any
 abbrev pub IsFaultOf : ErrorKind → LineFault → Type 0
 IsFaultOf kind (fault.Shown _) = (kind ≡ DisplayHelp) ⊎ (kind ≡ DisplayVersion)
-IsFaultOf kind (fault.Refused _) = (kind ≢ DisplayHelp) × (kind ≢ DisplayVersion) × (kind ≢ OutOfMemory)
+IsFaultOf kind (fault.Refused _) = (kind ≢ DisplayHelp) × (kind ≢ DisplayVersion)
+    × (kind ≢ OutOfMemory)
 IsFaultOf kind fault.Memory = Unit {0}

@@ -15,7 +15,8 @@ is_from first last b = nat_le first b && nat_le b last
 
 -- an ASCII letter or digit, '-', '.' or '_'
 abbrev pub is_name_byte : ℕ → Bool
-is_name_byte b = is_from 48 57 b || is_from 65 90 b || is_from 97 122 b || b == 45 || b == 46 || b == 95
+is_name_byte b =
+    is_from 48 57 b || is_from 65 90 b || is_from 97 122 b || b == 45 || b == 46 || b == 95
 
 -- an ASCII character that is seen: no control and no space
 abbrev pub is_visible_byte : ℕ → Bool
@@ -46,4 +47,5 @@ IsToldOf fault Form = fault ≡ Some Form
 
 -- A text without a fault is read as it is, unless memory runs out; else its first fault is told.
 abbrev pub Reads : Option IdFault → List ℕ → Result (List ℕ) IdFault → Type 0
-Reads fault text result = MatchResult result (λ id. (id ≡ text) × (fault ≡ None)) (λ e. IsToldOf fault e)
+Reads fault text result =
+    MatchResult result (λ id. (id ≡ text) × (fault ≡ None)) (λ e. IsToldOf fault e)

@@ -30,5 +30,6 @@ all_in m kind = map (λ e. e.1) (filter (λ e. has_kind kind e.0) (entries m))
 
 -- Of an airspace, what is sought, and all of a kind, comes by rising ids, and so each once.
 pub record FoundInOrder (a : Airspace) : Type 0 where
-  pub meeting : (kind : Kind) (areas : List Region) (except : Option ℕ) → IsStrictlySortedBy nat_cmp (map (λ e. e.id) (meeting_in a.entities kind areas except))
+  pub meeting : (kind : Kind) (areas : List Region) (except : Option ℕ)
+      → IsStrictlySortedBy nat_cmp (map (λ e. e.id) (meeting_in a.entities kind areas except))
   pub all : (kind : Kind) → IsStrictlySortedBy nat_cmp (map (λ e. e.id) (all_in a.entities kind))

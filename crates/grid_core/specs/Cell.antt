@@ -12,7 +12,8 @@ pub record IsCell (c : Cell) : Type 0 where
   pub levels : length c.digits ≤ 30
   pub digits : AllByRecursion (λ d. d < 4) c.digits
 
--- Digits from level i on: each digit in the two bits of its level, and below the last one a single 1 bit.
+-- Digits from level i on: each digit in the two bits of its level, and below the last one a single
+-- 1 bit.
 abbrev pub digits_sum : ℕ → List ℕ → ℕ
 digits_sum i [] = 2 ^ (60 - 2 * i)
 digits_sum i (d ∷ ds) = d * 2 ^ (61 - 2 * (i + 1)) + digits_sum (i + 1) ds

@@ -23,11 +23,13 @@ abbrev pub extent_of : List Cell → ℤ × ℤ → ℕ × ℕ → Extent
 extent_of cells altitude time = record { cells = cells; altitude = altitude; time = time }
 
 abbrev pub region_with : List Cell → Option ℤ × Option ℤ → Option ℕ × Option ℕ → Region
-region_with cells altitude time = record { cells = cells; lowest = altitude.0; highest = altitude.1; first = time.0; last = time.1 }
+region_with cells altitude time = record { cells = cells; lowest = altitude.0;
+    highest = altitude.1; first = time.0; last = time.1 }
 
 -- an extent as an area, all of whose bounds are there
 abbrev pub region_of : Extent → Region
-region_of e = record { cells = e.cells; lowest = Some e.altitude.0; highest = Some e.altitude.1; first = Some e.time.0; last = Some e.time.1 }
+region_of e = record { cells = e.cells; lowest = Some e.altitude.0; highest = Some e.altitude.1;
+    first = Some e.time.0; last = Some e.time.1 }
 
 -- not below the one bound, and not above the other
 abbrev pub IsFrom : {K : Type 0} → (K → K → Type 0) → Option K → K → Type 0
@@ -39,8 +41,10 @@ IsUpTo Le None x = Unit {0}
 IsUpTo Le (Some high) x = Le x high
 
 -- something lies between both pairs of bounds
-abbrev pub Share : {K : Type 0} → (K → K → Type 0) → Option K → Option K → Option K → Option K → Type 0
-Share {K} Le low high low' high' = (x : K) × IsFrom Le low x × IsUpTo Le high x × IsFrom Le low' x × IsUpTo Le high' x
+abbrev pub Share : {K : Type 0} → (K → K → Type 0) → Option K → Option K → Option K → Option K
+    → Type 0
+Share {K} Le low high low' high' = (x : K) × IsFrom Le low x × IsUpTo Le high x × IsFrom Le low' x
+    × IsUpTo Le high' x
 
 -- a cell of the one touches a cell of the other, and they share an altitude and a moment
 pub record Meet (a b : Region) : Type 0 where
@@ -93,7 +97,8 @@ is_within le least most (Some x) = le least x && le x most
 abbrev pub are_bounds : {K : Type 0} → (K → K → Bool) → K → K → Option K → Option K → Bool
 are_bounds le least most low high = is_within le least most low && (is_within le least most high && reaches le low high)
 
--- altitudes from -100,000 to 1,000,000 decimetres, times from 0 to 253,402,300,799 seconds since 1970
+-- altitudes from -100,000 to 1,000,000 decimetres, times from 0 to 253,402,300,799 seconds since
+-- 1970
 abbrev pub are_altitudes : Option ℤ → Option ℤ → Bool
 are_altitudes low high = are_bounds int_le (negsuc 99999) (pos 1000000) low high
 

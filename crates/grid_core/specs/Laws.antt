@@ -27,12 +27,15 @@ LiesIn c d = (lo_of d ≤ lo_of c) × (hi_of c ≤ hi_of d)
 
 -- the intervals of two cells share no number, or one lies in the other
 abbrev pub ApartOrNested : Type 0
-ApartOrNested = (c d : Cell) → IsCell c → IsCell d → (hi_of c < lo_of d) ⊎ (hi_of d < lo_of c) ⊎ LiesIn c d ⊎ LiesIn d c
+ApartOrNested = (c d : Cell) → IsCell c → IsCell d
+    → (hi_of c < lo_of d) ⊎ (hi_of d < lo_of c) ⊎ LiesIn c d ⊎ LiesIn d c
 
 -- d has the interval of one of the cells that hold c, of a level below 13
 abbrev pub IsAbove : Cell → Cell → Type 0
-IsAbove d c = (k : ℕ) × (k < length c.digits) × (k < 13) × (lo_of d ≡ lo_of (parent_of c k)) × (hi_of d ≡ hi_of (parent_of c k))
+IsAbove d c = (k : ℕ) × (k < length c.digits) × (k < 13) × (lo_of d ≡ lo_of (parent_of c k))
+    × (hi_of d ≡ hi_of (parent_of c k))
 
 -- d touches c exactly where its interval begins in that of c, or is that of a cell that holds c
 abbrev pub FoundByIndex : Type 0
-FoundByIndex = (c d : Cell) → IsCell c → IsCell d → Touch d c ↔ (((lo_of c ≤ lo_of d) × (lo_of d ≤ hi_of c)) ⊎ IsAbove d c)
+FoundByIndex = (c d : Cell) → IsCell c → IsCell d
+    → Touch d c ↔ (((lo_of c ≤ lo_of d) × (lo_of d ≤ hi_of c)) ⊎ IsAbove d c)

@@ -37,7 +37,8 @@ abbrev pub Parses : List ℕ → Result Cell TokenFault → Type 0
 Parses text (Ok c) = IsCell c × IsTokenOf text c
 Parses text (Err Length) = HasTokenLength text → ⊥
 Parses text (Err Digit) = HasTokenLength text × (AllDigits 16 text → ⊥)
-Parses text (Err Invalid) = HasTokenLength text × AllDigits 16 text × ((c : Cell) → IsCell c → number_of c ≢ token_number text)
+Parses text (Err Invalid) = HasTokenLength text × AllDigits 16 text
+    × ((c : Cell) → IsCell c → number_of c ≢ token_number text)
 
 -- ---- the same, computed
 

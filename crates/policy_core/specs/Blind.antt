@@ -66,7 +66,8 @@ pub record ToldTheSame (m : List ℕ) (c : Call) (a b : Airspace) : Type 0 where
 
 -- What a supplier sees of an entity that it does not manage is the same for every OVN.
 abbrev pub ViewIsBlind : Type 0
-ViewIsBlind = (a : Airspace) (uss : List ℕ) (e : Entity) (ovn : List ℕ) → same_text e.manager uss ≡ false → view_of a uss (record e { ovn = ovn }) ≡ view_of a uss e
+ViewIsBlind = (a : Airspace) (uss : List ℕ) (e : Entity) (ovn : List ℕ)
+    → same_text e.manager uss ≡ false → view_of a uss (record e { ovn = ovn }) ≡ view_of a uss e
 
 -- Which of P1 to P13 a supplier's call breaks first is the same in airspaces that are alike to it.
 abbrev pub RulesAreBlind : Type 0

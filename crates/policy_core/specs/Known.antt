@@ -41,16 +41,18 @@ is_declared (Intent Accepted) = true
 is_declared (Intent Activated) = true
 is_declared nature = false
 
--- whether a caller is to know of such an entity: of each intent, and of constraints if it processes them
+-- whether a caller is to know of such an entity: of each intent, and of constraints if it processes
+-- them
 abbrev pub is_told_of : Option Caller → Nature → Bool
 is_told_of caller (Intent state) = true
 is_told_of (Some caller) Constraint = has_scope caller.scopes ConstraintProcessing
 is_told_of None Constraint = false
 
--- Where the put of an intent that is planned or flown as planned breaks no rule, its key has the present OVN
--- of each other entity that it meets and that its caller is to know of.
+-- Where the put of an intent that is planned or flown as planned breaks no rule, its key has the
+-- present OVN of each other entity that it meets and that its caller is to know of.
 abbrev pub PutsKnow : Type 0
-PutsKnow = (a : Airspace) (now : ℕ) (c : Call) (id : ℕ) (put : Put) (y : Entity) → put_of c.op ≡ Some (id, put) → first_broken a now c ≡ None → is_declared put.nature ≡ true
+PutsKnow = (a : Airspace) (now : ℕ) (c : Call) (id : ℕ) (put : Put) (y : Entity)
+    → put_of c.op ≡ Some (id, put) → first_broken a now c ≡ None → is_declared put.nature ≡ true
     → get a.entities (key_of y) ≡ Some y → eq_by_cmp key_cmp (key_of y) (kind_of put.nature, id) ≡ false → any_meet y.volumes (map region_of put.volumes) ≡ true → is_told_of c.caller y.nature ≡ true
     → Contains put.key y.ovn
 
@@ -74,4 +76,6 @@ pub record IsAsked (kind : Kind) (a : Airspace) (now : ℕ) (c : Call) (y : Enti
 
 -- What a call needs to know, and whose present OVN its key does not have, is asked for.
 abbrev pub NeededIsAsked : Type 0
-NeededIsAsked = (a : Airspace) (now : ℕ) (c : Call) (kind : Kind) (y : Entity) → Contains (needed kind a c.caller c.op) y → in_key (key_shown c.op) y.ovn ≡ false → IsAsked kind a now c y
+NeededIsAsked = (a : Airspace) (now : ℕ) (c : Call) (kind : Kind) (y : Entity)
+    → Contains (needed kind a c.caller c.op) y → in_key (key_shown c.op) y.ovn ≡ false
+    → IsAsked kind a now c y

@@ -48,8 +48,8 @@ left_out kinds.Constraint id = None
 abbrev pub needed_put : Kind → Airspace → Option Caller → ℕ → Put → List Entity
 needed_put kind a caller id put = if is_asked kind caller put then meeting_in a.entities kind (map region_of put.volumes) (left_out kind id) else []
 
--- What a call needs to know of a kind, by rising ids: whoever makes it, and of other operations than
--- puts nothing.
+-- What a call needs to know of a kind, by rising ids: whoever makes it, and of other operations
+-- than puts nothing.
 abbrev pub needed : Kind → Airspace → Option Caller → Operation → List Entity
 needed kind a caller (Create id put) = needed_put kind a caller id put
 needed kind a caller (Update id ovn put) = needed_put kind a caller id put

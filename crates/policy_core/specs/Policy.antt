@@ -26,7 +26,8 @@ use Rattle.policy_core.specs.Standing.{Facts, found_of, kept_of}
 use Rattle.policy_core.specs.Missing.{is_nothing, missing_for}
 
 -- Each rule in a section of its own. One that speaks of an entity or of a caller is not broken
--- where there is none: `found` is the entity that a call names, `kept` what is kept of the supplier.
+-- where there is none: `found` is the entity that a call names, `kept` what is kept of the
+-- supplier.
 
 -- P1 ROUTE
 
@@ -115,7 +116,8 @@ availability_version kept = (unwrap_or kept (Unknown, [])).1
 abbrev pub breaks_version : Operation → Option Entity → Option Stated → Bool
 breaks_version (Update id ovn put) found kept = has_another_ovn found ovn
 breaks_version (Delete kind id ovn) found kept = has_another_ovn found ovn
-breaks_version (SetAvail uss old availability) found kept = not (same_text old (availability_version kept))
+breaks_version (SetAvail uss old availability) found kept =
+    not (same_text old (availability_version kept))
 breaks_version op found kept = false
 
 -- P11 ROLE

@@ -48,8 +48,8 @@ later_or None earlier = earlier
 abbrev pub put_in : EntityKey → Airspace → Call → Reply → Option MadeCall
 put_in k a c r = if is_done r && puts k c.op then Some (record { before = a; call = c }) else None
 
--- Of calls that were made from an airspace on and answered so, the last one answered `Done` that created
--- or updated the entity of a kind and an id.
+-- Of calls that were made from an airspace on and answered so, the last one answered `Done` that
+-- created or updated the entity of a kind and an id.
 abbrev pub last_writer : List ℕ → EntityKey → Airspace → List Timed → List Reply → Option MadeCall
 last_writer salt k a [] rs = None
 last_writer salt k a (c ∷ cs) [] = None
@@ -61,8 +61,8 @@ last_writer salt k a (c ∷ cs) (r ∷ rs) = later_or (last_writer salt k (left_
 abbrev pub is_owed : MadeCall → Entity → Bool
 is_owed made y = is_told_of made.call.caller y.nature
 
--- There is a call that put the one, the other stood there before it as it does now, and if the call was
--- to know of it, its key had the OVN that it has now.
+-- There is a call that put the one, the other stood there before it as it does now, and if the call
+-- was to know of it, its key had the OVN that it has now.
 pub record Knew (put : Option MadeCall) (y : Entity) : Type 0 where
   pub made : MadeCall
   pub last : put ≡ Some made
@@ -72,7 +72,8 @@ pub record Knew (put : Option MadeCall) (y : Entity) : Type 0 where
 -- Of two entities that meet, where the one with the greater serial is an intent that is planned or
 -- flown as planned: the last put of that one knew the other.
 abbrev pub KnewOthers : (EntityKey → Option MadeCall) → Airspace → Type 0
-KnewOthers last a = (k l : EntityKey) (x y : Entity) → get a.entities k ≡ Some x → get a.entities l ≡ Some y → y.serial < x.serial → is_declared x.nature ≡ true
+KnewOthers last a = (k l : EntityKey) (x y : Entity) → get a.entities k ≡ Some x
+    → get a.entities l ≡ Some y → y.serial < x.serial → is_declared x.nature ≡ true
     → any_meet y.volumes (map region_of x.volumes) ≡ true → Knew (last k) y
 
 -- Which of two is met by the other makes no difference.
@@ -81,12 +82,14 @@ MeetingIsMutual = (es fs : List Extent) → any_meet es (map region_of fs) ≡ a
 
 -- no two entities have one serial
 abbrev pub SerialsDiffer : Airspace → Type 0
-SerialsDiffer a = (k l : EntityKey) (x y : Entity) → get a.entities k ≡ Some x → get a.entities l ≡ Some y → x.serial ≡ y.serial → k ≡ l
+SerialsDiffer a = (k l : EntityKey) (x y : Entity) → get a.entities k ≡ Some x
+    → get a.entities l ≡ Some y → x.serial ≡ y.serial → k ≡ l
 
--- After calls that were made from an airspace on and answered so, of any two entities one has the greater
--- serial. Where they meet and it is an intent that is planned or flown as planned, its last put knew the
--- other.
-pub record Aware (salt : List ℕ) (from : Airspace) (cs : List Timed) (rs : List Reply) (a : Airspace) : Type 0 where
+-- After calls that were made from an airspace on and answered so, of any two entities one has the
+-- greater serial. Where they meet and it is an intent that is planned or flown as planned, its last
+-- put knew the other.
+pub record Aware (salt : List ℕ) (from : Airspace) (cs : List Timed) (rs : List Reply)
+    (a : Airspace) : Type 0 where
   pub proper : IsAirspace a
   pub serials : SerialsDiffer a
   pub knew : KnewOthers (λ k. last_writer salt k from cs rs) a

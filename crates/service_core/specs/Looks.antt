@@ -32,17 +32,23 @@ UnlessBroke (Space Broken) P = Unit {0}
 -- what a halt says of the space: whether it has refused, and whether it is broken
 abbrev pub ToldBy : Halt → ℕ → ℕ → Bool → Bool → Type 0
 ToldBy NoMemory refusals refusals' broken broken' = broken' ≡ broken
-ToldBy (Space Unchanged) refusals refusals' broken broken' = ((refusals < refusals') ⊎ (refusals' ≡ greatest_count)) × (broken' ≡ broken)
+ToldBy (Space Unchanged) refusals refusals' broken broken' =
+    ((refusals < refusals') ⊎ (refusals' ≡ greatest_count)) × (broken' ≡ broken)
 ToldBy (Space Broken) refusals refusals' broken broken' = broken' ≡ true
 
 -- A look leaves what the space holds; what it finds has P of each airspace that was held.
-pub record Looks {S T : Type 0} (g : Ghosts S) (old new : S) (result : Result T Halt) (P : Airspace → T → Type 0) : Type 0 where
+pub record Looks {S T : Type 0} (g : Ghosts S) (old new : S) (result : Result T Halt)
+    (P : Airspace → T → Type 0) : Type 0 where
   pub sound : g.is_sound new → g.is_sound old
   pub whole : g.is_sound new → g.is_whole old → g.is_whole new
-  pub stays : g.is_sound new → MatchResult result (λ _. (a : Airspace) → g.holds old a → g.holds new a) (λ h. UnlessBroke h ((a : Airspace) → g.holds old a → g.holds new a))
+  pub stays : g.is_sound new
+      → MatchResult result (λ _. (a : Airspace) → g.holds old a → g.holds new a)
+      (λ h. UnlessBroke h ((a : Airspace) → g.holds old a → g.holds new a))
   pub no_other : g.is_sound new → (a : Airspace) → g.holds new a → g.holds old a
   pub found : g.is_sound new → IfOk result (λ x. (a : Airspace) → g.holds old a → P a x)
-  pub told : MatchResult result (λ _. (g.refusals new ≡ g.refusals old) × (g.is_broken new ≡ g.is_broken old)) (λ h. ToldBy h (g.refusals old) (g.refusals new) (g.is_broken old) (g.is_broken new))
+  pub told : MatchResult result
+      (λ _. (g.refusals new ≡ g.refusals old) × (g.is_broken new ≡ g.is_broken old))
+      (λ h. ToldBy h (g.refusals old) (g.refusals new) (g.is_broken old) (g.is_broken new))
 
 abbrev pub facts_in : Grounds → Facts
 facts_in g = record { found = g.found; kept = g.kept; serial = g.serial }
@@ -61,7 +67,8 @@ IsReady op found = Unit {0}
 -- the first rule that a call breaks, with what is missing
 abbrev pub IsFirst : ℕ → Call → Airspace → Option (Rule × Missing) → Type 0
 IsFirst now c a None = first_broken a now c ≡ None
-IsFirst now c a (Some broken) = (first_broken a now c ≡ Some broken.0) × (broken.1 ≡ told_missing a c broken.0)
+IsFirst now c a (Some broken) = (first_broken a now c ≡ Some broken.0)
+    × (broken.1 ≡ told_missing a c broken.0)
 
 abbrev pub verdict_of : Grounds → Option (Rule × Missing) → Verdict
 verdict_of g None = verdicts.Allowed g
@@ -81,10 +88,12 @@ changed_by None a = a
 changed_by (Some change) a = changed change a
 
 -- A change and an answer are the effect of a call that breaks no rule, and the change can be made.
-pub record Makes (salt : List ℕ) (now : ℕ) (c : Call) (g : Grounds) (a : Airspace) (change : Option Change) (answer : Answer) : Type 0 where
+pub record Makes (salt : List ℕ) (now : ℕ) (c : Call) (g : Grounds) (a : Airspace)
+    (change : Option Change) (answer : Answer) : Type 0 where
   pub effect : effect salt a c.caller c.op ≡ (changed_by change a, Done answer)
   pub fits : IfSome change (λ change. Fits change a)
 
 -- for each airspace in which the call breaks no rule
 abbrev pub Prepares : List ℕ → ℕ → Call → Grounds → Airspace → Made → Type 0
-Prepares salt now c g a made = first_broken a now c ≡ None → IsGround c.op a g → Makes salt now c g a made.change made.answer
+Prepares salt now c g a made = first_broken a now c ≡ None → IsGround c.op a g
+    → Makes salt now c g a made.change made.answer

@@ -29,7 +29,8 @@ AllNumbered salt a = AllByRecursion (λ e. IsNumbered salt a.serial e.1) (entrie
 
 -- no two serials from 1 to this one have the same OVN
 abbrev pub DifferUpTo : List ℕ → ℕ → Type 0
-DifferUpTo salt serial = (n k : ℕ) → 1 ≤ n → n ≤ serial → 1 ≤ k → k ≤ serial → ovn_text salt n ≡ ovn_text salt k → n ≡ k
+DifferUpTo salt serial = (n k : ℕ) → 1 ≤ n → n ≤ serial → 1 ≤ k → k ≤ serial
+    → ovn_text salt n ≡ ovn_text salt k → n ≡ k
 
 -- ---- the key
 
@@ -59,9 +60,10 @@ FailsOrIsRefused kind a c y Stopped = Unit {0}
 
 -- ---- the law
 
--- A put needs to know an entity, and its key has OVNs of other serials alone: an old one of that entity,
--- and those of others.
-pub record IsStale (salt : List ℕ) (kind : Kind) (a : Airspace) (c : Call) (y : Entity) : Type 0 where
+-- A put needs to know an entity, and its key has OVNs of other serials alone: an old one of that
+-- entity, and those of others.
+pub record IsStale (salt : List ℕ) (kind : Kind) (a : Airspace) (c : Call) (y : Entity)
+    : Type 0 where
   pub numbered : AllNumbered salt a
   pub differ : DifferUpTo salt a.serial
   pub needs : Contains (needed kind a c.caller c.op) y
@@ -69,4 +71,5 @@ pub record IsStale (salt : List ℕ) (kind : Kind) (a : Airspace) (c : Call) (y 
 
 -- The policy refuses it for that entity, or for an earlier rule that it breaks.
 abbrev pub StaleIsRefused : Type 0
-StaleIsRefused = (salt : List ℕ) (a : Airspace) (now : ℕ) (c : Call) (kind : Kind) (y : Entity) → IsStale salt kind a c y → IsRefusedFor kind a c y (step salt a now c).1
+StaleIsRefused = (salt : List ℕ) (a : Airspace) (now : ℕ) (c : Call) (kind : Kind) (y : Entity)
+    → IsStale salt kind a c y → IsRefusedFor kind a c y (step salt a now c).1

@@ -76,7 +76,8 @@ effect_by salt a caller (Query kind area) = query_effect a caller.uss kind area
 effect_by salt a caller (Read kind id) = read_effect a caller.uss (get a.entities (kind, id))
 effect_by salt a caller (Create id put) = create_effect a caller.uss (created salt (a.serial + 1) caller.uss id put)
 effect_by salt a caller (Update id ovn put) = update_effect salt a caller.uss id put (get a.entities (kind_of put.nature, id))
-effect_by salt a caller (Delete kind id ovn) = delete_effect a caller.uss (kind, id) (get a.entities (kind, id))
+effect_by salt a caller (Delete kind id ovn) =
+    delete_effect a caller.uss (kind, id) (get a.entities (kind, id))
 effect_by salt a caller (ReadAvail uss) = (a, Done (Avail uss (availability_of a uss).0 (availability_of a uss).1))
 effect_by salt a caller (SetAvail uss old availability) =
     (with_availability a uss (availability, ovn_text salt (a.serial + 1)), Done (Avail uss availability (ovn_text salt (a.serial + 1))))
@@ -110,4 +111,5 @@ step salt a now c = step_by salt a c (first_broken a now c)
 
 -- Each step of an airspace that may be kept leaves one.
 abbrev pub StepsKeep : Type 0
-StepsKeep = (salt : List ℕ) (a : Airspace) (now : ℕ) (c : Call) → IsAirspace a → IsAirspace (step salt a now c).0
+StepsKeep = (salt : List ℕ) (a : Airspace) (now : ℕ) (c : Call) → IsAirspace a
+    → IsAirspace (step salt a now c).0

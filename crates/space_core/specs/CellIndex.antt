@@ -51,7 +51,8 @@ Grows cmp old new = (q : _) → contains cmp old q ≡ true → contains cmp new
 
 -- what is not of a put of an entity stays
 abbrev pub KeepsOthers : Entity → BTreeSet Mark → BTreeSet Mark → Type 0
-KeepsOthers e old new = (q : Mark) → (q.1 ≡ tag_of e → q.2 ≡ e.id → ⊥) → contains mark_cmp old q ≡ true → contains mark_cmp new q ≡ true
+KeepsOthers e old new = (q : Mark) → (q.1 ≡ tag_of e → q.2 ≡ e.id → ⊥)
+    → contains mark_cmp old q ≡ true → contains mark_cmp new q ≡ true
 
 -- ---- what is asked of an index
 
@@ -72,7 +73,8 @@ exactly c = (place_of c, place_of c + 1)
 
 -- it is asked for the cells of coarser levels, below level 13, that hold a cell
 abbrev pub IsAskedAbove : BTreeSet Span → Cell → Type 0
-IsAskedAbove spans c = (k : ℕ) → k < length c.digits → k < 13 → contains span_cmp spans (exactly (parent_of c k)) ≡ true
+IsAskedAbove spans c = (k : ℕ) → k < length c.digits → k < 13
+    → contains span_cmp spans (exactly (parent_of c k)) ≡ true
 
 -- it is asked for all cells that touch a cell
 pub record IsAsked (spans : BTreeSet Span) (c : Cell) : Type 0 where
@@ -86,22 +88,33 @@ AllAsked spans areas = All (λ a. All (IsAsked spans) a.cells) areas
 
 -- the ids of the marks whose places are in a span are among some ids
 abbrev pub Gathers : BTreeSet Mark → Span → BTreeSet ℕ → Type 0
-Gathers marks span ids = (q : Mark) → contains mark_cmp marks q ≡ true → span.0 ≤ q.0 → q.0 < span.1 → contains nat_cmp ids q.2 ≡ true
+Gathers marks span ids = (q : Mark) → contains mark_cmp marks q ≡ true → span.0 ≤ q.0
+    → q.0 < span.1 → contains nat_cmp ids q.2 ≡ true
 
 abbrev pub GathersAll : BTreeSet Mark → BTreeSet Span → BTreeSet ℕ → Type 0
 GathersAll marks spans ids = (r : Span) → contains span_cmp spans r ≡ true → Gathers marks r ids
 
 -- the ids of the entities that stand in an index and meet some area are among some ids
 abbrev pub HasMeeting : BTreeSet Mark → List Region → BTreeSet ℕ → Type 0
-HasMeeting marks areas ids = (e : Entity) → AllMarked marks e → any_meet e.volumes areas ≡ true → contains nat_cmp ids e.id ≡ true
+HasMeeting marks areas ids = (e : Entity) → AllMarked marks e → any_meet e.volumes areas ≡ true
+    → contains nat_cmp ids e.id ≡ true
 
 -- what a map has under a key is added to some entities, where it is sought
-pub record AddsSought (m : Entities) (kind : Kind) (areas : List Region) (except : Option ℕ) (k : EntityKey) (old new : Entities) : Type 0 where
-  pub only : (q : EntityKey) (x : Entity) → get new q ≡ Some x → (get old q ≡ Some x) ⊎ ((get m q ≡ Some x) × (is_sought kind areas except (q, x) ≡ true))
-  pub here : (x : Entity) → get m k ≡ Some x → is_sought kind areas except (k, x) ≡ true → get new k ≡ Some x
-  pub kept : (q : EntityKey) (x : Entity) → get old q ≡ Some x → get m q ≡ Some x → get new q ≡ Some x
+pub record AddsSought (m : Entities) (kind : Kind) (areas : List Region) (except : Option ℕ)
+    (k : EntityKey) (old new : Entities) : Type 0 where
+  pub only : (q : EntityKey) (x : Entity) → get new q ≡ Some x
+      → (get old q ≡ Some x) ⊎ ((get m q ≡ Some x) × (is_sought kind areas except (q, x) ≡ true))
+  pub here : (x : Entity) → get m k ≡ Some x → is_sought kind areas except (k, x) ≡ true
+      → get new k ≡ Some x
+  pub kept : (q : EntityKey) (x : Entity) → get old q ≡ Some x → get m q ≡ Some x
+      → get new q ≡ Some x
 
--- some entities are nothing but what a map has and is sought, and have of what stands there under some ids all that is sought
-pub record FindsSoughtAmong (m : Entities) (ids : BTreeSet ℕ) (kind : Kind) (areas : List Region) (except : Option ℕ) (found : Entities) : Type 0 where
-  pub only : (k : EntityKey) (x : Entity) → get found k ≡ Some x → (get m k ≡ Some x) × (is_sought kind areas except (k, x) ≡ true)
-  pub all : (k : EntityKey) (x : Entity) → get m k ≡ Some x → is_sought kind areas except (k, x) ≡ true → contains nat_cmp ids k.1 ≡ true → get found k ≡ Some x
+-- some entities are nothing but what a map has and is sought, and have of what stands there under
+-- some ids all that is sought
+pub record FindsSoughtAmong (m : Entities) (ids : BTreeSet ℕ) (kind : Kind) (areas : List Region)
+    (except : Option ℕ) (found : Entities) : Type 0 where
+  pub only : (k : EntityKey) (x : Entity) → get found k ≡ Some x → (get m k ≡ Some x)
+      × (is_sought kind areas except (k, x) ≡ true)
+  pub all : (k : EntityKey) (x : Entity) → get m k ≡ Some x
+      → is_sought kind areas except (k, x) ≡ true → contains nat_cmp ids k.1 ≡ true
+      → get found k ≡ Some x

@@ -19,6 +19,9 @@ abbrev pub entity_map : List Entity → Entities
 entity_map es = map_of key_cmp pair_of es
 
 -- what stands under a key, where that is sought
-abbrev pub FindsSought : Option Entity → Kind → List Region → Option ℕ → EntityKey → Option Entity → Type 0
-FindsSought there kind areas except k None = (x : Entity) → there ≡ Some x → is_sought kind areas except (k, x) ≡ true → ⊥
-FindsSought there kind areas except k (Some e) = (there ≡ Some e) × (key_of e ≡ k) × (is_sought kind areas except (k, e) ≡ true)
+abbrev pub FindsSought : Option Entity → Kind → List Region → Option ℕ → EntityKey → Option Entity
+    → Type 0
+FindsSought there kind areas except k None = (x : Entity) → there ≡ Some x
+    → is_sought kind areas except (k, x) ≡ true → ⊥
+FindsSought there kind areas except k (Some e) = (there ≡ Some e) × (key_of e ≡ k)
+    × (is_sought kind areas except (k, e) ≡ true)

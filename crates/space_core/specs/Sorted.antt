@@ -1,4 +1,5 @@
--- Lists in the order of their keys, and the maps that they are. Each element gives a pair: its key and its value.
+-- Lists in the order of their keys, and the maps that they are. Each element gives a pair: its key
+-- and its value.
 use Rattle.std.specs.Prelude.{◌≡◌, ℕ, suc, ◌<◌, ◌≤◌, T, List, [], ◌∷◌, ◌++◌, map, length, take, drop, slice_get, Some}
 use Rattle.std.specs.declared.cmp.Ordering.{Ordering}
 use Rattle.std.specs.declared.cmp.Ordering.TheVariants.{Less, Equal, Greater}
@@ -18,17 +19,20 @@ abbrev pub map_of : {A K X : Type 0} (R : K → K → Ordering) → (A → K × 
 map_of R pair xs = from_entries {R = R} (keyed pair xs)
 
 -- each stands below k
-abbrev pub AllBelow : {A K X : Type 0} (R : K → K → Ordering) (pair : A → K × X) → K → List A → Type 0
+abbrev pub AllBelow : {A K X : Type 0} (R : K → K → Ordering) (pair : A → K × X) → K → List A
+    → Type 0
 AllBelow R pair k [] = Unit {0}
 AllBelow R pair k (x ∷ xs) = (R (pair x).0 k ≡ Less) × AllBelow R pair k xs
 
 -- what comes first, if anything does, stands above k
-abbrev pub StartsAbove : {A K X : Type 0} (R : K → K → Ordering) (pair : A → K × X) → K → List A → Type 0
+abbrev pub StartsAbove : {A K X : Type 0} (R : K → K → Ordering) (pair : A → K × X) → K → List A
+    → Type 0
 StartsAbove R pair k [] = Unit {0}
 StartsAbove R pair k (x ∷ xs) = R (pair x).0 k ≡ Greater
 
 -- the element of a key is there
-pub record Hit {A K X : Type 0} (R : K → K → Ordering) (pair : A → K × X) (xs : List A) (k : K) (i : ℕ) : Type 0 where
+pub record Hit {A K X : Type 0} (R : K → K → Ordering) (pair : A → K × X) (xs : List A) (k : K)
+    (i : ℕ) : Type 0 where
   pub within : i < length xs
   pub element : A
   pub at : slice_get xs i ≡ Some element
@@ -37,7 +41,8 @@ pub record Hit {A K X : Type 0} (R : K → K → Ordering) (pair : A → K × X)
   pub level : R (pair element).0 k ≡ Equal
 
 -- no element has the key, and there would be its place
-pub record Gap {A K X : Type 0} (R : K → K → Ordering) (pair : A → K × X) (xs : List A) (k : K) (i : ℕ) : Type 0 where
+pub record Gap {A K X : Type 0} (R : K → K → Ordering) (pair : A → K × X) (xs : List A) (k : K)
+    (i : ℕ) : Type 0 where
   pub within : i ≤ length xs
   pub below : AllBelow R pair k (take i xs)
   pub above : StartsAbove R pair k (drop i xs)

@@ -48,13 +48,15 @@ IsRemoval (Remove kind id) = Unit {0}
 IsRemoval (Avail uss availability version) = ⊥
 
 -- what each call tells of its faults
-pub record Tells {T : Type 0} (refusals refusals' : ℕ) (broken broken' : Bool) (result : Result T SpaceFault) : Type 0 where
+pub record Tells {T : Type 0} (refusals refusals' : ℕ) (broken broken' : Bool)
+    (result : Result T SpaceFault) : Type 0 where
   pub counted : refusals' ≡ refusals_after refusals result
   pub breaks : broken' ≡ is_broken_after broken result
   pub stays_broken : broken ≡ true → IsErrOf result Broken
 
 -- It holds this airspace and no other: its content.
-pub record IsContent {S : Type 0} (Holds : S → Airspace → Type 0) (s : S) (a : Airspace) : Type 0 where
+pub record IsContent {S : Type 0} (Holds : S → Airspace → Type 0) (s : S) (a : Airspace)
+    : Type 0 where
   pub held : Holds s a
   pub only : (b : Airspace) → Holds s b → b ≡ a
 
@@ -63,22 +65,29 @@ abbrev pub UnlessBroken : SpaceFault → Type 0 → Type 0
 UnlessBroken Unchanged P = P
 UnlessBroken Broken P = Unit {0}
 
--- A call that reads leaves what the space holds; an answer has P of each airspace that was held. After `Broken` no
--- other is held. A space that was whole stays so.
-pub record Reads {S T : Type 0} (Holds : S → Airspace → Type 0) (IsSound IsWhole : S → Type 0) (old new : S) (result : Result T SpaceFault) (P : Airspace → T → Type 0) : Type 0 where
+-- A call that reads leaves what the space holds; an answer has P of each airspace that was held.
+-- After `Broken` no other is held. A space that was whole stays so.
+pub record Reads {S T : Type 0} (Holds : S → Airspace → Type 0) (IsSound IsWhole : S → Type 0)
+    (old new : S) (result : Result T SpaceFault) (P : Airspace → T → Type 0) : Type 0 where
   pub sound : IsSound new → IsSound old
   pub whole : IsSound new → IsWhole old → IsWhole new
-  pub stays : IsSound new → MatchResult result (λ _. (a : Airspace) → Holds old a → Holds new a) (λ e. UnlessBroken e ((a : Airspace) → Holds old a → Holds new a))
+  pub stays : IsSound new
+      → MatchResult result (λ _. (a : Airspace) → Holds old a → Holds new a)
+      (λ e. UnlessBroken e ((a : Airspace) → Holds old a → Holds new a))
   pub no_other : IsSound new → (a : Airspace) → Holds new a → Holds old a
   pub answer : IsSound new → IfOk result (λ found. (a : Airspace) → Holds old a → P a found)
 
--- A call that changes: after `Ok` the new airspace alone is held, after `Unchanged` what was held before, after `Broken`
--- nothing but what was held before or the new one; where the space was broken before, nothing but what was held. A
--- space that was whole stays so.
-pub record Changes {S T : Type 0} (Holds : S → Airspace → Type 0) (IsSound IsWhole : S → Type 0) (was_broken : Bool) (old new : S) (result : Result T SpaceFault) (change : Airspace → Airspace) : Type 0 where
+-- A call that changes: after `Ok` the new airspace alone is held, after `Unchanged` what was held
+-- before, after `Broken` nothing but what was held before or the new one; where the space was
+-- broken before, nothing but what was held. A space that was whole stays so.
+pub record Changes {S T : Type 0} (Holds : S → Airspace → Type 0) (IsSound IsWhole : S → Type 0)
+    (was_broken : Bool) (old new : S) (result : Result T SpaceFault) (change : Airspace → Airspace)
+    : Type 0 where
   pub sound : IsSound new → IsSound old
   pub whole : IsSound new → IsWhole old → IsWhole new
-  pub done : IsSound new → OnOk result ((a : Airspace) → Holds old a → IsContent Holds new (change a))
+  pub done : IsSound new → OnOk result ((a : Airspace) → Holds old a
+      → IsContent Holds new (change a))
   pub refused : IsSound new → IsErrOf result Unchanged → (a : Airspace) → Holds old a ↔ Holds new a
-  pub broken : IsSound new → IsErrOf result Broken → (b : Airspace) → Holds new b → Holds old b ⊎ ((a : Airspace) → Holds old a → b ≡ change a)
+  pub broken : IsSound new → IsErrOf result Broken → (b : Airspace) → Holds new b
+      → Holds old b ⊎ ((a : Airspace) → Holds old a → b ≡ change a)
   pub frozen : IsSound new → was_broken ≡ true → (b : Airspace) → Holds new b → Holds old b

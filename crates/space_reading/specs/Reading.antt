@@ -117,8 +117,8 @@ pub record GoesBack (old new : State) : Type 0 where
 abbrev pub RestsAs : State → State → Type 0
 RestsAs old new = old.now.schema ≡ dss_schema → IsSettled new × (new.now ≡ old.now)
 
--- What is read has P of the airspace that the tables spell, if they spell one. Nothing is committed, and after an
--- answer the store is open.
+-- What is read has P of the airspace that the tables spell, if they spell one. Nothing is
+-- committed, and after an answer the store is open.
 pub record ReadsTables {X : Type 0} (old new : State) (result : Result X Error)
     (P : Airspace → X → Type 0) : Type 0 where
   pub answer : HasCleanDisk new → IfOk result (λ found. (a : Airspace) → Spells old.now a

@@ -15,9 +15,12 @@ use Rattle.service_core.specs.Stale.{DifferUpTo, FailsOrIsRefused, IsOfAnother}
 abbrev pub airspace_told : List ℕ → List Timed → List Reply → Airspace
 airspace_told salt cs rs = airspace_after salt (empty_at 0) (answered_calls cs rs)
 
--- The calls leave an airspace in which each later intent knew the earlier ones; and one more put there,
--- whose key has OVNs of other serials alone, is refused for what it needs to know.
-pub record ToldAfter (salt : List ℕ) (cs : List Timed) (c : Call) (rs : List Reply) (r : Reply) : Type 0 where
+-- The calls leave an airspace in which each later intent knew the earlier ones; and one more put
+-- there, whose key has OVNs of other serials alone, is refused for what it needs to know.
+pub record ToldAfter (salt : List ℕ) (cs : List Timed) (c : Call) (rs : List Reply) (r : Reply)
+    : Type 0 where
   pub aware : Aware salt (empty_at 0) cs rs (airspace_told salt cs rs)
-  pub stale : (kind : Kind) (y : Entity) → DifferUpTo salt (airspace_told salt cs rs).serial → Contains (needed kind (airspace_told salt cs rs) c.caller c.op) y
-      → AllByRecursion (IsOfAnother salt (airspace_told salt cs rs) y) (key_shown c.op) → FailsOrIsRefused kind (airspace_told salt cs rs) c y r
+  pub stale : (kind : Kind) (y : Entity) → DifferUpTo salt (airspace_told salt cs rs).serial
+      → Contains (needed kind (airspace_told salt cs rs) c.caller c.op) y
+      → AllByRecursion (IsOfAnother salt (airspace_told salt cs rs) y) (key_shown c.op)
+          → FailsOrIsRefused kind (airspace_told salt cs rs) c y r

@@ -55,7 +55,8 @@ text_at key fault_of d = option_and_then (faultless fault_of) (option_and_then a
 -- the texts of a list, where each item is a text
 abbrev pub texts_of : Items → Option (List (List ℕ))
 texts_of no_items = Some []
-texts_of (item d ds) = option_and_then (λ text. option_map (λ texts. text ∷ texts) (texts_of ds)) (as_str d)
+texts_of (item d ds) =
+    option_and_then (λ text. option_map (λ texts. text ∷ texts) (texts_of ds)) (as_str d)
 
 -- whether a text is the name of a scope
 abbrev pub is_name_of : Scope → List ℕ → Bool
@@ -70,7 +71,8 @@ abbrev pub scopes_at : Data → Option Scopes
 scopes_at d = option_map scopes_named (option_and_then texts_of (option_and_then as_array (get (codes "scopes") d)))
 
 infixl 10 ◌>>=◌
-abbrev pub ◌>>=◌ : {A B : Type 0} → Result A ConfFault → (A → Result B ConfFault) → Result B ConfFault
+abbrev pub ◌>>=◌ : {A B : Type 0} → Result A ConfFault → (A → Result B ConfFault)
+    → Result B ConfFault
 (Ok x) >>= f = f x
 (Err e) >>= f = Err e
 
@@ -90,7 +92,8 @@ token_of d known = do
 -- those known and the tokens of the tables, in turn
 abbrev pub callers_after : Items → Callers → Result Callers ConfFault
 callers_after no_items known = Ok known
-callers_after (item d ds) known = token_of d known >>= (λ token. callers_after ds (insert known token.0 token.1))
+callers_after (item d ds) known =
+    token_of d known >>= (λ token. callers_after ds (insert known token.0 token.1))
 
 -- the callers of the member `token`; without it there are none
 abbrev pub callers_at : Option Data → Result Callers ConfFault

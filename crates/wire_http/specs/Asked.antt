@@ -36,12 +36,15 @@ abbrev pub IsAskedAs : Option OpKind → Words → List ℕ → Operation → Ty
 IsAskedAs None words body op = op ≡ NoMethod
 IsAskedAs (Some kind) words body op = IsReadAs kind words body op
 
--- the place that a path leads to, if there is one, and the operation that path, method and body ask for
+-- the place that a path leads to, if there is one, and the operation that path, method and body ask
+-- for
 abbrev pub IsAsked : List ℕ → List ℕ → List ℕ → Option Place → Operation → Type 0
 IsAsked path method body None op = HasNoRoute path × (op ≡ NoRoute)
-IsAsked path method body (Some place) op = (words : Words) × IsRoute path place words × IsAskedAs (kind_at place method) words body op
+IsAsked path method body (Some place) op = (words : Words) × IsRoute path place words
+    × IsAskedAs (kind_at place method) words body op
 
 -- the call that a request makes, at the place of its path
-pub record IsCallOf (callers : Callers) (h : RequestHead) (body : List ℕ) (place : Option Place) (call : Call) : Type 0 where
+pub record IsCallOf (callers : Callers) (h : RequestHead) (body : List ℕ) (place : Option Place)
+    (call : Call) : Type 0 where
   pub caller : call.caller ≡ caller_of callers (fields_of h)
   pub op : IsAsked (path_of h.target) h.method body place call.op

@@ -33,9 +33,11 @@ IsGreatest count = greatest_count ≤ count
 abbrev pub HasRisen : ℕ → ℕ → Type 0
 HasRisen old new = (old < new) ⊎ IsGreatest new
 
--- of the turns that were left as many are gone as the count of calls rose by, or that count stands at its greatest value
+-- of the turns that were left as many are gone as the count of calls rose by, or that count stands
+-- at its greatest value
 abbrev pub Spends : ℕ → ℕ → ℕ → ℕ → Type 0
-Spends left left' calls calls' = (left' ≤ left) × ((calls' + left' ≡ calls + left) ⊎ IsGreatest calls')
+Spends left left' calls calls' = (left' ≤ left)
+    × ((calls' + left' ≡ calls + left) ⊎ IsGreatest calls')
 
 -- how many reads a stream may take
 abbrev pub most_reads : ℕ

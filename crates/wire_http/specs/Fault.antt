@@ -26,7 +26,8 @@ IsOfAnswering Read = ⊥
 IsOfAnswering Clock = ⊥
 IsOfAnswering Turns = ⊥
 
--- why reading gave up: the reader's count of failures has risen, or it stands and no turn is left or memory was refused
+-- why reading gave up: the reader's count of failures has risen, or it stands and no turn is left
+-- or memory was refused
 abbrev pub GaveUpReading : StreamFault → ℕ → ℕ → ℕ → Type 0
 GaveUpReading Read failures failures' left = HasRisen failures failures'
 GaveUpReading Turns failures failures' left = (left ≡ 0) × (failures' ≡ failures)
@@ -42,7 +43,8 @@ GaveUpAsking Read failures failures' = ⊥
 GaveUpAsking Write failures failures' = ⊥
 GaveUpAsking Turns failures failures' = ⊥
 
--- why answering gave up: the writer's count of failures has risen, or it stands and memory was refused
+-- why answering gave up: the writer's count of failures has risen, or it stands and memory was
+-- refused
 abbrev pub GaveUpAnswering : StreamFault → ℕ → ℕ → Type 0
 GaveUpAnswering Write failures failures' = HasRisen failures failures'
 GaveUpAnswering Memory failures failures' = failures' ≡ failures

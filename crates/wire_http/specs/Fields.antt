@@ -21,5 +21,6 @@ values_of name fields = map (λ f. f.1) (filter (λ f. is_same_word name f.0) fi
 -- what a search for the only field of a name finds in a buffer
 abbrev pub IsOccurrence : List ℕ → List (List ℕ) → Occurrence → Type 0
 IsOccurrence buffer values Absent = values ≡ []
-IsOccurrence buffer values (One span) = (values ≡ span_bytes buffer span ∷ []) × (span.start ≤ span.end) × (span.end ≤ length buffer)
+IsOccurrence buffer values (One span) = (values ≡ span_bytes buffer span ∷ [])
+    × (span.start ≤ span.end) × (span.end ≤ length buffer)
 IsOccurrence buffer values Many = 2 ≤ length values

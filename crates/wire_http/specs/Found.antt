@@ -9,7 +9,8 @@ use Rattle.wire_http.specs.declared.rest.Found.TheVariants.{Nothing, Part, Head,
 use Rattle.wire_http.specs.Rest.{IsKind, nothing, cut, whole, bad, large}
 
 -- the spans cover the parts of the head
-pub record Covers (buffer : List ℕ) (headers : List HeaderSpan) (spans : RequestSpans) (h : RequestHead) : Type 0 where
+pub record Covers (buffer : List ℕ) (headers : List HeaderSpan) (spans : RequestSpans)
+    (h : RequestHead) : Type 0 where
   pub len : spans.len ≡ length (print_request h)
   pub method : span_bytes buffer spans.method ≡ h.method
   pub path : span_bytes buffer spans.path ≡ h.target
@@ -20,13 +21,15 @@ pub record Covers (buffer : List ℕ) (headers : List HeaderSpan) (spans : Reque
 abbrev pub Finds : List ℕ → List ℕ → List HeaderSpan → Found → Type 0
 Finds rest buffer fields Nothing = IsKind rest nothing
 Finds rest buffer fields Part = IsKind rest cut
-Finds rest buffer fields (Head spans) = (h : RequestHead) × IsKind rest (whole h) × Covers buffer fields spans h
+Finds rest buffer fields (Head spans) = (h : RequestHead) × IsKind rest (whole h)
+    × Covers buffer fields spans h
 Finds rest buffer fields Bad = IsKind rest bad
 Finds rest buffer fields Large = IsKind rest large
 
 -- the spans lie in the buffer, and the target is text
 abbrev pub SpansFit : List ℕ → List HeaderSpan → Found → Type 0
-SpansFit buffer fields (Head spans) = IsRequestWithin buffer fields spans × IsUtf8 (span_bytes buffer spans.path)
+SpansFit buffer fields (Head spans) = IsRequestWithin buffer fields spans
+    × IsUtf8 (span_bytes buffer spans.path)
 SpansFit buffer fields Nothing = Unit {0}
 SpansFit buffer fields Part = Unit {0}
 SpansFit buffer fields Bad = Unit {0}

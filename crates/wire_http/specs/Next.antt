@@ -16,7 +16,8 @@ body_at buffer start size = take size (drop start buffer)
 -- the rest has this request next, whose parts the spans cover, or it stops the stream so
 abbrev pub IsNext : List ℕ → List ℕ → List HeaderSpan → Next → Type 0
 IsNext rest buffer fields (Request spans size) =
-    (h : RequestHead) × IsRequest rest h (body_at buffer spans.len size) × Covers buffer fields spans h
+    (h : RequestHead) × IsRequest rest h (body_at buffer spans.len size)
+        × Covers buffer fields spans h
 IsNext rest buffer fields (Stop end) = StopsAs rest end
 
 -- the request lies in the buffer, and at most 8,192 bytes stand after it

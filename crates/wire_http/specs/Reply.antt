@@ -10,13 +10,15 @@ use Rattle.wire_route.specs.declared.place.Place.{Place}
 use Rattle.wire_http.specs.Text.{answer_text}
 
 -- a reply was made, and its text was written
-pub record Replies {S : Type 0} (g : Ghosts S) (old new : Service S) (moment : ℕ) (call : Call) (place : Option Place) (closing : Bool) (before text : Option (List ℕ)) : Type 0 where
+pub record Replies {S : Type 0} (g : Ghosts S) (old new : Service S) (moment : ℕ) (call : Call)
+    (place : Option Place) (closing : Bool) (before text : Option (List ℕ)) : Type 0 where
   pub reply : Reply
   pub is_reply : IsReplyTo g old new moment call reply
   pub written : Appends before text (answer_text place closing reply)
 
 -- a reply was made, and the first bytes of its text were written
-pub record RepliesPart {S : Type 0} (g : Ghosts S) (old new : Service S) (moment : ℕ) (call : Call) (place : Option Place) (closing : Bool) (before text : Option (List ℕ)) : Type 0 where
+pub record RepliesPart {S : Type 0} (g : Ghosts S) (old new : Service S) (moment : ℕ) (call : Call)
+    (place : Option Place) (closing : Bool) (before text : Option (List ℕ)) : Type 0 where
   pub reply : Reply
   pub is_reply : IsReplyTo g old new moment call reply
   pub size : ℕ

@@ -46,7 +46,8 @@ feeds bytes = count_by (λ b. b == 10) bytes
 abbrev pub HasManyLines : List ℕ → Type 0
 HasManyLines bytes = 66 ≤ feeds (skip_ends bytes)
 
--- the head that stands there has more fields than that, or one that can still come has: its lines are too many
+-- the head that stands there has more fields than that, or one that can still come has: its lines
+-- are too many
 abbrev pub HasManyFields : List ℕ → Type 0
 HasManyFields bytes = RequestExceeds 64 bytes ⊎ ((NeverHasRequest bytes → ⊥) × HasManyLines bytes)
 
@@ -65,7 +66,8 @@ IsKind rest (whole h) = (has_line (window rest) ≡ true) × IsWhole rest h
 IsKind rest bad = (has_line (window rest) ≡ true) × NeverHasRequest (window rest)
 IsKind rest large =
     HasNoWhole rest
-    × (((8192 ≤ length rest) × IsOpen (window rest)) ⊎ ((has_line (window rest) ≡ true) × HasManyFields (window rest)))
+    × (((8192 ≤ length rest) × IsOpen (window rest)) ⊎ ((has_line (window rest) ≡ true)
+        × HasManyFields (window rest)))
 IsKind rest cut = HasNoWhole rest × (0 < length rest) × (length rest < 8192) × IsOpen (window rest)
 
 -- two kinds of a rest are one, but where it breaks the grammar and also has too many fields
@@ -86,9 +88,11 @@ AreSame rest large (whole h) = ⊥
 
 -- what the bytes so far say, with room for 64 fields
 abbrev pub Decides : List ℕ → List HeaderSpan → Verdict → Type 0
-Decides w fields More = (has_line w ≡ false) ⊎ ((has_line w ≡ true) × HasNoRequest w × MayBecomeRequest w)
+Decides w fields More = (has_line w ≡ false) ⊎ ((has_line w ≡ true) × HasNoRequest w
+    × MayBecomeRequest w)
 Decides w fields (Head spans) =
-    ((h : RequestHead) × IsRequestAt w fields spans h × (length h.fields ≤ 64)) × IsRequestWithin w fields spans
+    ((h : RequestHead) × IsRequestAt w fields spans h × (length h.fields ≤ 64))
+        × IsRequestWithin w fields spans
 Decides w fields Bad = (has_line w ≡ true) × NeverHasRequest w
 Decides w fields Large = (has_line w ≡ true) × RequestExceeds 64 w × RequestOverflows 64 w
 

@@ -12,7 +12,8 @@ use Rattle.wire_http.specs.Asked.{fields_of}
 
 -- a whole head stands there, and this is the first rule that its fields break
 abbrev pub HasRefused : List ℕ → WireRule → Type 0
-HasRefused rest rule = (h : RequestHead) × IsKind rest (whole h) × (length_of (fields_of h) ≡ Err rule)
+HasRefused rest rule = (h : RequestHead) × IsKind rest (whole h)
+    × (length_of (fields_of h) ≡ Err rule)
 
 -- the rest breaks that rule of the wire
 abbrev pub Breaks : List ℕ → WireRule → Type 0
@@ -26,7 +27,8 @@ Breaks rest rules.BodySize = HasRefused rest rules.BodySize
 abbrev pub IsCut : List ℕ → Type 0
 IsCut rest =
     IsKind rest cut
-    ⊎ ((h : RequestHead) × (size : ℕ) × IsKind rest (whole h) × (length_of (fields_of h) ≡ Ok size) × (length (after h rest) < size))
+    ⊎ ((h : RequestHead) × (size : ℕ) × IsKind rest (whole h) × (length_of (fields_of h) ≡ Ok size)
+        × (length (after h rest) < size))
 
 -- how the stream ends there
 abbrev pub StopsAs : List ℕ → End → Type 0
@@ -46,6 +48,8 @@ IsOfHead ends.End = ⊥
 IsOfHead ends.Cut = ⊥
 IsOfHead ends.Close = ⊥
 
--- two ends at a rest are one, but where it breaks the grammar and also has too many fields: there both rules are right
+-- two ends at a rest are one, but where it breaks the grammar and also has too many fields: there
+-- both rules are right
 abbrev pub AreSameEnds : List ℕ → End → End → Type 0
-AreSameEnds rest end other = (other ≡ end) ⊎ (RequestExceeds 64 (window rest) × IsOfHead end × IsOfHead other)
+AreSameEnds rest end other = (other ≡ end) ⊎ (RequestExceeds 64 (window rest) × IsOfHead end
+    × IsOfHead other)

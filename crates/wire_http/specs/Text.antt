@@ -39,7 +39,8 @@ abbrev pub methods_text : Option Place → List ℕ
 methods_text (Some place) = allow_of place
 methods_text None = []
 
--- the field that a denial adds: the methods for one that the place does not take, the scheme for a missing token
+-- the field that a denial adds: the methods for one that the place does not take, the scheme for a
+-- missing token
 abbrev pub rule_field : Option Place → Rule → List ℕ
 rule_field place Method = line (codes "Allow: " ++ methods_text place)
 rule_field place Token = line (codes "WWW-Authenticate: Bearer")

@@ -20,7 +20,9 @@ abbrev pub MayGoOn : ℕ → List ℕ → Turn → Type 0
 MayGoOn count buffer (Answered n) = (n < count) × (length buffer ≤ 8192)
 MayGoOn count buffer (Ended end) = Unit {0}
 
-module _ {S M : Type 0} (g : Ghosts S) (Gives : M → ℕ → M → Type 0) (callers : Callers) (bound : ℕ) (rest : List ℕ) (old new : Service S) (clock clock' : M) (before text : Option (List ℕ)) where
+module _ {S M : Type 0} (g : Ghosts S) (Gives : M → ℕ → M → Type 0) (callers : Callers)
+    (bound : ℕ) (rest : List ℕ) (old new : Service S) (clock clock' : M)
+    (before text : Option (List ℕ)) where
   -- a request of the rest was asked, and this is the reply; after it so many may come, from next on
   pub record Took (asked : Asked) (reply : Reply) (n : ℕ) (next : List ℕ) : Type 0 where
     pub asks : Asks Gives callers rest clock asked next clock'
@@ -32,14 +34,18 @@ module _ {S M : Type 0} (g : Ghosts S) (Gives : M → ℕ → M → Type 0) (cal
   abbrev pub IsTurn : Option (List ℕ) → Turn → Type 0
   IsTurn unread (Answered n) =
       (asked : Asked) × (reply : Reply) × (next : List ℕ)
-      × Took asked reply n next × (unread ≡ Some next) × Appends before text (answer_text asked.place asked.closing reply)
-  IsTurn unread (Ended end) = StopsAs rest end × (new ≡ old) × (clock' ≡ clock) × Appends before text (concat (end_texts end))
+      × Took asked reply n next × (unread ≡ Some next)
+          × Appends before text (answer_text asked.place asked.closing reply)
+  IsTurn unread (Ended end) = StopsAs rest end × (new ≡ old) × (clock' ≡ clock)
+      × Appends before text (concat (end_texts end))
 
   -- the turn was given up: after the call of a request, or without one
   abbrev pub IsTurnPart : StreamFault → Type 0
   IsTurnPart fault =
       ((asked : Asked) × (reply : Reply) × (n : ℕ) × (next : List ℕ) × (size : ℕ)
-      × IsOfAnswering fault × Took asked reply n next × Appends before text (take size (answer_text asked.place asked.closing reply)))
+      × IsOfAnswering fault × Took asked reply n next
+          × Appends before text (take size (answer_text asked.place asked.closing reply)))
       ⊎ ((tail : List (List ℕ)) × (size : ℕ)
-      × (IsOfAnswering fault ⊎ (tail ≡ [])) × (new ≡ old) × ClockAfter Gives callers fault rest clock clock'
+      × (IsOfAnswering fault ⊎ (tail ≡ [])) × (new ≡ old)
+          × ClockAfter Gives callers fault rest clock clock'
       × MayFollow (suc bound) rest tail × Appends before text (take size (concat tail)))

@@ -38,7 +38,8 @@ closes h = closes_by h.minor (fields_of h)
 abbrev pub left_after : ℕ → RequestHead → ℕ
 left_after n h = if closes h then 0 else n
 
--- a request that was asked: its head, the place of its path, its moment and its call, and whether the connection closes after it
+-- a request that was asked: its head, the place of its path, its moment and its call, and whether
+-- the connection closes after it
 pub record Asked : Type 0 where
   pub head : RequestHead
   pub place : Option Place
@@ -50,16 +51,18 @@ abbrev pub timed : Asked → Timed
 timed asked = (asked.moment, asked.call)
 
 module _ {M : Type 0} (Gives : M → ℕ → M → Type 0) (callers : Callers) where
-  -- The rest begins with a request that asks this call, at the next moment of the clock. After it stands next.
-  pub record Asks (rest : List ℕ) (clock : M) (asked : Asked) (next : List ℕ) (clock' : M) : Type 0 where
+  -- The rest begins with a request that asks this call, at the next moment of the clock. After it
+  -- stands next.
+  pub record Asks (rest : List ℕ) (clock : M) (asked : Asked) (next : List ℕ) (clock' : M)
+      : Type 0 where
     pub body : List ℕ
     pub request : IsRequest rest asked.head body
     pub call : IsCallOf callers asked.head body asked.place asked.call
     pub moment : Gives clock asked.moment clock'
     pub next_is : next ≡ drop (length body) (after asked.head rest)
 
-  -- Of at most so many requests of the rest these are the first, one after the other. They lead to where so many may
-  -- still come, to that rest and that clock.
+  -- Of at most so many requests of the rest these are the first, one after the other. They lead to
+  -- where so many may still come, to that rest and that clock.
   abbrev pub Leads : ℕ → List ℕ → M → List Asked → ℕ → List ℕ → M → Type 0
   Leads bound rest clock [] n left later = (n ≡ bound) × (left ≡ rest) × (later ≡ clock)
   Leads zero rest clock (asked ∷ more) n left later = ⊥
@@ -68,11 +71,13 @@ module _ {M : Type 0} (Gives : M → ℕ → M → Type 0) (callers : Callers) w
       × (asked.closing ≡ (left_after bound asked.head == 0))
       × Leads (left_after bound asked.head) next mid more n left later
 
-  -- Where the clock stands after a fault: it gave no moment but those of the requests that were asked, or for want of
-  -- memory one more, for a request that had come whole. Of a clock that failed nothing is said.
+  -- Where the clock stands after a fault: it gave no moment but those of the requests that were
+  -- asked, or for want of memory one more, for a request that had come whole. Of a clock that
+  -- failed nothing is said.
   abbrev pub ClockAfter : StreamFault → List ℕ → M → M → Type 0
   ClockAfter faults.Memory left later clock' =
-      (clock' ≡ later) ⊎ ((h : RequestHead) × (body : List ℕ) × (moment : ℕ) × IsRequest left h body × Gives later moment clock')
+      (clock' ≡ later) ⊎ ((h : RequestHead) × (body : List ℕ) × (moment : ℕ)
+          × IsRequest left h body × Gives later moment clock')
   ClockAfter faults.Clock left later clock' = Unit {0}
   ClockAfter faults.Read left later clock' = clock' ≡ later
   ClockAfter faults.Write left later clock' = clock' ≡ later
@@ -87,12 +92,14 @@ Finishes (suc n) left end = StopsAs left end
 abbrev pub answers : List Asked → List Reply → List (List ℕ)
 answers [] replies = []
 answers (asked ∷ more) [] = []
-answers (asked ∷ more) (reply ∷ replies) = answer_text asked.place asked.closing reply ∷ answers more replies
+answers (asked ∷ more) (reply ∷ replies) = answer_text asked.place asked.closing reply
+    ∷ answers more replies
 
 -- what may follow the answers before a fault: nothing, or the text of the rule that the rest breaks
 abbrev pub MayFollow : ℕ → List ℕ → List (List ℕ) → Type 0
 MayFollow zero left texts = texts ≡ []
-MayFollow (suc n) left texts = (texts ≡ []) ⊎ ((rule : WireRule) × Breaks left rule × (texts ≡ rule_text rule ∷ []))
+MayFollow (suc n) left texts = (texts ≡ []) ⊎ ((rule : WireRule) × Breaks left rule
+    × (texts ≡ rule_text rule ∷ []))
 
 -- the first bytes of the texts, of which all but the last are whole
 pub record IsFront (texts : List (List ℕ)) (bytes : List ℕ) : Type 0 where
@@ -104,11 +111,13 @@ pub record IsFront (texts : List (List ℕ)) (bytes : List ℕ) : Type 0 where
 abbrev pub MayBePart : StreamFault → List (List ℕ) → List ℕ → Type 0
 MayBePart fault texts bytes = IsOfAnswering fault ⊎ (bytes ≡ concat texts)
 
--- What was served of an input: the calls of its requests were answered, and the answers were written, and then the text
--- of the rule of the wire where one ended the stream.
+-- What was served of an input: the calls of its requests were answered, and the answers were
+-- written, and then the text of the rule of the wire where one ended the stream.
 pub record Serves
-    {S M : Type 0} (g : Ghosts S) (Gives : M → ℕ → M → Type 0) (callers : Callers) (bound : ℕ) (input : List ℕ)
-    (old new : Service S) (clock clock' : M) (before text : Option (List ℕ)) (served : Served) : Type 0 where
+    {S M : Type 0} (g : Ghosts S) (Gives : M → ℕ → M → Type 0) (callers : Callers)
+    (bound : ℕ) (input : List ℕ)
+    (old new : Service S) (clock clock' : M) (before text : Option (List ℕ)) (served : Served)
+        : Type 0 where
   pub all : List Asked
   pub replies : List Reply
   pub n : ℕ
@@ -119,10 +128,13 @@ pub record Serves
   pub count : served.count ≡ length all
   pub written : Appends before text (concat (answers all replies ++ end_texts served.end))
 
--- What was served before a fault: the first requests, whose answers were written, but for a part of the last text.
+-- What was served before a fault: the first requests, whose answers were written, but for a part of
+-- the last text.
 pub record ServesPart
-    {S M : Type 0} (g : Ghosts S) (Gives : M → ℕ → M → Type 0) (callers : Callers) (bound : ℕ) (input : List ℕ)
-    (old new : Service S) (clock clock' : M) (before text : Option (List ℕ)) (fault : StreamFault) : Type 0 where
+    {S M : Type 0} (g : Ghosts S) (Gives : M → ℕ → M → Type 0) (callers : Callers)
+    (bound : ℕ) (input : List ℕ)
+    (old new : Service S) (clock clock' : M) (before text : Option (List ℕ)) (fault : StreamFault)
+        : Type 0 where
   pub all : List Asked
   pub replies : List Reply
   pub n : ℕ

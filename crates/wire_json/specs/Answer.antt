@@ -22,7 +22,8 @@ use Rattle.wire_json.specs.Reference.{reference_name, references_name, reference
 abbrev pub availability_text : List ℕ → Availability → List ℕ → List ℕ
 availability_text uss a version =
     object_text
-    ((codes "status", object_text ((codes "availability", quoted (name_of a)) ∷ (codes "uss", quoted uss) ∷ []))
+    ((codes "status", object_text ((codes "availability", quoted (name_of a))
+        ∷ (codes "uss", quoted uss) ∷ []))
     ∷ (codes "version", quoted version)
     ∷ [])
 
@@ -30,9 +31,11 @@ availability_text uss a version =
 abbrev pub found_text : Reference → List ℕ
 found_text r = object_text ((reference_name (kind_of r.nature), reference_text r) ∷ [])
 
--- The reference of an entity that was put or deleted. No subscriber is to be told of it: the service keeps none.
+-- The reference of an entity that was put or deleted. No subscriber is to be told of it: the
+-- service keeps none.
 abbrev pub changed_text : Reference → List ℕ
-changed_text r = object_text ((reference_name (kind_of r.nature), reference_text r) ∷ (codes "subscribers", array_text []) ∷ [])
+changed_text r = object_text ((reference_name (kind_of r.nature), reference_text r)
+    ∷ (codes "subscribers", array_text []) ∷ [])
 
 -- the references of a query for entities of a kind
 abbrev pub listed_text : Kind → List Reference → List ℕ

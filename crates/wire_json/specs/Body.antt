@@ -115,7 +115,8 @@ IsJson bytes d = IsUtf8 bytes × (read bytes ≡ Some d)
 abbrev pub Says : (Data → Option Operation) → List ℕ → Operation → Type 0
 Says form bytes op = (d : Data) × IsJson bytes d × (form d ≡ Some op)
 
--- Words and a body ask for this operation of a kind. They ask for at most one. The body of a reading and of a deletion is not looked at.
+-- Words and a body ask for this operation of a kind. They ask for at most one. The body of a
+-- reading and of a deletion is not looked at.
 abbrev pub IsBody : OpKind → Words → List ℕ → Operation → Type 0
 IsBody (kinds.Query kind) words bytes op = Says (query_of kind words) bytes op
 IsBody (kinds.Read kind) words bytes op = read_of kind words ≡ Some op

@@ -1,4 +1,5 @@
--- The JSON values that answers are built as, for private clauses. Their texts are those of `Answer` and `Reference`.
+-- The JSON values that answers are built as, for private clauses. Their texts are those of `Answer`
+-- and `Reference`.
 use Rattle.std.specs.Prelude.{ℕ, List, Option, Some, None, map, codes}
 use Rattle.serde_json.specs.Data.{Data, Members, string, number, unsigned, array, object, member, no_members, no_items, put}
 use Rattle.serde_json.specs.View.{items_of}

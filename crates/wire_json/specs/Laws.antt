@@ -17,11 +17,13 @@ use Rattle.wire_json.specs.Put.{put_of}
 
 -- words and a body ask for one operation of a kind at most
 abbrev pub AsksForOne : Type 0
-AsksForOne = (kind : OpKind) (words : Words) (bytes : List ℕ) (op other : Operation) → IsBody kind words bytes op → IsBody kind words bytes other → other ≡ op
+AsksForOne = (kind : OpKind) (words : Words) (bytes : List ℕ) (op other : Operation)
+    → IsBody kind words bytes op → IsBody kind words bytes other → other ≡ op
 
 -- and it is of that kind
 abbrev pub KeepsKind : Type 0
-KeepsKind = (kind : OpKind) (words : Words) (bytes : List ℕ) (op : Operation) → IsBody kind words bytes op → kind_of op ≡ Some kind
+KeepsKind = (kind : OpKind) (words : Words) (bytes : List ℕ) (op : Operation)
+    → IsBody kind words bytes op → kind_of op ≡ Some kind
 
 -- ---- limits
 
@@ -44,11 +46,13 @@ IsWithinLimits (Create id put) = IsPutWithinLimits put
 IsWithinLimits (Update id ovn put) = (ovn_fault ovn ≡ None) × IsPutWithinLimits put
 IsWithinLimits (Delete kind id ovn) = ovn_fault ovn ≡ None
 IsWithinLimits (ReadAvail uss) = name_fault uss ≡ None
-IsWithinLimits (SetAvail uss version availability) = (name_fault uss ≡ None) × (length version ≤ 128)
+IsWithinLimits (SetAvail uss version availability) = (name_fault uss ≡ None)
+    × (length version ≤ 128)
 
 -- what a body asks for is within all limits
 abbrev pub KeepsLimits : Type 0
-KeepsLimits = (kind : OpKind) (words : Words) (bytes : List ℕ) (op : Operation) → IsBody kind words bytes op → IsWithinLimits op
+KeepsLimits = (kind : OpKind) (words : Words) (bytes : List ℕ) (op : Operation)
+    → IsBody kind words bytes op → IsWithinLimits op
 
 -- ---- members
 
@@ -59,4 +63,5 @@ IsNamed Constraint name = (name ≡ codes "extents") ⊎ (name ≡ codes "uss_ba
 
 -- no other member is looked at
 abbrev pub IgnoresOthers : Type 0
-IgnoresOthers = (kind : Kind) (d e : Data) → ((name : List ℕ) → IsNamed kind name → member_of name d ≡ member_of name e) → put_of kind d ≡ put_of kind e
+IgnoresOthers = (kind : Kind) (d e : Data) → ((name : List ℕ) → IsNamed kind name
+    → member_of name d ≡ member_of name e) → put_of kind d ≡ put_of kind e

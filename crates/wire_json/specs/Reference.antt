@@ -33,7 +33,8 @@ ovn_members (Some ovn) = (codes "ovn", quoted ovn) ∷ []
 
 -- what references of one kind alone have
 abbrev pub nature_members : Nature → List (List ℕ × List ℕ)
-nature_members (Intent state) = (codes "state", quoted (state_name state)) ∷ (codes "subscription_id", quoted no_subscription) ∷ []
+nature_members (Intent state) = (codes "state", quoted (state_name state))
+    ∷ (codes "subscription_id", quoted no_subscription) ∷ []
 nature_members Constraint = []
 
 -- the members of a reference, in byte order of their names

@@ -35,7 +35,8 @@ Methods = List (List ℕ × OpKind)
 abbrev pub methods_of : Place → Methods
 methods_of (Query kind) = (codes "POST", kinds.Query kind) ∷ []
 methods_of (Entity kind) = (codes "GET", kinds.Read kind) ∷ (codes "PUT", kinds.Create kind) ∷ []
-methods_of (EntityAtOvn kind) = (codes "PUT", kinds.Update kind) ∷ (codes "DELETE", kinds.Delete kind) ∷ []
+methods_of (EntityAtOvn kind) = (codes "PUT", kinds.Update kind)
+    ∷ (codes "DELETE", kinds.Delete kind) ∷ []
 methods_of Availability = (codes "GET", kinds.ReadAvail) ∷ (codes "PUT", kinds.SetAvail) ∷ []
 
 -- what the method of a name asks; names have case

@@ -1,4 +1,5 @@
--- Which paths lead to a place, and the words that they have there. Paths are compared byte by byte, and nothing in them is decoded.
+-- Which paths lead to a place, and the words that they have there. Paths are compared byte by byte,
+-- and nothing in them is decoded.
 use Rattle.std.specs.Prelude.{◌≡◌, ◌==◌, ◌&&◌, ◌++◌, ℕ, Bool, true, not, nat_lt, List, length, codes, Some, None}
 use Rattle.std.specs.Str.{bytes_eq}
 use Rattle.std.specs.List.{list_any}
@@ -42,7 +43,8 @@ AreWordsOf Availability rest words = (is_part rest ≡ true) × (words ≡ one_w
 
 -- the path leads to the place, and has these words there
 abbrev pub IsRoute : List ℕ → Place → Words → Type 0
-IsRoute path place words = (rest : List ℕ) × (path ≡ front_of place ++ rest) × AreWordsOf place rest words
+IsRoute path place words = (rest : List ℕ) × (path ≡ front_of place ++ rest)
+    × AreWordsOf place rest words
 
 -- the path leads nowhere
 abbrev pub HasNoRoute : List ℕ → Type 0

@@ -1,4 +1,5 @@
--- The routes as the rows of a router: a step of the proofs. What a path leads to is said without it.
+-- The routes as the rows of a router: a step of the proofs. What a path leads to is said without
+-- it.
 use Rattle.std.specs.Prelude.{◌≡◌, ℕ, List, [], Result, Ok, Err, Option, None, option_map}
 use Rattle.matchit.specs.Rows.{RowsOf}
 use Rattle.matchit.specs.Router.{RouteOf, route_from, nearest}
