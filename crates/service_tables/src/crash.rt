@@ -13,7 +13,7 @@ use std::alloc::Global;
 /// Answers one call. It is `Service::call`, with what a crash after it leaves of the tables: after
 /// an answer the policy's airspace, after a denial or a fault the one before, after `Stopped` one
 /// of the two, and nothing else from then on.
-pub fn call_before_a_crash<S: Alter>(
+pub fn call_before_a_crash<S: Alter + Drop>(
     alloc: Global,
     service: &mut Service<SqlSpace<S>>,
     now: u64,
