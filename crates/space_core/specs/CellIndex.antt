@@ -101,7 +101,8 @@ pub record AddsSought (m : Entities) (kind : Kind) (areas : List Region) (except
   pub here : (x : Entity) → get m k ≡ Some x → is_sought kind areas except (k, x) ≡ true → get new k ≡ Some x
   pub kept : (q : EntityKey) (x : Entity) → get old q ≡ Some x → get m q ≡ Some x → get new q ≡ Some x
 
--- some entities are nothing but what a map has and is sought, and have of what stands there under some ids all that is sought
+-- Some entities are nothing but what a map has and is sought. Of what it has under some ids they
+-- have all that is sought.
 pub record FindsSoughtAmong (m : Entities) (ids : BTreeSet ℕ) (kind : Kind) (areas : List Region) (except : Option ℕ) (found : Entities) : Type 0 where
   pub only : (k : EntityKey) (x : Entity) → get found k ≡ Some x → (get m k ≡ Some x) × (is_sought kind areas except (k, x) ≡ true)
   pub all : (k : EntityKey) (x : Entity) → get m k ≡ Some x → is_sought kind areas except (k, x) ≡ true → contains nat_cmp ids k.1 ≡ true → get found k ≡ Some x
