@@ -109,8 +109,8 @@ pub record AddsSought (m : Entities) (kind : Kind) (areas : List Region) (except
   pub kept : (q : EntityKey) (x : Entity) → get old q ≡ Some x → get m q ≡ Some x
       → get new q ≡ Some x
 
--- some entities are nothing but what a map has and is sought, and have of what stands there under
--- some ids all that is sought
+-- Some entities are nothing but what a map has and is sought. Of what it has under some ids they
+-- have all that is sought.
 pub record FindsSoughtAmong (m : Entities) (ids : BTreeSet ℕ) (kind : Kind) (areas : List Region)
     (except : Option ℕ) (found : Entities) : Type 0 where
   pub only : (k : EntityKey) (x : Entity) → get found k ≡ Some x → (get m k ≡ Some x)

@@ -48,8 +48,23 @@ pub(crate) fn kind_index(kind: Kind) -> u8
     }
 }
 
-// How the kind and the id of an entity stand to a kind and the number of an id.
-fn order(entity: &Entity, kind: Kind, number: u128) -> Ordering
+fn searched(items: &[Entity], kind: Kind, id: EntityId) -> Result<usize, usize>
+    ensures bound { IsSearchInRange result (length items.now) }
+    ensures position { IsBinarySearchResult (λ e. key_cmp (key_of e) (kind, id)) items.now result }
+{
+    items.binary_search_by(|entity| entity.order(kind, id))
+}
+
+// Where an entity stands, or would stand.
+fn place_of(items: &[Entity], kind: Kind, id: EntityId) -> Result<usize, usize>
+    ensures hit { InOrder items.now → IfOk result (Hit key_cmp pair_of items.now (kind, id)) }
+    ensures gap { InOrder items.now → IfErr result (Gap key_cmp pair_of items.now (kind, id)) }
+{
+    searched(items, kind, id)
+}
+
+// The same for the number of an id, which is all that an index has of it.
+fn order_to(entity: &Entity, kind: Kind, number: u128) -> Ordering
     ensures { result ≡ key_cmp (key_of entity.now) (kind, number) }
 {
     match kind_index(entity.nature.kind()).cmp(&kind_index(kind)) {
@@ -59,28 +74,19 @@ fn order(entity: &Entity, kind: Kind, number: u128) -> Ordering
     }
 }
 
-fn searched(items: &[Entity], kind: Kind, number: u128) -> Result<usize, usize>
+fn searched_by_number(items: &[Entity], kind: Kind, number: u128) -> Result<usize, usize>
     ensures bound { IsSearchInRange result (length items.now) }
     ensures position { IsBinarySearchResult (λ e. key_cmp (key_of e) (kind, number))
         items.now result }
 {
-    items.binary_search_by(|entity| order(entity, kind, number))
+    items.binary_search_by(|entity| order_to(entity, kind, number))
 }
 
-// Where the entity of a kind and the number of an id stands, or would stand.
-fn place_at(items: &[Entity], kind: Kind, number: u128) -> Result<usize, usize>
+fn place_by_number(items: &[Entity], kind: Kind, number: u128) -> Result<usize, usize>
     ensures hit { InOrder items.now → IfOk result (Hit key_cmp pair_of items.now (kind, number)) }
     ensures gap { InOrder items.now → IfErr result (Gap key_cmp pair_of items.now (kind, number)) }
 {
-    searched(items, kind, number)
-}
-
-// Where an entity stands, or would stand.
-fn place_of(items: &[Entity], kind: Kind, id: EntityId) -> Result<usize, usize>
-    ensures hit { InOrder items.now → IfOk result (Hit key_cmp pair_of items.now (kind, id)) }
-    ensures gap { InOrder items.now → IfErr result (Gap key_cmp pair_of items.now (kind, id)) }
-{
-    place_at(items, kind, id.number())
+    searched_by_number(items, kind, number)
 }
 
 fn found(
@@ -159,7 +165,7 @@ fn wanted(
     ensures { IfOk result (λ found. FindsSought (find key_cmp (kind, number)
         (keyed pair_of items.now)) kind areas.now except (kind, number) found) }
 {
-    match place_at(items, kind, number) {
+    match place_by_number(items, kind, number) {
         Ok(i) => {
             if is_wanted(&items[i], kind, areas, except) {
                 Ok(Some(items[i].clone(alloc)?))

@@ -19,7 +19,7 @@ use std::marker::Model;
 /// Entities in their order, each kind and id once, and where their cells are. Contracts see their
 /// list.
 #[derive(Debug, Drop)]
-pub struct IndexedEntities {
+pub(crate) struct IndexedEntities {
     entities: Entities,
     marks: BTreeSet<Mark>,
 }
@@ -150,7 +150,7 @@ fn meeting_in(
 
 impl IndexedEntities {
     /// No entities. It takes no memory.
-    pub fn new(alloc: Global) -> IndexedEntities
+    pub(crate) fn new(alloc: Global) -> IndexedEntities
         ensures { result ≡ [] }
     {
         IndexedEntities {
@@ -160,7 +160,7 @@ impl IndexedEntities {
     }
 
     /// A copy of the entity of a kind and an id, if there is one.
-    pub fn entity(
+    pub(crate) fn entity(
         &self,
         alloc: Global,
         kind: Kind,
@@ -173,7 +173,7 @@ impl IndexedEntities {
 
     /// Copies of the entities of a kind, but the one of an id, of which some volume meets some
     /// area, by rising ids.
-    pub fn meeting(
+    pub(crate) fn meeting(
         &self,
         alloc: Global,
         kind: Kind,
@@ -187,7 +187,7 @@ impl IndexedEntities {
     }
 
     /// Copies of the entities of a kind, by rising ids.
-    pub fn all(&self, alloc: Global, kind: Kind) -> Result<Vec<Entity>, AllocError>
+    pub(crate) fn all(&self, alloc: Global, kind: Kind) -> Result<Vec<Entity>, AllocError>
         ensures { IfOk result (λ found. found.items ≡ all_in (entity_map self.now) kind) }
     {
         self.entities.all(alloc, kind)
@@ -195,7 +195,7 @@ impl IndexedEntities {
 
     /// Puts an entity in the place of the one that has its kind and id, or among the others where
     /// its place is. On an error nothing is changed.
-    pub fn put(&mut self, entity: Entity) -> Result<(), AllocError>
+    pub(crate) fn put(&mut self, entity: Entity) -> Result<(), AllocError>
         ensures ok { OnOk result (entity_map self.new
             ≡ insert (entity_map self.old) (key_of entity) entity) }
         ensures err { OnErr result (self.new ≡ self.old) }
@@ -204,7 +204,7 @@ impl IndexedEntities {
     }
 
     /// Removes the entity of a kind and an id; where there is none, nothing is changed.
-    pub fn remove(&mut self, kind: Kind, id: EntityId)
+    pub(crate) fn remove(&mut self, kind: Kind, id: EntityId)
         ensures { entity_map self.new ≡ remove (entity_map self.old) (kind, id) }
     {
         remove_from(&mut self.entities, &mut self.marks, kind, id)

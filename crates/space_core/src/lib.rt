@@ -4,7 +4,7 @@
 pub mod availabilities;
 mod cell_index;
 pub mod entities;
-pub mod indexed;
+mod indexed;
 pub mod laws;
 pub mod list;
 pub mod space;

@@ -1,0 +1,11 @@
+use Rattle.entity_core.specs.Airspace.{key_cmp}
+use Rattle.space_core.specs.Entities.{pair_of}
+use Rattle.space_core.proofs.Keys.{key_total}
+use Rattle.space_core.proofs.Places.{place_hit, place_gap}
+use Rattle.space_core.proofs.entities.place_of.Goals as goal
+
+pub returns-clause-hit : goal.returns-clause-hit
+returns-clause-hit c = λ s. place_hit key_cmp pair_of key_total c.args.items.now (c.args.kind, c.args.id) c.searched.result s c.searched.ensures.bound c.searched.ensures.position
+
+pub returns-clause-gap : goal.returns-clause-gap
+returns-clause-gap c = λ s. place_gap key_cmp pair_of key_total c.args.items.now (c.args.kind, c.args.id) c.searched.result s c.searched.ensures.bound c.searched.ensures.position
