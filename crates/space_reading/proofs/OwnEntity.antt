@@ -2,7 +2,7 @@
 use Rattle.std.proofs.Common.{◌≡◌, ◌≢◌, ◌⊎◌, inl, inr, ℕ, ℤ, List, [], ◌∷◌, map, filter, flat_map, Bool, true, false, codes, Option, Some, None, Ok, Err, Result, IfOk, refl, sym, ap, subst, ◌∙◌, int_eq, arith}
 use Rattle.std.specs.Prelude.{IsPermutation, IfSome, Vec}
 use Rattle.std.specs.Global.{Global}
-use Rattle.std.specs.List.{AllByRecursion, list_all}
+use Rattle.std.specs.List.{list_all}
 use Rattle.std.proofs.lemmas.Int.{ints}
 use Rattle.std.proofs.lemmas.List.Sorted.{IsPermutation-trans, length_permutation}
 use Rattle.sqlite_keyed.proofs.ListLemmas.{filter-map, filter_none, filter_same, IsPermutation-filter}
@@ -14,7 +14,7 @@ use Rattle.sqlite_tied.specs.Compute.{everything}
 use Rattle.sqlite_schema.specs.declared.command.Command.TheVariants.{Select}
 use Rattle.sqlite.specs.declared.error.Error.{Error}
 use Rattle.sqlite.specs.declared.types.Value.TheVariants.{Null, Int}
-use Rattle.sqlite.specs.Order.{Row, column}
+use Rattle.sqlite.specs.Order.{Row}
 use Rattle.sqlite.specs.Term.{Term, col, holds}
 use Rattle.sqlite.specs.Effect.{Database, Reads as ReadsCommand}
 use Rattle.sqlite.specs.Listing.{understood}
@@ -27,13 +27,12 @@ use Rattle.space_rows.specs.declared.rows.VolumeRow.{VolumeRow}
 use Rattle.space_rows.specs.declared.rows.CellRow.{CellRow}
 use Rattle.space_rows.specs.Rows.{SpellsEntity}
 use Rattle.space_rows.proofs.Pieces.{Borne}
-use Rattle.space_tables.specs.Tables.{dss_schema}
 use Rattle.space_tables.specs.Spelling.{Spells, Group, entity_values, volume_values, cell_values, entity_columns}
 use Rattle.space_tables.proofs.OneAirspace.{numbers_differ}
 use Rattle.space_reading.specs.declared.numbered.OwnRows.{OwnRows}
 use Rattle.space_reading.specs.Reading.{Reads}
 use Rattle.space_reading.specs.Selecting.{IsSelect, Answers, command_of}
-use Rattle.space_reading.specs.Numbered.{AnswersNumber, AnswersOwn, IsNumbered, FindsNumbered}
+use Rattle.space_reading.specs.Numbered.{AnswersOwn, FindsNumbered}
 use Rattle.space_reading.proofs.Texts.{numbered_read}
 use Rattle.space_reading.proofs.Means.{listing}
 use Rattle.space_reading.proofs.Found.{same}
