@@ -88,7 +88,7 @@ adds_one num db m n e put one a s numbers h = record {
 }
   where
     own : get a.entities (key_of e) ≡ Some e
-    own = let k = (one a s).kept in subst (λ (x : Entity). get a.entities (key_of x) ≡ Some x) k.2 (group_got db a s k.0 k.1)
+    own = let k = (one a s).kept in subst (λ (x : Entity). get a.entities (key_of x) ≡ Some x) k.3 (group_got db a s k.0 k.1)
 
     got : (k : EntityKey) → get n k ≡ cond (eq_by_cmp key_cmp k (key_of e)) (Some e) (get m k)
     got k = ap (λ (x : Entities). get x k) put ∙ get-insert key_total m (key_of e) e k

@@ -130,6 +130,6 @@ numbered_told num rows (Ok o) none one db h = λ a s. record { own = own a s; ke
         one g.row g.volumes g.cells g.entity (numbered_shown db a s num rows.heads.items h.heads g there is)
         (own_volumes_shown db a s g there rows.volumes.items (rw (sym is) at h.volumes)) (own_cells_shown db a s g there rows.cells.items (rw (sym is) at h.cells)) (alone a.serial g s.groups s.each there).spelt
 
-    go : (a : Airspace) (s : Spells db a) → ((g : Group) → Has s.groups g → g.row.num ≢ num) ⊎ ((g : Group) × Has s.groups g × (g.row.num ≡ num)) → IfSome o (λ e. (g : Group) × Has s.groups g × (g.entity ≡ e))
-    go a s (inl absent) = subst (λ (p : Option Entity). IfSome p (λ e. (g : Group) × Has s.groups g × (g.entity ≡ e))) (sym (none (none_shown db a s num rows.heads.items h.heads absent))) tt
-    go a s (inr (g, there, is)) = subst (λ (p : Option Entity). IfSome p (λ e. (g : Group) × Has s.groups g × (g.entity ≡ e))) (sym (own a s g there is)) (g, there, refl)
+    go : (a : Airspace) (s : Spells db a) → ((g : Group) → Has s.groups g → g.row.num ≢ num) ⊎ ((g : Group) × Has s.groups g × (g.row.num ≡ num)) → IfSome o (λ e. (g : Group) × Has s.groups g × (g.row.num ≡ num) × (g.entity ≡ e))
+    go a s (inl absent) = subst (λ (p : Option Entity). IfSome p (λ e. (g : Group) × Has s.groups g × (g.row.num ≡ num) × (g.entity ≡ e))) (sym (none (none_shown db a s num rows.heads.items h.heads absent))) tt
+    go a s (inr (g, there, is)) = subst (λ (p : Option Entity). IfSome p (λ e. (g : Group) × Has s.groups g × (g.row.num ≡ num) × (g.entity ≡ e))) (sym (own a s g there is)) (g, there, is, refl)
