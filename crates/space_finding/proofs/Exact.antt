@@ -1,7 +1,6 @@
 -- The candidates that meet are the entities that meet.
-use Rattle.std.proofs.Common.{◌≡◌, ◌⊎◌, inl, inr, ℕ, suc, ℤ, pos, ◌≤◌, List, [], ◌∷◌, ◌&&◌, map, filter, flat_map, length, Bool, true, false, Option, Some, None, refl, sym, ap, subst, ◌∙◌, Less, Any, arith}
+use Rattle.std.proofs.Common.{◌≡◌, inl, inr, ℕ, suc, ℤ, pos, ◌≤◌, List, [], ◌∷◌, map, filter, true, Option, Some, refl, sym, ap, subst, ◌∙◌, arith}
 use Rattle.std.specs.Prelude.{◌≤ℤ◌}
-use Rattle.std.specs.List.{AllByRecursion, AllZip}
 use Rattle.std.specs.FinMap.{get, entries, entries_sorted}
 use Rattle.std.proofs.lemmas.Int.{ints}
 use Rattle.std.proofs.lemmas.Bool.{and_parts}
@@ -9,10 +8,9 @@ use Rattle.std.proofs.lemmas.Cmp.{on_total}
 use Rattle.sqlite_rules.specs.Lists.{Has}
 use Rattle.sqlite_rules.proofs.ListLemmas.{all_has, any_has, has_filtered, has_kept}
 use Rattle.sqlite_keyed.proofs.ListLemmas.{ascending-filter}
-use Rattle.sqlite_trees.specs.Tree.{IsAscending}
 use Rattle.sqlite.specs.Effect.{Database}
 use Rattle.grid_core.specs.Cell.{Cell, IsCell, Touch, lo_of, hi_of, parent_of}
-use Rattle.grid_core.specs.Extent.{Extent, Region, Meet, AnyMeet, any_meet, region_of}
+use Rattle.grid_core.specs.Extent.{Extent, Region, any_meet}
 use Rattle.grid_core.specs.Laws.{IsAbove}
 use Rattle.grid_core.proofs.IndexLaws.{found_by_index_lem}
 use Rattle.grid_core.proofs.Meets.{any_meet_test}
@@ -22,14 +20,14 @@ use Rattle.entity_core.specs.Airspace.{Airspace, Entities, EntityKey, key_cmp, k
 use Rattle.entity_core.specs.Search.{has_kind, is_not, is_sought, meeting_in}
 use Rattle.entity_core.proofs.Keys.{key_total}
 use Rattle.space_rows.specs.declared.rows.CellRow.{CellRow}
-use Rattle.space_rows.specs.Rows.{PlacedCell, IsCellRow, SpellsEntity, placed, placed_cells, cells_at, all_cells}
-use Rattle.space_tables.specs.Spelling.{Group, IsGroup, Spells, pair_of, cell_values, six_columns}
+use Rattle.space_rows.specs.Rows.{PlacedCell, IsCellRow, SpellsEntity, placed, placed_cells, all_cells}
+use Rattle.space_tables.specs.Spelling.{Group, Spells, cell_values, six_columns}
 use Rattle.space_tables.proofs.OneAirspace.{EntryLess, entries_rise}
 use Rattle.space_reading.proofs.OwnRows.{alone}
 use Rattle.space_finding.specs.declared.interval.Interval.{Interval}
 use Rattle.space_finding.specs.Asked.{HasRanges, HasAllAncestors, HasRange, HasAncestors, interval_of}
 use Rattle.space_finding.specs.Numbers.{IsCellIn, HasNumbers, StartsIn, HasInterval, FindsNumbers}
-use Rattle.space_finding.specs.Candidates.{IsPart, HoldsNumbered, HoldsCandidates}
+use Rattle.space_finding.specs.Candidates.{IsPart, HoldsCandidates}
 use Rattle.space_finding.proofs.Lists.{map_has, flat_has, has_moved, zip_has, one_list}
 use Rattle.space_finding.proofs.Found.{got_has, has_got, got_group}
 

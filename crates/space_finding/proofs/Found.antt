@@ -1,10 +1,7 @@
 -- Entities by the numbers of their rows, and the map that they become.
-use Rattle.std.proofs.Common.{◌≡◌, ◌⊎◌, inl, inr, ℕ, ℤ, List, [], ◌∷◌, ◌++◌, map, Bool, true, false, cond, Option, Some, None, Ok, Err, Result, refl, sym, ap, subst, ◌∙◌, is_eq, Ordering, Less, Equal, Greater}
-use Rattle.std.specs.Prelude.{IfSome, IsPermutation}
+use Rattle.std.proofs.Common.{◌≡◌, ◌⊎◌, inl, inr, ℤ, List, [], ◌∷◌, ◌++◌, map, Bool, true, false, cond, Some, None, refl, sym, ap, subst, ◌∙◌, is_eq, Equal}
 use Rattle.std.specs.Ordering.{eq_by_cmp}
-use Rattle.std.specs.List.{AllByRecursion}
-use Rattle.std.specs.FinMap.{FinMap, IsAntisymmetric, get, insert, empty, entries, entries_sorted, get-entries, get-empty, get-insert, find}
-use Rattle.std.specs.Cmp.{IsTotalOrder}
+use Rattle.std.specs.FinMap.{get, insert, empty, entries, entries_sorted, get-entries, get-empty, get-insert, find}
 use Rattle.std.proofs.lemmas.Cmp.{tied_itself}
 use Rattle.std.proofs.lemmas.List.Sorted.{IsPermutation-sym}
 use Rattle.sqlite_rules.specs.Lists.{Has}
@@ -13,12 +10,12 @@ use Rattle.sqlite_trees.specs.Tree.{IsAscending}
 use Rattle.sqlite.specs.Effect.{Database}
 use Rattle.entity_core.specs.declared.entity.Entity.{Entity}
 use Rattle.entity_core.specs.Airspace.{Airspace, Entities, EntityKey, key_cmp, key_of}
-use Rattle.entity_core.proofs.Keys.{key_total, key_exact, one_key}
+use Rattle.entity_core.proofs.Keys.{key_total, one_key}
 use Rattle.space_core.specs.Entities.{entity_map}
 use Rattle.space_tables.specs.Spelling.{Group, Spells, pair_of}
 use Rattle.space_tables.proofs.OneAirspace.{EntryLess, entries_rise}
 use Rattle.space_reading.specs.Numbered.{IsNumbered}
-use Rattle.space_finding.specs.Candidates.{IsPart, HoldsNumbered, ReadsNumbered, AddsNumbered}
+use Rattle.space_finding.specs.Candidates.{IsPart, ReadsNumbered, AddsNumbered}
 use Rattle.space_finding.proofs.Lists.{has_map, map_has, has_moved}
 
 -- ---- entries
@@ -91,7 +88,7 @@ adds_one num db m n e put one a s numbers h = record {
 }
   where
     own : get a.entities (key_of e) ≡ Some e
-    own = let k = (one a s).kept in subst (λ (x : Entity). get a.entities (key_of x) ≡ Some x) k.2 (group_got db a s k.0 k.1)
+    own = let k = (one a s).kept in subst (λ (x : Entity). get a.entities (key_of x) ≡ Some x) k.3 (group_got db a s k.0 k.1)
 
     got : (k : EntityKey) → get n k ≡ cond (eq_by_cmp key_cmp k (key_of e)) (Some e) (get m k)
     got k = ap (λ (x : Entities). get x k) put ∙ get-insert key_total m (key_of e) e k

@@ -12,7 +12,7 @@ use Rattle.std.specs.Cmp.{IsTotalOrder, IsEquivalence}
 use Rattle.std.proofs.lemmas.Cmp.{tied_itself, int_eq_equiv, on_equiv, and_equiv, int_cmp_total, on_total, then_total}
 use Rattle.std.proofs.lemmas.List.Sorted.{Contains-permutation}
 use Rattle.sqlite_rules.specs.Lists.{Has}
-use Rattle.sqlite_rules.proofs.ListLemmas.{all_has, has_contained, contains_had, has_left, has_right, has_either}
+use Rattle.sqlite_rules.proofs.ListLemmas.{all_has, has_contained, contains_had, has_left, has_right}
 use Rattle.sqlite_trees.specs.Tree.{IsAscending}
 use Rattle.space_rows.proofs.Pieces.{all_joined}
 use Rattle.space_finding.specs.declared.interval.Interval.{Interval}

@@ -1,6 +1,5 @@
 -- What the statements on the table cell show.
-use Rattle.std.proofs.Common.{◌≡◌, ℕ, List, [], ◌∷◌, ◌&&◌, map, filter, Bool, true, false, codes, refl, sym, ap, subst, ◌∙◌, int_eq, int_le, arith}
-use Rattle.std.specs.Prelude.{ℤ, ◌≤ℤ◌}
+use Rattle.std.proofs.Common.{◌≡◌, ℕ, List, [], ◌∷◌, ◌&&◌, Bool, true, false, codes, refl, sym, ap, subst, ◌∙◌, int_eq, int_le, arith}
 use Rattle.std.specs.List.{list_all}
 use Rattle.std.proofs.lemmas.Int.{ints}
 use Rattle.sqlite_rules.specs.Lists.{Has}
@@ -23,7 +22,7 @@ use Rattle.space_reading.specs.Selecting.{IsSelect, Answers, command_of}
 use Rattle.space_reading.proofs.Means.{listing, cols}
 use Rattle.space_reading.proofs.Selected.{selects_all}
 use Rattle.space_finding.specs.declared.interval.Interval.{Interval}
-use Rattle.space_finding.specs.Numbers.{IsCellIn, StartsIn, HasInterval, ShowsNumbers}
+use Rattle.space_finding.specs.Numbers.{StartsIn, HasInterval, ShowsNumbers}
 use Rattle.space_finding.proofs.Lists.{has_map, map_has, has_moved}
 
 abbrev pub range_read : List ℕ

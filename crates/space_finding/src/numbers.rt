@@ -14,10 +14,7 @@ use crate::interval::Interval;
 use sqlite::{Alter, Error, Row, Transaction, params};
 use std::alloc::Global;
 
-fn query_range<S: Alter>(
-    tx: &mut Transaction<'_, S>,
-    range: &Interval,
-) -> Result<Vec<Row>, Error>
+fn query_range<S: Alter>(tx: &mut Transaction<'_, S>, range: &Interval) -> Result<Vec<Row>, Error>
     ensures same_reference { tx.new.conn.ghost_name ≡ tx.old.conn.ghost_name }
     ensures reads { let old = state S.Store tx.old.conn.now in
         Reads (λ db rows. ShowsNumbers (StartsIn range.now) db rows.items)

@@ -2,7 +2,7 @@
 use Rattle.std.proofs.Common.{◌≡◌, ◌≢◌, ◌⊎◌, inl, inr, ℕ, ℤ, List, [], ◌∷◌, map, filter, flat_map, Bool, true, false, codes, Option, Some, None, Ok, Err, Result, IfOk, refl, sym, ap, subst, ◌∙◌, int_eq, arith}
 use Rattle.std.specs.Prelude.{IsPermutation, IfSome, Vec}
 use Rattle.std.specs.Global.{Global}
-use Rattle.std.specs.List.{AllByRecursion, list_all}
+use Rattle.std.specs.List.{list_all}
 use Rattle.std.proofs.lemmas.Int.{ints}
 use Rattle.std.proofs.lemmas.List.Sorted.{IsPermutation-trans, length_permutation}
 use Rattle.sqlite_keyed.proofs.ListLemmas.{filter-map, filter_none, filter_same, IsPermutation-filter}
@@ -14,7 +14,7 @@ use Rattle.sqlite_tied.specs.Compute.{everything}
 use Rattle.sqlite_schema.specs.declared.command.Command.TheVariants.{Select}
 use Rattle.sqlite.specs.declared.error.Error.{Error}
 use Rattle.sqlite.specs.declared.types.Value.TheVariants.{Null, Int}
-use Rattle.sqlite.specs.Order.{Row, column}
+use Rattle.sqlite.specs.Order.{Row}
 use Rattle.sqlite.specs.Term.{Term, col, holds}
 use Rattle.sqlite.specs.Effect.{Database, Reads as ReadsCommand}
 use Rattle.sqlite.specs.Listing.{understood}
@@ -27,13 +27,12 @@ use Rattle.space_rows.specs.declared.rows.VolumeRow.{VolumeRow}
 use Rattle.space_rows.specs.declared.rows.CellRow.{CellRow}
 use Rattle.space_rows.specs.Rows.{SpellsEntity}
 use Rattle.space_rows.proofs.Pieces.{Borne}
-use Rattle.space_tables.specs.Tables.{dss_schema}
 use Rattle.space_tables.specs.Spelling.{Spells, Group, entity_values, volume_values, cell_values, entity_columns}
 use Rattle.space_tables.proofs.OneAirspace.{numbers_differ}
 use Rattle.space_reading.specs.declared.numbered.OwnRows.{OwnRows}
 use Rattle.space_reading.specs.Reading.{Reads}
 use Rattle.space_reading.specs.Selecting.{IsSelect, Answers, command_of}
-use Rattle.space_reading.specs.Numbered.{AnswersNumber, AnswersOwn, IsNumbered, FindsNumbered}
+use Rattle.space_reading.specs.Numbered.{AnswersOwn, FindsNumbered}
 use Rattle.space_reading.proofs.Texts.{numbered_read}
 use Rattle.space_reading.proofs.Means.{listing}
 use Rattle.space_reading.proofs.Found.{same}
@@ -131,6 +130,6 @@ numbered_told num rows (Ok o) none one db h = λ a s. record { own = own a s; ke
         one g.row g.volumes g.cells g.entity (numbered_shown db a s num rows.heads.items h.heads g there is)
         (own_volumes_shown db a s g there rows.volumes.items (rw (sym is) at h.volumes)) (own_cells_shown db a s g there rows.cells.items (rw (sym is) at h.cells)) (alone a.serial g s.groups s.each there).spelt
 
-    go : (a : Airspace) (s : Spells db a) → ((g : Group) → Has s.groups g → g.row.num ≢ num) ⊎ ((g : Group) × Has s.groups g × (g.row.num ≡ num)) → IfSome o (λ e. (g : Group) × Has s.groups g × (g.entity ≡ e))
-    go a s (inl absent) = subst (λ (p : Option Entity). IfSome p (λ e. (g : Group) × Has s.groups g × (g.entity ≡ e))) (sym (none (none_shown db a s num rows.heads.items h.heads absent))) tt
-    go a s (inr (g, there, is)) = subst (λ (p : Option Entity). IfSome p (λ e. (g : Group) × Has s.groups g × (g.entity ≡ e))) (sym (own a s g there is)) (g, there, refl)
+    go : (a : Airspace) (s : Spells db a) → ((g : Group) → Has s.groups g → g.row.num ≢ num) ⊎ ((g : Group) × Has s.groups g × (g.row.num ≡ num)) → IfSome o (λ e. (g : Group) × Has s.groups g × (g.row.num ≡ num) × (g.entity ≡ e))
+    go a s (inl absent) = subst (λ (p : Option Entity). IfSome p (λ e. (g : Group) × Has s.groups g × (g.row.num ≡ num) × (g.entity ≡ e))) (sym (none (none_shown db a s num rows.heads.items h.heads absent))) tt
+    go a s (inr (g, there, is)) = subst (λ (p : Option Entity). IfSome p (λ e. (g : Group) × Has s.groups g × (g.row.num ≡ num) × (g.entity ≡ e))) (sym (own a s g there is)) (g, there, is, refl)

@@ -22,10 +22,10 @@ pub record AnswersOwn (num : ℤ) (db : Database) (rows : OwnRows) : Type 0 wher
   pub volumes : AnswersVolumes num db rows.volumes.items
   pub cells : AnswersCells num db rows.cells.items
 
--- the entity of the rows that have the number, and no other entity than one of the airspace
+-- the entity of the rows that have the number, and none where no rows have it
 pub record IsNumbered (num : ℤ) (gs : List Group) (found : Option Entity) : Type 0 where
   pub own : (g : Group) → Has gs g → g.row.num ≡ num → found ≡ Some g.entity
-  pub kept : IfSome found (λ e. (g : Group) × Has gs g × (g.entity ≡ e))
+  pub kept : IfSome found (λ e. (g : Group) × Has gs g × (g.row.num ≡ num) × (g.entity ≡ e))
 
 -- what is found under a number, in the airspace that the tables spell, if they spell one
 abbrev pub FindsNumbered : ℤ → Database → Option Entity → Type 0

@@ -92,12 +92,7 @@ fn entity_among(alloc: Global, rows: &OwnRows) -> Result<Option<Entity>, Error>
     let Some(head) = head_of(rows.heads.as_slice())? else {
         return Ok(None);
     };
-    let entity = entity_in(
-        alloc,
-        &head,
-        rows.volumes.as_slice(),
-        rows.cells.as_slice(),
-    )?;
+    let entity = entity_in(alloc, &head, rows.volumes.as_slice(), rows.cells.as_slice())?;
     Ok(Some(entity))
 }
 

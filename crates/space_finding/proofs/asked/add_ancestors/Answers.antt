@@ -1,4 +1,4 @@
-use Rattle.std.proofs.Common.{arith, subst, sym, ℕ, ◌≡◌, ◌<◌, inl, inr, ap, ◌∙◌}
+use Rattle.std.proofs.Common.{arith, subst, ℕ, ◌≡◌, inl, inr, ap, ◌∙◌}
 use Rattle.std.proofs.lemmas.Bool.{cases_lt}
 use Rattle.sqlite_rules.specs.Lists.{Has}
 use Rattle.sqlite_rules.proofs.ListLemmas.{has_front, has_last}

@@ -1,11 +1,10 @@
-use Rattle.std.proofs.Common.{arith, subst, sym, take, [], ◌∷◌, List}
+use Rattle.std.proofs.Common.{arith, subst, take, List}
 use Rattle.std.specs.List.{AllByRecursion}
 use Rattle.std.proofs.lemmas.List.{take_all}
 use Rattle.sqlite_rules.specs.Lists.{Has}
 use Rattle.sqlite_rules.proofs.ListLemmas.{all_more, has_front, has_last}
-use Rattle.grid_core.specs.Cell.{Cell, IsCell}
+use Rattle.grid_core.specs.Cell.{Cell}
 use Rattle.space_rows.proofs.Pieces.{all_turned}
-use Rattle.space_finding.specs.declared.interval.Interval.{Interval}
 use Rattle.space_finding.specs.Asked.{HasRange, interval_of}
 use Rattle.space_finding.proofs.asked.add_ranges.Goals as goal
 

@@ -1,4 +1,4 @@
-use Rattle.std.proofs.Common.{arith, subst, sym, take, List}
+use Rattle.std.proofs.Common.{arith, subst, take, List}
 use Rattle.std.specs.List.{AllByRecursion}
 use Rattle.std.proofs.lemmas.List.{take_all}
 use Rattle.sqlite_rules.proofs.ListLemmas.{all_more}

@@ -1,4 +1,4 @@
-use Rattle.std.proofs.Common.{Some, None, Ok, to_z-of_z}
+use Rattle.std.proofs.Common.{Some, None, to_z-of_z}
 use Rattle.sqlite.specs.Held.{state}
 use Rattle.space_core.specs.Entities.{entity_map}
 use Rattle.space_reading.specs.Numbered.{FindsNumbered}

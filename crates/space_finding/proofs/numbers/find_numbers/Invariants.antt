@@ -2,7 +2,7 @@ use Rattle.std.proofs.Common.{◌≡◌, take, Ok}
 use Rattle.std.specs.List.{AllByRecursion}
 use Rattle.sqlite.specs.Held.{state}
 use Rattle.space_reading.specs.Reading.{Reads}
-use Rattle.space_finding.specs.Numbers.{StartsIn, HasInterval, HasNumbers, FindsNumbers}
+use Rattle.space_finding.specs.Numbers.{StartsIn, HasNumbers, FindsNumbers}
 use Rattle.space_finding.proofs.numbers.find_numbers.Given as goal
 
 abbrev pub invariant-loop-range : goal.invariant-loop-range
