@@ -472,6 +472,14 @@ TOKEN_FILES = (
 # Command lines after the program's name, the status, and a part of what is said. The files are those of the
 # examples, and standard input is empty.
 RUN = ["run", "--tokens", "examples/tokens.toml", "--now"]
+TOKENS_AND_DB = ["--tokens", "t", "--db", "d"]
+
+
+def serving(port, count):
+    """A command line of `serve`."""
+    return ["serve", *TOKENS_AND_DB, "--port", port, "--count", count]
+
+
 COMMAND_LINES = (
     ([*RUN, "1000", "-"], 0, ""),
     (["run", "-", "--now=1000", "--tokens=examples/tokens.toml"], 0, ""),
@@ -492,7 +500,24 @@ COMMAND_LINES = (
     ([*RUN, "1"], 2, ""),
     ([*RUN, "1", "-", "s"], 2, ""),
     ([*RUN, "1", "--tokens", "examples/tokens.toml", "-"], 2, ""),
+    *((serving(port, "1"), 2, "") for port in ("0", "65536", "-1", "", "80.0")),
+    *((serving("1", count), 2, "") for count in ("0", "1000001", "-1", "", "many")),
+    (["serve", *TOKENS_AND_DB, "--port", "1"], 2, ""),
+    (["serve", *TOKENS_AND_DB, "--count", "1"], 2, ""),
+    (["serve", "--tokens", "t", "--port", "1", "--count", "1"], 2, "--db <FILE>"),
+    (["serve", "--db", "d", "--port", "1", "--count", "1"], 2, "--tokens <FILE>"),
+    ([*serving("1", "1"), "-"], 2, ""),
+    (["self", *RUN[1:], "0", "-"], 0, ""),
+    (["self", *RUN[1:], "253402300799", "-"], 0, ""),
+    *((["self", *RUN[1:], now, "-"], 2, "") for now in ("253402300800", "-1", "")),
+    (["self", *RUN[1:], "1"], 2, ""),
+    (["self", *RUN[1:], "1", "--db", "d", "-"], 2, ""),
+    (["report"], 2, "--db <FILE>"),
+    (["report", "--db", "d", "e"], 2, ""),
     (["--help"], 0, "Usage: dss <COMMAND>"),
+    (["serve", "--help"], 0, "--count <NUMBER>"),
+    (["self", "--help"], 0, "REQUEST"),
+    (["report", "--help"], 0, "dss report --db <FILE>"),
     (["run", "--help"], 0, "--now <SECONDS>"),
     (["cell", "--help"], 0, "dss cell <TOKEN>"),
 )

@@ -1,7 +1,7 @@
 //! One command line, run.
 use crate::cell::token_line;
 use crate::fault::Fault;
-use crate::{connections, loopback, run};
+use crate::{connections, loopback, report, run};
 use dss_line::fault::LineFault;
 use dss_line::line::{Line, parse};
 use std::alloc::Global;
@@ -94,7 +94,7 @@ fn done<R: Read, O: Write, E: Write>(
             loopback::loop_back(rt, &given, input, output)
         }
         Line::Cell { token } => cell(rt.alloc(), token, output),
-        Line::Report { database: _ } => Ok(()),
+        Line::Report { database } => report::report(rt, database, output),
     }
 }
 

@@ -3,6 +3,7 @@ use crate::clock::SystemClock;
 use crate::database::after_closing;
 use crate::fault::Fault;
 use crate::tokens::{salt_of, token_table, unread};
+use entity_core::salt::Salt;
 use service_core::service::Service;
 use space_core::space::Space;
 use space_sql::space::SqlSpace;
@@ -101,6 +102,20 @@ fn serve_port<S: Space + Drop, E: Write>(
     Ok(())
 }
 
+// Serves them over the database, which is closed last.
+fn serve_database<E: Write>(
+    rt: &HostRuntime,
+    salt: Salt,
+    tokens: &TokenTable,
+    given: &Settings<'_>,
+    error: &mut E,
+) -> Result<(), Fault> {
+    let space = SqlSpace::open(rt, given.database)?;
+    let mut service = Service::new(space, salt);
+    let served = serve_port(rt, &mut service, tokens, given, error);
+    after_closing(served, service.into_space().close())
+}
+
 /// Runs the command.
 pub(crate) fn serve<E: Write>(
     rt: &HostRuntime,
@@ -109,7 +124,5 @@ pub(crate) fn serve<E: Write>(
 ) -> Result<(), Fault> {
     let tokens = token_table(rt, given.tokens)?;
     let salt = salt_of(&tokens)?;
-    let mut service = Service::new(SqlSpace::open(rt, given.database)?, salt);
-    let served = serve_port(rt, &mut service, &tokens, given, error);
-    after_closing(served, service.into_space().close())
+    serve_database(rt, salt, &tokens, given, error)
 }

@@ -8,5 +8,6 @@ mod connections;
 mod database;
 pub mod fault;
 mod loopback;
+mod report;
 mod run;
 pub mod tokens;

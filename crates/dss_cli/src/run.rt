@@ -2,6 +2,7 @@
 use crate::database::after_closing;
 use crate::fault::Fault;
 use crate::tokens::{salt_of, token_table, unread};
+use entity_core::salt::Salt;
 use service_core::service::Service;
 use space_core::list::ListSpace;
 use space_core::space::Space;
@@ -59,6 +60,22 @@ fn serve_requests<S: Space + Drop, R: Read, W: Write>(
     }
 }
 
+// The same over a database, which is closed last.
+fn serve_database<R: Read, W: Write>(
+    rt: &HostRuntime,
+    name: &str,
+    salt: Salt,
+    tokens: &TokenTable,
+    given: &Settings<'_>,
+    input: &mut R,
+    output: &mut W,
+) -> Result<(), Fault> {
+    let space = SqlSpace::open(rt, name)?;
+    let mut service = Service::new(space, salt);
+    let served = serve_requests(rt, &mut service, tokens, given, input, output);
+    after_closing(served, service.into_space().close())
+}
+
 /// Runs the command.
 pub(crate) fn run<R: Read, W: Write>(
     rt: &HostRuntime,
@@ -69,11 +86,7 @@ pub(crate) fn run<R: Read, W: Write>(
     let tokens = token_table(rt, given.tokens)?;
     let salt = salt_of(&tokens)?;
     match given.database {
-        Some(name) => {
-            let mut service = Service::new(SqlSpace::open(rt, name)?, salt);
-            let served = serve_requests(rt, &mut service, &tokens, given, input, output);
-            after_closing(served, service.into_space().close())
-        }
+        Some(name) => serve_database(rt, name, salt, &tokens, given, input, output),
         None => {
             let mut service = Service::new(ListSpace::new(rt.alloc()), salt);
             serve_requests(rt, &mut service, &tokens, given, input, output)

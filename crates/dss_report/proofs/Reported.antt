@@ -1,0 +1,28 @@
+-- A report of what was read.
+use Rattle.std.specs.Prelude.{◌≡◌, Ok}
+use Rattle.std.proofs.Common.{inr, ap, ap₂, ◌∙◌, ◌++◌, List, ℕ, Vec, Global}
+use Rattle.entity_core.specs.Airspace.{Airspace}
+use Rattle.space_core.specs.declared.space.Space.{Ghosts}
+use Rattle.space_core.specs.Space.{Reads, Tells}
+use Rattle.dss_report.specs.Reading.{IsKeptIn, Reports}
+use Rattle.dss_report.specs.Report.{lines_of, report_of, serial_line, text_of}
+use Rattle.dss_report.specs.declared.kept.Kept.{Kept}
+
+-- the text of what was read is the airspace's report
+text_is : (a : Airspace) (kept : Kept) → IsKeptIn a kept → text_of kept ≡ report_of a
+text_is a kept is =
+    ap₂ (λ (x y : List ℕ). x ++ y) (ap lines_of is.0) (ap₂ (λ (x y : List ℕ). x ++ y) (ap lines_of is.1) (ap serial_line is.2))
+
+pub reports_of : {S : Type 0} (g : Ghosts S) (old new : S) (kept : Kept) (text : Vec ℕ Global)
+    → Tells (g.refusals old) (g.refusals new) (g.is_broken old) (g.is_broken new) (Ok kept)
+    → Reads g.holds g.is_sound g.is_whole old new (Ok kept) IsKeptIn
+    → text.items ≡ text_of kept
+    → Reports g old new (Ok text) (λ a text. text.items ≡ report_of a)
+reports_of g old new kept text tells reads is = record {
+  sound = reads.sound;
+  whole = reads.whole;
+  stays = λ s. inr (reads.stays s);
+  no_other = reads.no_other;
+  answer = λ s a h. is ∙ text_is a kept (reads.answer s a h);
+  told = (tells.counted, tells.breaks);
+}

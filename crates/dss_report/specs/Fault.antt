@@ -1,0 +1,22 @@
+-- Why there is no report.
+use Rattle.std.specs.Prelude.{◌≡◌, ◌<◌, ◌⊎◌, ℕ, Bool, true, List, codes}
+use Rattle.space_core.specs.Space.{greatest_count}
+use Rattle.dss_report.specs.declared.fault.ReportFault.{ReportFault}
+use Rattle.dss_report.specs.declared.fault.ReportFault.TheVariants.{Space, Memory}
+
+abbrev pub number_of : ReportFault → ℕ
+number_of Space = 1
+number_of Memory = 2
+
+abbrev pub name_of : ReportFault → List ℕ
+name_of Space = codes "Space"
+name_of Memory = codes "Memory"
+
+-- The space answered a fault: it has counted a refusal more (the count stays at its greatest value), or it is broken.
+abbrev pub HasFailed : ℕ → ℕ → Bool → Bool → Type 0
+HasFailed refusals refusals' broken broken' = (((refusals < refusals') ⊎ (refusals' ≡ greatest_count)) × (broken' ≡ broken)) ⊎ (broken' ≡ true)
+
+-- what a fault says of the space's answers
+abbrev pub ToldBy : ReportFault → ℕ → ℕ → Bool → Bool → Type 0
+ToldBy Space refusals refusals' broken broken' = HasFailed refusals refusals' broken broken'
+ToldBy Memory refusals refusals' broken broken' = (refusals' ≡ refusals) × (broken' ≡ broken)

@@ -1,0 +1,72 @@
+-- The report of an airspace, as a text.
+use Rattle.std.specs.Prelude.{◌≡◌, ℕ, ◌-◌, List, ◌++◌, codes, decimal, length, map}
+use Rattle.std.specs.List.{concat, repeat}
+use Rattle.entity_core.specs.Airspace.{Airspace}
+use Rattle.entity_core.specs.Entity.{kind_of, span_of, state_name}
+use Rattle.entity_core.specs.EntityId.{printed}
+use Rattle.entity_core.specs.Search.{all_in}
+use Rattle.entity_core.specs.declared.entity.Entity.{Entity}
+use Rattle.entity_core.specs.declared.nature.Kind.{Kind}
+use Rattle.entity_core.specs.declared.nature.Kind.TheVariants as kind
+use Rattle.entity_core.specs.declared.nature.Nature.{Nature}
+use Rattle.entity_core.specs.declared.nature.Nature.TheVariants as nature
+use Rattle.dss_report.specs.declared.kept.Kept.{Kept}
+
+-- ---- columns
+
+abbrev pub spaces : ℕ → List ℕ
+spaces n = repeat n (codes " ")
+
+-- a text at the left of a column of that width, where it fits
+abbrev pub left_in : ℕ → List ℕ → List ℕ
+left_in width text = text ++ spaces (width - length text)
+
+-- a text at the right of it
+abbrev pub right_in : ℕ → List ℕ → List ℕ
+right_in width text = spaces (width - length text) ++ text
+
+-- ---- a line
+
+abbrev pub kind_word : Kind → List ℕ
+kind_word kind.Intent = codes "intent"
+kind_word kind.Constraint = codes "constraint"
+
+-- the state of an intent; a constraint has none
+abbrev pub state_word : Nature → List ℕ
+state_word (nature.Intent state) = state_name state
+state_word nature.Constraint = codes "-"
+
+-- kind, id, version and state, with a space between
+abbrev pub front_of : Entity → List ℕ
+front_of e =
+    left_in 10 (kind_word (kind_of e.nature))
+    ++ (codes " " ++ (printed e.id
+    ++ (codes " " ++ (right_in 10 (decimal e.version)
+    ++ (codes " " ++ left_in 13 (state_word e.nature))))))
+
+-- and after them first and last time, manager, and a line end
+abbrev pub line_of : Entity → List ℕ
+line_of e =
+    front_of e
+    ++ (codes " " ++ (right_in 12 (decimal (span_of e.volumes).0)
+    ++ (codes " " ++ (right_in 12 (decimal (span_of e.volumes).1)
+    ++ (codes " " ++ (e.manager ++ codes "\n"))))))
+
+-- ---- the report
+
+abbrev pub lines_of : List Entity → List ℕ
+lines_of es = concat (map line_of es)
+
+abbrev pub serial_line : ℕ → List ℕ
+serial_line serial = codes "serial " ++ (decimal serial ++ codes "\n")
+
+-- a line for each intent by rising ids, then for each constraint by rising ids, and last the serial
+abbrev pub report_of : Airspace → List ℕ
+report_of a =
+    lines_of (all_in a.entities kind.Intent)
+    ++ (lines_of (all_in a.entities kind.Constraint)
+    ++ serial_line a.serial)
+
+-- the report of what was read for it
+abbrev pub text_of : Kept → List ℕ
+text_of kept = lines_of kept.intents.items ++ (lines_of kept.constraints.items ++ serial_line kept.serial)

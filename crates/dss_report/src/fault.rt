@@ -1,0 +1,47 @@
+//! Why there is no report.
+use std::alloc::AllocError;
+
+/// Why there is no report.
+#[derive(Clone, Copy, Debug, PartialEq, Eq)]
+pub enum ReportFault {
+    /// The space answered a fault.
+    Space,
+    /// Memory ran out.
+    Memory,
+}
+
+impl ReportFault {
+    ghost use Rattle.std.specs.Prelude.{◌≡◌};
+    ghost use Rattle.dss_report.specs.Fault.{name_of, number_of};
+
+    /// Its number, 1 or 2.
+    pub fn number(self) -> u8
+        ensures { result ≡ number_of self }
+    {
+        match self {
+            ReportFault::Space => 1,
+            ReportFault::Memory => 2,
+        }
+    }
+
+    /// Its name, as it is spelled here.
+    pub fn name(self) -> &'static str
+        ensures { result.now ≡ name_of self }
+    {
+        match self {
+            ReportFault::Space => "Space",
+            ReportFault::Memory => "Memory",
+        }
+    }
+}
+
+impl From<AllocError> for ReportFault {
+    ghost use Rattle.std.specs.Prelude.{◌≡◌};
+    ghost use Rattle.dss_report.specs.declared.fault.ReportFault.TheVariants.{Memory};
+
+    ghost from_gives = { λ _ fault. fault ≡ Memory };
+
+    fn from(_refused: AllocError) -> ReportFault {
+        ReportFault::Memory
+    }
+}

@@ -1,0 +1,32 @@
+//! What a report needs of a space.
+ghost use Rattle.space_core.specs.Space.{Reads, Tells};
+ghost use Rattle.dss_report.specs.Reading.{IsKeptIn};
+
+use entity_core::entity::Entity;
+use entity_core::nature::Kind;
+use space_core::space::{Space, SpaceFault};
+
+/// All entities of a space, and its serial.
+#[derive(Drop)]
+pub(crate) struct Kept {
+    pub(crate) intents: Vec<Entity>,
+    pub(crate) constraints: Vec<Entity>,
+    pub(crate) serial: u64,
+}
+
+/// Reads it: each kind by rising ids.
+pub(crate) fn kept_in<S: Space>(space: &mut S) -> Result<Kept, SpaceFault>
+    ensures tells { Tells (S.Space.refusals space.old) (S.Space.refusals space.new)
+        (S.Space.is_broken space.old) (S.Space.is_broken space.new) result }
+    ensures reads { Reads S.Space.holds S.Space.is_sound S.Space.is_whole space.old space.new result
+        IsKeptIn }
+{
+    let intents = space.all(Kind::Intent)?;
+    let constraints = space.all(Kind::Constraint)?;
+    let serial = space.serial()?;
+    Ok(Kept {
+        intents,
+        constraints,
+        serial,
+    })
+}
