@@ -16,8 +16,10 @@ tokens_rule = record (option_rule (codes "tokens")) { value_names = 1 }
 
 -- the value is a number from 0 to the last moment
 abbrev pub now_rule : Rule
-now_rule = record (option_rule (codes "now")) { value_names = 1;
-    parser = Some (Unsigned 0 LAST_MOMENT) }
+now_rule = record (option_rule (codes "now")) {
+  value_names = 1;
+  parser = Some (Unsigned 0 LAST_MOMENT);
+}
 
 -- the database, which need not be named
 abbrev pub database_rule : Rule
@@ -29,13 +31,17 @@ store_rule = record (option_rule (codes "db")) { value_names = 1 }
 
 -- the value is a number from 1 to the last port
 abbrev pub port_rule : Rule
-port_rule = record (option_rule (codes "port")) { value_names = 1;
-    parser = Some (Unsigned 1 LAST_PORT) }
+port_rule = record (option_rule (codes "port")) {
+  value_names = 1;
+  parser = Some (Unsigned 1 LAST_PORT);
+}
 
 -- the value is a number from 1 to the most connections
 abbrev pub count_rule : Rule
-count_rule = record (option_rule (codes "count")) { value_names = 1;
-    parser = Some (Unsigned 1 MOST_CONNECTIONS) }
+count_rule = record (option_rule (codes "count")) {
+  value_names = 1;
+  parser = Some (Unsigned 1 MOST_CONNECTIONS);
+}
 
 -- a word that has to be there
 abbrev pub word_rule : Text → Rule

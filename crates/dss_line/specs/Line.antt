@@ -20,7 +20,7 @@ texts words = map (λ word. word.now) words
 abbrev pub HasNumber : Text → List Row → ℕ → Type 0
 HasNumber id rows n =
     (text : List ℕ) × (one_of id rows ≡ Some text) × IsNumeral 10 (without_leading_plus text)
-        × (n ≡ digits_value 10 (without_leading_plus text))
+    × (n ≡ digits_value 10 (without_leading_plus text))
 
 -- it is one from the least to the greatest
 abbrev pub HasNumberIn : Text → ℕ → ℕ → List Row → ℕ → Type 0
@@ -70,4 +70,4 @@ Explains mistakes subcommand (fault.Shown text) = (kind : ErrorKind) × IsAmong 
     × IsFaultOf kind (fault.Shown text)
 Explains mistakes subcommand (fault.Refused text) =
     ((kind : ErrorKind) × IsAmong kind mistakes
-        × IsFaultOf kind (fault.Refused text)) ⊎ AsksNothing subcommand
+    × IsFaultOf kind (fault.Refused text)) ⊎ AsksNothing subcommand

@@ -54,8 +54,10 @@ availability_of a uss = unwrap_or (get a.availabilities uss) (Unknown, [])
 
 -- with the availability of a supplier under an availability version
 abbrev pub with_availability : Airspace → List ℕ → Stated → Airspace
-with_availability a uss stated = record a { availabilities = insert a.availabilities uss stated;
-    serial = a.serial + 1 }
+with_availability a uss stated = record a {
+  availabilities = insert a.availabilities uss stated;
+  serial = a.serial + 1;
+}
 
 -- with an entity, in the place of the one that has its kind and id
 abbrev pub with_entity : Airspace → Entity → Airspace

@@ -23,13 +23,23 @@ abbrev pub extent_of : List Cell → ℤ × ℤ → ℕ × ℕ → Extent
 extent_of cells altitude time = record { cells = cells; altitude = altitude; time = time }
 
 abbrev pub region_with : List Cell → Option ℤ × Option ℤ → Option ℕ × Option ℕ → Region
-region_with cells altitude time = record { cells = cells; lowest = altitude.0;
-    highest = altitude.1; first = time.0; last = time.1 }
+region_with cells altitude time = record {
+  cells = cells;
+  lowest = altitude.0;
+  highest = altitude.1;
+  first = time.0;
+  last = time.1;
+}
 
 -- an extent as an area, all of whose bounds are there
 abbrev pub region_of : Extent → Region
-region_of e = record { cells = e.cells; lowest = Some e.altitude.0; highest = Some e.altitude.1;
-    first = Some e.time.0; last = Some e.time.1 }
+region_of e = record {
+  cells = e.cells;
+  lowest = Some e.altitude.0;
+  highest = Some e.altitude.1;
+  first = Some e.time.0;
+  last = Some e.time.1;
+}
 
 -- not below the one bound, and not above the other
 abbrev pub IsFrom : {K : Type 0} → (K → K → Type 0) → Option K → K → Type 0

@@ -45,5 +45,8 @@ abbrev pub lent_stated : Option (Availability × Bor (List ℕ)) → Option Stat
 lent_stated kept = option_map (λ x. (x.0, x.1.now)) kept
 
 abbrev pub lent_facts : Option (Bor Entity) → Option (Availability × Bor (List ℕ)) → ℕ → Facts
-lent_facts found kept serial = record { found = lent_entity found; kept = lent_stated kept;
-    serial = serial }
+lent_facts found kept serial = record {
+  found = lent_entity found;
+  kept = lent_stated kept;
+  serial = serial;
+}

@@ -33,7 +33,7 @@ abbrev pub CallIsBlind : Type 0
 CallIsBlind = (salt m : List ℕ) (a b : Airspace) (now : ℕ) (c : Call) → IsLike m a b
     → is_by m c ≡ true → KnowsTheSame m c a b
     → ((step salt a now c).1 ≡ (step salt b now c).1)
-        × IsLike m (step salt a now c).0 (step salt b now c).0
+    × IsLike m (step salt a now c).0 (step salt b now c).0
 
 -- Over every list of calls, whoever makes them, the supplier is told the same, and the airspaces
 -- stay alike.
@@ -41,4 +41,4 @@ abbrev pub RunIsBlind : Type 0
 RunIsBlind = (salt m : List ℕ) (cs : List Timed) (a b : Airspace) → IsLike m a b
     → AllMadeAlike salt m cs a b
     → (replies_to m cs (replies_of salt a cs) ≡ replies_to m cs (replies_of salt b cs))
-        × IsLike m (airspace_after salt a cs) (airspace_after salt b cs)
+    × IsLike m (airspace_after salt a cs) (airspace_after salt b cs)

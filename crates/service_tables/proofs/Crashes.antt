@@ -21,6 +21,6 @@ module _ {K : Type 0} (g : Ghosts K) (new : K) (db : Trees) (found : (b : Airspa
   kept_after salt a now c (Denied rule missing) left = of_content a left.1.only
   kept_after salt a now c Fault left = of_content a left.only
   kept_after salt a now c Stopped left = elim (left found.0 found.2.0) [
-      | inl before ↦ inl (subst (λ b. Keeps db b) before found.2.1)
-      | inr after ↦ inr (subst (λ b. Keeps db b) after found.2.1)
-    ]
+    | inl before ↦ inl (subst (λ b. Keeps db b) before found.2.1)
+    | inr after ↦ inr (subst (λ b. Keeps db b) after found.2.1)
+  ]

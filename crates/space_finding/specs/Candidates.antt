@@ -27,7 +27,7 @@ ReadsNumbered numbers db found = (a : Airspace) (s : Spells db a)
 abbrev pub AddsNumbered : ℤ → Database → Entities → Entities → Type 0
 AddsNumbered num db before found =
     (a : Airspace) (s : Spells db a) (numbers : List ℤ)
-        → HoldsNumbered numbers s.groups a.entities before
+    → HoldsNumbered numbers s.groups a.entities before
     → HoldsNumbered (numbers ++ num ∷ []) s.groups a.entities found
 
 -- the entities of the numbers that the index finds

@@ -14,13 +14,28 @@ use Rattle.space_rows.specs.Rows.{kind_number, state_number}
 
 -- an entity without its volumes
 abbrev pub head_part : Entity → Head
-head_part e = record { nature = e.nature; id = e.id; manager = e.manager; version = e.version;
-    serial = e.serial; ovn = e.ovn; url = e.url }
+head_part e = record {
+  nature = e.nature;
+  id = e.id;
+  manager = e.manager;
+  version = e.version;
+  serial = e.serial;
+  ovn = e.ovn;
+  url = e.url;
+}
 
 -- and with these volumes
 abbrev pub with_volumes : Head → List Extent → Entity
-with_volumes h vs = record { nature = h.nature; id = h.id; manager = h.manager;
-    version = h.version; serial = h.serial; ovn = h.ovn; volumes = vs; url = h.url }
+with_volumes h vs = record {
+  nature = h.nature;
+  id = h.id;
+  manager = h.manager;
+  version = h.version;
+  serial = h.serial;
+  ovn = h.ovn;
+  volumes = vs;
+  url = h.url;
+}
 
 -- the entity of these parts, where it may have so many volumes
 pub record HasVolumes (h : Head) (vs : List Extent) (e : Entity) : Type 0 where

@@ -20,8 +20,14 @@ use Rattle.sqlite_catalog.specs.Listing.{automatic}
 
 -- a column that holds a value of its kind and no other
 abbrev pub filled : List ℕ → Kind → Column
-filled name kind = record { name = name; kind = kind; is_strict = true; not_null = true;
-    default = Null; collation = Binary }
+filled name kind = record {
+  name = name;
+  kind = kind;
+  is_strict = true;
+  not_null = true;
+  default = Null;
+  collation = Binary;
+}
 
 abbrev pub number : List ℕ → Column
 number name = filled name Integer
@@ -48,8 +54,14 @@ are_in_order k l = op2 (Compare Le Binary) (col 1 k) (col 1 l)
 -- these columns name a row of another table, with which the row goes
 abbrev pub goes_with : List ℕ → List ℕ → List (List ℕ) → Reference
 goes_with columns parent parent_columns =
-    record { columns = columns; parent = parent; parent_columns = parent_columns;
-        on_delete = Cascade; on_update = NoAction; is_deferred = false }
+    record {
+      columns = columns;
+      parent = parent;
+      parent_columns = parent_columns;
+      on_delete = Cascade;
+      on_update = NoAction;
+      is_deferred = false;
+    }
 
 -- a table with this tree: its columns, the one that numbers its rows, its key, what no two rows
 -- share, its checks and references
@@ -84,18 +96,18 @@ abbrev pub entity : ℕ → Table
 entity tree =
     table_of (codes "entity") tree
     (number (codes "num") ∷ number (codes "kind") ∷ text (codes "id") ∷ text (codes "manager")
-        ∷ number (codes "state") ∷ number (codes "version") ∷ number (codes "serial")
-        ∷ text (codes "ovn") ∷ text (codes "url") ∷ [])
+    ∷ number (codes "state") ∷ number (codes "version") ∷ number (codes "serial")
+    ∷ text (codes "ovn") ∷ text (codes "url") ∷ [])
     (Some 0) (0 ∷ []) ((2 ∷ 3 ∷ []) ∷ [])
     (op2 Or (is_number 2 0) (is_number 2 1)
-        ∷ is_between 5 0 4 ∷ is_between 6 1 2147483647 ∷ is_from 7 0 ∷ []) []
+    ∷ is_between 5 0 4 ∷ is_between 6 1 2147483647 ∷ is_from 7 0 ∷ []) []
 
 -- an entity and a place are its key, and it goes with the row of its entity
 abbrev pub volume : ℕ → Table
 volume tree =
     table_of (codes "volume") tree
     (number (codes "entity") ∷ number (codes "place") ∷ number (codes "alt_lower")
-        ∷ number (codes "alt_upper") ∷ number (codes "time_start") ∷ number (codes "time_end") ∷ [])
+    ∷ number (codes "alt_upper") ∷ number (codes "time_start") ∷ number (codes "time_end") ∷ [])
     None (1 ∷ 2 ∷ []) ((1 ∷ 2 ∷ []) ∷ []) (are_in_order 3 4 ∷ are_in_order 5 6 ∷ [])
     (goes_with (1 ∷ []) (codes "entity") (codes "num" ∷ []) ∷ [])
 
@@ -104,7 +116,7 @@ abbrev pub cell : ℕ → Table
 cell tree =
     table_of (codes "cell") tree
     (number (codes "entity") ∷ number (codes "volume") ∷ number (codes "place")
-        ∷ text (codes "token") ∷ number (codes "lo") ∷ number (codes "hi") ∷ [])
+    ∷ text (codes "token") ∷ number (codes "lo") ∷ number (codes "hi") ∷ [])
     None (1 ∷ 2 ∷ 3 ∷ []) ((1 ∷ 2 ∷ 3 ∷ []) ∷ []) (are_in_order 5 6 ∷ [])
     (goes_with (1 ∷ 2 ∷ []) (codes "volume") (codes "entity" ∷ codes "place" ∷ []) ∷ [])
 
@@ -117,8 +129,14 @@ availability tree =
 
 -- the index on `lo` and `hi` of the table `cell`
 abbrev pub cell_range : ℕ → ℕ → Index
-cell_range tree table = record { name = codes "cell_range"; tree = tree; table = table;
-    columns = 5 ∷ 6 ∷ []; order = plain; is_unique = false }
+cell_range tree table = record {
+  name = codes "cell_range";
+  tree = tree;
+  table = table;
+  columns = 5 ∷ 6 ∷ [];
+  order = plain;
+  is_unique = false;
+}
 
 -- the index that keeps the first of a table's uniques
 abbrev pub key_index : Table → List ℕ → ℕ → Index
@@ -136,7 +154,7 @@ dss_schema = record {
   tables = meta 0 ∷ entity 1 ∷ volume 3 ∷ cell 5 ∷ availability 8 ∷ [];
   indexes =
       key_index (entity 1) (2 ∷ 3 ∷ []) 2 ∷ key_index (volume 3) (1 ∷ 2 ∷ []) 4
-          ∷ key_index (cell 5) (1 ∷ 2 ∷ 3 ∷ []) 6
+      ∷ key_index (cell 5) (1 ∷ 2 ∷ 3 ∷ []) 6
       ∷ cell_range 7 5 ∷ key_index (availability 8) (1 ∷ []) 9 ∷ [];
   views = [];
 }
@@ -147,8 +165,11 @@ abbrev pub schema_1 : Schema
 schema_1 = record { tables = meta 0 ∷ []; indexes = []; views = [] }
 
 abbrev pub schema_2 : Schema
-schema_2 = record { tables = meta 0 ∷ entity 1 ∷ [];
-    indexes = key_index (entity 1) (2 ∷ 3 ∷ []) 2 ∷ []; views = [] }
+schema_2 = record {
+  tables = meta 0 ∷ entity 1 ∷ [];
+  indexes = key_index (entity 1) (2 ∷ 3 ∷ []) 2 ∷ [];
+  views = [];
+}
 
 abbrev pub schema_3 : Schema
 schema_3 = record {
@@ -170,7 +191,7 @@ schema_5 = record {
   tables = meta 0 ∷ entity 1 ∷ volume 3 ∷ cell 5 ∷ [];
   indexes =
       key_index (entity 1) (2 ∷ 3 ∷ []) 2 ∷ key_index (volume 3) (1 ∷ 2 ∷ []) 4
-          ∷ key_index (cell 5) (1 ∷ 2 ∷ 3 ∷ []) 6
+      ∷ key_index (cell 5) (1 ∷ 2 ∷ 3 ∷ []) 6
       ∷ cell_range 7 5 ∷ [];
   views = [];
 }

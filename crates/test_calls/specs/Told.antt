@@ -23,4 +23,4 @@ pub record ToldAfter (salt : List ℕ) (cs : List Timed) (c : Call) (rs : List R
   pub stale : (kind : Kind) (y : Entity) → DifferUpTo salt (airspace_told salt cs rs).serial
       → Contains (needed kind (airspace_told salt cs rs) c.caller c.op) y
       → AllByRecursion (IsOfAnother salt (airspace_told salt cs rs) y) (key_shown c.op)
-          → FailsOrIsRefused kind (airspace_told salt cs rs) c y r
+      → FailsOrIsRefused kind (airspace_told salt cs rs) c y r

@@ -17,7 +17,7 @@ body_at buffer start size = take size (drop start buffer)
 abbrev pub IsNext : List ℕ → List ℕ → List HeaderSpan → Next → Type 0
 IsNext rest buffer fields (Request spans size) =
     (h : RequestHead) × IsRequest rest h (body_at buffer spans.len size)
-        × Covers buffer fields spans h
+    × Covers buffer fields spans h
 IsNext rest buffer fields (Stop end) = StopsAs rest end
 
 -- the request lies in the buffer, and at most 8,192 bytes stand after it

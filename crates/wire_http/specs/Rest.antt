@@ -67,7 +67,7 @@ IsKind rest bad = (has_line (window rest) ≡ true) × NeverHasRequest (window r
 IsKind rest large =
     HasNoWhole rest
     × (((8192 ≤ length rest) × IsOpen (window rest)) ⊎ ((has_line (window rest) ≡ true)
-        × HasManyFields (window rest)))
+    × HasManyFields (window rest)))
 IsKind rest cut = HasNoWhole rest × (0 < length rest) × (length rest < 8192) × IsOpen (window rest)
 
 -- two kinds of a rest are one, but where it breaks the grammar and also has too many fields
@@ -92,7 +92,7 @@ Decides w fields More = (has_line w ≡ false) ⊎ ((has_line w ≡ true) × Has
     × MayBecomeRequest w)
 Decides w fields (Head spans) =
     ((h : RequestHead) × IsRequestAt w fields spans h × (length h.fields ≤ 64))
-        × IsRequestWithin w fields spans
+    × IsRequestWithin w fields spans
 Decides w fields Bad = (has_line w ≡ true) × NeverHasRequest w
 Decides w fields Large = (has_line w ≡ true) × RequestExceeds 64 w × RequestOverflows 64 w
 

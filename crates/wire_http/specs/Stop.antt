@@ -28,7 +28,7 @@ abbrev pub IsCut : List ℕ → Type 0
 IsCut rest =
     IsKind rest cut
     ⊎ ((h : RequestHead) × (size : ℕ) × IsKind rest (whole h) × (length_of (fields_of h) ≡ Ok size)
-        × (length (after h rest) < size))
+    × (length (after h rest) < size))
 
 -- how the stream ends there
 abbrev pub StopsAs : List ℕ → End → Type 0

@@ -35,7 +35,7 @@ module _ {S M : Type 0} (g : Ghosts S) (Gives : M → ℕ → M → Type 0) (cal
   IsTurn unread (Answered n) =
       (asked : Asked) × (reply : Reply) × (next : List ℕ)
       × Took asked reply n next × (unread ≡ Some next)
-          × Appends before text (answer_text asked.place asked.closing reply)
+      × Appends before text (answer_text asked.place asked.closing reply)
   IsTurn unread (Ended end) = StopsAs rest end × (new ≡ old) × (clock' ≡ clock)
       × Appends before text (concat (end_texts end))
 
@@ -44,8 +44,8 @@ module _ {S M : Type 0} (g : Ghosts S) (Gives : M → ℕ → M → Type 0) (cal
   IsTurnPart fault =
       ((asked : Asked) × (reply : Reply) × (n : ℕ) × (next : List ℕ) × (size : ℕ)
       × IsOfAnswering fault × Took asked reply n next
-          × Appends before text (take size (answer_text asked.place asked.closing reply)))
+      × Appends before text (take size (answer_text asked.place asked.closing reply)))
       ⊎ ((tail : List (List ℕ)) × (size : ℕ)
       × (IsOfAnswering fault ⊎ (tail ≡ [])) × (new ≡ old)
-          × ClockAfter Gives callers fault rest clock clock'
+      × ClockAfter Gives callers fault rest clock clock'
       × MayFollow (suc bound) rest tail × Appends before text (take size (concat tail)))

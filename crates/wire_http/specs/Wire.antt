@@ -77,7 +77,7 @@ module _ {M : Type 0} (Gives : M → ℕ → M → Type 0) (callers : Callers) w
   abbrev pub ClockAfter : StreamFault → List ℕ → M → M → Type 0
   ClockAfter faults.Memory left later clock' =
       (clock' ≡ later) ⊎ ((h : RequestHead) × (body : List ℕ) × (moment : ℕ)
-          × IsRequest left h body × Gives later moment clock')
+      × IsRequest left h body × Gives later moment clock')
   ClockAfter faults.Clock left later clock' = Unit {0}
   ClockAfter faults.Read left later clock' = clock' ≡ later
   ClockAfter faults.Write left later clock' = clock' ≡ later
@@ -117,7 +117,7 @@ pub record Serves
     {S M : Type 0} (g : Ghosts S) (Gives : M → ℕ → M → Type 0) (callers : Callers)
     (bound : ℕ) (input : List ℕ)
     (old new : Service S) (clock clock' : M) (before text : Option (List ℕ)) (served : Served)
-        : Type 0 where
+    : Type 0 where
   pub all : List Asked
   pub replies : List Reply
   pub n : ℕ
@@ -134,7 +134,7 @@ pub record ServesPart
     {S M : Type 0} (g : Ghosts S) (Gives : M → ℕ → M → Type 0) (callers : Callers)
     (bound : ℕ) (input : List ℕ)
     (old new : Service S) (clock clock' : M) (before text : Option (List ℕ)) (fault : StreamFault)
-        : Type 0 where
+    : Type 0 where
   pub all : List Asked
   pub replies : List Reply
   pub n : ℕ

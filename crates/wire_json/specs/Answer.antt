@@ -22,8 +22,11 @@ use Rattle.wire_json.specs.Reference.{reference_name, references_name, reference
 abbrev pub availability_text : List ℕ → Availability → List ℕ → List ℕ
 availability_text uss a version =
     object_text
-    ((codes "status", object_text ((codes "availability", quoted (name_of a))
-        ∷ (codes "uss", quoted uss) ∷ []))
+    ((
+      codes "status",
+      object_text ((codes "availability", quoted (name_of a))
+          ∷ (codes "uss", quoted uss) ∷ []),
+    )
     ∷ (codes "version", quoted version)
     ∷ [])
 
