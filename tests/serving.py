@@ -9,14 +9,19 @@ import wire
 from program import BUILT, SECONDS
 
 
-class Service:
-    """`dss serve` over a database, for so many connections at most."""
+def words(folder, port, count):
+    """The command line of the service over a folder with its token file and its database."""
+    files = ["--tokens", f"{folder}/tokens.toml", "--db", f"{folder}/dss.db"]
+    return [BUILT, "serve", *files, "--port", f"{port}", "--count", f"{count}"]
 
-    def __init__(self, tokens=None, count=1_000_000, folder=None):
-        self.room = tempfile.TemporaryDirectory(dir=folder)
-        self.folder = pathlib.Path(self.room.name)
+
+class Service:
+    """`dss serve` on a free port, for so many connections at most."""
+
+    def __init__(self, tokens=None, count=1_000_000, disk=None):
+        self.room = tempfile.TemporaryDirectory(dir=disk)
+        self.folder, self.count = pathlib.Path(self.room.name), count
         (self.folder / "tokens.toml").write_text(wire.token_file(tokens))
-        self.database, self.count = self.folder / "dss.db", count
 
     def __enter__(self):
         self.start()
@@ -30,32 +35,42 @@ class Service:
         """Starts the program, and waits until it listens."""
         with socket.create_server(("127.0.0.1", 0)) as free:
             self.port = free.getsockname()[1]
-        words = ["serve", "--tokens", f"{self.folder}/tokens.toml", "--db", f"{self.database}"]
-        words += ["--port", f"{self.port}", "--count", f"{self.count}"]
-        log = self.folder / "log"
-        # a client that leaves in the middle is a line here
-        with log.open("wb") as errors:
-            self.program = subprocess.Popen([BUILT, *words], stderr=errors)
+        self.listening = f"dss: listening on 127.0.0.1:{self.port}\n".encode()
+        output, errors = self.folder / "output", self.folder / "errors"
+        with output.open("wb") as stdout, errors.open("wb") as stderr:
+            self.program = subprocess.Popen(
+                words(self.folder, self.port, self.count), stdin=subprocess.DEVNULL, stdout=stdout, stderr=stderr
+            )
         until = time.monotonic() + SECONDS
-        while b"listening" not in log.read_bytes():
+        while not errors.read_bytes().startswith(self.listening):
             if self.program.poll() is not None or time.monotonic() > until:
                 self.program.kill()
-                raise OSError(f"the service does not listen: {log.read_text()}")
+                raise OSError(f"the service does not listen: {errors.read_text()}")
             time.sleep(0.005)
 
     def kill(self):
         self.program.kill()
         self.program.wait()
 
+    def ended(self):
+        """The status, the output and the error, once all connections were served."""
+        status = self.program.wait(timeout=SECONDS)
+        return status, (self.folder / "output").read_bytes(), (self.folder / "errors").read_bytes()
+
     def connect(self):
         return socket.create_connection(("127.0.0.1", self.port), timeout=SECONDS)
 
+    def exchange(self, sent, ends=True):
+        """What comes back on a connection of its own; ends says whether the client sends its end, too."""
+        with self.connect() as connection:
+            connection.sendall(sent)
+            if ends:
+                connection.shutdown(socket.SHUT_WR)
+            return b"".join(iter(lambda: connection.recv(1 << 16), b""))
+
     def ask(self, requests):
         """The answers to requests over one connection."""
-        with self.connect() as connection:
-            connection.sendall(b"".join(requests))
-            connection.shutdown(socket.SHUT_WR)
-            return wire.answers_of(b"".join(iter(lambda: connection.recv(1 << 16), b"")))
+        return wire.answers_of(self.exchange(b"".join(requests)))
 
     def memory(self):
         """The memory that the program holds, in kilobytes."""

@@ -1,14 +1,13 @@
 """The program behind sockets: `serve` on a free port of this machine, and `self`."""
-import contextlib
 import json
 import pathlib
 import socket
 import struct
-import subprocess
 import tempfile
 
 import wire
-from program import BUILT, SECONDS, TOP, run
+from program import BUILT, TOP, run
+from serving import Service, words
 
 READING = wire.compact({"status": {"availability": "Unknown", "uss": "uss-b"}, "version": ""})
 ASKED = wire.request("GET", f"{wire.AVAILABILITY}/uss-b", "Bearer tok-a")
@@ -17,65 +16,6 @@ ANSWER, LAST = wire.answer(200, READING), wire.answer(200, READING, closes=True)
 SOCKET = b"dss: socket\n"
 TOO_LONG = b"dss: self: request too long\n"
 MOST_BYTES = 16_384
-
-
-def free_port():
-    with socket.socket() as taken:
-        taken.bind(("127.0.0.1", 0))
-        return taken.getsockname()[1]
-
-
-def words(room, port, count):
-    return [BUILT, "serve", "--tokens", f"{room}/tokens.toml", "--db", f"{room}/dss.db", "--port", str(port), "--count", str(count)]
-
-
-class Service:
-    """The program on a free port, for so many connections."""
-
-    def __init__(self, room, count):
-        self.port = free_port()
-        self.program = subprocess.Popen(
-            words(room, self.port, count), stdin=subprocess.DEVNULL, stdout=subprocess.PIPE, stderr=subprocess.PIPE
-        )
-        self.listening = f"dss: listening on 127.0.0.1:{self.port}\n".encode()
-        self.told = self.program.stderr.readline()
-
-    def connect(self):
-        return socket.create_connection(("127.0.0.1", self.port), timeout=SECONDS)
-
-    def ended(self):
-        """The status, the output and the error, once all connections were served."""
-        output, error = self.program.communicate(timeout=SECONDS)
-        return self.program.returncode, output, self.told + error
-
-
-@contextlib.contextmanager
-def service(count):
-    with tempfile.TemporaryDirectory() as room:
-        pathlib.Path(room, "tokens.toml").write_text(wire.token_file())
-        started = Service(room, count)
-        try:
-            yield started
-        finally:
-            started.program.kill()
-            started.program.communicate()
-
-
-def all_of(connection):
-    """What comes until the other side sends no more."""
-    came = b""
-    while piece := connection.recv(65_536):
-        came += piece
-    return came
-
-
-def exchange(started, sent, ends=True):
-    """What comes back on a connection of its own; ends says whether the client sends its end, too."""
-    with started.connect() as connection:
-        connection.sendall(sent)
-        if ends:
-            connection.shutdown(socket.SHUT_WR)
-        return all_of(connection)
 
 
 def difference(name, got, wanted):
@@ -89,22 +29,22 @@ def silent(started, faults=b""):
 
 def one_connection():
     """One connection with two requests is answered, and the program ends."""
-    with service(1) as started:
-        found = difference("answers", exchange(started, ASKED + CLOSING, ends=False), ANSWER + LAST)
+    with Service(count=1) as started:
+        found = difference("answers", started.exchange(ASKED + CLOSING, ends=False), ANSWER + LAST)
         return found + silent(started)
 
 
 def one_after_the_other():
     """Each of 50 connections finds what the one before it has set."""
     found = []
-    with service(50) as started:
+    with Service(count=50) as started:
         version = ""
         for serial in range(1, 51):
             body = wire.compact({"old_version": version, "availability": "Down"}).encode()
             sent = wire.request("PUT", f"{wire.AVAILABILITY}/uss-b", "Bearer tok-v", body, ["Connection: close"])
             version = wire.ovn(serial)
             body = wire.compact({"status": {"availability": "Down", "uss": "uss-b"}, "version": version})
-            found += difference(f"connection {serial}", exchange(started, sent, ends=False), wire.answer(200, body, closes=True))
+            found += difference(f"connection {serial}", started.exchange(sent, ends=False), wire.answer(200, body, closes=True))
         return found + silent(started)
 
 
@@ -112,22 +52,22 @@ def broken_clients():
     """A client that says nothing, one that sends half a head and one that sends half a body get no answer, one that
     resets its connection is told as a failed read, and the next client is served."""
     put = wire.request("PUT", f"{wire.AVAILABILITY}/uss-b", "Bearer tok-v", b'{"old_version":"","availability":"Down"}')
-    with service(5) as started:
-        found = difference("nothing", exchange(started, b""), b"")
-        found += difference("half a head", exchange(started, ASKED[:40]), b"")
-        found += difference("half a body", exchange(started, put[:-1]), b"")
+    with Service(count=5) as started:
+        found = difference("nothing", started.exchange(b""), b"")
+        found += difference("half a head", started.exchange(ASKED[:40]), b"")
+        found += difference("half a body", started.exchange(put[:-1]), b"")
         with started.connect() as connection:
             connection.setsockopt(socket.SOL_SOCKET, socket.SO_LINGER, struct.pack("ii", 1, 0))
-        found += difference("the next", exchange(started, CLOSING), LAST)
+        found += difference("the next", started.exchange(CLOSING), LAST)
         return found + silent(started, b"dss: stream: fault 1 Read\n")
 
 
 def pipelined():
     """A hundred requests that are sent at once on each of ten connections are answered, and the last of them closes."""
     found = []
-    with service(10) as started:
+    with Service(count=10) as started:
         for at in range(1, 11):
-            got = exchange(started, ASKED * 100, ends=False)
+            got = started.exchange(ASKED * 100, ends=False)
             found += difference(f"connection {at}", got, ANSWER * 99 + LAST)
         return found + silent(started)
 
@@ -138,18 +78,18 @@ def last_answer():
     too_large = wire.request("GET", f"{wire.AVAILABILITY}/uss-b", "Bearer tok-a", fields=["Content-Length: 1048577"])
     refused = wire.answer(413, wire.compact({"message": "H5 BODYSIZE"}), closes=True)
     more = b"x" * 300_000
-    with service(2) as started:
-        found = difference("after a close", exchange(started, CLOSING + more), LAST)
-        found += difference("after a rule of the wire", exchange(started, too_large + more), refused)
+    with Service(count=2) as started:
+        found = difference("after a close", started.exchange(CLOSING + more), LAST)
+        found += difference("after a rule of the wire", started.exchange(too_large + more), refused)
         return found + silent(started)
 
 
 def second_service():
     """A second program on the port ends with its fault, and the first goes on."""
-    with service(1) as started, tempfile.TemporaryDirectory() as room:
+    with Service(count=1) as started, tempfile.TemporaryDirectory() as room:
         pathlib.Path(room, "tokens.toml").write_text(wire.token_file())
         found = difference("the second", run(words(room, started.port, 1)), (1, b"", SOCKET))
-        return found + difference("the first", exchange(started, CLOSING), LAST) + silent(started)
+        return found + difference("the first", started.exchange(CLOSING), LAST) + silent(started)
 
 
 def faults_in_order():
@@ -174,16 +114,16 @@ def through_itself():
     found = []
     for example in json.loads((TOP / "tests" / "worked_examples.json").read_text()):
         step = example["steps"][0]
-        words = [BUILT, "self", "--tokens", "examples/tokens.toml", "--now", str(example["now"]), "-"]
+        asked = [BUILT, "self", "--tokens", "examples/tokens.toml", "--now", str(example["now"]), "-"]
         request, answer = step["request"].encode("latin-1"), step["answer"].encode("latin-1")
         wanted = (0, answer, b"") if len(request) <= MOST_BYTES else (1, b"", TOO_LONG)
-        found += difference(example["name"], run(words, request), wanted)
+        found += difference(example["name"], run(asked, request), wanted)
     return found
 
 
 def through_itself_within_limits():
     """`self` takes 16,384 bytes and no more, and gives back no more than that."""
-    words = [BUILT, "self", "--tokens", "examples/tokens.toml", "--now", "1000"]
+    asked = [BUILT, "self", "--tokens", "examples/tokens.toml", "--now", "1000"]
     short = wire.request("GET", f"{wire.AVAILABILITY}/uss-b", "Bearer tok-a", b"", ["Connection: close"])
     room = MOST_BYTES - len(short) - len("16000") + 1
     greatest = wire.request("GET", f"{wire.AVAILABILITY}/uss-b", "Bearer tok-a", b" " * room, ["Connection: close"])
@@ -201,11 +141,11 @@ def through_itself_within_limits():
             ("a longer answer", many * (fits + 1), (1, b"", b"dss: self: answer too long\n")),
             ("nothing", b"", (0, b"", b"")),
         ):
-            found += difference(f"{name}, from standard input", run([*words, "-"], sent), wanted)
+            found += difference(f"{name}, from standard input", run([*asked, "-"], sent), wanted)
             file.write_bytes(sent)
-            found += difference(f"{name}, from a file", run([*words, str(file)]), wanted)
+            found += difference(f"{name}, from a file", run([*asked, str(file)]), wanted)
         for missing in f"{room}/none", room:
-            found += difference(missing, run([*words, missing]), (1, b"", b"dss: requests: cannot read\n"))
+            found += difference(missing, run([*asked, missing]), (1, b"", b"dss: requests: cannot read\n"))
     nowhere = [BUILT, "self", "--tokens", "none", "--now", "1000", "none"]
     return found + difference("no tokens", run(nowhere), (1, b"", b"dss: tokens: cannot read\n"))
 
