@@ -16,15 +16,18 @@ IsPart part all = (k : EntityKey) (e : Entity) → get part k ≡ Some e → get
 -- entities of an airspace, among them those whose rows have one of the numbers
 pub record HoldsNumbered (numbers : List ℤ) (gs : List Group) (all found : Entities) : Type 0 where
   pub part : IsPart found all
-  pub whole : (g : Group) → Has gs g → Has numbers g.row.num → get found (key_of g.entity) ≡ Some g.entity
+  pub whole : (g : Group) → Has gs g → Has numbers g.row.num
+      → get found (key_of g.entity) ≡ Some g.entity
 
 abbrev pub ReadsNumbered : List ℤ → Database → Entities → Type 0
-ReadsNumbered numbers db found = (a : Airspace) (s : Spells db a) → HoldsNumbered numbers s.groups a.entities found
+ReadsNumbered numbers db found =
+    (a : Airspace) (s : Spells db a) → HoldsNumbered numbers s.groups a.entities found
 
 -- the entity of one number more
 abbrev pub AddsNumbered : ℤ → Database → Entities → Entities → Type 0
 AddsNumbered num db before found =
-    (a : Airspace) (s : Spells db a) (numbers : List ℤ) → HoldsNumbered numbers s.groups a.entities before
+    (a : Airspace) (s : Spells db a) (numbers : List ℤ)
+    → HoldsNumbered numbers s.groups a.entities before
     → HoldsNumbered (numbers ++ num ∷ []) s.groups a.entities found
 
 -- the entities of the numbers that the index finds
