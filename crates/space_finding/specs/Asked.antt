@@ -29,12 +29,13 @@ HasRange asked c = IsCell c × Has asked (interval_of c)
 
 -- and so are those of the cells of levels below 13 that hold it
 abbrev pub HasAncestors : List Interval → Cell → Type 0
-HasAncestors asked c = (k : ℕ) → k < length c.digits → k < 13
-    → Has asked (interval_of (parent_of c k))
+HasAncestors asked c =
+    (k : ℕ) → k < length c.digits → k < 13 → Has asked (interval_of (parent_of c k))
 
 -- of all cells of areas
 abbrev pub HasRanges : List Interval → List Region → Type 0
 HasRanges asked areas = AllByRecursion (λ r. AllByRecursion (HasRange asked) r.cells) areas
 
 abbrev pub HasAllAncestors : List Interval → List Region → Type 0
-HasAllAncestors asked areas = AllByRecursion (λ r. AllByRecursion (HasAncestors asked) r.cells) areas
+HasAllAncestors asked areas =
+    AllByRecursion (λ r. AllByRecursion (HasAncestors asked) r.cells) areas

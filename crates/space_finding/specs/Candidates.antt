@@ -20,8 +20,8 @@ pub record HoldsNumbered (numbers : List ℤ) (gs : List Group) (all found : Ent
       → get found (key_of g.entity) ≡ Some g.entity
 
 abbrev pub ReadsNumbered : List ℤ → Database → Entities → Type 0
-ReadsNumbered numbers db found = (a : Airspace) (s : Spells db a)
-    → HoldsNumbered numbers s.groups a.entities found
+ReadsNumbered numbers db found =
+    (a : Airspace) (s : Spells db a) → HoldsNumbered numbers s.groups a.entities found
 
 -- the entity of one number more
 abbrev pub AddsNumbered : ℤ → Database → Entities → Entities → Type 0
@@ -31,8 +31,7 @@ AddsNumbered num db before found =
     → HoldsNumbered (numbers ++ num ∷ []) s.groups a.entities found
 
 -- the entities of the numbers that the index finds
-pub record HoldsCandidates (ranges ancestors : List Interval) (db : Database) (found : Entities)
-    : Type 0 where
+pub record HoldsCandidates (ranges ancestors : List Interval) (db : Database) (found : Entities) : Type 0 where
   pub numbers : List ℤ
   pub finds : FindsNumbers ranges ancestors db numbers
   pub reads : ReadsNumbered numbers db found

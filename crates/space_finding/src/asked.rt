@@ -1,5 +1,4 @@
-//! What the index is asked for: the intervals of the cells of areas, and those of the cells that hold
-//! them.
+//! What the index is asked for: the intervals of the cells of areas and of those that hold them.
 ghost use Rattle.std.specs.Prelude.{IfOk, OnOk};
 ghost use Rattle.std.specs.List.{AllByRecursion};
 ghost use Rattle.space_finding.specs.Asked.{AreEachOnce, Keeps, HasRange, HasAncestors, HasRanges, HasAllAncestors};
