@@ -18,6 +18,7 @@ const PATIENCE_MILLIS: u64 = 200;
 
 // The most pieces that are read of what it still sends, and the bytes of a piece.
 const LAST_READS: u32 = 64;
+
 const PIECE: usize = 16_384;
 
 /// What the command `serve` was given.

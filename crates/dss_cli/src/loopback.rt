@@ -39,11 +39,7 @@ fn few_bytes<R: Read>(rt: &HostRuntime, input: &mut R) -> Result<Vec<u8>, Fault>
 }
 
 // The bytes of the file of requests, or of the standard input.
-fn request_bytes<R: Read>(
-    rt: &HostRuntime,
-    name: &str,
-    input: &mut R,
-) -> Result<Vec<u8>, Fault> {
+fn request_bytes<R: Read>(rt: &HostRuntime, name: &str, input: &mut R) -> Result<Vec<u8>, Fault> {
     if name == "-" {
         return few_bytes(rt, input);
     }

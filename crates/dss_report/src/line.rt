@@ -99,11 +99,7 @@ pub(crate) fn put_lines(
 }
 
 /// Adds the line of a serial.
-pub(crate) fn put_serial(
-    alloc: Global,
-    text: &mut Vec<u8>,
-    serial: u64,
-) -> Result<(), AllocError>
+pub(crate) fn put_serial(alloc: Global, text: &mut Vec<u8>, serial: u64) -> Result<(), AllocError>
     ensures { OnOk result (text.new.items ≡ text.old.items ++ serial_line serial) }
 {
     let line = format!(in alloc; "serial {serial}\n")?;
