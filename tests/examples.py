@@ -4,9 +4,11 @@ The answers were written from the rules and formats that docs/POLICY.md states, 
 SHA-256."""
 import json
 import re
+import socket
 
 import wire
 from program import BUILT, TOP, run
+from serving import Service
 
 FOLDER = TOP / "examples"
 COMMAND = [BUILT, "run", "--tokens", "examples/tokens.toml", "--now", "1000", "-"]
@@ -44,7 +46,33 @@ def bodies_for_clients():
     return [f"{status}, {output!r}, {error!r}"] if (status, right, error) != (0, ["P5 FORM", wire.ovn(1)], b"") else []
 
 
+def free_port():
+    with socket.create_server(("127.0.0.1", 0)) as free:
+        return free.getsockname()[1]
+
+
+def meeting_over_sockets():
+    """Two suppliers meet over the service that the script starts: each of its seven steps is answered as it says."""
+    status, output, error = run([str(FOLDER / "meeting"), f"{free_port()}"])
+    steps = [line[0] for line in output.decode().splitlines() if line[:2] in {f"{it}." for it in range(1, 8)}]
+    is_right = status == 0 and steps == list("1234567") and output.count(b"P14 KEY") == 2
+    return [] if is_right else [f"{status}, {output!r}, {error!r}"]
+
+
+def client():
+    """The client declares four flights in one cell, in turn for two suppliers, and sees its own OVNs alone."""
+    with Service() as service:
+        status, output, error = run([str(FOLDER / "client.py"), f"{service.port}"])
+    lines = output.decode().splitlines()
+    declared = [line.split()[0] for line in lines if " declared " in line]
+    shown = sum(line.endswith("not shown") for line in lines)
+    is_right = status == 0 and declared == ["uss-a", "uss-b"] * 2 and len(lines) == 8 and shown == 2
+    return [] if is_right else [f"{status}, {output!r}, {error!r}"]
+
+
 CASES = {f"example-{it.stem}": lambda it=it: answered(it) for it in requests()} | {
     "examples-in-pairs": in_pairs,
     "bodies-for-clients": bodies_for_clients,
+    "meeting-over-sockets": meeting_over_sockets,
+    "example-of-a-client": client,
 }
