@@ -25,22 +25,33 @@ pub leaves_held : (s : State) → is_whole_in s → (db : Trees) → s.may_leave
 leaves_held s whole db may = let it = whole db may in (it.0, (db, may, it.1), it.1)
 
 pub leaves_content : (s : State) (a : Airspace) → ((b : Airspace) → holds_in s b → b ≡ a) → is_whole_in s → (db : Trees) → s.may_leave db → Keeps db a
-leaves_content s a only whole db may = let it = leaves_held s whole db may in subst (λ b. Keeps db b) (only it.0 it.2.0) it.2.1
+leaves_content s a only whole db may = let it = leaves_held s whole db may in subst (λ b. Keeps db b) (only it.0 it.1) it.2
 
 -- what a connection sees that was opened over what a crash left
-pub found_again : (old opened : State) → is_whole_in old → IsLive opened → IsTrue opened.is_open → opened.now ≡ opened.committed → old.may_leave opened.committed.trees
-    → (opened.now.schema ≡ dss_schema) × ((a : Airspace) × holds_in old a × Spells opened.now a)
+record Found (old opened : State) : Type 0 where
+  schema : opened.now.schema ≡ dss_schema
+  held : Airspace
+  holds : holds_in old held
+  spelt : Spells opened.now held
+
+found_again : (old opened : State) → is_whole_in old → IsLive opened → IsTrue opened.is_open → opened.now ≡ opened.committed → old.may_leave opened.committed.trees → Found old opened
 found_again old opened whole live is_open settled may =
     let it = leaves_held old whole opened.committed.trees may in
-    let committed = one_schema opened.committed.trees opened.committed.schema dss_schema (live is_open).1 it.2.1.0 in
+    let committed = one_schema opened.committed.trees opened.committed.schema dss_schema (live is_open).1 it.2.0 in
     let now : opened.now.schema ≡ dss_schema = ap (λ (d : Database). d.schema) settled ∙ committed in
-    (now, (it.0, it.2.0, respell (with_tables opened.committed.trees) opened.now it.0 now (ap (λ (d : Database). d.trees) (sym settled)) it.2.1.1))
+    record {
+      schema = now;
+      held = it.0;
+      holds = it.1;
+      spelt = respell (with_tables opened.committed.trees) opened.now it.0 now (ap (λ (d : Database). d.trees) (sym settled)) it.2.1;
+    }
 
 format_in : List Row → Value
 format_in [] = Null
 format_in (r ∷ rows) = column r 1
 
 not_other : (db : Database) (a : Airspace) → Spells db a → IsOtherFormat db → ⊥
+unfolding format_in
 not_other db a p other = other.other (ap format_in (sym other.only ∙ p.meta))
 
 not_refused : (db : Database) (a : Airspace) (fault : OpenFault) → Spells db a → Refuses db fault → (fault ≡ Store → ⊥) → ⊥
@@ -63,14 +74,14 @@ if_err_as (Ok x) f p = tt
 if_err_as (Err e) f p = f e p
 
 module _ (old opened : State) (live : IsLive opened) (settled : IsTrue opened.is_open → opened.now ≡ opened.committed) {X C : Type 0} (r : Result X (OpenFault × C)) (Left : Type 0) (sees : Left → IsTrue opened.is_open × ∥ old.may_leave opened.committed.trees ∥₁) where
-  pub taken_again : {Sound : X → Type 0} {Holds : X → Airspace → Type 0} → IfOk r (λ s. Sound s → opened.now.schema ≡ dss_schema → (a : Airspace) × Spells opened.now a × IsContent Holds s a)
+  pub taken_again : (Sound : X → Type 0) (Holds : X → Airspace → Type 0) → IfOk r (λ s. Sound s → opened.now.schema ≡ dss_schema → (a : Airspace) × Spells opened.now a × IsContent Holds s a)
       → IfOk r (λ s. Sound s → is_whole_in old → Left → ∥ ((a : Airspace) × holds_in old a × IsContent Holds s a) ∥₁)
-  taken_again taken = if_ok_as r (λ s got sound whole left. ∥∥₁_map (sees left).1 (λ may.
+  taken_again Sound Holds taken = if_ok_as r (λ s got sound whole left. ∥∥₁_map (sees left).1 (λ may.
       let it = found_again old opened whole live (sees left).0 (settled (sees left).0) may in
-      let own = got sound it.0 in
-      (own.0, subst (λ a. holds_in old a) (one_airspace _ _ it.1.0 own.0 refl it.1.2 own.1) it.1.1, own.2))) taken
+      let own = got sound it.schema in
+      (own.0, subst (λ a. holds_in old a) (one_airspace _ _ it.held own.0 refl it.spelt own.1) it.holds, own.2))) taken
 
-  pub refused_again : {Clean : C → Type 0} → IfErr r (λ e. Clean e.1 → opened.now.schema ≡ dss_schema → Refuses opened.now e.0) → IfErr r (λ e. Clean e.1 → is_whole_in old → Left → e.0 ≡ Store)
-  refused_again refuses = if_err_as r (λ e why clean whole left. is_store e.0 (λ other. not_there (sees left).1 (λ may.
+  pub refused_again : (Clean : C → Type 0) → IfErr r (λ e. Clean e.1 → opened.now.schema ≡ dss_schema → Refuses opened.now e.0) → IfErr r (λ e. Clean e.1 → is_whole_in old → Left → e.0 ≡ Store)
+  refused_again Clean refuses = if_err_as r (λ e why clean whole left. is_store e.0 (λ other. not_there (sees left).1 (λ may.
       let it = found_again old opened whole live (sees left).0 (settled (sees left).0) may in
-      not_refused opened.now it.1.0 e.0 it.1.2 (why clean it.0) other))) refuses
+      not_refused opened.now it.held e.0 it.spelt (why clean it.schema) other))) refuses

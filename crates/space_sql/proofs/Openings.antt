@@ -15,14 +15,15 @@ ok_is_no_fault x fault = λ e. cc
 pub missing_is_not_whole : Missing ≡ Whole → ⊥
 missing_is_not_whole e = cc
 
+-- a call that committed nothing leaves no more than an opening may
+pub nothing_left : (old new : State) (fault : OpenFault) → Survives old new (λ _. ⊥) → Survives old new (MayBeOpened old fault)
+nothing_left old new fault left = survives_weaker old new _ _ (λ clean db none. absurd none) left
+
 module _ {X C : Type 0} (old : State) (shown : C → State) where
   pub left_made : (r : Result X (OpenFault × C)) → old.now.schema ≢ dss_schema → IfErr r (λ e. e.0 ≡ Store) → IfErr r (λ e. Survives old (shown e.1) (MayBeMade old)) → IfErr r (λ e. Survives old (shown e.1) (MayBeOpened old e.0))
   left_made (Ok x) other store left = tt
   left_made (Err e) other store left = survives_weaker old (shown e.1) _ _ (λ clean db made. (store, made, other)) left
 
-  pub nothing_left : (fault : OpenFault) (new : State) → Survives old new (λ _. ⊥) → Survives old new (MayBeOpened old fault)
-  nothing_left fault new left = survives_weaker old new _ _ (λ clean db none. absurd none) left
-
   pub left_nothing : (r : Result X (OpenFault × C)) → IfErr r (λ e. Survives old (shown e.1) (λ _. ⊥)) → IfErr r (λ e. Survives old (shown e.1) (MayBeOpened old e.0))
   left_nothing (Ok x) left = tt
-  left_nothing (Err e) left = nothing_left e.0 (shown e.1) left
+  left_nothing (Err e) left = nothing_left old (shown e.1) e.0 left

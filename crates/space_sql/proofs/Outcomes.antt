@@ -28,7 +28,7 @@ pub respell : (D E : Database) (a : Airspace) → E.schema ≡ dss_schema → D.
 respell D E a is same p = let path : D ≡ E = λ i. record { schema = (p.schema ∙ sym is) i; trees = same i } in subst (λ d. Spells d a) path p
 
 -- the trees tell the schema
-one_schema : (trees : Trees) (s t : Schema) → IsDatabase (record { schema = s; trees = trees }) → IsDatabase (record { schema = t; trees = trees }) → s ≡ t
+pub one_schema : (trees : Trees) (s t : Schema) → IsDatabase (record { schema = s; trees = trees }) → IsDatabase (record { schema = t; trees = trees }) → s ≡ t
 one_schema trees s t p q = lists_once (trees catalog_tree) s t p.lists q.lists
 
 pub one_kept : (s : State) (a b : Airspace) → Laws s → IsTrue s.is_open → holds_in s a → holds_in s b → a ≡ b

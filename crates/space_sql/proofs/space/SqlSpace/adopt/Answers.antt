@@ -9,5 +9,5 @@ returns-in-Missing-clause-left g c = left_made (state g.S.Store c.args.conn) (λ
 pub returns-in-Whole-clause-left : goal.returns-in-Whole-clause-left
 returns-in-Whole-clause-left g c = left_nothing (state g.S.Store c.args.conn) (λ h. state g.S.Store h) c.take_old.result c.take_old.ensures.left
 
-pub returns-in_default-clause-left : goal.returns-in_default-clause-left
-returns-in_default-clause-left g c = nothing_left (state g.S.Store c.args.conn) (λ h. state g.S.Store h) c.refused.result.0 (state g.S.Store c.refused.result.1) c.refused.ensures.left
+pub returns-in-Partial-clause-left : goal.returns-in-Partial-clause-left
+returns-in-Partial-clause-left g c = nothing_left (state g.S.Store c.args.conn) (state g.S.Store c.refused.result.1) c.refused.result.0 c.refused.ensures.left
