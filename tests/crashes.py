@@ -26,8 +26,8 @@ def changes():
     """Each change with those before it."""
     made = filled()
     moved = {
-        "extents": [volume(["89c2590c"], (0, 100), (900, 2000)), volume(["89c3"], (200, 300), (900, 2000))],
-        "state": "Accepted",
+        "extents": [volume(["89c2590c"], (0, 100), (900, 2000)), volume(["89c2591"], (200, 300), (900, 2000))],
+        "state": "Activated",
         "uss_base_url": "https://a.example/moved",
     }
     settings = {"old_version": wire.ovn(4), "availability": "Normal"}

@@ -1,5 +1,6 @@
 """A program that is killed in the middle of its changes: what it acknowledged is in the database, and of the change
 that it was at all or nothing."""
+import contextlib
 import pathlib
 import shutil
 import sqlite3
@@ -40,10 +41,8 @@ def killed(service, requests, seen, wait):
     with service.connect() as connection:
 
         def send():
-            try:
+            with contextlib.suppress(OSError):
                 connection.sendall(b"".join(requests))
-            except OSError:
-                pass
 
         sender = threading.Thread(target=send)
         sender.start()
@@ -52,10 +51,10 @@ def killed(service, requests, seen, wait):
         time.sleep(wait)
         service.kill()
         sender.join()
-        try:
-            output += b"".join(iter(lambda: connection.recv(1 << 16), b""))
-        except ConnectionResetError:
-            pass
+        # what came before the connection was reset counts
+        with contextlib.suppress(ConnectionResetError):
+            while piece := connection.recv(1 << 16):
+                output += piece
     return wire.answers_of(output)
 
 
@@ -82,8 +81,8 @@ def one(seed):
         if why:
             return [f"seed {seed}, before the kill: {why}"], count
         wrong, serial = serial_in(service.folder)
-        # the call after the last answer may have been done
-        done = [it for it in (count, count + 1) if asked.serials[min(it, CALLS)] == serial]
+        # more calls may have been done, whose answers did not come
+        done = [it for it in range(count, CALLS + 1) if asked.serials[it] == serial]
         if wrong or not done:
             return [f"seed {seed}: {count} answers, serial {serial}, {wrong}"], count
         service.start()

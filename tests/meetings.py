@@ -97,7 +97,7 @@ def differences(name, calls, answers, least):
     sizes = [outcome.body.count('"id"') for _, outcome in calls if outcome.status == 200]
     refused = sum(outcome.status == 413 for _, outcome in calls)
     found = [f"{name}: {why}"] if why else []
-    if sizes and (max(sizes) < least or min(sizes) > 0 or not refused):
+    if sizes and (max(sizes) < least or min(sizes) == max(sizes) or not refused):
         found += [f"{name}: the queries find {sizes} and {refused} are refused, which tells little"]
     return found
 
@@ -118,6 +118,7 @@ def made_coarser(room, draw, airspace):
                 extents.append(dataclasses.replace(volume, cells=(cell, *volume.cells[1:])))
             put = dataclasses.replace(entity.put, extents=tuple(extents))
             airspace.entities[entity.kind, entity.id] = dataclasses.replace(entity, put=put)
+    database.close()
 
 
 def over_database():

@@ -42,9 +42,9 @@ def worked_example():
         return found + difference("the report", report(room.database), (0, OF_THE_EXAMPLE, b""))
 
 
-def put(kind, entity, token, times, state=None, path=""):
+def put(kind, entity, token, times, state=None, path="", key=()):
     body = {"extents": [volume(["89c25904"], (0, 10), at) for at in times], "uss_base_url": "https://a.example"}
-    body |= {"state": state} if state else {}
+    body |= {"state": state, "key": list(key)} if state else {}
     return ask("PUT", f"{kind}/{entity}{path}", token, body)
 
 
@@ -56,8 +56,8 @@ def in_order():
         put(wire.CONSTRAINTS, ID(0xFE), "tok-c", [(5, 1500), (7, 1234)]),
         put(wire.INTENTS, ID(2), "tok-bm", [late, early], "Nonconforming"),
         put(wire.CONSTRAINTS, ID(0xA), "tok-c", [early]),
-        put(wire.INTENTS, ID(0x10), "tok-a", [(3000, 4000)], "Accepted"),
-        put(wire.INTENTS, ID(0x10), "tok-a", [(3000, 4001)], "Activated", f"/{wire.ovn(5)}"),
+        put(wire.INTENTS, ID(0x10), "tok-a", [(3000, 4000)], "Accepted", key=[wire.ovn(3)]),
+        put(wire.INTENTS, ID(0x10), "tok-a", [(3000, 4001)], "Activated", f"/{wire.ovn(5)}", [wire.ovn(3)]),
         put(wire.CONSTRAINTS, ID(1), "tok-c", [late]),
         ask("DELETE", f"{wire.CONSTRAINTS}/{ID(1)}/{wire.ovn(7)}", "tok-c"),
         ask("PUT", f"{wire.AVAILABILITY}/uss-b", "tok-v", {"old_version": "", "availability": "Down"}),

@@ -1,6 +1,6 @@
 -- What a crash leaves after each reply.
-use Rattle.std.specs.Prelude.{◌≡◌, ℕ, List, inl, inr}
-use Rattle.std.proofs.Common.{subst}
+use Rattle.std.specs.Prelude.{◌≡◌, ℕ, List}
+use Rattle.std.proofs.Common.{inl, inr, subst}
 use Rattle.sqlite_trees.specs.Tree.{Trees}
 use Rattle.entity_core.specs.Airspace.{Airspace}
 use Rattle.policy_core.specs.declared.call.Call.{Call}
