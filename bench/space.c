@@ -3,7 +3,8 @@
 //   space FILE SIZE COUNT SCHEMA
 //
 // makes a database of SIZE intents, ten to a cell, in FILE (`:memory:` has none), and then COUNT creations, updates,
-// deletions and queries that find ten. SCHEMA is the text that makes the tables. Each statement is prepared anew.
+// deletions and queries that find ten. SCHEMA is the text that makes the tables. A
+// statement is prepared once and kept.
 #include <inttypes.h>
 #include <sqlite3.h>
 #include <stdio.h>
@@ -11,7 +12,7 @@
 #include <string.h>
 #include <time.h>
 
-enum { SHARING = 10 };
+enum { SHARING = 10, KEPT_STATEMENTS = 32 };
 
 static sqlite3 *database;
 
@@ -28,12 +29,24 @@ struct value {
 static struct value number(int64_t number) { return (struct value){NULL, number}; }
 static struct value text(const char *text) { return (struct value){text, 0}; }
 
+// The compiled statement of a text, which is one literal of this file.
+static sqlite3_stmt *prepared(const char *sql) {
+    static struct { const char *sql; sqlite3_stmt *statement; } kept[KEPT_STATEMENTS];
+    int at = 0;
+    while (kept[at].sql && kept[at].sql != sql)
+        at++;
+    if (!kept[at].sql) {
+        if (at + 1 == KEPT_STATEMENTS || sqlite3_prepare_v2(database, sql, -1, &kept[at].statement, NULL) != SQLITE_OK)
+            stop(sql);
+        kept[at].sql = sql;
+    }
+    return kept[at].statement;
+}
+
 // Runs a statement, and answers the numbers of its first column; the other columns are read.
 static int run(const char *sql, const struct value *values, int count, int64_t *found, int most) {
-    sqlite3_stmt *statement;
+    sqlite3_stmt *statement = prepared(sql);
     int rows = 0, step;
-    if (sqlite3_prepare_v2(database, sql, -1, &statement, NULL) != SQLITE_OK)
-        stop(sql);
     for (int at = 0; at < count; at++) {
         if (values[at].text)
             sqlite3_bind_text(statement, at + 1, values[at].text, -1, SQLITE_TRANSIENT);
@@ -49,7 +62,7 @@ static int run(const char *sql, const struct value *values, int count, int64_t *
     }
     if (step != SQLITE_DONE)
         stop(sql);
-    sqlite3_finalize(statement);
+    sqlite3_reset(statement);
     return rows;
 }
 
