@@ -18,7 +18,7 @@ module _ {K : Type 0} (g : Ghosts K) (new : K) (db : Trees) (found : (b : Airspa
 
   pub kept_after : (salt : List ℕ) (a : Airspace) (now : ℕ) (c : Call) (reply : Reply) → Leaves g salt a now c reply new → KeepsAfter a (step salt a now c).0 reply db
   kept_after salt a now c (Done answer) left = of_content (step salt a now c).0 left.1.only
-  kept_after salt a now c (Denied rule missing) left = of_content a left.1.only
+  kept_after salt a now c (Denied _ _) left = of_content a left.1.only
   kept_after salt a now c Fault left = of_content a left.only
   kept_after salt a now c Stopped left = elim (left found.0 found.1) [
     | inl before ↦ inl (subst (λ b. Keeps db b) before found.2)

@@ -18,7 +18,7 @@ use Rattle.space_sql.specs.Holding.{Keeps, Kept, holds_of, is_sound_of, is_whole
 -- changes nothing has one airspace before it and after it.
 abbrev pub KeepsAfter : (before after : Airspace) → Reply → Trees → Type 0
 KeepsAfter before after (Done answer) db = Keeps db after
-KeepsAfter before after (Denied rule missing) db = Keeps db before
+KeepsAfter before after (Denied _ _) db = Keeps db before
 KeepsAfter before after Fault db = Keeps db before
 KeepsAfter before after Stopped db = Keeps db before ⊎ Keeps db after
 

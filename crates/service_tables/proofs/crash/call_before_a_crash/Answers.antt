@@ -1,4 +1,3 @@
-use Rattle.std.specs.Prelude.{ℕ, Bool}
 use Rattle.sqlite.specs.Held.{state}
 use Rattle.space_core.specs.declared.space.Space.{Ghosts}
 use Rattle.space_sql.specs.Holding.{Kept, holds_of, is_sound_of, is_whole_of}
