@@ -19,7 +19,8 @@ pub fn call_before_a_crash<S: Alter + Drop>(
     now: u64,
     call: &Call,
 ) -> Reply
-    ensures { CrashLeaves S.Store (salt_of service.old) now call.now service.old service.new result }
+    ensures { CrashLeaves S.Store (salt_of service.old) now call.now
+        service.old service.new result }
 {
     service.call(alloc, now, call)
 }
