@@ -73,11 +73,11 @@ def eight_calls():
     ]
 
 
-def answers(calls, faulted=None):
-    """The answers of the plain policy, in which one of the calls may be a fault, which changes nothing."""
+def answers(calls, faulted=()):
+    """The answers of the plain policy, in which some of the calls may be faults, which change nothing."""
     airspace = plain_policy.Airspace(NOW)
     return [
-        wire.answer(*FAULT) if at == faulted else airspace.ask(*call).text() for at, call in enumerate(calls)
+        wire.answer(*FAULT) if at in faulted else airspace.ask(*call).text() for at, call in enumerate(calls)
     ]
 
 
@@ -92,7 +92,7 @@ def stream():
         status, output, error = got
         found = wire.answers_of(output)
         faulted = found.index(fault) if fault in found else None
-        wanted = b"".join(answers(calls, faulted))
+        wanted = b"".join(answers(calls, {faulted}))
         if (status, output, error) == (0, wanted, b"") and (is_refused or faulted is None):
             others += is_refused and faulted is None
             faults[faulted] += faulted is not None
@@ -125,7 +125,7 @@ def stream_over_database():
             status, output, error = got
             found = wire.answers_of(output)
             faulted = found.index(fault) if fault in found else None
-            wanted = answers(calls, faulted)
+            wanted = answers(calls, {faulted})
             if stopped in found:
                 first = found.index(stopped)
                 wanted[first:] = [stopped] * (len(calls) - first)

@@ -1,9 +1,9 @@
 //! One command line, run.
-use crate::cell::token_line;
 use crate::fault::Fault;
 use crate::{connections, loopback, report, run};
 use dss_line::fault::LineFault;
 use dss_line::line::{Line, parse};
+use dss_report::cell::token_line;
 use std::alloc::Global;
 use std::io::{Read, Write};
 

@@ -1,4 +1,5 @@
 //! Why a command failed.
+use dss_report::fault::{CellFault, ReportFault};
 use grid_core::token::TokenFault;
 use space_sql::open_fault::OpenFault;
 use std::fmt;
@@ -91,5 +92,31 @@ impl From<OpenFault> for Fault {
 
     fn from(fault: OpenFault) -> Fault {
         Fault::Database(fault)
+    }
+}
+
+impl From<CellFault> for Fault {
+    ghost use Rattle.dss_cli.specs.Fault.{IsOfCell};
+
+    ghost from_gives = { IsOfCell };
+
+    fn from(fault: CellFault) -> Fault {
+        match fault {
+            CellFault::Token(why) => Fault::Token(why),
+            CellFault::Memory => Fault::Memory,
+        }
+    }
+}
+
+impl From<ReportFault> for Fault {
+    ghost use Rattle.dss_cli.specs.Fault.{IsOfReport};
+
+    ghost from_gives = { IsOfReport };
+
+    fn from(fault: ReportFault) -> Fault {
+        match fault {
+            ReportFault::Space => Fault::DatabaseFailed,
+            ReportFault::Memory => Fault::Memory,
+        }
     }
 }

@@ -1,7 +1,6 @@
 //! The commands of the program `dss`.
 #![tactic(auto)]
 
-pub mod cell;
 mod clock;
 pub mod command;
 mod connections;

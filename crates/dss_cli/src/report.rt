@@ -1,7 +1,6 @@
 //! The command `report`: what a database keeps.
 use crate::database::after_closing;
 use crate::fault::Fault;
-use dss_report::fault::ReportFault;
 use dss_report::report::report_text;
 use space_core::space::Space;
 use space_sql::space::SqlSpace;
@@ -14,11 +13,7 @@ fn print_report<S: Space + Drop, W: Write>(
     space: &mut S,
     output: &mut W,
 ) -> Result<(), Fault> {
-    let text = match report_text(alloc, space) {
-        Ok(text) => text,
-        Err(ReportFault::Space) => return Err(Fault::DatabaseFailed),
-        Err(ReportFault::Memory) => return Err(Fault::Memory),
-    };
+    let text = report_text(alloc, space)?;
     match output.write_all(text.as_slice()) {
         Ok(()) => Ok(()),
         Err(_) => Err(Fault::Output),

@@ -1,3 +1,4 @@
+pub mod Cell
 pub mod Fault
 pub mod Reading
 pub mod Report

@@ -1,5 +1,5 @@
 -- What a report leaves of a space, and tells of it.
-use Rattle.std.specs.Prelude.{◌≡◌, ◌⊎◌, true, List, ℕ, Result, IfOk, MatchResult}
+use Rattle.std.specs.Prelude.{◌≡◌, ◌⊎◌, true, Result, IfOk, MatchResult}
 use Rattle.entity_core.specs.Airspace.{Airspace}
 use Rattle.entity_core.specs.Search.{all_in}
 use Rattle.entity_core.specs.declared.nature.Kind.TheVariants.{Intent, Constraint}

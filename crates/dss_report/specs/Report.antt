@@ -1,5 +1,5 @@
 -- The report of an airspace, as a text.
-use Rattle.std.specs.Prelude.{◌≡◌, ℕ, ◌-◌, List, ◌++◌, codes, decimal, length, map}
+use Rattle.std.specs.Prelude.{ℕ, ◌-◌, List, ◌++◌, codes, decimal, length, map}
 use Rattle.std.specs.List.{concat, repeat}
 use Rattle.entity_core.specs.Airspace.{Airspace}
 use Rattle.entity_core.specs.Entity.{kind_of, span_of, state_name}

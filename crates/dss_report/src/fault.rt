@@ -1,4 +1,5 @@
-//! Why there is no report.
+//! Why there is no report, and no line of a cell.
+use grid_core::token::TokenFault;
 use std::alloc::AllocError;
 
 /// Why there is no report.
@@ -43,5 +44,36 @@ impl From<AllocError> for ReportFault {
 
     fn from(_refused: AllocError) -> ReportFault {
         ReportFault::Memory
+    }
+}
+
+/// Why there is no line of a cell.
+#[derive(Clone, Copy, Debug, PartialEq, Eq)]
+pub enum CellFault {
+    /// The text is no token.
+    Token(TokenFault),
+    /// Memory ran out.
+    Memory,
+}
+
+impl From<TokenFault> for CellFault {
+    ghost use Rattle.std.specs.Prelude.{◌≡◌};
+    ghost use Rattle.dss_report.specs.declared.fault.CellFault.TheVariants.{Token};
+
+    ghost from_gives = { λ why fault. fault ≡ Token why };
+
+    fn from(why: TokenFault) -> CellFault {
+        CellFault::Token(why)
+    }
+}
+
+impl From<AllocError> for CellFault {
+    ghost use Rattle.std.specs.Prelude.{◌≡◌};
+    ghost use Rattle.dss_report.specs.declared.fault.CellFault.TheVariants.{Memory};
+
+    ghost from_gives = { λ _ fault. fault ≡ Memory };
+
+    fn from(_refused: AllocError) -> CellFault {
+        CellFault::Memory
     }
 }

@@ -1,6 +1,8 @@
-//! The report of an airspace: a line for each reference that a space keeps, and its serial.
+//! What the program prints of an airspace and of the grid: a report, which is a line for each reference
+//! that a space keeps, and its serial; and the line of a cell.
 #![tactic(auto)]
 
+pub mod cell;
 pub mod fault;
 mod kept;
 mod line;

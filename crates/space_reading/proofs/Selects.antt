@@ -1,8 +1,6 @@
 -- What the SELECTs of single things answer.
 use Rattle.std.proofs.Common.{◌≡◌, ◌↔◌, ℕ, pos, List, [], ◌∷◌, map, filter, codes, Bool, IsTrue, false, Ok, Err, Result, IfOk, refl, ap, subst, ◌∙◌}
 use Rattle.std.specs.Prelude.{IsPermutation}
-use Rattle.std.specs.Prelude.{Vec}
-use Rattle.std.specs.Global.{Global}
 use Rattle.std.specs.List.{list_all}
 use Rattle.sqlite_schema.specs.declared.command.Command.TheVariants.{Select}
 use Rattle.sqlite_resolve.specs.declared.compiled.Compiled.{Compiled}
@@ -37,11 +35,6 @@ same_command (Err e) = refl
 
 pub answers_as : (sql : List ℕ) (params : Row) (old new : State) → IsSelect sql → (rows : List Row) → old.now.schema ≡ dss_schema → Shown sql params old new rows → Answers sql params old.now rows
 answers_as sql params old new it rows has h = reads_as sql params old new dss_schema has (command_of sql) (same_command (understood dss_schema sql)) it.plain it.unlisted rows h
-
--- the same text with the same parameters
-pub if_asked : (r : Result (Vec Row Global) Error) (A : Type 0) (db : Database) (sql text : List ℕ) (p q : Row) → sql ≡ text → p ≡ q → IfOk r (λ rows. A → Answers sql p db rows.items) → IfOk r (λ rows. A → Answers text q db rows.items)
-if_asked (Ok rows) A db sql text p q e f h = λ a. subst (λ (l : List ℕ). Answers l q db rows.items) e (subst (λ (l : Row). Answers sql l db rows.items) f (h a))
-if_asked (Err x) A db sql text p q e f h = tt
 
 -- ---- the serial
 

@@ -4,3 +4,4 @@ pub mod Gathering
 pub mod Judging
 pub mod Selecting
 pub mod Numbered
+pub mod Named

@@ -54,6 +54,3 @@ abbrev pub AnswersCells : ℤ → Database → List Row → Type 0
 AnswersCells num db rows =
     Answers (codes "SELECT entity, volume, place, token, lo, hi FROM cell WHERE entity = ?1 ORDER BY entity, volume, place")
     (Int num ∷ []) db rows
-
-abbrev pub AnswersExtents : ℤ → Database → List Row → List Row → Type 0
-AnswersExtents num db volumes cells = AnswersVolumes num db volumes × AnswersCells num db cells

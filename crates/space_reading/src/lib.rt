@@ -4,6 +4,7 @@
 mod entities;
 mod judge;
 mod meta;
+mod named;
 pub mod numbered;
 mod own;
 pub mod reading;

@@ -8,10 +8,9 @@ ghost use Rattle.space_rows.specs.declared.rows.VolumeRow.{VolumeRow};
 ghost use Rattle.space_rows.specs.declared.rows.CellRow.{CellRow};
 ghost use Rattle.space_tables.specs.Spelling.{entity_values, volume_values, cell_values};
 ghost use Rattle.space_reading.specs.Reading.{Reads};
-ghost use Rattle.space_reading.specs.Selecting.{AnswersVolumes, AnswersCells};
 ghost use Rattle.space_reading.specs.Numbered.{AnswersNumber, AnswersOwn, FindsNumbered};
 
-use crate::own::{entity_in, head_of};
+use crate::own::{entity_in, head_of, query_cells, query_volumes};
 use crate::select::query;
 use entity_core::entity::Entity;
 use sqlite::{Alter, Error, Row, Transaction, params};
@@ -35,34 +34,6 @@ fn query_head<S: Alter>(tx: &mut Transaction<'_, S>, num: i64) -> Result<Vec<Row
         tx,
         "SELECT num, kind, id, manager, state, version, serial, ovn, url \
          FROM entity WHERE num = ?1",
-        params![num],
-    )
-}
-
-fn query_volumes<S: Alter>(tx: &mut Transaction<'_, S>, num: i64) -> Result<Vec<Row>, Error>
-    ensures same_reference { tx.new.conn.ghost_name ≡ tx.old.conn.ghost_name }
-    ensures reads { let old = state S.Store tx.old.conn.now in
-        Reads (λ db rows. AnswersVolumes num db rows.items)
-        old (state S.Store tx.new.conn.now) result }
-{
-    query(
-        tx,
-        "SELECT entity, place, alt_lower, alt_upper, time_start, time_end \
-         FROM volume WHERE entity = ?1 ORDER BY entity, place",
-        params![num],
-    )
-}
-
-fn query_cells<S: Alter>(tx: &mut Transaction<'_, S>, num: i64) -> Result<Vec<Row>, Error>
-    ensures same_reference { tx.new.conn.ghost_name ≡ tx.old.conn.ghost_name }
-    ensures reads { let old = state S.Store tx.old.conn.now in
-        Reads (λ db rows. AnswersCells num db rows.items)
-        old (state S.Store tx.new.conn.now) result }
-{
-    query(
-        tx,
-        "SELECT entity, volume, place, token, lo, hi \
-         FROM cell WHERE entity = ?1 ORDER BY entity, volume, place",
         params![num],
     )
 }

@@ -12,7 +12,8 @@ ghost use Rattle.space_reading.specs.Reading.{RestsAs};
 ghost use Rattle.space_reading.specs.Selecting.{IsSelect, rows_of_setting};
 
 use crate::meta::is_other;
-use crate::own::{entity_in, head_of, select_extents, select_head};
+use crate::named::find_alone;
+use crate::reading::{alive, known};
 use crate::select::select;
 use crate::settings::setting_in;
 use entity_core::availability::Availability;
@@ -129,12 +130,8 @@ pub fn read_entity<S: Alter>(
         HasCleanDisk new → OnOk result (IsTrue new.is_open) }
     ensures survives { Survives (state S.Store conn.old) (state S.Store conn.new) (λ _. ⊥) }
 {
-    let _number = id.number();
-    let rows = select_head(alloc, conn, kind, id)?;
-    let Some(head) = head_of(rows.as_slice())? else {
-        return Ok(None);
-    };
-    let (volumes, cells) = select_extents(conn, head.num)?;
-    let entity = entity_in(alloc, &head, volumes.as_slice(), cells.as_slice())?;
-    Ok(Some(entity))
+    known(conn);
+    let found = find_alone(alloc, conn, kind, id)?;
+    alive(conn)?;
+    Ok(found)
 }

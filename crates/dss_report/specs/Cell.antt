@@ -1,13 +1,19 @@
--- What is printed of a token's cell.
+-- The line of a cell.
 use Rattle.std.specs.Prelude.{◌≡◌, ℕ, List, Err, ◌++◌, codes, decimal, length}
 use Rattle.grid_core.specs.Cell.{Cell, IsCell, hi_of, lo_of}
 use Rattle.grid_core.specs.Token.{IsShortest, IsTokenOf, Parses}
-use Rattle.dss_cli.specs.declared.fault.Fault.{Fault}
-use Rattle.dss_cli.specs.declared.fault.Fault.TheVariants as fault
+use Rattle.dss_report.specs.declared.fault.CellFault.{CellFault}
+use Rattle.dss_report.specs.declared.fault.CellFault.TheVariants.{Token, Memory}
 
 -- the line of a cell whose token is printed so
 abbrev pub cell_text : List ℕ → Cell → List ℕ
-cell_text name c = name ++ (codes " face=" ++ (decimal c.face ++ (codes " level=" ++ (decimal (length c.digits) ++ (codes " lo=" ++ (decimal (lo_of c) ++ (codes " hi=" ++ (decimal (hi_of c) ++ codes "\n"))))))))
+cell_text name c =
+    name
+    ++ (codes " face=" ++ (decimal c.face
+    ++ (codes " level=" ++ (decimal (length c.digits)
+    ++ (codes " lo=" ++ (decimal (lo_of c)
+    ++ (codes " hi=" ++ (decimal (hi_of c)
+    ++ codes "\n"))))))))
 
 -- the text is the line of the cell, with its shortest token
 abbrev pub IsLineOf : Cell → List ℕ → Type 0
@@ -18,7 +24,6 @@ abbrev pub IsLineOfToken : List ℕ → List ℕ → Type 0
 IsLineOfToken token line = (c : Cell) × IsCell c × IsTokenOf token c × IsLineOf c line
 
 -- why there is no line of a token: it is none, or memory ran out
-abbrev pub IsFaultOfToken : List ℕ → Fault → Type 0
-IsFaultOfToken token (fault.Token why) = Parses token (Err why)
-IsFaultOfToken token fault.Memory = Unit {0}
-IsFaultOfToken token _ = ⊥
+abbrev pub IsFaultOfToken : List ℕ → CellFault → Type 0
+IsFaultOfToken token (Token why) = Parses token (Err why)
+IsFaultOfToken token Memory = Unit {0}

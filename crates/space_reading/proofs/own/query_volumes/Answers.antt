@@ -5,7 +5,7 @@ use Rattle.sqlite.specs.declared.types.Value.TheVariants.{Int}
 use Rattle.space_reading.proofs.Texts.{own_volumes_read}
 use Rattle.space_reading.proofs.OwnRows.{own_volumes_select}
 use Rattle.space_reading.proofs.OwnEntity.{reads_asked}
-use Rattle.space_reading.proofs.numbered.query_volumes.Goals as goal
+use Rattle.space_reading.proofs.own.query_volumes.Goals as goal
 
 pub query-requires : goal.query-requires
 query-requires g c = own_volumes_select
