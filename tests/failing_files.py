@@ -1,5 +1,5 @@
 """A database whose calls on files fail, each in turn: each answer is the plain policy's, or a fault that changed nothing,
-or the service has stopped, then and from then on. What was acknowledged is found again."""
+or the service has stopped, then and from then on, as it does in each of the changes. What was acknowledged is found again."""
 import collections
 import pathlib
 import sqlite3
@@ -28,13 +28,15 @@ def is_right(calls, got):
     return (found, status) == (wanted, error != b"") and error in (b"", NOT_CLOSED), "faults" if faulted else "done"
 
 
+def changes(calls, found):
+    """The places of the answers that acknowledge a change."""
+    done = (b"HTTP/1.1 200", b"HTTP/1.1 201")
+    return {at for at, (answer, (method, *_)) in enumerate(zip(found, calls)) if answer.startswith(done) and method != "POST"}
+
+
 def is_kept(room, calls, found):
     """Whether the database holds what was acknowledged, and at most the step of the call that stopped."""
-    made = sum(
-        it.startswith((b"HTTP/1.1 200", b"HTTP/1.1 201"))
-        for it, (method, *_) in zip(found, calls)
-        if method != "POST"
-    )
+    made = len(changes(calls, found))
     again = room.serve([])
     with sqlite3.connect(room.database) as reader:
         serial = reader.execute("SELECT serial FROM meta").fetchone()[0]
@@ -69,7 +71,8 @@ def each_call():
             one({"FAIL_AT": str(at)})
             one({"FAIL_AT": str(at), "FAIL_ON": "1"})
     print(f"of {count} calls on files each failed alone, and with all after it: {dict(sorted(ends.items()))}")
-    stops = {f"stopped at {at + 1}" for at in range(len(calls))}
+    # readings and denials of what was just written need no call on a file
+    stops = {f"stopped at {at + 1}" for at in changes(calls, answers(calls))}
     return found + [f"never {it}" for it in sorted(stops - set(ends))]
 
 

@@ -106,7 +106,7 @@ def stream():
     return [] if all(each) else ["not each of the calls was answered with a fault"]
 
 
-def stream_over_database():
+def stream_over_database(step=STEP):
     """The same over a database, for some of the growths. A call may also stop the service, which then stands as before
     that call or after it, and the database may not be opened. What was acknowledged is kept."""
     calls = eight_calls()
@@ -121,7 +121,7 @@ def stream_over_database():
                 file.unlink()
 
         given = b"".join(wire.request(*it) for it in calls)
-        for at, got, is_refused in each_refused([BUILT, "run", *words], given, STEP, anew):
+        for at, got, is_refused in each_refused([BUILT, "run", *words], given, step, anew):
             status, output, error = got
             found = wire.answers_of(output)
             faulted = found.index(fault) if fault in found else None
@@ -143,5 +143,5 @@ def stream_over_database():
             most = made + (stopped in found or ended == "memory")
             if not made <= serial <= most or check != [("ok",)]:
                 return [f"growth {at}: {made} were acknowledged, the serial is {serial}, {check}"]
-    print(f"eight calls over a database: of {at} growths of memory one in {STEP} refused: {dict(ends)}")
+    print(f"eight calls over a database: of {at} growths of memory one in {step} refused: {dict(ends)}")
     return [] if ends["fault"] and ends["store"] else [f"{dict(ends)}"]

@@ -12,9 +12,12 @@ abbrev pub name_of : ReportFault → List ℕ
 name_of Space = codes "Space"
 name_of Memory = codes "Memory"
 
--- The space answered a fault: it has counted a refusal more (the count stays at its greatest value), or it is broken.
+-- The space answered a fault: it has counted a refusal more (the count stays at its greatest
+-- value), or it is broken.
 abbrev pub HasFailed : ℕ → ℕ → Bool → Bool → Type 0
-HasFailed refusals refusals' broken broken' = (((refusals < refusals') ⊎ (refusals' ≡ greatest_count)) × (broken' ≡ broken)) ⊎ (broken' ≡ true)
+HasFailed refusals refusals' broken broken' =
+    (((refusals < refusals') ⊎ (refusals' ≡ greatest_count)) × (broken' ≡ broken))
+    ⊎ (broken' ≡ true)
 
 -- what a fault says of the space's answers
 abbrev pub ToldBy : ReportFault → ℕ → ℕ → Bool → Bool → Type 0

@@ -11,14 +11,21 @@ use Rattle.dss_report.specs.declared.kept.Kept.{Kept}
 -- what was read is all that the airspace has for its report
 abbrev pub IsKeptIn : Airspace → Kept → Type 0
 IsKeptIn a kept =
-    (kept.intents.items ≡ all_in a.entities Intent) × (kept.constraints.items ≡ all_in a.entities Constraint) × (kept.serial ≡ a.serial)
+    (kept.intents.items ≡ all_in a.entities Intent)
+    × (kept.constraints.items ≡ all_in a.entities Constraint)
+    × (kept.serial ≡ a.serial)
 
--- A report has P of each airspace that was held. The space holds what it held before; once it is broken, nothing else.
--- A space that was whole stays so. A fault of the space comes only where the space answered one.
-pub record Reports {S T : Type 0} (g : Ghosts S) (old new : S) (result : Result T ReportFault) (P : Airspace → T → Type 0) : Type 0 where
+-- A report has P of each airspace that was held. The space holds what it held before; once it is
+-- broken, nothing else. A space that was whole stays so. A fault of the space comes only where the
+-- space answered one.
+pub record Reports {S T : Type 0} (g : Ghosts S) (old new : S) (result : Result T ReportFault)
+    (P : Airspace → T → Type 0) : Type 0 where
   pub sound : g.is_sound new → g.is_sound old
   pub whole : g.is_sound new → g.is_whole old → g.is_whole new
-  pub stays : g.is_sound new → (g.is_broken new ≡ true) ⊎ ((a : Airspace) → g.holds old a → g.holds new a)
+  pub stays : g.is_sound new
+      → (g.is_broken new ≡ true) ⊎ ((a : Airspace) → g.holds old a → g.holds new a)
   pub no_other : g.is_sound new → (a : Airspace) → g.holds new a → g.holds old a
   pub answer : g.is_sound new → IfOk result (λ found. (a : Airspace) → g.holds old a → P a found)
-  pub told : MatchResult result (λ _. (g.refusals new ≡ g.refusals old) × (g.is_broken new ≡ g.is_broken old)) (λ fault. ToldBy fault (g.refusals old) (g.refusals new) (g.is_broken old) (g.is_broken new))
+  pub told : MatchResult result
+      (λ _. (g.refusals new ≡ g.refusals old) × (g.is_broken new ≡ g.is_broken old))
+      (λ fault. ToldBy fault (g.refusals old) (g.refusals new) (g.is_broken old) (g.is_broken new))

@@ -69,4 +69,5 @@ report_of a =
 
 -- the report of what was read for it
 abbrev pub text_of : Kept → List ℕ
-text_of kept = lines_of kept.intents.items ++ (lines_of kept.constraints.items ++ serial_line kept.serial)
+text_of kept =
+    lines_of kept.intents.items ++ (lines_of kept.constraints.items ++ serial_line kept.serial)

@@ -25,7 +25,8 @@ is_visible_byte b = is_from 33 126 b
 -- The first fault of a text: a wrong length, then a wrong byte.
 abbrev pub first_fault : ℕ → ℕ → (ℕ → Bool) → List ℕ → Option IdFault
 first_fault least most is_right text =
-    if is_from least most (length text) then (if list_all is_right text then None else Some Form) else Some Length
+    if is_from least most (length text) then (if list_all is_right text then None else Some Form)
+    else Some Length
 
 -- a USS id or a salt
 abbrev pub name_fault : List ℕ → Option IdFault

@@ -18,7 +18,8 @@ is_not (Some id) k = not (nat_eq k.1 id)
 
 -- an entity of the kind, but the one of that id, some volume of which meets some area
 abbrev pub is_sought : Kind → List Region → Option ℕ → EntityKey × Entity → Bool
-is_sought kind areas except e = has_kind kind e.0 && (is_not except e.0 && any_meet e.1.volumes areas)
+is_sought kind areas except e =
+    has_kind kind e.0 && (is_not except e.0 && any_meet e.1.volumes areas)
 
 -- all of them, by rising ids
 unfoldable pub meeting_in : Entities → Kind → List Region → Option ℕ → List Entity

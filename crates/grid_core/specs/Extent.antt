@@ -85,10 +85,15 @@ reaches le (Some l) None = true
 reaches le (Some l) (Some h) = le l h
 
 abbrev pub shares : {K : Type 0} → (K → K → Bool) → Option K → Option K → Option K → Option K → Bool
-shares le low high low' high' = (reaches le low high && reaches le low high') && (reaches le low' high && reaches le low' high')
+shares le low high low' high' =
+    (reaches le low high && reaches le low high')
+    && (reaches le low' high && reaches le low' high')
 
 abbrev pub meets : Region → Region → Bool
-meets a b = any_touch a.cells b.cells && (shares int_le a.lowest a.highest b.lowest b.highest && shares nat_le a.first a.last b.first b.last)
+meets a b =
+    any_touch a.cells b.cells
+    && (shares int_le a.lowest a.highest b.lowest b.highest
+    && shares nat_le a.first a.last b.first b.last)
 
 -- some volume meets some area
 abbrev pub any_meet : List Extent → List Region → Bool
@@ -105,7 +110,8 @@ is_within le least most None = true
 is_within le least most (Some x) = le least x && le x most
 
 abbrev pub are_bounds : {K : Type 0} → (K → K → Bool) → K → K → Option K → Option K → Bool
-are_bounds le least most low high = is_within le least most low && (is_within le least most high && reaches le low high)
+are_bounds le least most low high =
+    is_within le least most low && (is_within le least most high && reaches le low high)
 
 -- altitudes from -100,000 to 1,000,000 decimetres, times from 0 to 253,402,300,799 seconds since
 -- 1970
@@ -120,7 +126,8 @@ abbrev pub region_fault : Region → Option VolumeFault
 region_fault r =
     if nat_lt (length r.cells) 1 then Some Empty
     else if nat_lt 512 (length r.cells) then Some TooMany
-    else if are_altitudes r.lowest r.highest then (if are_times r.first r.last then None else Some Time)
+    else if are_altitudes r.lowest r.highest
+    then (if are_times r.first r.last then None else Some Time)
     else Some Altitude
 
 -- how many cells of level 13 a cell counts for

@@ -44,15 +44,21 @@ Parses text (Err Invalid) = HasTokenLength text × AllDigits 16 text
 
 -- 1 to 16 hexadecimal digits
 abbrev pub has_token_form : List ℕ → Bool
-has_token_form text = (nat_le 1 (length text) && nat_le (length text) 16) && list_all (λ b. nat_lt (digit_value b) 16) text
+has_token_form text =
+    (nat_le 1 (length text) && nat_le (length text) 16)
+    && list_all (λ b. nat_lt (digit_value b) 16) text
 
 -- the number of a cell: a face up to 5, and the lowest 1 at an even place up to 60
 abbrev pub is_number : ℕ → Bool
-is_number n = nat_le (trailing_zeros w64 n) 60 && (nat_eq (trailing_zeros w64 n % 2) 0 && nat_le (n / 2 ^ 61) 5)
+is_number n =
+    nat_le (trailing_zeros w64 n) 60
+    && (nat_eq (trailing_zeros w64 n % 2) 0 && nat_le (n / 2 ^ 61) 5)
 
 -- the cell that a text reads as, if there is one
 unfoldable pub cell_named : List ℕ → Option Cell
-cell_named text = if has_token_form text && is_number (token_number text) then Some (cell_of (token_number text)) else None
+cell_named text =
+    if has_token_form text && is_number (token_number text)
+    then Some (cell_of (token_number text)) else None
 
 -- a text reads as the cell that it is said to name, and as no other
 abbrev pub NamesCell : Type 0

@@ -24,7 +24,8 @@ veiled_entry m e = (e.0, veiled m e.1)
 -- Two airspaces are alike to a supplier: they differ in nothing but the OVNs of the
 -- entities that it does not manage.
 pub record IsLike (m : List ℕ) (a b : Airspace) : Type 0 where
-  pub entities : map (veiled_entry m) (entries a.entities) ≡ map (veiled_entry m) (entries b.entities)
+  pub entities :
+      map (veiled_entry m) (entries a.entities) ≡ map (veiled_entry m) (entries b.entities)
   pub availabilities : a.availabilities ≡ b.availabilities
   pub serial : a.serial ≡ b.serial
 
@@ -46,7 +47,8 @@ is_path op present = false
 
 -- of each entity by its kind and id, whether the supplier manages it or the key has its OVN
 abbrev pub known : List ℕ → Operation → Airspace → List Bool
-known m op a = map (λ e. same_text e.1.manager m || in_key (key_shown op) e.1.ovn) (entries a.entities)
+known m op a =
+    map (λ e. same_text e.1.manager m || in_key (key_shown op) e.1.ovn) (entries a.entities)
 
 -- and whether the supplier manages it or its OVN is in the path
 abbrev pub named : List ℕ → Operation → Airspace → List Bool
@@ -72,4 +74,5 @@ ViewIsBlind = (a : Airspace) (uss : List ℕ) (e : Entity) (ovn : List ℕ)
 -- Which of P1 to P13 a supplier's call breaks first is the same in airspaces that are alike to it.
 abbrev pub RulesAreBlind : Type 0
 RulesAreBlind = (m : List ℕ) (a b : Airspace) (now : ℕ) (c : Call) → IsLike m a b → is_by m c ≡ true
-    → find (breaks a now c) (early_rules ++ standing_rules) ≡ find (breaks b now c) (early_rules ++ standing_rules)
+    → find (breaks a now c) (early_rules ++ standing_rules)
+    ≡ find (breaks b now c) (early_rules ++ standing_rules)

@@ -53,7 +53,9 @@ is_told_of None Constraint = false
 abbrev pub PutsKnow : Type 0
 PutsKnow = (a : Airspace) (now : ℕ) (c : Call) (id : ℕ) (put : Put) (y : Entity)
     → put_of c.op ≡ Some (id, put) → first_broken a now c ≡ None → is_declared put.nature ≡ true
-    → get a.entities (key_of y) ≡ Some y → eq_by_cmp key_cmp (key_of y) (kind_of put.nature, id) ≡ false → any_meet y.volumes (map region_of put.volumes) ≡ true → is_told_of c.caller y.nature ≡ true
+    → get a.entities (key_of y) ≡ Some y
+    → eq_by_cmp key_cmp (key_of y) (kind_of put.nature, id) ≡ false
+    → any_meet y.volumes (map region_of put.volumes) ≡ true → is_told_of c.caller y.nature ≡ true
     → Contains put.key y.ovn
 
 -- ---- what a put is told

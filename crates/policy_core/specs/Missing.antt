@@ -31,7 +31,8 @@ needs_key nature = false
 
 -- whether constraints are needed of a put by a caller: where the caller processes them, too
 abbrev pub needs_constraints : Option Caller → Put → Bool
-needs_constraints (Some caller) put = needs_key put.nature && has_scope caller.scopes ConstraintProcessing
+needs_constraints (Some caller) put =
+    needs_key put.nature && has_scope caller.scopes ConstraintProcessing
 needs_constraints None put = false
 
 -- whether entities of a kind are needed
@@ -46,7 +47,9 @@ left_out kinds.Constraint id = None
 
 -- what meets a volume of a put, whoever manages it
 abbrev pub needed_put : Kind → Airspace → Option Caller → ℕ → Put → List Entity
-needed_put kind a caller id put = if is_asked kind caller put then meeting_in a.entities kind (map region_of put.volumes) (left_out kind id) else []
+needed_put kind a caller id put =
+    if is_asked kind caller put
+    then meeting_in a.entities kind (map region_of put.volumes) (left_out kind id) else []
 
 -- What a call needs to know of a kind, by rising ids: whoever makes it, and of other operations
 -- than puts nothing.
@@ -93,7 +96,8 @@ missing_of a caller key asked = record {
 
 -- of a put under an id
 abbrev pub missing_put : Airspace → Caller → ℕ → Put → Missing
-missing_put a caller id put = missing_of a caller put.key (λ kind. needed_put kind a (Some caller) id put)
+missing_put a caller id put =
+    missing_of a caller put.key (λ kind. needed_put kind a (Some caller) id put)
 
 -- What a call needs to know and its key does not have: intents and constraints, each by rising ids.
 abbrev pub missing_by : Airspace → Caller → Operation → Missing

@@ -53,7 +53,8 @@ put_in k a c r = if is_done r && puts k c.op then Some (record { before = a; cal
 abbrev pub last_writer : List ℕ → EntityKey → Airspace → List Timed → List Reply → Option MadeCall
 last_writer salt k a [] rs = None
 last_writer salt k a (c ∷ cs) [] = None
-last_writer salt k a (c ∷ cs) (r ∷ rs) = later_or (last_writer salt k (left_by salt a c r) cs rs) (put_in k a c.1 r)
+last_writer salt k a (c ∷ cs) (r ∷ rs) =
+    later_or (last_writer salt k (left_by salt a c r) cs rs) (put_in k a c.1 r)
 
 -- ---- what it knew
 
@@ -78,7 +79,8 @@ KnewOthers last a = (k l : EntityKey) (x y : Entity) → get a.entities k ≡ So
 
 -- Which of two is met by the other makes no difference.
 abbrev pub MeetingIsMutual : Type 0
-MeetingIsMutual = (es fs : List Extent) → any_meet es (map region_of fs) ≡ any_meet fs (map region_of es)
+MeetingIsMutual =
+    (es fs : List Extent) → any_meet es (map region_of fs) ≡ any_meet fs (map region_of es)
 
 -- no two entities have one serial
 abbrev pub SerialsDiffer : Airspace → Type 0

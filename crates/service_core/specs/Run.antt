@@ -99,7 +99,8 @@ StayStopped (Denied p m ∷ rs) = StayStopped rs
 pub record Runs {S : Type 0} (g : Ghosts S) (salt : List ℕ) (a : Airspace) (cs : List Timed)
     (rs : List Reply) (new : S) : Type 0 where
   pub replies : told_replies rs ≡ replies_of salt a (answered_calls cs rs)
-  pub whole : has_stopped rs ≡ false → IsContent g.holds new (airspace_after salt a (answered_calls cs rs))
+  pub whole : has_stopped rs ≡ false
+      → IsContent g.holds new (airspace_after salt a (answered_calls cs rs))
   pub kept : (b : Airspace) → g.holds new b → MayHaveStepped salt a cs rs b
 
 -- What is known of the replies to a list of calls: each call was asked once, in order. A service
@@ -115,4 +116,5 @@ pub record Answered {S : Type 0} (g : Ghosts S) (old : Service S) (cs : List Tim
   pub stopped : is_shut old ≡ false → StayStopped rs
   pub runs : is_shut old ≡ false → g.is_sound (space_of new) → (a : Airspace)
       → IsContent g.holds (space_of old) a → Runs g (salt_of old) a cs rs (space_of new)
-  pub breaks : is_shut old ≡ false → g.is_broken (space_of new) ≡ (has_stopped rs || g.is_broken (space_of old))
+  pub breaks : is_shut old ≡ false
+      → g.is_broken (space_of new) ≡ (has_stopped rs || g.is_broken (space_of old))

@@ -49,7 +49,8 @@ updated salt serial id put e = kept_as salt serial e.manager (e.version + 1) id 
 -- ---- the effects: the airspace after them, and the reply. What is not there breaks a rule.
 
 abbrev pub query_effect : Airspace → List ℕ → Kind → Region → Airspace × Reply
-query_effect a uss kind area = (a, Done (Listed kind (map (view_of a uss) (meeting_in a.entities kind (area ∷ []) None))))
+query_effect a uss kind area =
+    (a, Done (Listed kind (map (view_of a uss) (meeting_in a.entities kind (area ∷ []) None))))
 
 abbrev pub read_effect : Airspace → List ℕ → Option Entity → Airspace × Reply
 read_effect a uss (Some e) = (a, Done (Found (view_of a uss e)))
@@ -74,13 +75,18 @@ delete_effect a uss key None = (a, Fault)
 abbrev pub effect_by : List ℕ → Airspace → Caller → Operation → Airspace × Reply
 effect_by salt a caller (Query kind area) = query_effect a caller.uss kind area
 effect_by salt a caller (Read kind id) = read_effect a caller.uss (get a.entities (kind, id))
-effect_by salt a caller (Create id put) = create_effect a caller.uss (created salt (a.serial + 1) caller.uss id put)
-effect_by salt a caller (Update id ovn put) = update_effect salt a caller.uss id put (get a.entities (kind_of put.nature, id))
+effect_by salt a caller (Create id put) =
+    create_effect a caller.uss (created salt (a.serial + 1) caller.uss id put)
+effect_by salt a caller (Update id ovn put) =
+    update_effect salt a caller.uss id put (get a.entities (kind_of put.nature, id))
 effect_by salt a caller (Delete kind id ovn) =
     delete_effect a caller.uss (kind, id) (get a.entities (kind, id))
-effect_by salt a caller (ReadAvail uss) = (a, Done (Avail uss (availability_of a uss).0 (availability_of a uss).1))
-effect_by salt a caller (SetAvail uss old availability) =
-    (with_availability a uss (availability, ovn_text salt (a.serial + 1)), Done (Avail uss availability (ovn_text salt (a.serial + 1))))
+effect_by salt a caller (ReadAvail uss) =
+    (a, Done (Avail uss (availability_of a uss).0 (availability_of a uss).1))
+effect_by salt a caller (SetAvail uss old availability) = (
+  with_availability a uss (availability, ovn_text salt (a.serial + 1)),
+  Done (Avail uss availability (ovn_text salt (a.serial + 1))),
+)
 -- these always break a rule
 effect_by salt a caller NoRoute = (a, Fault)
 effect_by salt a caller NoMethod = (a, Fault)

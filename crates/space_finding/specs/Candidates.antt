@@ -31,7 +31,8 @@ AddsNumbered num db before found =
     → HoldsNumbered (numbers ++ num ∷ []) s.groups a.entities found
 
 -- the entities of the numbers that the index finds
-pub record HoldsCandidates (ranges ancestors : List Interval) (db : Database) (found : Entities) : Type 0 where
+pub record HoldsCandidates (ranges ancestors : List Interval) (db : Database) (found : Entities)
+    : Type 0 where
   pub numbers : List ℤ
   pub finds : FindsNumbers ranges ancestors db numbers
   pub reads : ReadsNumbered numbers db found

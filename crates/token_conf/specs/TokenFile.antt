@@ -28,7 +28,9 @@ pub record TokenFile : Type 0 where
 -- a file is stored as the pair of its fields
 abbrev pub file_code : Coded TokenFile
 file_code =
-    code_by (List ℕ × Callers) (coded× (coded_list coded_ℕ) (code (coded_list coded_ℕ) caller.the_row.coded)) (λ f. (f.salt, f.callers)) (λ p. record { salt = p.0; callers = p.1 }) (λ _. refl)
+    code_by (List ℕ × Callers)
+    (coded× (coded_list coded_ℕ) (code (coded_list coded_ℕ) caller.the_row.coded))
+    (λ f. (f.salt, f.callers)) (λ p. record { salt = p.0; callers = p.1 }) (λ _. refl)
 
 abbrev pub salt_of : TokenFile → List ℕ
 salt_of file = file.salt
@@ -87,7 +89,8 @@ token_of d known = do
   text ← or_fault fault.Token (text_at (codes "text") token_fault d)
   uss ← or_fault fault.Uss (text_at (codes "uss") name_fault d)
   scopes ← or_fault fault.Scopes (scopes_at d)
-  if contains_key known text then Err fault.Repeated else Ok (text, record { uss = uss; scopes = scopes })
+  if contains_key known text then Err fault.Repeated
+      else Ok (text, record { uss = uss; scopes = scopes })
 
 -- those known and the tokens of the tables, in turn
 abbrev pub callers_after : Items → Callers → Result Callers ConfFault

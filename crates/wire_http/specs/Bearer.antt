@@ -11,7 +11,8 @@ skip_spaces (b ∷ bytes) = if b == 32 then skip_spaces bytes else b ∷ bytes
 
 -- a token is one or more visible characters of ASCII
 abbrev pub visible : List ℕ → Option (List ℕ)
-visible text = if (nat_lt 0 (length text) && list_all is_ascii_graphic text) then Some text else None
+visible text =
+    if (nat_lt 0 (length text) && list_all is_ascii_graphic text) then Some text else None
 
 -- one or more spaces, and then a token
 abbrev pub spaced : List ℕ → Option (List ℕ)

@@ -14,7 +14,9 @@ is_number text = nat_lt 0 (length text) && list_all is_ascii_digit text
 -- a number of at most 1,048,576, whatever its count of digits
 abbrev pub told_length : List ℕ → Result ℕ WireRule
 told_length text =
-    if is_number text then (if nat_le (digits_value 10 text) 1048576 then Ok (digits_value 10 text) else Err BodySize) else Err Length
+    if is_number text
+    then (if nat_le (digits_value 10 text) 1048576 then Ok (digits_value 10 text) else Err BodySize)
+    else Err Length
 
 -- none where no field tells it, and no two fields may tell it
 abbrev pub told_by : List (List ℕ) → Result ℕ WireRule

@@ -76,7 +76,8 @@ message status field closing body = front_of status field closing (length body) 
 
 -- the answer to a request whose path leads to that place
 abbrev pub answer_text : Option Place → Bool → Reply → List ℕ
-answer_text place closing reply = message (status_of reply) (reply_field place reply) closing (reply_text reply)
+answer_text place closing reply =
+    message (status_of reply) (reply_field place reply) closing (reply_text reply)
 
 -- the body that tells a rule of the wire: its number and its name
 unfoldable pub rule_body : WireRule → List ℕ

@@ -26,7 +26,8 @@ abbrev pub are_few_cells : List Extent → Bool
 are_few_cells es = nat_le (sum_by (λ e. length e.cells) es) 2048
 
 abbrev pub few_volumes : List Extent → Option (List Extent)
-few_volumes es = if (nat_le 1 (length es) && nat_le (length es) 32) && are_few_cells es then Some es else None
+few_volumes es =
+    if (nat_le 1 (length es) && nat_le (length es) 32) && are_few_cells es then Some es else None
 
 unfoldable pub volumes_in : Data → Option (List Extent)
 volumes_in d = list_of volume_in d >>= few_volumes

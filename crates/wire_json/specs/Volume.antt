@@ -34,7 +34,8 @@ volume_in d = do
   altitudes ← altitudes_of d
   times ← times_of d
   cells ← cells_of d
-  without_fault (region_fault (region_of (extent_of cells altitudes times))) (extent_of cells altitudes times)
+  without_fault (region_fault (region_of (extent_of cells altitudes times)))
+      (extent_of cells altitudes times)
 
 -- ---- areas, of which each bound may be absent
 
@@ -55,4 +56,5 @@ area_in d = do
   altitudes ← altitude_bounds_of d
   times ← time_bounds_of d
   cells ← cells_of d
-  without_fault (region_fault (region_with cells altitudes times)) (region_with cells altitudes times)
+  without_fault (region_fault (region_with cells altitudes times))
+      (region_with cells altitudes times)

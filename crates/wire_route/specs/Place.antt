@@ -42,7 +42,8 @@ methods_of Availability = (codes "GET", kinds.ReadAvail) ∷ (codes "PUT", kinds
 -- what the method of a name asks; names have case
 abbrev pub kind_among : Methods → List ℕ → Option OpKind
 kind_among [] method = None
-kind_among ((name, kind) ∷ more) method = if bytes_eq method name then Some kind else kind_among more method
+kind_among ((name, kind) ∷ more) method =
+    if bytes_eq method name then Some kind else kind_among more method
 
 abbrev pub kind_at : Place → List ℕ → Option OpKind
 kind_at place method = kind_among (methods_of place) method

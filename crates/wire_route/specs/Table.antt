@@ -37,7 +37,8 @@ table =
     with_route Availability
     (with_route (EntityAtOvn Constraint)
     (with_route (Entity Constraint)
-    (with_route (Query Constraint) (with_route (EntityAtOvn Intent) (with_route (Entity Intent) (with_route (Query Intent) []))))))
+    (with_route (Query Constraint)
+    (with_route (EntityAtOvn Intent) (with_route (Entity Intent) (with_route (Query Intent) []))))))
 
 -- the place to which the router leads a path
 abbrev pub named_place : List ℕ → Option Place
