@@ -208,18 +208,19 @@ impl Volume {
     fn is_meeting(&self, area: &Area) -> bool
         ensures { result ≡ meets (region_of self.now) area.now }
     {
-        are_touching(&self.cells, &area.cells)
-            && (share_altitude(
-                Some(self.altitude.0),
-                Some(self.altitude.1),
-                area.altitude.0,
-                area.altitude.1,
-            ) && share_time(
-                Some(self.time.0),
-                Some(self.time.1),
-                area.time.0,
-                area.time.1,
-            ))
+        let shares_bounds = share_altitude(
+            Some(self.altitude.0),
+            Some(self.altitude.1),
+            area.altitude.0,
+            area.altitude.1,
+        ) && share_time(
+            Some(self.time.0),
+            Some(self.time.1),
+            area.time.0,
+            area.time.1,
+        );
+        // last, since there may be many
+        shares_bounds && are_touching(&self.cells, &area.cells)
     }
 }
 
@@ -289,12 +290,13 @@ impl Area {
     fn is_meeting(&self, area: &Area) -> bool
         ensures { result ≡ meets self.now area.now }
     {
-        are_touching(&self.cells, &area.cells)
-            && (share_altitude(
-                self.altitude.0,
-                self.altitude.1,
-                area.altitude.0,
-                area.altitude.1,
-            ) && share_time(self.time.0, self.time.1, area.time.0, area.time.1))
+        let shares_bounds = share_altitude(
+            self.altitude.0,
+            self.altitude.1,
+            area.altitude.0,
+            area.altitude.1,
+        ) && share_time(self.time.0, self.time.1, area.time.0, area.time.1);
+        // last, since there may be many
+        shares_bounds && are_touching(&self.cells, &area.cells)
     }
 }
