@@ -1,0 +1,44 @@
+"""What SQLite's own library does of the statements of the space, by bench/space.c. It needs what Debian calls gcc and
+libsqlite3-dev."""
+import pathlib
+import re
+import subprocess
+import sys
+import tempfile
+
+TOP = pathlib.Path(__file__).resolve().parent.parent
+sys.path.insert(0, str(TOP / "tests"))
+
+import databases
+
+MEMORY_DISK = "/dev/shm"
+# changes, and queries, of each kind
+CHANGES = 5_000
+
+
+def memory_folder():
+    """A folder for a while, on a memory disk where there is one."""
+    return tempfile.TemporaryDirectory(dir=MEMORY_DISK if pathlib.Path(MEMORY_DISK).is_dir() else None)
+
+
+def built(folder):
+    """The program, compiled in a folder."""
+    program = f"{folder}/space"
+    if subprocess.run(["cc", "-O2", "-o", program, str(TOP / "bench" / "space.c"), "-lsqlite3"]).returncode:
+        sys.exit("bench: bench/space.c cannot be compiled")
+    return program
+
+
+def schema():
+    """What makes the tables."""
+    tables = ";".join(re.split(r"\n(?=CREATE)", databases.SCHEMA.strip()))
+    rules = "PRAGMA foreign_keys = ON; PRAGMA journal_mode = WAL; PRAGMA synchronous = FULL;"
+    return f"{rules} {tables}; CREATE INDEX cell_range ON cell (lo, hi); INSERT INTO meta VALUES (1, 1, 0)"
+
+
+def rates(program, file, kept):
+    """How many creations, updates, deletions and queries that find ten a second, by their words, while so many intents
+    are kept in a file or in `:memory:`."""
+    words = [program, file, f"{kept}", f"{CHANGES}", schema()]
+    said = subprocess.run(words, capture_output=True, text=True, check=True).stdout
+    return dict(line.split() for line in said.splitlines())
