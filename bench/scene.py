@@ -115,7 +115,7 @@ def answers(program, scene, place):
         ran = subprocess.run([program], stdin=given, stdout=subprocess.PIPE, text=True)
     lines = ran.stdout.splitlines()
     if ran.returncode or len(lines) != len(scene.lines):
-        stop(f"the program failed at call {len(lines) + 1} of {len(scene.lines)}")
+        stop(f"the program ended with {ran.returncode} after {len(lines)} of {len(scene.lines)} calls")
     return [[int(it) for it in lines[at].split()] for at in scene.measured]
 
 
