@@ -56,36 +56,45 @@ keep() {
         mv -f -- "$built/$program.identity.$$" "$built/$program.identity"
 }
 
-# Removes what a build that was broken off leaves.
-forget() {
-    rm -f -- "$built/began.$$" "$built/$program.$$" "$built/$program.identity.$$"
+# Stops all that runs side by side, each with what it has started; it was started under `set -m`.
+stop_jobs() {
+    local job
+    for job in $(jobs -p); do
+        kill -- "-$job"
+    done 2>/dev/null
+    wait 2>/dev/null
 }
 
-# Prints the crates that the program stands on, and it, lowest first, each with those that it names.
+# Removes what a build that was broken off leaves, and gives back what it had made of its crates.
+forget() {
+    local room
+    stop_jobs
+    for room in ${rooms:+"$rooms"/*/}; do
+        give_back "${room%/}"
+    done
+    rm -rf -- ${rooms:+"$rooms"} "$built/began.$$" "$built/$program.$$" "$built/$program.identity.$$"
+}
+
+# Prints the crates that the program stands on, and it, lowest first, each with all that are below it.
 stands_on() {
-    awk -v top="$program" '
+    awk -v program="$program" '
         /^[a-z]/ {
             name = $1
-            sub(/:.*/, "", name)
-            uses = $0
-            sub(/^[^:]*:/, "", uses)
-            order[++count] = name
-            named[name] = uses
+            sub(/:$/, "", name)
+            below[name] = " "
+            for (at = 2; at <= NF; at++)
+                if ($at in below) {
+                    count = split(below[$at] $at, parts)
+                    for (part = 1; part <= count; part++)
+                        if (!index(below[name], " " parts[part] " "))
+                            below[name] = below[name] parts[part] " "
+                }
+            order[++crates] = name
         }
         END {
-            wanted[top] = 1
-            for (at = count; at > 0; at--)
-                if (order[at] in wanted) {
-                    split(named[order[at]], parts, " ")
-                    for (part in parts) wanted[parts[part]] = 1
-                }
-            for (at = 1; at <= count; at++)
-                if (order[at] in wanted) {
-                    split(named[order[at]], parts, " ")
-                    line = order[at]
-                    for (part in parts) if (parts[part] in named) line = line " " parts[part]
-                    print line
-                }
+            for (at = 1; at <= crates; at++)
+                if (order[at] == program || index(below[program], " " order[at] " "))
+                    print order[at] below[order[at]]
         }
     ' "$top/crates.txt"
 }
@@ -100,46 +109,74 @@ proofs_at_once() {
     printf '%s\n' "$cores"
 }
 
-# Proves and builds a library of the repository with so many proofs at once.
-prove_library() {
-    (unset CDPATH && cd -- "$top/crates/$1" && rt lib --jobs "$2" </dev/null)
+# Gives back to the repository what was made of a crate in the room that is named for it.
+give_back() {
+    local made=crates/${1##*/}/out
+    [ ! -d "$1/$made" ] || { rm -rf -- "${top:?}/$made" && mv -- "$1/$made" "$top/$made"; }
 }
 
-# Proves the libraries that the program stands on, lowest first, and says which crate it is at. One that
-# stands on no other is proved beside the rest. The proofs of one crate run side by side; crates that share
-# one below them wait for each other, since rt lets one of its runs at a time into a crate.
+# Proves and builds a library with so many proofs at once, over the libraries named, in a room of its
+# own: rt lets one of its runs at a time into a crate and those below it, and in rooms those that stand on
+# the same crates are proved side by side. What is made of the crate is kept, as it would be without rooms.
+prove_library() {
+    local name=$1 room=$rooms/$1 crate status
+    for crate in "$name" "${@:3}"; do
+        mkdir -p "$room/crates/$crate/out" &&
+            cp -R -- "$top/crates/$crate"/{src,specs,proofs} "$room/crates/$crate" &&
+            grep "^$crate:" "$top/crates.txt" >>"$room/crates.txt" || return 1
+    done
+    for crate in "${@:3}"; do
+        cp -Rl -- "$top/crates/$crate/out/rlib" "$room/crates/$crate/out" || return 1
+    done
+    {
+        flock 8
+        rm -rf -- "$room/crates/$name/out"
+        [ ! -d "$top/crates/$name/out" ] || mv -- "$top/crates/$name/out" "$room/crates/$name" || return 1
+        (unset CDPATH && cd -- "$room/crates/$name" && rt lib --jobs "$2" </dev/null) >"$room/said" 2>&1
+        status=$?
+        give_back "$room" && return "$status"
+    } 8<"$top/crates/$name"
+}
+
+# Proves the libraries that the program stands on: each as soon as those below it are proved, on four
+# processors up to three side by side. Says when each begins, and of one that fails all that rt said.
 prove_libraries() {
-    local jobs line name below number=0 status=0
-    local -a lines names
-    local -A beside=()
+    local jobs each name names other at number=0 pid
+    local -a waiting=() ready
+    local -A below=() running=()
     jobs=$(proofs_at_once)
-    mapfile -t lines < <(stands_on)
-    for line in "${lines[@]:1}"; do
-        if [[ $line != *' '* && $line != "$program" ]]; then
-            number=$((number + 1))
-            printf '%s: proving %s, crate %s of %s\n' "$program" "$line" "$number" "${#lines[@]}"
-            prove_library "$line" 1 &
-            beside[$line]=$!
-        fi
-    done
-    for line in "${lines[@]}"; do
-        read -ra names <<<"$line"
-        name=${names[0]}
-        [ -z "${beside[$name]-}" ] || continue
-        number=$((number + 1))
-        printf '%s: proving %s, crate %s of %s\n' "$program" "$name" "$number" "${#lines[@]}"
-        # the program itself is proved where it is built
-        [ "$name" != "$program" ] || break
-        for below in "${names[@]:1}"; do
-            if [ -n "${beside[$below]-}" ]; then
-                wait "${beside[$below]}" || status=1
-                unset "beside[$below]"
-            fi
+    rooms=$(mktemp -d "$built/rooms.XXXXXX") || return 1
+    while read -r name names; do
+        below[$name]=$names
+        [ "$name" = "$program" ] || waiting+=("$name")
+    done < <(stands_on)
+    while [ "$((${#waiting[@]} + ${#running[@]}))" != 0 ]; do
+        ready=()
+        for at in "${!waiting[@]}"; do
+            for other in "${running[@]}" "${waiting[@]}"; do
+                [[ " ${below[${waiting[at]}]} " != *" $other "* ]] || continue 2
+            done
+            ready+=("$at")
         done
-        [ "$status" = 0 ] && prove_library "$name" "$jobs" || { status=1; break; }
+        each=$jobs
+        [ "$((${#ready[@]} + ${#running[@]}))" = 1 ] || each=$(((jobs + 1) / 2))
+        for at in "${ready[@]}"; do
+            [ "${#running[@]}" -lt "$(((jobs * 3 + 3) / 4))" ] || break
+            name=${waiting[at]}
+            unset "waiting[at]"
+            number=$((number + 1))
+            printf '%s: proving %s, crate %s of %s\n' "$program" "$name" "$number" "${#below[@]}"
+            # shellcheck disable=SC2086 # a word for each crate
+            prove_library "$name" "$each" ${below[$name]} &
+            running[$!]=$name
+        done
+        if ! wait -n -p pid; then
+            cat -- "$rooms/${running[$pid]}/said"
+            return 1
+        fi
+        unset "running[$pid]"
     done
-    wait
-    return "$status"
+    printf '%s: proving %s, crate %s of %s\n' "$program" "$program" "${#below[@]}" "${#below[@]}"
 }
 
 # Proves and builds the program. All that it says goes to standard error.
@@ -150,11 +187,14 @@ build() {
     fi
     printf '%s: proving and building the program\n' "$program" >&2
     trap forget EXIT
+    # so that what is started side by side can be stopped with all that it starts
+    set -m
     begin && prove_libraries >&2 &&
         (unset CDPATH && cd -- "$top/crates/$program" &&
             rt run --jobs "$(proofs_at_once)" -- --help </dev/null >/dev/null) &&
         keep || return 1
     forget
+    set +m
     trap - EXIT
 }
 

@@ -103,21 +103,21 @@ fn serve_port<S: Space + Drop, E: Write>(
     Ok(())
 }
 
-// Serves them over the database, which is closed last.
-fn serve_database<E: Write>(
+// Serves them over a space, which is given back.
+fn serve_over<S: Space + Drop, E: Write>(
     rt: &HostRuntime,
+    space: S,
     salt: Salt,
     tokens: &TokenTable,
     given: &Settings<'_>,
     error: &mut E,
-) -> Result<(), Fault> {
-    let space = SqlSpace::open(rt, given.database)?;
+) -> (Result<(), Fault>, S) {
     let mut service = Service::new(space, salt);
     let served = serve_port(rt, &mut service, tokens, given, error);
-    after_closing(served, service.into_space().close())
+    (served, service.into_space())
 }
 
-/// Runs the command.
+/// Runs the command over the database, which is closed last.
 pub(crate) fn serve<E: Write>(
     rt: &HostRuntime,
     given: &Settings<'_>,
@@ -125,5 +125,7 @@ pub(crate) fn serve<E: Write>(
 ) -> Result<(), Fault> {
     let tokens = token_table(rt, given.tokens)?;
     let salt = salt_of(&tokens)?;
-    serve_database(rt, salt, &tokens, given, error)
+    let space = SqlSpace::open(rt, given.database)?;
+    let (served, space) = serve_over(rt, space, salt, &tokens, given, error);
+    after_closing(served, space.close())
 }

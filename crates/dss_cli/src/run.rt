@@ -60,20 +60,19 @@ fn serve_requests<S: Space + Drop, R: Read, W: Write>(
     }
 }
 
-// The same over a database, which is closed last.
-fn serve_database<R: Read, W: Write>(
+// The same over a space, which is given back.
+fn serve_over<S: Space + Drop, R: Read, W: Write>(
     rt: &HostRuntime,
-    name: &str,
+    space: S,
     salt: Salt,
     tokens: &TokenTable,
     given: &Settings<'_>,
     input: &mut R,
     output: &mut W,
-) -> Result<(), Fault> {
-    let space = SqlSpace::open(rt, name)?;
+) -> (Result<(), Fault>, S) {
     let mut service = Service::new(space, salt);
     let served = serve_requests(rt, &mut service, tokens, given, input, output);
-    after_closing(served, service.into_space().close())
+    (served, service.into_space())
 }
 
 /// Runs the command.
@@ -86,10 +85,15 @@ pub(crate) fn run<R: Read, W: Write>(
     let tokens = token_table(rt, given.tokens)?;
     let salt = salt_of(&tokens)?;
     match given.database {
-        Some(name) => serve_database(rt, name, salt, &tokens, given, input, output),
+        Some(name) => {
+            let space = SqlSpace::open(rt, name)?;
+            let (served, space) = serve_over(rt, space, salt, &tokens, given, input, output);
+            after_closing(served, space.close())
+        }
         None => {
-            let mut service = Service::new(ListSpace::new(rt.alloc()), salt);
-            serve_requests(rt, &mut service, &tokens, given, input, output)
+            let space = ListSpace::new(rt.alloc());
+            let (served, _) = serve_over(rt, space, salt, &tokens, given, input, output);
+            served
         }
     }
 }
