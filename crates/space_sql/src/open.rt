@@ -1,5 +1,6 @@
 //! A space over tables is made, taken and given back.
-ghost use Rattle.std.specs.Prelude.{◌≡◌, ◌≢◌, false, Err, IfErr, IfOk, IsTrue, OnErr, OnOk};
+ghost use Rattle.std.specs.Prelude.{◌≡◌, ◌≢◌, codes, false, Err, IfErr, IfOk, IsTrue, OnErr, OnOk};
+ghost use Rattle.sqlite.specs.Files.{file_state};
 ghost use Rattle.sqlite.specs.Held.{state};
 ghost use Rattle.sqlite.specs.State.{HasCleanDisk, Survives};
 ghost use Rattle.sqlite.specs.Steps.{IsEmpty, over_memory};
@@ -232,6 +233,8 @@ impl SqlSpace<MemStore> {
 
 fn file(rt: &HostRuntime, path: &str) -> Result<Connection<FileStore<File>>, OpenFault>
     ensures outside { IfOk result (λ conn. conn.in_transaction ≡ false) }
+    ensures store { IfErr result (λ fault. fault ≡ OpenFault.Store) }
+    ensures memory { path.now ≡ codes ":memory:" → result ≡ Err OpenFault.Store }
 {
     match Connection::open(rt, path) {
         Ok(conn) => Ok(conn),
@@ -240,10 +243,14 @@ fn file(rt: &HostRuntime, path: &str) -> Result<Connection<FileStore<File>>, Ope
 }
 
 impl SqlSpace<FileStore<File>> {
-    /// Opens a file, or makes it, and takes what it has (`adopt`). After a fault it is closed.
+    /// Opens a file, or makes it, and takes what it has (`adopt`). After a fault it is closed. The
+    /// name `:memory:` is refused.
     pub fn open(rt: &HostRuntime, path: &str) -> Result<SqlSpace<FileStore<File>>, OpenFault>
+        ensures sound { IfOk result (λ s. HasCleanDisk (file_state s.conn)
+            → ⟦<SqlSpace<FileStore<File>> as Space>⟧.is_sound s) }
         ensures fresh { IfOk result (λ s. (⟦<SqlSpace<FileStore<File>> as Space>⟧.refusals s ≡ 0)
             × (⟦<SqlSpace<FileStore<File>> as Space>⟧.is_broken s ≡ false)) }
+        ensures memory { path.now ≡ codes ":memory:" → result ≡ Err OpenFault.Store }
     {
         match SqlSpace::adopt(rt.alloc(), file(rt, path)?) {
             Ok(space) => Ok(space),
@@ -254,8 +261,11 @@ impl SqlSpace<FileStore<File>> {
         }
     }
 
-    /// Closes the file. After a fault the space is gone, too, and nothing is said of the file.
-    pub fn close(self) -> Result<(), SpaceFault> {
+    /// Closes the file. Its one fault is `Broken`; after it the space is gone, too, and nothing is said of
+    /// the file.
+    pub fn close(self) -> Result<(), SpaceFault>
+        ensures broken { IfErr result (λ fault. fault ≡ SpaceFault.Broken) }
+    {
         match self.release().close() {
             Ok(()) => Ok(()),
             Err(_) => Err(SpaceFault::Broken),
