@@ -62,7 +62,8 @@ stop_jobs() {
     for job in $(jobs -p); do
         kill -- "-$job"
     done 2>/dev/null
-    wait 2>/dev/null
+    # bash would tell of each that it ended, if `jobs` had not told so here
+    { wait; jobs; } >/dev/null 2>&1
 }
 
 # Removes what a build that was broken off leaves, and gives back what it had made of its crates.
@@ -171,7 +172,7 @@ prove_libraries() {
             running[$!]=$name
         done
         if ! wait -n -p pid; then
-            cat -- "$rooms/${running[$pid]}/said"
+            cat -- "$rooms/${running[$pid]}/said" 2>/dev/null
             return 1
         fi
         unset "running[$pid]"
@@ -179,23 +180,30 @@ prove_libraries() {
     printf '%s: proving %s, crate %s of %s\n' "$program" "$program" "${#below[@]}" "${#below[@]}"
 }
 
-# Proves and builds the program. All that it says goes to standard error.
+# Proves and builds the program, if another run has not done so meanwhile. All that it says goes to
+# standard error.
 build() {
     if ! command -v rt >/dev/null; then
         printf '%s: the command rt is not on PATH; it proves and builds the program\n' "$program" >&2
         return 1
     fi
-    printf '%s: proving and building the program\n' "$program" >&2
     trap forget EXIT
+    begin && exec 9<"$built" || return 1
+    if ! flock -n 9; then
+        printf '%s: waiting for another run, which proves and builds the program\n' "$program" >&2
+        flock 9 || return 1
+    fi
     # so that what is started side by side can be stopped with all that it starts
     set -m
-    begin && prove_libraries >&2 &&
-        (unset CDPATH && cd -- "$top/crates/$program" &&
-            rt run --jobs "$(proofs_at_once)" -- --help </dev/null >/dev/null) &&
-        keep || return 1
+    is_current ||
+        { printf '%s: proving and building the program\n' "$program" && prove_libraries &&
+            (unset CDPATH && cd -- "$top/crates/$program" &&
+                rt run --jobs "$(proofs_at_once)" -- --help </dev/null >/dev/null) &&
+            keep; } >&2 || return 1
     forget
     set +m
     trap - EXIT
+    exec 9<&-
 }
 
 # Runs the program on the words given, in place of this script. Where it is not current, it is proved
