@@ -261,8 +261,8 @@ impl SqlSpace<FileStore<File>> {
         }
     }
 
-    /// Closes the file. Its one fault is `Broken`; after it the space is gone, too, and nothing is said of
-    /// the file.
+    /// Closes the file. Its one fault is `Broken`; after it the space is gone, too, and nothing is
+    /// said of the file.
     pub fn close(self) -> Result<(), SpaceFault>
         ensures broken { IfErr result (λ fault. fault ≡ SpaceFault.Broken) }
     {
