@@ -56,7 +56,7 @@ keep() {
         mv -f -- "$built/$program.identity.$$" "$built/$program.identity"
 }
 
-# Stops all that runs side by side, each with what it has started; it was started under `set -m`.
+# Stops all that runs side by side, each with what it has started: each leads a group of its own.
 stop_jobs() {
     local job
     for job in $(jobs -p); do
@@ -146,7 +146,7 @@ prove_libraries() {
     local -a waiting=() ready
     local -A below=() running=()
     jobs=$(proofs_at_once)
-    rooms=$(mktemp -d "$built/rooms.XXXXXX") || return 1
+    mkdir -- "$rooms" || return 1
     while read -r name names; do
         below[$name]=$names
         [ "$name" = "$program" ] || waiting+=("$name")
@@ -167,8 +167,11 @@ prove_libraries() {
             unset "waiting[at]"
             number=$((number + 1))
             printf '%s: proving %s, crate %s of %s\n' "$program" "$name" "$number" "${#below[@]}"
+            # in a group of its own, which can be stopped with all that it starts
+            set -m
             # shellcheck disable=SC2086 # a word for each crate
             prove_library "$name" "$each" ${below[$name]} &
+            set +m
             running[$!]=$name
         done
         if ! wait -n -p pid; then
@@ -187,21 +190,22 @@ build() {
         printf '%s: the command rt is not on PATH; it proves and builds the program\n' "$program" >&2
         return 1
     fi
-    trap forget EXIT
-    begin && exec 9<"$built" || return 1
+    mkdir -p "$built" && exec 9<"$built" || return 1
     if ! flock -n 9; then
         printf '%s: waiting for another run, which proves and builds the program\n' "$program" >&2
         flock 9 || return 1
     fi
-    # so that what is started side by side can be stopped with all that it starts
-    set -m
+    rooms=$built/rooms
+    trap forget EXIT
+    # a build that was killed could not do so itself
+    forget
+    begin || return 1
     is_current ||
         { printf '%s: proving and building the program\n' "$program" && prove_libraries &&
             (unset CDPATH && cd -- "$top/crates/$program" &&
                 rt run --jobs "$(proofs_at_once)" -- --help </dev/null >/dev/null) &&
             keep; } >&2 || return 1
     forget
-    set +m
     trap - EXIT
     exec 9<&-
 }
