@@ -1,12 +1,11 @@
 //! The command `serve`: connections to a port of this machine, one after the other.
 use crate::clock::SystemClock;
-use crate::database::after_closing;
+use crate::database::{Work, over_database};
 use crate::fault::Fault;
 use crate::tokens::{salt_of, token_table, unread};
 use entity_core::salt::Salt;
 use service_core::service::Service;
 use space_core::space::Space;
-use space_sql::space::SqlSpace;
 use std::io::{Read, Write};
 use std::net::{Ipv4Addr, Shutdown, TcpListener, TcpStream};
 use std::time::Duration;
@@ -103,18 +102,29 @@ fn serve_port<S: Space + Drop, E: Write>(
     Ok(())
 }
 
-// Serves them over a space, which is given back.
-fn serve_over<S: Space + Drop, E: Write>(
-    rt: &HostRuntime,
-    space: S,
+// The work of the command.
+#[derive(Drop)]
+struct Serving<'a, E: Write> {
+    rt: &'a HostRuntime,
+    given: &'a Settings<'a>,
+    tokens: &'a TokenTable,
     salt: Salt,
-    tokens: &TokenTable,
-    given: &Settings<'_>,
-    error: &mut E,
-) -> (Result<(), Fault>, S) {
-    let mut service = Service::new(space, salt);
-    let served = serve_port(rt, &mut service, tokens, given, error);
-    (served, service.into_space())
+    error: &'a mut E,
+}
+
+impl<'a, E: Write> Work for Serving<'a, E> {
+    fn perform<S: Space + Drop>(self, space: S) -> (Result<(), Fault>, S) {
+        let Serving {
+            rt,
+            given,
+            tokens,
+            salt,
+            error,
+        } = self;
+        let mut service = Service::new(space, salt);
+        let served = serve_port(rt, &mut service, tokens, given, error);
+        (served, service.into_space())
+    }
 }
 
 /// Runs the command over the database, which is closed last.
@@ -125,7 +135,12 @@ pub(crate) fn serve<E: Write>(
 ) -> Result<(), Fault> {
     let tokens = token_table(rt, given.tokens)?;
     let salt = salt_of(&tokens)?;
-    let space = SqlSpace::open(rt, given.database)?;
-    let (served, space) = serve_over(rt, space, salt, &tokens, given, error);
-    after_closing(served, space.close())
+    let serving = Serving {
+        rt,
+        given,
+        tokens: &tokens,
+        salt,
+        error,
+    };
+    over_database(rt, given.database, serving)
 }

@@ -1,16 +1,31 @@
 //! The database of a command.
 use crate::fault::Fault;
-use space_core::space::SpaceFault;
+use space_core::space::{Space, SpaceFault};
+use space_sql::space::SqlSpace;
 
-/// How a command over a database ended, which was closed last: a fault of its use is told before
-/// one of the closing.
-pub(crate) fn after_closing(
-    used: Result<(), Fault>,
-    closed: Result<(), SpaceFault>,
-) -> Result<(), Fault> {
-    used?;
+/// What a command does over a space, with all that it was given.
+pub(crate) trait Work {
+    /// Does it over a space, which is given back.
+    fn perform<S: Space + Drop>(self, space: S) -> (Result<(), Fault>, S);
+}
+
+// How a command over a database ended, which was closed last: a fault of its work is told before one
+// of the closing.
+fn after_closing(done: Result<(), Fault>, closed: Result<(), SpaceFault>) -> Result<(), Fault> {
+    done?;
     match closed {
         Ok(()) => Ok(()),
         Err(_) => Err(Fault::DatabaseFailed),
     }
+}
+
+/// Does a command's work over the database in the file of that name, which is closed last.
+pub(crate) fn over_database<W: Work + Drop>(
+    rt: &HostRuntime,
+    name: &str,
+    work: W,
+) -> Result<(), Fault> {
+    let space = SqlSpace::open(rt, name)?;
+    let (done, space) = work.perform(space);
+    after_closing(done, space.close())
 }

@@ -1,9 +1,8 @@
 //! The command `report`: what a database keeps.
-use crate::database::after_closing;
+use crate::database::{Work, over_database};
 use crate::fault::Fault;
 use dss_report::report::report_text;
 use space_core::space::Space;
-use space_sql::space::SqlSpace;
 use std::alloc::Global;
 use std::io::Write;
 
@@ -20,13 +19,29 @@ fn print_report<S: Space + Drop, W: Write>(
     }
 }
 
+// The work of the command.
+#[derive(Drop)]
+struct Printing<'a, W: Write> {
+    alloc: Global,
+    output: &'a mut W,
+}
+
+impl<'a, W: Write> Work for Printing<'a, W> {
+    fn perform<S: Space + Drop>(self, mut space: S) -> (Result<(), Fault>, S) {
+        let printed = print_report(self.alloc, &mut space, self.output);
+        (printed, space)
+    }
+}
+
 /// Runs the command over the database in the file of that name, which is closed last.
 pub(crate) fn report<W: Write>(
     rt: &HostRuntime,
     database: &str,
     output: &mut W,
 ) -> Result<(), Fault> {
-    let mut space = SqlSpace::open(rt, database)?;
-    let printed = print_report(rt.alloc(), &mut space, output);
-    after_closing(printed, space.close())
+    let printing = Printing {
+        alloc: rt.alloc(),
+        output,
+    };
+    over_database(rt, database, printing)
 }

@@ -1,12 +1,11 @@
 //! The command `run`: one stream of requests, each at the same moment.
-use crate::database::after_closing;
+use crate::database::{Work, over_database};
 use crate::fault::Fault;
 use crate::tokens::{salt_of, token_table, unread};
 use entity_core::salt::Salt;
 use service_core::service::Service;
 use space_core::list::ListSpace;
 use space_core::space::Space;
-use space_sql::space::SqlSpace;
 use std::alloc::Global;
 use std::fs::File;
 use std::io::{Read, Write};
@@ -60,19 +59,31 @@ fn serve_requests<S: Space + Drop, R: Read, W: Write>(
     }
 }
 
-// The same over a space, which is given back.
-fn serve_over<S: Space + Drop, R: Read, W: Write>(
-    rt: &HostRuntime,
-    space: S,
+// The work of the command.
+#[derive(Drop)]
+struct Serving<'a, R: Read, W: Write> {
+    rt: &'a HostRuntime,
+    given: &'a Settings<'a>,
+    tokens: &'a TokenTable,
     salt: Salt,
-    tokens: &TokenTable,
-    given: &Settings<'_>,
-    input: &mut R,
-    output: &mut W,
-) -> (Result<(), Fault>, S) {
-    let mut service = Service::new(space, salt);
-    let served = serve_requests(rt, &mut service, tokens, given, input, output);
-    (served, service.into_space())
+    input: &'a mut R,
+    output: &'a mut W,
+}
+
+impl<'a, R: Read, W: Write> Work for Serving<'a, R, W> {
+    fn perform<S: Space + Drop>(self, space: S) -> (Result<(), Fault>, S) {
+        let Serving {
+            rt,
+            given,
+            tokens,
+            salt,
+            input,
+            output,
+        } = self;
+        let mut service = Service::new(space, salt);
+        let served = serve_requests(rt, &mut service, tokens, given, input, output);
+        (served, service.into_space())
+    }
 }
 
 /// Runs the command.
@@ -84,15 +95,18 @@ pub(crate) fn run<R: Read, W: Write>(
 ) -> Result<(), Fault> {
     let tokens = token_table(rt, given.tokens)?;
     let salt = salt_of(&tokens)?;
+    let serving = Serving {
+        rt,
+        given,
+        tokens: &tokens,
+        salt,
+        input,
+        output,
+    };
     match given.database {
-        Some(name) => {
-            let space = SqlSpace::open(rt, name)?;
-            let (served, space) = serve_over(rt, space, salt, &tokens, given, input, output);
-            after_closing(served, space.close())
-        }
+        Some(name) => over_database(rt, name, serving),
         None => {
-            let space = ListSpace::new(rt.alloc());
-            let (served, _) = serve_over(rt, space, salt, &tokens, given, input, output);
+            let (served, _) = serving.perform(ListSpace::new(rt.alloc()));
             served
         }
     }
