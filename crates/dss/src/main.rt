@@ -1,12 +1,22 @@
-//! The program `dss`.
+//! The program `dss`: its commands, and what runs them.
 #![tactic(auto)]
 
-use dss_cli::command::run_line;
+mod clock;
+mod command;
+mod connections;
+mod database;
+mod fault;
+mod loopback;
+mod report;
+mod run;
+mod tokens;
+
+use crate::command::run_line;
 use std::process::ExitCode;
 use std::{env, io};
 
 // Runs the program's command line with the standard streams.
-fn run(rt: &HostRuntime) -> io::Result<u8> {
+fn run_words(rt: &HostRuntime) -> io::Result<u8> {
     let mut owned = Vec::new(rt.alloc());
     for word in env::args(rt)? {
         owned.push(word)?;
@@ -25,7 +35,7 @@ fn run(rt: &HostRuntime) -> io::Result<u8> {
 }
 
 fn main(rt: HostRuntime) -> ExitCode {
-    match run(&rt) {
+    match run_words(&rt) {
         Ok(status) => ExitCode::from(status),
         Err(_) => {
             let _ = eprintln!(rt; "dss: memory");

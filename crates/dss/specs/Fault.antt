@@ -1,7 +1,7 @@
 -- Why a command failed.
 use Rattle.std.specs.Prelude.{◌≡◌}
-use Rattle.dss_cli.specs.declared.fault.Fault.{Fault}
-use Rattle.dss_cli.specs.declared.fault.Fault.TheVariants as fault
+use Rattle.dss.specs.declared.fault.Fault.{Fault}
+use Rattle.dss.specs.declared.fault.Fault.TheVariants as fault
 use Rattle.dss_report.specs.declared.fault.CellFault.{CellFault}
 use Rattle.dss_report.specs.declared.fault.CellFault.TheVariants as cell
 use Rattle.dss_report.specs.declared.fault.ReportFault.{ReportFault}

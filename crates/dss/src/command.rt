@@ -101,7 +101,7 @@ fn done<R: Read, O: Write, E: Write>(
 /// Runs one command line, whose first word is the program's name, over a reader and two writers,
 /// and answers the exit status: 0 where it is done, 1 after a fault, which is told on one line of
 /// `error`, and 2 for a command line that is refused.
-pub fn run_line<'a, R: Read, O: Write, E: Write>(
+pub(crate) fn run_line<'a, R: Read, O: Write, E: Write>(
     rt: &HostRuntime,
     words: &'a [&'a str],
     input: &mut R,

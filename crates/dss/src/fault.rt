@@ -9,7 +9,7 @@ use wire_http::StreamFault;
 /// Why a command failed. Printed, it is the line that the program writes to standard error, without
 /// the line end.
 #[derive(Debug, Drop)]
-pub enum Fault {
+pub(crate) enum Fault {
     /// The token file does not open, fails to read or is not UTF-8.
     TokensUnread,
     /// The token file is wrong.
@@ -72,7 +72,7 @@ impl fmt::Display for Fault {
 }
 
 impl From<StreamFault> for Fault {
-    ghost use Rattle.dss_cli.specs.Fault.{IsOfStream};
+    ghost use Rattle.dss.specs.Fault.{IsOfStream};
 
     ghost from_gives = { IsOfStream };
 
@@ -86,7 +86,7 @@ impl From<StreamFault> for Fault {
 
 impl From<OpenFault> for Fault {
     ghost use Rattle.std.specs.Prelude.{◌≡◌};
-    ghost use Rattle.dss_cli.specs.declared.fault.Fault.TheVariants as fault;
+    ghost use Rattle.dss.specs.declared.fault.Fault.TheVariants as fault;
 
     ghost from_gives = { λ e found. found ≡ fault.Database e };
 
@@ -96,7 +96,7 @@ impl From<OpenFault> for Fault {
 }
 
 impl From<CellFault> for Fault {
-    ghost use Rattle.dss_cli.specs.Fault.{IsOfCell};
+    ghost use Rattle.dss.specs.Fault.{IsOfCell};
 
     ghost from_gives = { IsOfCell };
 
@@ -109,7 +109,7 @@ impl From<CellFault> for Fault {
 }
 
 impl From<ReportFault> for Fault {
-    ghost use Rattle.dss_cli.specs.Fault.{IsOfReport};
+    ghost use Rattle.dss.specs.Fault.{IsOfReport};
 
     ghost from_gives = { IsOfReport };
 

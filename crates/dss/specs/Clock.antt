@@ -1,6 +1,6 @@
 -- What the clock of the system tells.
 use Rattle.std.specs.Prelude.{ℕ}
-use Rattle.dss_cli.specs.declared.clock.SystemClock.{SystemClock}
+use Rattle.dss.specs.declared.clock.SystemClock.{SystemClock}
 
 -- A reading may be any moment: nothing is claimed of time.
 abbrev pub Reads : SystemClock → ℕ → SystemClock → Type 0

@@ -16,7 +16,7 @@ pub(crate) fn unread(error: &io::Error, fault: Fault) -> Fault {
 }
 
 /// The table of the token file with that name.
-pub fn token_table(rt: &HostRuntime, name: &str) -> Result<TokenTable, Fault> {
+pub(crate) fn token_table(rt: &HostRuntime, name: &str) -> Result<TokenTable, Fault> {
     let text = match fs::read_to_string(rt, name) {
         Ok(text) => text,
         Err(error) => return Err(unread(&error, Fault::TokensUnread)),

@@ -29,7 +29,7 @@ impl<'a> SystemClock<'a> {
 }
 
 impl<'a> Moments for SystemClock<'a> {
-    ghost use Rattle.dss_cli.specs.Clock.{Reads, failures_of};
+    ghost use Rattle.dss.specs.Clock.{Reads, failures_of};
 
     ghost gives = { Reads };
 
