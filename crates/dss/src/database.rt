@@ -2,6 +2,7 @@
 use crate::fault::Fault;
 use space_core::space::{Space, SpaceFault};
 use space_sql::space::SqlSpace;
+use sqlite::Alter;
 
 /// What a command does over a space, with all that it was given.
 pub(crate) trait Work {
@@ -19,6 +20,15 @@ fn after_closing(done: Result<(), Fault>, closed: Result<(), SpaceFault>) -> Res
     }
 }
 
+// Does a command's work over tables in some store: generic in it, for what is proved of the store of a
+// file is dear.
+fn performed<W: Work, A: Alter + Drop>(
+    work: W,
+    space: SqlSpace<A>,
+) -> (Result<(), Fault>, SqlSpace<A>) {
+    work.perform(space)
+}
+
 /// Does a command's work over the database in the file of that name, which is closed last.
 pub(crate) fn over_database<W: Work + Drop>(
     rt: &HostRuntime,
@@ -26,6 +36,6 @@ pub(crate) fn over_database<W: Work + Drop>(
     work: W,
 ) -> Result<(), Fault> {
     let space = SqlSpace::open(rt, name)?;
-    let (done, space) = work.perform(space);
+    let (done, space) = performed(work, space);
     after_closing(done, space.close())
 }

@@ -97,6 +97,18 @@ fn through_socket(
     }
 }
 
+// What comes back for requests to a service over an empty airspace.
+fn answers_to(
+    rt: &HostRuntime,
+    tokens: &TokenTable,
+    now: u64,
+    request: &[u8],
+) -> Result<Vec<u8>, Fault> {
+    let salt = salt_of(tokens)?;
+    let mut service = Service::new(ListSpace::new(rt.alloc()), salt);
+    through_socket(rt, &mut service, tokens, now, request)
+}
+
 /// Runs the command.
 pub(crate) fn loop_back<R: Read, W: Write>(
     rt: &HostRuntime,
@@ -105,10 +117,8 @@ pub(crate) fn loop_back<R: Read, W: Write>(
     output: &mut W,
 ) -> Result<(), Fault> {
     let tokens = token_table(rt, given.tokens)?;
-    let salt = salt_of(&tokens)?;
     let request = request_bytes(rt, given.request, input)?;
-    let mut service = Service::new(ListSpace::new(rt.alloc()), salt);
-    let came = through_socket(rt, &mut service, &tokens, given.now, request.as_slice())?;
+    let came = answers_to(rt, &tokens, given.now, request.as_slice())?;
     match output.write_all(came.as_slice()) {
         Ok(()) => Ok(()),
         Err(_) => Err(Fault::Output),
