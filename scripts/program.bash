@@ -139,18 +139,30 @@ prove_library() {
     } 8<"$top/crates/$name"
 }
 
-# Proves the libraries that the program stands on: each as soon as those below it are proved, on four
-# processors up to three side by side. Says when each begins, and of one that fails all that rt said.
+# Proves the libraries that the program stands on: each as soon as those below it are proved, first those with
+# the most lines in the longest chain above them. Those that can begin share the processors that are free, since a
+# second process for a crate reads once more what stands below it. Says when each begins, and of one that fails
+# all that rt said.
 prove_libraries() {
-    local jobs each name names other at number=0 pid
-    local -a waiting=() ready
-    local -A below=() running=()
-    jobs=$(proofs_at_once)
+    local free each name names other lines at number=0 pid
+    local -a order=() waiting=() ready
+    local -A below=() chain=() running=() taken=()
+    free=$(proofs_at_once)
     mkdir -- "$rooms" || return 1
     while read -r name names; do
         below[$name]=$names
-        [ "$name" = "$program" ] || waiting+=("$name")
+        order=("$name" "${order[@]}")
     done < <(stands_on)
+    for name in "${order[@]}"; do
+        lines=$(find "$top/crates/$name"/{src,specs,proofs} -type f -exec cat {} + | wc -l)
+        chain[$name]=$((${chain[$name]:-0} + lines))
+        for other in ${below[$name]}; do
+            [ "${chain[$other]:-0}" -ge "${chain[$name]}" ] || chain[$other]=${chain[$name]}
+        done
+    done
+    mapfile -t waiting < <(for name in "${order[@]:1}"; do
+        printf '%s %s\n' "${chain[$name]}" "$name"
+    done | sort -rn | cut -d ' ' -f 2)
     while [ "$((${#waiting[@]} + ${#running[@]}))" != 0 ]; do
         ready=()
         for at in "${!waiting[@]}"; do
@@ -159,12 +171,13 @@ prove_libraries() {
             done
             ready+=("$at")
         done
-        each=$jobs
-        [ "$((${#ready[@]} + ${#running[@]}))" = 1 ] || each=$(((jobs + 1) / 2))
-        for at in "${ready[@]}"; do
-            [ "${#running[@]}" -lt "$(((jobs * 3 + 3) / 4))" ] || break
-            name=${waiting[at]}
-            unset "waiting[at]"
+        while [ "$free" != 0 ] && [ "${#ready[@]}" != 0 ]; do
+            name=${waiting[ready[0]]}
+            unset "waiting[ready[0]]"
+            each=$((free / ${#ready[@]}))
+            [ "$each" != 0 ] || each=1
+            ready=("${ready[@]:1}")
+            free=$((free - each))
             number=$((number + 1))
             printf '%s: proving %s, crate %s of %s\n' "$program" "$name" "$number" "${#below[@]}"
             # in a group of its own, which can be stopped with all that it starts
@@ -173,12 +186,14 @@ prove_libraries() {
             prove_library "$name" "$each" ${below[$name]} &
             set +m
             running[$!]=$name
+            taken[$!]=$each
         done
         if ! wait -n -p pid; then
             cat -- "$rooms/${running[$pid]}/said" 2>/dev/null
             return 1
         fi
-        unset "running[$pid]"
+        free=$((free + taken[$pid]))
+        unset "running[$pid]" "taken[$pid]"
     done
     printf '%s: proving %s, crate %s of %s\n' "$program" "$program" "${#below[@]}" "${#below[@]}"
 }
