@@ -42,7 +42,13 @@ is_current() {
 
 # Notes the time at which a build begins, in `began`.
 begin() {
-    mkdir -p "$built" && began=$built/began.$$ && : >"$began"
+    local left
+    mkdir -p "$built" || return 1
+    # what is left of a run that was killed
+    for left in "$built"/began.*; do
+        [ -d "/proc/${left##*.}" ] || rm -f -- "$left"
+    done
+    began=$built/began.$$ && : >"$began"
 }
 
 # Keeps the program that was proved and built since `begin`, under the time of that call: a source
