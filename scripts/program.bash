@@ -51,10 +51,10 @@ begin() {
     began=$built/began.$$ && : >"$began"
 }
 
-# Keeps the program that was proved and built since `begin`, under the time of that call: a source
-# that was edited meanwhile counts as newer.
+# Keeps the program that was proved and built since `begin`, in the repository or the copy of it given, under the
+# time of that call: a source that was edited meanwhile counts as newer.
 keep() {
-    cp -- "$top/crates/$program/out/$program" "$built/$program.$$" &&
+    cp -- "${1-$top}/crates/$program/out/$program" "$built/$program.$$" &&
         touch -r "$began" "$built/$program.$$" &&
         printf '%s\n' "$identity" "$(stat -c %.9Y -- "$built/$program.$$")" \
             >"$built/$program.identity.$$" &&

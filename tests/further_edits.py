@@ -5,24 +5,41 @@ from program import TOP
 EDITS = sorted(TOP.glob("tests/edits/*/*.edit"))
 
 
-def fault_of(edit):
-    """Why an edit cannot be applied, or None. The texts that it replaces stand in its file once, each after those
-    before it were replaced."""
-    path = text = old = None
+class BadEdit(Exception):
+    """Why an edit shows nothing."""
+
+
+def edited(edit, folder):
+    """The texts of the files that an edit changes, by their paths in a crate's folder. The texts that it replaces stand in
+    their file once, each after those before it were replaced."""
+    path = old = None
+    texts = {}
     for line in edit.read_text().splitlines():
-        word, _, rest = line.partition(": ")
+        word, _, text = line.partition(":")
+        text = text.removeprefix(" ")
         if word == "file":
-            path = TOP / "crates" / edit.parent.name / rest
-            if not path.is_file():
-                return f"there is no file {rest}"
-            text = path.read_text()
+            path = text
+            if not (folder / path).is_file():
+                raise BadEdit(f"there is no file {path}")
+            texts.setdefault(path, (folder / path).read_text())
         elif word == "old":
-            old = rest
-            if text is None or text.count(old) != 1:
-                return f"{old!r} is not there once"
-        elif line.startswith("new:") and old is not None:
-            text = text.replace(old, rest)
-    return None if old else "it replaces nothing"
+            old = text
+            if path is None or texts[path].count(old) != 1:
+                raise BadEdit(f"{old!r} is not there once")
+        elif word == "new" and old is not None:
+            texts[path], old = texts[path].replace(old, text), None
+    if all(text == (folder / path).read_text() for path, text in texts.items()):
+        raise BadEdit("it replaces nothing")
+    return texts
+
+
+def fault_of(edit):
+    """Why an edit cannot be applied, or None."""
+    try:
+        edited(edit, TOP / "crates" / edit.parent.name)
+    except BadEdit as fault:
+        return str(fault)
+    return None
 
 
 def applied():
