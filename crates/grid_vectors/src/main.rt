@@ -6,56 +6,86 @@ use anyhow::{Context, Result};
 use grid_core::cell::CellId;
 use grid_core::token::token;
 
-fn cell_of(word: &str) -> Result<CellId> {
-    CellId::from_raw(u64::from_str_radix(word, 16)?).context("a cell")
+// What a line asks: of a cell, its parent of a level, its child of a digit, its digit of a level, and
+// whether it contains another.
+#[derive(Drop)]
+struct Questions {
+    cell: CellId,
+    above: u8,
+    child: u8,
+    place: u8,
+    other: CellId,
 }
 
-// The child of a digit, where there is one.
-fn child_text(rt: &(impl Print + AllocGlobal), cell: CellId, digit: u8) -> Result<String> {
-    if cell.level() < 30 && digit <= 3 {
-        let child = cell.child(digit).raw();
-        return Ok(format!(in rt.alloc(); "{child:016x}")?);
-    }
-    Ok(String::from_str(rt.alloc(), "-")?)
+fn cell_of(word: Option<&str>) -> Option<CellId> {
+    CellId::from_raw(u64::from_str_radix(word?, 16).ok()?)
 }
 
-// The digit of a level, where there is one.
-fn digit_text(rt: &(impl Print + AllocGlobal), cell: CellId, level: u8) -> Result<String> {
-    if 1 <= level && level <= cell.level() {
-        let digit = cell.digit(level);
-        return Ok(format!(in rt.alloc(); "{digit}")?);
-    }
-    Ok(String::from_str(rt.alloc(), "-")?)
+fn number_of(word: Option<&str>) -> Option<u8> {
+    word?.parse::<u8>().ok()
 }
 
-fn report(rt: &(impl Print + AllocGlobal), line: &str) -> Result<()> {
+fn read(line: &str) -> Option<Questions> {
     let mut words = line.split_whitespace();
-    let cell = cell_of(words.next().context("a number")?)?;
-    let above = words
-        .next()
-        .context("the level of a parent")?
-        .parse::<u8>()?;
-    let digit = words.next().context("the digit of a child")?.parse::<u8>()?;
-    let place = words.next().context("the level of a digit")?.parse::<u8>()?;
-    let other = cell_of(words.next().context("another number")?)?;
+    Some(Questions {
+        cell: cell_of(words.next())?,
+        above: number_of(words.next())?,
+        child: number_of(words.next())?,
+        place: number_of(words.next())?,
+        other: cell_of(words.next())?,
+    })
+}
+
+// A cell's token and place, and its parent.
+fn report_cell(rt: &(impl Print + AllocGlobal), asked: &Questions) -> Result<()> {
+    let cell = asked.cell;
     let name = token(rt.alloc(), cell)?;
     let face = cell.face();
     let level = cell.level();
-    let parent = cell.parent(above.min(cell.level())).raw();
-    let child = child_text(rt, cell, digit)?;
+    let parent = cell.parent(asked.above.min(level)).raw();
+    print!(rt; "{name} face={face} level={level} parent={parent:016x}")?;
+    Ok(())
+}
+
+// Its child, where there is one, and its first and last leaf.
+fn report_below(rt: &impl Print, asked: &Questions) -> Result<()> {
+    let cell = asked.cell;
+    if cell.level() < 30 && asked.child <= 3 {
+        let child = cell.child(asked.child).raw();
+        print!(rt; " child={child:016x}")?;
+    } else {
+        print!(rt; " child=-")?;
+    }
     let least = cell.range_min();
     let greatest = cell.range_max();
-    let shown = digit_text(rt, cell, place)?;
-    let contains = if cell.contains(other) { "yes" } else { "no" };
-    println!(rt;
-        "{name} face={face} level={level} parent={parent:016x} child={child} min={least:016x} max={greatest:016x} digit={shown} contains={contains}"
-    )?;
+    print!(rt; " min={least:016x} max={greatest:016x}")?;
+    Ok(())
+}
+
+// Its digit, where there is one, and whether it contains the other.
+fn report_above(rt: &impl Print, asked: &Questions) -> Result<()> {
+    let cell = asked.cell;
+    if 1 <= asked.place && asked.place <= cell.level() {
+        let digit = cell.digit(asked.place);
+        print!(rt; " digit={digit}")?;
+    } else {
+        print!(rt; " digit=-")?;
+    }
+    let contains = if cell.contains(asked.other) {
+        "yes"
+    } else {
+        "no"
+    };
+    println!(rt; " contains={contains}")?;
     Ok(())
 }
 
 fn main(rt: HostRuntime) -> Result<()> {
     for line in rt.lines(rt.alloc()) {
-        report(&rt, line?.as_str())?;
+        let asked = read(line?.as_str()).context("a cell, three numbers and another cell")?;
+        report_cell(&rt, &asked)?;
+        report_below(&rt, &asked)?;
+        report_above(&rt, &asked)?;
     }
     Ok(())
 }

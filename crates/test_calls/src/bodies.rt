@@ -1,14 +1,22 @@
 //! Bodies and words that no route gives.
 use entity_core::nature::Kind;
 use policy_core::call::OpKind;
+use std::alloc::Global;
 use wire_json::body::{PathWords, read_body};
 use wire_json::body_fault::BodyFault;
+
+fn is_malformed(alloc: Global, kind: OpKind, words: &PathWords<'_>, body: &str) -> bool {
+    matches!(
+        read_body(alloc, kind, words, body.as_bytes()),
+        Err(BodyFault::Malformed)
+    )
+}
 
 #[test]
 fn words_of_no_route(rt: HostRuntime) {
     let body = r#"{"area_of_interest":{"cells":["89c3"]}}"#;
     let setting = r#"{"availability":"Down"}"#;
-    for (kind, first, second, body) in [
+    for (kind, first, second, body) in &[
         (OpKind::Query(Kind::Intent), "Query", None, body),
         (OpKind::SetAvail, "uss-b", Some("x"), setting),
         (OpKind::ReadAvail, "uss-b", Some("x"), ""),
@@ -19,8 +27,13 @@ fn words_of_no_route(rt: HostRuntime) {
             "",
         ),
     ] {
-        let words = PathWords { first, second };
-        let read = read_body(rt.alloc(), kind, &words, body.as_bytes());
-        assert!(rt; matches!(read, Err(BodyFault::Malformed)), "at {first}");
+        let words = PathWords {
+            first: *first,
+            second: *second,
+        };
+        assert!(rt;
+            is_malformed(rt.alloc(), *kind, &words, *body),
+            "at {first}"
+        );
     }
 }

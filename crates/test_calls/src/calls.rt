@@ -59,23 +59,30 @@ fn kept(alloc: Global, op: &Operation, number: u32) -> Option<Entity> {
     })
 }
 
-// What an update of an intent of that version breaks, at a serial that is not the greatest.
-fn found_at(alloc: Global, number: u32) -> Option<Findings> {
+// An update of an intent.
+fn update(alloc: Global) -> Option<Call> {
     let words = PathWords {
         first: "00000000-0000-4000-8000-0000000000a1",
         second: Some("0123456789abcdef"),
     };
-    let call = call(alloc, OpKind::Update(Kind::Intent), &words, PUT)?;
-    let entity = kept(alloc, &call.op, number)?;
-    Some(standing(1000, &call, Some(&entity), None, 7))
+    call(alloc, OpKind::Update(Kind::Intent), &words, PUT)
+}
+
+// What it breaks where the intent is there at that version, at a serial that is not the greatest.
+fn found_at(alloc: Global, update: &Call, number: u32) -> Option<Findings> {
+    let entity = kept(alloc, &update.op, number)?;
+    Some(standing(1000, update, Some(&entity), None, 7))
 }
 
 #[test]
 fn the_greatest_version(rt: HostRuntime) {
+    let update = update(rt.alloc()).expect(&rt, "a call");
     for (number, limit) in [(GREATEST_VERSION - 1, false), (GREATEST_VERSION, true)] {
-        let findings = found_at(rt.alloc(), number).expect(&rt, "findings");
-        assert!(rt; findings.first.is_none());
-        assert_eq!(rt; findings.limit, limit);
+        let found = found_at(rt.alloc(), &update, number).expect(&rt, "findings");
+        assert!(rt;
+            found.first.is_none() && found.limit == limit,
+            "at {number}"
+        );
     }
 }
 

@@ -7,10 +7,22 @@ use entity_core::salt::Salt;
 use entity_core::serial::{GREATEST_SERIAL, Serial};
 use entity_core::uss_id::UssId;
 use entity_core::version::{GREATEST_VERSION, Version};
+use std::alloc::Global;
 
 const LONG: &str = "abcdefghijklmnopqrstuvwxyz-ABCDEFGHIJKLMNOPQRSTUVWXYZ_0123456789";
 
 const LONGER: &str = "abcdefghijklmnopqrstuvwxyz-ABCDEFGHIJKLMNOPQRSTUVWXYZ_0123456789.";
+
+// Whether a text is read as the id of a number, which is printed so.
+fn is_id(alloc: Global, text: &str, number: u128, printed: &str) -> bool {
+    let Ok(id) = EntityId::read(text) else {
+        return false;
+    };
+    let Ok(again) = id.text(alloc) else {
+        return false;
+    };
+    id.number() == number && again.as_str() == printed && EntityId::read(printed) == Ok(id)
+}
 
 #[test]
 fn ids_of_entities(rt: HostRuntime) {
@@ -27,12 +39,15 @@ fn ids_of_entities(rt: HostRuntime) {
             "017f22e2-79b0-7cc3-98c4-dc0c0c07398f",
         ),
     ] {
-        let id = EntityId::read(text).ok().expect(&rt, "an id");
-        assert_eq!(rt; id.number(), number, "of {text}");
-        let again = id.text(rt.alloc()).expect(&rt, "a text");
-        assert!(rt; again.as_str() == printed, "of {text}");
-        assert!(rt; EntityId::read(printed) == Ok(id), "of {text}");
+        assert!(rt; is_id(rt.alloc(), text, number, printed), "of {text}");
     }
+    let least = EntityId::read("00000000-0000-4000-8000-000000000000").ok();
+    let next = EntityId::read("00000000-0000-4000-8000-000000000001").ok();
+    assert!(rt; least.expect(&rt, "an id") < next.expect(&rt, "an id"));
+}
+
+#[test]
+fn texts_that_are_no_ids(rt: HostRuntime) {
     for (text, fault) in [
         ("", IdFault::Length),
         ("f81d4fae7dec11d0a76500a0c91e6bf6", IdFault::Length),
@@ -41,16 +56,12 @@ fn ids_of_entities(rt: HostRuntime) {
         ("f81d4fae-7dec-11d0-a765-00a0c91e6bg6", IdFault::Form),
         ("f81d4fae07dec-11d0-a765-00a0c91e6bf6", IdFault::Form),
     ] {
-        assert!(rt; EntityId::read(text).err() == Some(fault), "of {text}");
+        assert!(rt; EntityId::read(text) == Err(fault), "of {text}");
     }
-    let least = EntityId::read("00000000-0000-4000-8000-000000000000").ok();
-    let next = EntityId::read("00000000-0000-4000-8000-000000000001").ok();
-    assert!(rt; least.expect(&rt, "an id") < next.expect(&rt, "an id"));
 }
 
 #[test]
-fn names_and_ovns(rt: HostRuntime) {
-    let alloc = rt.alloc();
+fn names_of_suppliers_and_salts(rt: HostRuntime) {
     for (text, fault) in [
         ("a", None),
         (LONG, None),
@@ -59,35 +70,48 @@ fn names_and_ovns(rt: HostRuntime) {
         ("a b", Some(IdFault::Form)),
         ("é", Some(IdFault::Form)),
     ] {
-        assert!(rt; UssId::read(alloc, text).err() == fault, "at {text}");
-        assert!(rt; Salt::read(alloc, text).err() == fault, "at {text}");
+        assert!(rt; UssId::read(rt.alloc(), text).err() == fault, "at {text}");
+        assert!(rt; Salt::read(rt.alloc(), text).err() == fault, "at {text}");
     }
+}
+
+#[test]
+fn ovns_and_addresses(rt: HostRuntime) {
     for (text, fault) in [
         ("0123456789abcde!", None),
         ("0123456789abcde", Some(IdFault::Length)),
         ("0123456789abcd e", Some(IdFault::Form)),
     ] {
-        assert!(rt; Ovn::read(alloc, text).err() == fault, "at {text}");
+        assert!(rt; Ovn::read(rt.alloc(), text).err() == fault, "at {text}");
     }
     for (text, fault) in [
         ("https://a.example", None),
         ("", Some(IdFault::Length)),
         ("https://a example", Some(IdFault::Form)),
     ] {
-        assert!(rt; BaseUrl::read(alloc, text).err() == fault, "at {text}");
+        assert!(rt; BaseUrl::read(rt.alloc(), text).err() == fault, "at {text}");
     }
+}
+
+fn version_after(number: u32) -> Option<u32> {
+    Some(Version::from_number(number)?.next()?.number())
+}
+
+fn serial_after(number: u64) -> Option<u64> {
+    Some(Serial::after(number)?.number())
 }
 
 #[test]
 fn counts_have_their_limits(rt: HostRuntime) {
-    assert_eq!(rt; Version::first().number(), 1);
-    let second = Version::first().next().expect(&rt, "a version");
-    assert_eq!(rt; second.number(), 2);
-    let last = Version::from_number(GREATEST_VERSION).expect(&rt, "a version");
-    assert!(rt; last.next().is_none());
-    for (before, after) in [(0, 1), (9_223_372_036_854_775_806, GREATEST_SERIAL)] {
-        let serial = Serial::after(before).expect(&rt, "a serial");
-        assert_eq!(rt; serial.number(), after);
+    assert!(rt; Version::first().number() == 1);
+    for (number, next) in [(1, Some(2)), (GREATEST_VERSION, None)] {
+        assert!(rt; version_after(number) == next, "after {number}");
     }
-    assert!(rt; Serial::after(GREATEST_SERIAL).is_none());
+    for (number, next) in [
+        (0, Some(1)),
+        (9_223_372_036_854_775_806, Some(GREATEST_SERIAL)),
+        (GREATEST_SERIAL, None),
+    ] {
+        assert!(rt; serial_after(number) == next, "after {number}");
+    }
 }

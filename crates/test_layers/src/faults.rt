@@ -46,12 +46,9 @@ fn faults_by_number(rt: HostRuntime) {
         (VolumeFault::Altitude, 3, "Altitude"),
         (VolumeFault::Time, 4, "Time"),
     ] {
-        assert_eq!(rt; fault.number(), number);
-        assert_eq!(rt; fault.name(), name);
+        assert!(rt; fault.number() == number && fault.name() == name, "{name}");
     }
-    assert_eq!(rt; TokenFault::Length.number(), 1);
-    assert_eq!(rt; TokenFault::Length.name(), "Length");
-    assert_eq!(rt; ConfFault::Memory.number(), 7);
-    assert_eq!(rt; ConfFault::Memory.name(), "Memory");
+    assert!(rt; TokenFault::Length.number() == 1 && TokenFault::Length.name() == "Length");
+    assert!(rt; ConfFault::Memory.number() == 7 && ConfFault::Memory.name() == "Memory");
     assert!(rt; CellId::from_raw(0).is_none());
 }

@@ -13,19 +13,17 @@ use grid_core::volume::Volume;
 use policy_core::missing::missing;
 use std::alloc::Global;
 
-// An OVN: that of 1 begins those of 10 and of 100.
+// The OVN of a number: that of 1 begins those of 10 and of 100.
 fn ovn(alloc: Global, number: u64) -> Option<Ovn> {
     let text = format!(in alloc; "0123456789abcdef{number}").ok()?;
     Ovn::read(alloc, text.as_str()).ok()
 }
 
-// So many OVNs of those below one, in no order, and again from the first when all are used.
-fn key(alloc: Global, count: u64, below: u32) -> Option<Vec<Ovn>> {
+// The OVNs of numbers.
+fn key(alloc: Global, numbers: &[u64]) -> Option<Vec<Ovn>> {
     let mut key = Vec::new(alloc);
-    let mut number = 0u32;
-    for _ in 0..count {
-        key.push(ovn(alloc, u64::from(number))?).ok()?;
-        number = number.wrapping_add(14).checked_rem(below).unwrap_or(0);
+    for number in numbers {
+        key.push(ovn(alloc, *number)?).ok()?;
     }
     Some(key)
 }
@@ -54,29 +52,57 @@ fn entity(alloc: Global, ovn: Ovn) -> Option<Entity> {
     })
 }
 
-// Entities with the OVNs from that of 0 on.
-fn entities(alloc: Global, count: u64) -> Option<Vec<Entity>> {
+// Entities with the OVNs of numbers.
+fn entities(alloc: Global, numbers: &[u64]) -> Option<Vec<Entity>> {
     let mut entities = Vec::new(alloc);
-    for number in 0..count {
-        entities.push(entity(alloc, ovn(alloc, number)?)?).ok()?;
+    for number in numbers {
+        entities.push(entity(alloc, ovn(alloc, *number)?)?).ok()?;
     }
     Some(entities)
 }
 
-// Whether an OVN is in a key, by a plain search.
-fn is_known(key: &[Ovn], sought: &str) -> bool {
+// The places of the numbers whose entities' OVNs are missing from the key of some.
+fn missed(alloc: Global, own: &[u64], needed: &[u64]) -> Option<Vec<usize>> {
+    let key = key(alloc, own)?;
+    let entities = entities(alloc, needed)?;
+    missing(alloc, key.as_slice(), entities.as_slice()).ok()
+}
+
+// The places of the numbers that are not among some, by a plain search.
+fn plainly_missed(alloc: Global, own: &[u64], needed: &[u64]) -> Option<Vec<usize>> {
+    let mut places = Vec::new(alloc);
+    for (place, number) in needed.iter().enumerate() {
+        if !is_known(own, *number) {
+            places.push(place).ok()?;
+        }
+    }
+    Some(places)
+}
+
+fn is_known(own: &[u64], sought: u64) -> bool {
     let mut is_known = false;
-    for own in key {
-        is_known = is_known || own.text() == sought;
+    for number in own {
+        is_known = is_known || *number == sought;
     }
     is_known
+}
+
+// So many of the numbers below one, every 14th, and again from the first when all are used.
+fn numbers(alloc: Global, count: u64, below: u64) -> Option<Vec<u64>> {
+    let mut numbers = Vec::new(alloc);
+    let mut number = 0u64;
+    for _ in 0..count {
+        numbers.push(number).ok()?;
+        number = number.wrapping_add(14).checked_rem(below).unwrap_or(0);
+    }
+    Some(numbers)
 }
 
 #[test]
 fn missing_is_as_the_plain_search_says(rt: HostRuntime) {
     let alloc = rt.alloc();
-    let needed = entities(alloc, 401).expect(&rt, "entities");
-    for (count, below, missed) in [
+    let needed = numbers(alloc, 401, 401).expect(&rt, "numbers");
+    for (count, below, missing) in [
         (0, 401, 401),
         (1, 401, 400),
         (200, 401, 201),
@@ -85,39 +111,18 @@ fn missing_is_as_the_plain_search_says(rt: HostRuntime) {
         (401, 401, 0),
         (4096, 4999, 58),
     ] {
-        let key = key(alloc, count, below).expect(&rt, "a key");
-        let quick = missing(alloc, key.as_slice(), needed.as_slice()).expect(&rt, "places");
-        assert_eq!(rt; quick.len(), missed, "of a key of {count}");
-        let mut places = quick.iter();
-        for (place, entity) in needed.iter().enumerate() {
-            if !is_known(key.as_slice(), entity.ovn.text()) {
-                assert!(rt;
-                    places.next() == Some(&place),
-                    "place {place} of a key of {count}"
-                );
-            }
-        }
+        let own = numbers(alloc, count, below).expect(&rt, "numbers");
+        let quick = missed(alloc, own.as_slice(), needed.as_slice()).expect(&rt, "places");
+        let plain = plainly_missed(alloc, own.as_slice(), needed.as_slice()).expect(&rt, "places");
+        assert!(rt;
+            quick.len() == missing && quick == plain,
+            "of a key of {count}"
+        );
     }
 }
 
 #[test]
 fn an_ovn_that_begins_another_is_missing(rt: HostRuntime) {
-    let alloc = rt.alloc();
-    let mut key = Vec::new(alloc);
-    for number in [10, 200, 10] {
-        let own = ovn(alloc, number).expect(&rt, "an OVN");
-        assert!(rt; key.push(own).is_ok());
-    }
-    let mut needed = Vec::new(alloc);
-    for number in [1, 10, 20, 100, 200] {
-        let own = ovn(alloc, number).expect(&rt, "an OVN");
-        let item = entity(alloc, own).expect(&rt, "an entity");
-        assert!(rt; needed.push(item).is_ok());
-    }
-    let places = missing(alloc, key.as_slice(), needed.as_slice()).expect(&rt, "places");
-    let mut found = places.iter();
-    for place in [0, 2, 3] {
-        assert!(rt; found.next() == Some(&place), "place {place}");
-    }
-    assert!(rt; found.next().is_none());
+    let places = missed(rt.alloc(), &[10, 200, 10], &[1, 10, 20, 100, 200]);
+    assert!(rt; places.expect(&rt, "places").as_slice() == [0, 2, 3].as_slice());
 }
