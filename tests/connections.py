@@ -37,11 +37,12 @@ class Room:
     def __exit__(self, *_):
         self.folder.cleanup()
 
-    def serve(self, stream, now=NOW, **devices):
+    def serve(self, stream, now=NOW, database=None, **devices):
         """The status, output and error of a stream over devices set so."""
         more = {name: str(value) for name, value in devices.items()}
         more |= {"LD_PRELOAD": self.library} if devices else {}
-        return run([BUILT, "run", "--tokens", str(self.tokens), "--now", str(now), "-"], stream, more=more)
+        over = ["--db", database] if database else []
+        return run([BUILT, "run", "--tokens", str(self.tokens), "--now", str(now), *over, "-"], stream, more=more)
 
 
 def ask(method, target, token, body=None, fields=(), closes=False):
@@ -150,6 +151,18 @@ def failing_devices():
                 got = room.serve(stream, WRITE_BYTES=PIECE, **{fault: at})
                 found += [f"{fault} {at}: {got!r}"] if got != (1, b"".join(pieces[: at - 1]), WRITES) else []
     return found
+
+
+def answer_not_written():
+    """A call whose answer cannot be written stands."""
+    setting, url = '{"old_version":"","availability":"Down"}', f"{wire.AVAILABILITY}/uss-b"
+    down = wire.compact({"status": {"availability": "Down", "uss": "uss-b"}, "version": wire.ovn(1)})
+    with Room() as room:
+        database = f"{room.folder.name}/dss.db"
+        lost = room.serve(ask("PUT", url, "tok-v", setting, closes=True), database=database, WRITE_FAILS=1)
+        read = room.serve(ask("GET", url, "tok-a", closes=True), database=database)
+    found = [] if lost == (1, b"", WRITES) else [f"the setting: {lost!r}"]
+    return found + ([] if read == (0, wire.answer(200, down, closes=True), b"") else [f"the reading: {read!r}"])
 
 
 def cell_not_written():
@@ -324,6 +337,7 @@ def paths():
 CASES = {
     "connections-in-pieces": in_pieces,
     "devices-that-fail": failing_devices,
+    "answer-that-is-not-written": answer_not_written,
     "cell-that-is-not-written": cell_not_written,
     "put-that-is-cut": truncated,
     "turns-that-end": turns_end,

@@ -1,11 +1,12 @@
-/* Makes standard input and output give and take few bytes a call, and fail. Each is set by a number
-   in the environment: READ_BYTES and WRITE_BYTES, the most bytes of a call; READ_FIRST, those of the first read;
-   READ_FAILS and WRITE_FAILS, the number of the call that fails; WRITE_STOPS, that of the first that takes
-   no byte. To be loaded before the C library. */
+/* Makes standard input and output give and take few bytes a call, and fail, and the clock fail. Each is set by a
+   number in the environment: READ_BYTES and WRITE_BYTES, the most bytes of a call; READ_FIRST, those of the first
+   read; READ_FAILS, WRITE_FAILS and CLOCK_FAILS, the number of the call that fails; WRITE_STOPS, that of the first
+   that takes no byte. To be loaded before the C library. */
 #define _GNU_SOURCE
 #include <errno.h>
 #include <stdlib.h>
 #include <sys/syscall.h>
+#include <time.h>
 #include <unistd.h>
 
 static long set(const char *name) {
@@ -43,4 +44,16 @@ ssize_t write(int file, const void *bytes, size_t size) {
         size = at_most(size, set("WRITE_BYTES"));
     }
     return syscall(SYS_write, file, bytes, size);
+}
+
+int clock_gettime(clockid_t clock, struct timespec *moment) {
+    static long calls;
+    if (clock == CLOCK_REALTIME) {
+        calls += 1;
+        if (calls == set("CLOCK_FAILS")) {
+            errno = EINVAL;
+            return -1;
+        }
+    }
+    return (int)syscall(SYS_clock_gettime, clock, moment);
 }

@@ -1,4 +1,5 @@
 """The service as it listens, over a database in a folder of its own."""
+import os
 import pathlib
 import socket
 import subprocess
@@ -16,11 +17,12 @@ def words(folder, port, count):
 
 
 class Service:
-    """`dss serve` on a free port, for so many connections at most."""
+    """`dss serve` on a free port, for so many connections at most, with more in its environment."""
 
-    def __init__(self, tokens=None, count=1_000_000, disk=None):
+    def __init__(self, tokens=None, count=1_000_000, disk=None, more=None):
         self.room = tempfile.TemporaryDirectory(dir=disk)
         self.folder, self.count = pathlib.Path(self.room.name), count
+        self.environment = {**os.environ, **(more or {})}
         (self.folder / "tokens.toml").write_text(wire.token_file(tokens))
 
     def __enter__(self):
@@ -39,7 +41,8 @@ class Service:
         output, errors = self.folder / "output", self.folder / "errors"
         with output.open("wb") as stdout, errors.open("wb") as stderr:
             self.program = subprocess.Popen(
-                words(self.folder, self.port, self.count), stdin=subprocess.DEVNULL, stdout=stdout, stderr=stderr
+                words(self.folder, self.port, self.count), stdin=subprocess.DEVNULL, stdout=stdout, stderr=stderr,
+                env=self.environment,
             )
         until = time.monotonic() + SECONDS
         while not errors.read_bytes().startswith(self.listening):

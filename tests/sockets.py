@@ -6,6 +6,7 @@ import struct
 import tempfile
 
 import wire
+from connections import Room
 from program import BUILT, TOP, run
 from serving import Service, words
 
@@ -14,6 +15,7 @@ ASKED = wire.request("GET", f"{wire.AVAILABILITY}/uss-b", "Bearer tok-a")
 CLOSING = wire.request("GET", f"{wire.AVAILABILITY}/uss-b", "Bearer tok-a", fields=["Connection: close"])
 ANSWER, LAST = wire.answer(200, READING), wire.answer(200, READING, closes=True)
 SOCKET = b"dss: socket\n"
+CLOCK = b"dss: stream: fault 3 Clock\n"
 TOO_LONG = b"dss: self: request too long\n"
 MOST_BYTES = 16_384
 
@@ -82,6 +84,27 @@ def last_answer():
         found = difference("after a close", started.exchange(CLOSING + more), LAST)
         found += difference("after a rule of the wire", started.exchange(too_large + more), refused)
         return found + silent(started)
+
+
+def clock_that_fails():
+    """A reading of the clock that fails ends its connection before the request is answered. What breaks a rule of the
+    wire needs none. The next connection is served."""
+    broken, refused = b"GET / HTTP/2\r\n", wire.answer(400, wire.compact({"message": "H1 HEAD"}), closes=True)
+    found = []
+    for name, at, sent, wanted, faults in (
+        ("the first reading", 1, ASKED + CLOSING, b"", CLOCK),
+        ("the second reading", 2, ASKED + CLOSING, ANSWER, CLOCK),
+        ("none for a rule of the wire", 2, ASKED + broken, ANSWER + refused, b""),
+    ):
+        with Room() as room:
+            more = {"LD_PRELOAD": room.library, "CLOCK_FAILS": str(at)}
+            count = 2 if faults else 1
+            with Service(count=count, more=more) as started:
+                found += difference(name, started.exchange(sent), wanted)
+                if faults:
+                    found += difference(f"after {name}", started.exchange(CLOSING), LAST)
+                found += silent(started, faults)
+    return found
 
 
 def second_service():
@@ -156,6 +179,7 @@ CASES = {
     "serve-broken-clients": broken_clients,
     "serve-pipelined": pipelined,
     "serve-last-answer": last_answer,
+    "serve-clock-that-fails": clock_that_fails,
     "serve-second-on-the-port": second_service,
     "serve-faults-in-order": faults_in_order,
     "self-worked-examples": through_itself,

@@ -24,6 +24,6 @@ mod write;
 pub use counted::Counted;
 pub use end::{End, Served};
 pub use fault::StreamFault;
-pub use moments::{ClockFault, Fixed, Listed, Moments};
+pub use moments::{ClockFault, Fixed, Moments};
 pub use rule::WireRule;
 pub use serve::serve_stream;
