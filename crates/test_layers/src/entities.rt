@@ -27,7 +27,7 @@ fn is_id(alloc: Global, text: &str, number: u128, printed: &str) -> bool {
 #[test]
 fn ids_of_entities(rt: HostRuntime) {
     // the examples of RFC 9562
-    for (text, number, printed) in [
+    for (text, number, printed) in &[
         (
             "f81d4fae-7dec-11d0-a765-00a0c91e6bf6",
             0xf81d_4fae_7dec_11d0_a765_00a0_c91e_6bf6u128,
@@ -39,16 +39,30 @@ fn ids_of_entities(rt: HostRuntime) {
             "017f22e2-79b0-7cc3-98c4-dc0c0c07398f",
         ),
     ] {
-        assert!(rt; is_id(rt.alloc(), text, number, printed), "of {text}");
+        assert!(rt; is_id(rt.alloc(), *text, *number, *printed), "of {text}");
     }
-    let least = EntityId::read("00000000-0000-4000-8000-000000000000").ok();
-    let next = EntityId::read("00000000-0000-4000-8000-000000000001").ok();
-    assert!(rt; least.expect(&rt, "an id") < next.expect(&rt, "an id"));
+}
+
+fn is_before(text: &str, other: &str) -> bool {
+    match (EntityId::read(text), EntityId::read(other)) {
+        (Ok(id), Ok(next)) => id < next,
+        _ => false,
+    }
+}
+
+#[test]
+fn ids_are_in_order(rt: HostRuntime) {
+    assert!(rt;
+        is_before(
+            "00000000-0000-4000-8000-000000000000",
+            "00000000-0000-4000-8000-000000000001",
+        )
+    );
 }
 
 #[test]
 fn texts_that_are_no_ids(rt: HostRuntime) {
-    for (text, fault) in [
+    for (text, fault) in &[
         ("", IdFault::Length),
         ("f81d4fae7dec11d0a76500a0c91e6bf6", IdFault::Length),
         ("{f81d4fae-7dec-11d0-a765-00a0c91e6bf6}", IdFault::Length),
@@ -56,13 +70,18 @@ fn texts_that_are_no_ids(rt: HostRuntime) {
         ("f81d4fae-7dec-11d0-a765-00a0c91e6bg6", IdFault::Form),
         ("f81d4fae07dec-11d0-a765-00a0c91e6bf6", IdFault::Form),
     ] {
-        assert!(rt; EntityId::read(text) == Err(fault), "of {text}");
+        assert!(rt; EntityId::read(*text) == Err(*fault), "of {text}");
     }
+}
+
+// Whether a name of a supplier, and a salt, has that fault.
+fn has_fault(alloc: Global, text: &str, fault: Option<IdFault>) -> bool {
+    UssId::read(alloc, text).err() == fault && Salt::read(alloc, text).err() == fault
 }
 
 #[test]
 fn names_of_suppliers_and_salts(rt: HostRuntime) {
-    for (text, fault) in [
+    for (text, fault) in &[
         ("a", None),
         (LONG, None),
         ("", Some(IdFault::Length)),
@@ -70,26 +89,32 @@ fn names_of_suppliers_and_salts(rt: HostRuntime) {
         ("a b", Some(IdFault::Form)),
         ("é", Some(IdFault::Form)),
     ] {
-        assert!(rt; UssId::read(rt.alloc(), text).err() == fault, "at {text}");
-        assert!(rt; Salt::read(rt.alloc(), text).err() == fault, "at {text}");
+        assert!(rt; has_fault(rt.alloc(), *text, *fault), "at {text}");
     }
 }
 
 #[test]
-fn ovns_and_addresses(rt: HostRuntime) {
-    for (text, fault) in [
+fn ovns(rt: HostRuntime) {
+    for (text, fault) in &[
         ("0123456789abcde!", None),
         ("0123456789abcde", Some(IdFault::Length)),
         ("0123456789abcd e", Some(IdFault::Form)),
     ] {
-        assert!(rt; Ovn::read(rt.alloc(), text).err() == fault, "at {text}");
+        assert!(rt; Ovn::read(rt.alloc(), *text).err() == *fault, "at {text}");
     }
-    for (text, fault) in [
+}
+
+#[test]
+fn addresses(rt: HostRuntime) {
+    for (text, fault) in &[
         ("https://a.example", None),
         ("", Some(IdFault::Length)),
         ("https://a example", Some(IdFault::Form)),
     ] {
-        assert!(rt; BaseUrl::read(rt.alloc(), text).err() == fault, "at {text}");
+        assert!(rt;
+            BaseUrl::read(rt.alloc(), *text).err() == *fault,
+            "at {text}"
+        );
     }
 }
 
@@ -102,16 +127,20 @@ fn serial_after(number: u64) -> Option<u64> {
 }
 
 #[test]
-fn counts_have_their_limits(rt: HostRuntime) {
+fn versions_have_their_limit(rt: HostRuntime) {
     assert!(rt; Version::first().number() == 1);
-    for (number, next) in [(1, Some(2)), (GREATEST_VERSION, None)] {
-        assert!(rt; version_after(number) == next, "after {number}");
+    for (number, next) in &[(1, Some(2)), (GREATEST_VERSION, None)] {
+        assert!(rt; version_after(*number) == *next, "after {number}");
     }
-    for (number, next) in [
+}
+
+#[test]
+fn serials_have_their_limit(rt: HostRuntime) {
+    for (number, next) in &[
         (0, Some(1)),
         (9_223_372_036_854_775_806, Some(GREATEST_SERIAL)),
         (GREATEST_SERIAL, None),
     ] {
-        assert!(rt; serial_after(number) == next, "after {number}");
+        assert!(rt; serial_after(*number) == *next, "after {number}");
     }
 }

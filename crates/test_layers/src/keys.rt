@@ -39,14 +39,17 @@ fn volumes(alloc: Global) -> Option<Volumes> {
     Volumes::from_vec(items)
 }
 
-fn entity(alloc: Global, ovn: Ovn) -> Option<Entity> {
+// An entity with the OVN of a number.
+fn entity(alloc: Global, number: u64) -> Option<Entity> {
+    let id = EntityId::read("00000000-0000-4000-8000-0000000000a1").ok()?;
+    let serial = Serial::after(0)?;
     Some(Entity {
         nature: Nature::Constraint,
-        id: EntityId::read("00000000-0000-4000-8000-0000000000a1").ok()?,
+        id,
         manager: UssId::read(alloc, "uss-a").ok()?,
         version: Version::first(),
-        serial: Serial::after(0)?,
-        ovn,
+        serial,
+        ovn: ovn(alloc, number)?,
         volumes: volumes(alloc)?,
         url: BaseUrl::read(alloc, "https://a.example").ok()?,
     })
@@ -56,7 +59,7 @@ fn entity(alloc: Global, ovn: Ovn) -> Option<Entity> {
 fn entities(alloc: Global, numbers: &[u64]) -> Option<Vec<Entity>> {
     let mut entities = Vec::new(alloc);
     for number in numbers {
-        entities.push(entity(alloc, ovn(alloc, *number)?)?).ok()?;
+        entities.push(entity(alloc, *number)?).ok()?;
     }
     Some(entities)
 }
@@ -98,11 +101,22 @@ fn numbers(alloc: Global, count: u64, below: u64) -> Option<Vec<u64>> {
     Some(numbers)
 }
 
+// Whether so many are missing from a key of so many numbers below one, and those that the plain search finds.
+fn is_missing(alloc: Global, count: u64, below: u64, missing: usize) -> bool {
+    let (Some(needed), Some(own)) = (numbers(alloc, 401, 401), numbers(alloc, count, below)) else {
+        return false;
+    };
+    let quick = missed(alloc, own.as_slice(), needed.as_slice());
+    let plain = plainly_missed(alloc, own.as_slice(), needed.as_slice());
+    match (quick, plain) {
+        (Some(quick), Some(plain)) => quick.len() == missing && quick == plain,
+        _ => false,
+    }
+}
+
 #[test]
 fn missing_is_as_the_plain_search_says(rt: HostRuntime) {
-    let alloc = rt.alloc();
-    let needed = numbers(alloc, 401, 401).expect(&rt, "numbers");
-    for (count, below, missing) in [
+    for (count, below, missing) in &[
         (0, 401, 401),
         (1, 401, 400),
         (200, 401, 201),
@@ -111,11 +125,8 @@ fn missing_is_as_the_plain_search_says(rt: HostRuntime) {
         (401, 401, 0),
         (4096, 4999, 58),
     ] {
-        let own = numbers(alloc, count, below).expect(&rt, "numbers");
-        let quick = missed(alloc, own.as_slice(), needed.as_slice()).expect(&rt, "places");
-        let plain = plainly_missed(alloc, own.as_slice(), needed.as_slice()).expect(&rt, "places");
         assert!(rt;
-            quick.len() == missing && quick == plain,
+            is_missing(rt.alloc(), *count, *below, *missing),
             "of a key of {count}"
         );
     }
