@@ -478,12 +478,17 @@ class Airspace:
             it for (_, it) in sorted(self.entities.items()) if it.kind == kind and some_meet(it.put.extents, extents)
         ]
 
+    def is_spared(self, intent):
+        """Whether an intent is only planned, and its supplier is down."""
+        return intent.put.state == "Accepted" and self.setting(intent.manager)[0] == "Down"
+
     def missing(self, call):
         """What a put needs and its key lacks, as the caller sees it."""
         needed = {INTENT: [], CONSTRAINT: []}
         put = call.asked.put
         if call.asked.state() in STATES[:2]:
-            needed[INTENT] = [it for it in self.all_meeting(INTENT, put.extents) if it.id != call.asked.id]
+            others = [it for it in self.all_meeting(INTENT, put.extents) if it.id != call.asked.id]
+            needed[INTENT] = [it for it in others if not self.is_spared(it)]
             if PROCESSING in call.scopes:
                 needed[CONSTRAINT] = self.all_meeting(CONSTRAINT, put.extents)
         return {

@@ -336,10 +336,75 @@ KEYS = (
 
 DOWN = setting("uss-a", "Down")
 DOWN_A1 = seen("a1", "uss-a", availability="Down")
+SPARED = (
+    ("P14: the manager is Down", (A1, DOWN), intent("b1", "tok-b"), put(seen("b1", "uss-b", 3))),
+    (
+        "P14: the manager is Down, Activated",
+        (A1, DOWN),
+        intent("b1", "tok-b", "Activated"),
+        put(seen("b1", "uss-b", 3, "Activated")),
+    ),
+    (
+        "P14: the manager is Down: update",
+        (A1, B1_ABOVE, DOWN),
+        intent("b1", "tok-b", over=2),
+        put(seen("b1", "uss-b", 4, version=2), 200),
+    ),
+    ("P14: the manager was Down before", (DOWN, A1), intent("b1", "tok-b"), put(seen("b1", "uss-b", 3))),
+    ("P14: the manager is Unknown", (A1, setting("uss-a", "Unknown")), intent("b1", "tok-b"), missing(SEEN_A1)),
+    (
+        "P14: the manager is Normal",
+        (A1, setting("uss-a", "Normal")),
+        intent("b1", "tok-b"),
+        missing(seen("a1", "uss-a", availability="Normal")),
+    ),
+    (
+        "P14: the manager is Normal again",
+        (A1, DOWN, setting("uss-a", "Normal", wire.ovn(2))),
+        intent("b1", "tok-b"),
+        missing(seen("a1", "uss-a", availability="Normal")),
+    ),
+    ("P14: the caller is Down", (A1, setting("uss-b", "Down")), intent("b1", "tok-b"), missing(SEEN_A1)),
+    (
+        "P14: the caller's own, and the caller is Down",
+        (A1, DOWN),
+        intent("a2", "tok-a"),
+        put(seen("a2", "uss-a", 3, availability="Down")),
+    ),
+    (
+        "P14: the manager is Down: a Nonconforming intent",
+        (intent("a1", "tok-as", "Nonconforming"), DOWN),
+        intent("b1", "tok-b"),
+        missing(seen("a1", "uss-a", state="Nonconforming", availability="Down")),
+    ),
+    (
+        "P14: the manager is Down: a Contingent intent",
+        (intent("a1", "tok-as", "Contingent"), DOWN),
+        intent("b1", "tok-b"),
+        missing(seen("a1", "uss-a", state="Contingent", availability="Down")),
+    ),
+    (
+        "P14: the manager is Down: a constraint",
+        (C1, setting("uss-c", "Down")),
+        intent("b1", "tok-bc"),
+        missing(seen("c1", "uss-c", state=None, availability="Down")),
+    ),
+    (
+        "P14: one manager of two is Down",
+        (intent("b2", "tok-b"), intent("a1", "tok-a", key=(1,)), DOWN),
+        intent("b1", "tok-b"),
+        missing(seen("b2", "uss-b", 1)),
+    ),
+)
 VIEWS = (
     ("the manager is Down: reading", (A1, DOWN), reading(INTENTS, "a1", "tok-b"), found(DOWN_A1)),
     ("the manager is Down: query", (A1, DOWN), query(INTENTS, "tok-b"), listed(DOWN_A1)),
-    ("the manager is Down: what is missing", (A1, DOWN), intent("b1", "tok-b"), missing(DOWN_A1)),
+    (
+        "the manager is Down: what is missing",
+        (intent("a1", "tok-a", "Activated"), DOWN),
+        intent("b1", "tok-b"),
+        missing(seen("a1", "uss-a", state="Activated", availability="Down")),
+    ),
     ("the manager was Down before", (DOWN,), A1, put(seen("a1", "uss-a", 2, availability="Down"))),
     (
         "the manager is Down: update",
@@ -393,7 +458,7 @@ def stream(requests):
 def rows():
     """The last answer of each row is the one wanted, and all before it were done."""
     wrong = []
-    for name, first, last, wanted in AREAS + ENTITIES + ROLES + KEYS + VIEWS:
+    for name, first, last, wanted in AREAS + ENTITIES + ROLES + KEYS + SPARED + VIEWS:
         *before, answer = stream([*first, last])
         undone = [it for it in before if not it.startswith(b"HTTP/1.1 20")]
         wrong += [f"{name}: not done: {undone}"] if undone or len(before) != len(first) else []

@@ -1,6 +1,7 @@
 pub mod Places
 pub mod Index
 pub mod Finds
+pub mod Filters
 pub mod Members
 pub mod Veils
 pub mod Puts

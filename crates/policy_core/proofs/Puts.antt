@@ -29,12 +29,13 @@ use Rattle.policy_core.specs.declared.rule.Rule.{Rule}
 use Rattle.policy_core.specs.declared.rule.Rule.TheVariants.{Route, Method, Token, Key, Limit}
 use Rattle.policy_core.specs.declared.reference.Reference.{Reference}
 use Rattle.policy_core.specs.Known.{put_of, is_declared, is_told_of, listed, IsAsked}
-use Rattle.policy_core.specs.Missing.{in_key, is_missing_from, key_shown, missing_from, needed, needed_put, needs_key, is_none_of, is_nothing, missing_put, missing_by, missing_for}
+use Rattle.policy_core.specs.Missing.{in_key, is_missing_from, is_spared, key_shown, missing_from, needed, needed_put, needs_key, is_none_of, is_nothing, missing_put, missing_by, missing_for}
 use Rattle.policy_core.specs.Policy.{breaks, early_rules, standing_rules, last_rules, first_broken}
 use Rattle.policy_core.specs.Rule.{number_of}
 use Rattle.policy_core.specs.Scope.{has_scope}
 use Rattle.policy_core.specs.View.{view_of}
 use Rattle.policy_core.proofs.Finds.{or_else, find-append, find_has, find_rest}
+use Rattle.policy_core.proofs.Filters.{both_at_once}
 use Rattle.policy_core.proofs.Members.{no_member, later, passing, mapped}
 
 -- ---- without a caller
@@ -97,22 +98,30 @@ other_intent : (n id : ℕ) (nature : Nature) → needs_key nature ≡ true → 
 other_intent n id (Intent state) needs h = other_id n id h
 other_intent n id Constraint needs h = cc
 
+-- where nothing is missing of what is met and not spared, the key has the OVN of each
+none_unspared : (a : Airspace) (v : Entity → Reference) (key : List (List ℕ)) (test : EntityKey × Entity → Bool) (q : EntityKey) (y : Entity)
+    → is_none_of (map v (filter (is_missing_from key) (filter (λ e. not (is_spared a e)) (map (λ e. e.1) (filter test (entries a.entities)))))) ≡ true → get a.entities q ≡ Some y → test (q, y) ≡ true → is_spared a y ≡ false → in_key key y.ovn ≡ true
+none_unspared a v key test q y n f s owed =
+    none_met a v key (λ e. test e && not (is_spared a e.1)) q y
+    (subst (λ (es : List Entity). is_none_of (map v (filter (is_missing_from key) es)) ≡ true) (both_at_once (λ (e : EntityKey × Entity). e.1) (λ e. not (is_spared a e)) test (entries a.entities)) n) f (λ i. s i && not (owed i))
+
 -- where nothing is missing, the key of a put has the OVN of each other entity that it is to know
 put_knows : (a : Airspace) (caller : Caller) (id : ℕ) (put : Put) (y : Entity) → is_nothing (missing_put a caller id put) ≡ true → get a.entities (key_of y) ≡ Some y
-    → eq_by_cmp key_cmp (key_of y) (kind_of put.nature, id) ≡ false → needs_key put.nature ≡ true → any_meet y.volumes (map region_of put.volumes) ≡ true → is_told_of (Some caller) y.nature ≡ true
+    → eq_by_cmp key_cmp (key_of y) (kind_of put.nature, id) ≡ false → needs_key put.nature ≡ true → any_meet y.volumes (map region_of put.volumes) ≡ true → is_told_of (Some caller) y.nature ≡ true → is_spared a y ≡ false
     → in_key put.key y.ovn ≡ true
 unfolding missing_from meeting_in
-put_knows a caller id put y none found other needs meet owed =
+put_knows a caller id put y none found other needs meet owed unspared =
     let areas : List Region = map region_of put.volumes in
     let parts = both_true (is_none_of (missing_put a caller id put).intents) (is_none_of (missing_put a caller id put).constraints) none in
+    let spare : List Entity → List Entity = λ es. filter (λ e. not (is_spared a e)) es in
     elim (y.nature) as (λ n. y.nature ≡ n → is_told_of (Some caller) n ≡ true → get a.entities (kind_of n, y.id) ≡ Some y → eq_by_cmp key_cmp (kind_of n, y.id) (kind_of put.nature, id) ≡ false → in_key put.key y.ovn ≡ true) [
       | Intent state ↦ λ is o f e.
-          let none_of = subst (λ (b : Bool). is_none_of (map (view_of a caller.uss) (filter (is_missing_from put.key) (cond b (map (λ x. x.1) (filter (is_sought kinds.Intent areas (Some id)) (entries a.entities))) []))) ≡ true) needs parts.0 in
-          none_met a (view_of a caller.uss) put.key (is_sought kinds.Intent areas (Some id)) (kinds.Intent, y.id) y none_of f (λ i. other_intent y.id id put.nature needs e i && meet i)
+          let none_of = subst (λ (b : Bool). is_none_of (map (view_of a caller.uss) (filter (is_missing_from put.key) (cond b (spare (map (λ x. x.1) (filter (is_sought kinds.Intent areas (Some id)) (entries a.entities)))) []))) ≡ true) needs parts.0 in
+          none_unspared a (view_of a caller.uss) put.key (is_sought kinds.Intent areas (Some id)) (kinds.Intent, y.id) y none_of f (λ i. other_intent y.id id put.nature needs e i && meet i) unspared
       | Constraint ↦ λ is o f e.
           let asked : needs_key put.nature && has_scope caller.scopes ConstraintProcessing ≡ true = λ i. needs i && o i in
-          let none_of = subst (λ (b : Bool). is_none_of (map (view_of a caller.uss) (filter (is_missing_from put.key) (cond b (map (λ x. x.1) (filter (is_sought kinds.Constraint areas None) (entries a.entities))) []))) ≡ true) asked parts.1 in
-          none_met a (view_of a caller.uss) put.key (is_sought kinds.Constraint areas None) (kinds.Constraint, y.id) y none_of f meet
+          let none_of = subst (λ (b : Bool). is_none_of (map (view_of a caller.uss) (filter (is_missing_from put.key) (cond b (spare (map (λ x. x.1) (filter (is_sought kinds.Constraint areas None) (entries a.entities)))) []))) ≡ true) asked parts.1 in
+          none_unspared a (view_of a caller.uss) put.key (is_sought kinds.Constraint areas None) (kinds.Constraint, y.id) y none_of f meet unspared
     ] refl owed found other
 
 no_key : (k l : Bool) → cond k (Some Key) (cond l (Some Limit) None) ≡ None → not k ≡ true
@@ -147,13 +156,13 @@ declared_needs Constraint h = cc
 
 put_knows_of : (a : Airspace) (caller : Caller) (i : ℕ) (p : Put) (id : ℕ) (put : Put) (y : Entity) → ◌≡◌ {A = ℕ × Put} (i, p) (id, put) → is_nothing (missing_put a caller i p) ≡ true → is_declared put.nature ≡ true
     → get a.entities (key_of y) ≡ Some y → eq_by_cmp key_cmp (key_of y) (kind_of put.nature, id) ≡ false → any_meet y.volumes (map region_of put.volumes) ≡ true → is_told_of (Some caller) y.nature ≡ true
-    → Contains put.key y.ovn
-put_knows_of a caller i p id put y same none declared found other meet owed =
-    in_list put.key y.ovn (put_knows a caller id put y (subst (λ (q : ℕ × Put). is_nothing (missing_put a caller q.0 q.1) ≡ true) same none) found other (declared_needs put.nature declared) meet owed)
+    → is_spared a y ≡ false → Contains put.key y.ovn
+put_knows_of a caller i p id put y same none declared found other meet owed unspared =
+    in_list put.key y.ovn (put_knows a caller id put y (subst (λ (q : ℕ × Put). is_nothing (missing_put a caller q.0 q.1) ≡ true) same none) found other (declared_needs put.nature declared) meet owed unspared)
 
 pub puts_know : (a : Airspace) (t : ℕ) (caller : Option Caller) (op : Operation) (id : ℕ) (put : Put) (y : Entity) → put_of op ≡ Some (id, put) → first_broken a t (record { caller = caller; op = op }) ≡ None
     → is_declared put.nature ≡ true → get a.entities (key_of y) ≡ Some y → eq_by_cmp key_cmp (key_of y) (kind_of put.nature, id) ≡ false → any_meet y.volumes (map region_of put.volumes) ≡ true
-    → is_told_of caller y.nature ≡ true → Contains put.key y.ovn
+    → is_told_of caller y.nature ≡ true → is_spared a y ≡ false → Contains put.key y.ovn
 puts_know a t None op id put y is h = let some = none_asks a t op in let bad : None ≡ Some some.0 = sym h ∙ some.1 in cc
 puts_know a t (Some caller) NoRoute id put y is h = cc
 puts_know a t (Some caller) NoMethod id put y is h = cc

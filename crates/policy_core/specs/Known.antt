@@ -21,7 +21,7 @@ use Rattle.policy_core.specs.declared.reference.Missing.{Missing}
 use Rattle.policy_core.specs.declared.reference.Reference.{Reference}
 use Rattle.policy_core.specs.declared.rule.Rule.{Rule}
 use Rattle.policy_core.specs.declared.rule.Rule.TheVariants.{Key}
-use Rattle.policy_core.specs.Missing.{in_key, key_shown, missing_for, needed}
+use Rattle.policy_core.specs.Missing.{in_key, is_spared, key_shown, missing_for, needed}
 use Rattle.policy_core.specs.Policy.{first_broken}
 use Rattle.policy_core.specs.Rule.{number_of}
 use Rattle.policy_core.specs.Scope.{has_scope}
@@ -49,14 +49,15 @@ is_told_of (Some caller) Constraint = has_scope caller.scopes ConstraintProcessi
 is_told_of None Constraint = false
 
 -- Where the put of an intent that is planned or flown as planned breaks no rule, its key has the
--- present OVN of each other entity that it meets and that its caller is to know of.
+-- present OVN of each other entity that it meets, that its caller is to know of and that is not
+-- spared.
 abbrev pub PutsKnow : Type 0
 PutsKnow = (a : Airspace) (now : ℕ) (c : Call) (id : ℕ) (put : Put) (y : Entity)
     → put_of c.op ≡ Some (id, put) → first_broken a now c ≡ None → is_declared put.nature ≡ true
     → get a.entities (key_of y) ≡ Some y
     → eq_by_cmp key_cmp (key_of y) (kind_of put.nature, id) ≡ false
     → any_meet y.volumes (map region_of put.volumes) ≡ true → is_told_of c.caller y.nature ≡ true
-    → Contains put.key y.ovn
+    → is_spared a y ≡ false → Contains put.key y.ovn
 
 -- ---- what a put is told
 

@@ -3,8 +3,10 @@ use Rattle.std.specs.Prelude.{ℕ, ◌&&◌, not, Bool, true, false, List, [], �
 use Rattle.std.specs.List.{list_any, range_with_len, slice_get}
 use Rattle.grid_core.specs.Extent.{region_of}
 use Rattle.entity_core.specs.IdTexts.{same_text}
-use Rattle.entity_core.specs.Airspace.{Airspace}
+use Rattle.entity_core.specs.Airspace.{Airspace, availability_of}
 use Rattle.entity_core.specs.Search.{meeting_in}
+use Rattle.entity_core.specs.declared.availability.Availability.{Availability}
+use Rattle.entity_core.specs.declared.availability.Availability.TheVariants.{Down}
 use Rattle.entity_core.specs.declared.entity.Entity.{Entity}
 use Rattle.entity_core.specs.declared.nature.Kind.{Kind}
 use Rattle.entity_core.specs.declared.nature.Kind.TheVariants as kinds
@@ -45,11 +47,34 @@ abbrev pub left_out : Kind → ℕ → Option ℕ
 left_out kinds.Intent id = Some id
 left_out kinds.Constraint id = None
 
--- what meets a volume of a put, whoever manages it
+-- an intent that is planned and not flown yet
+abbrev pub is_planned : Nature → Bool
+is_planned (Intent Accepted) = true
+is_planned nature = false
+
+abbrev pub is_down : Availability → Bool
+is_down Down = true
+is_down availability = false
+
+-- whether an entity is spared, where its manager has this availability: what a supplier that is
+-- down has planned, which nobody needs to know
+abbrev pub spared : Entity → Availability → Bool
+spared e availability = is_planned e.nature && is_down availability
+
+-- where its manager has the availability that it has in an airspace
+abbrev pub is_spared : Airspace → Entity → Bool
+is_spared a e = spared e (availability_of a e.manager).0
+
+-- those that are not spared
+abbrev pub unspared : Airspace → List Entity → List Entity
+unspared a es = filter (λ e. not (is_spared a e)) es
+
+-- what meets a volume of a put and is not spared, whoever manages it
 abbrev pub needed_put : Kind → Airspace → Option Caller → ℕ → Put → List Entity
 needed_put kind a caller id put =
     if is_asked kind caller put
-    then meeting_in a.entities kind (map region_of put.volumes) (left_out kind id) else []
+    then unspared a (meeting_in a.entities kind (map region_of put.volumes) (left_out kind id))
+    else []
 
 -- What a call needs to know of a kind, by rising ids: whoever makes it, and of other operations
 -- than puts nothing.

@@ -14,7 +14,7 @@ pub fn rules_are_blind()
 {}
 
 /// A put that breaks no rule, of an intent that is planned or flown as planned, had in its key the
-/// OVN of each other entity that it meets and that its caller is to know of.
+/// OVN of each other entity that it meets, that its caller is to know of and that is not spared.
 pub fn puts_know()
     ensures { PutsKnow }
 {}

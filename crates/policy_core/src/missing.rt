@@ -1,8 +1,9 @@
 //! What is missing from a key.
 ghost use Rattle.std.specs.Prelude.{◌≡◌, IfOk};
-ghost use Rattle.policy_core.specs.Missing.{is_missing_from, needs_key, places_where};
+ghost use Rattle.policy_core.specs.Missing.{is_missing_from, needs_key, places_where, spared};
 
 use crate::key_index::KeyIndex;
+use entity_core::availability::Availability;
 use entity_core::entity::Entity;
 use entity_core::nature::{Nature, State};
 use entity_core::ovn::Ovn;
@@ -14,6 +15,17 @@ pub fn needs_key(nature: Nature) -> bool
 {
     match nature {
         Nature::Intent(State::Accepted | State::Activated) => true,
+        _ => false,
+    }
+}
+
+/// Whether nobody needs to know an entity, where its manager has this availability: an intent that
+/// is planned, of a supplier that is down. It takes no memory.
+pub fn spared(entity: &Entity, availability: Availability) -> bool
+    ensures { result ≡ spared entity.now availability }
+{
+    match (entity.nature, availability) {
+        (Nature::Intent(State::Accepted), Availability::Down) => true,
         _ => false,
     }
 }

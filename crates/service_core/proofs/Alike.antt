@@ -24,10 +24,11 @@ use Rattle.policy_core.specs.declared.rule.Rule.{Rule}
 use Rattle.policy_core.specs.declared.rule.Rule.TheVariants.{Route, Method, Token, Scope, Form, Area, Found, Fresh, Manager, Version, Role, Change, Ended, Key, Limit}
 use Rattle.policy_core.specs.declared.reference.Reference.{Reference}
 use Rattle.policy_core.specs.Blind.{veiled, veiled_entry, IsLike, is_uss, known}
-use Rattle.policy_core.specs.Missing.{in_key, is_asked, is_missing_from, left_out, missing_from, needed_put, is_none_of, is_nothing, missing_put, missing_by}
+use Rattle.policy_core.specs.Missing.{in_key, is_asked, is_missing_from, is_spared, spared, unspared, left_out, missing_from, needed_put, is_none_of, is_nothing, missing_put, missing_by}
 use Rattle.policy_core.specs.Policy.{breaks, breaks_limit, early_rules, standing_rules, last_rules, first_broken}
 use Rattle.policy_core.specs.Standing.{found_of}
 use Rattle.policy_core.specs.View.{view_of, view_with}
+use Rattle.policy_core.proofs.Filters.{both_at_once}
 use Rattle.policy_core.proofs.Finds.{or_else, find-append}
 use Rattle.policy_core.proofs.Veils.{one_uss, get_like, found_like, rules_like}
 use Rattle.entity_core.proofs.Keys.{key_total, key_exact}
@@ -227,14 +228,19 @@ missing_known m test key (x ∷ xs) [] = []
 missing_known m test key (x ∷ xs) (b ∷ bs) =
     cond (test x) (cond (not (cond (same_text x.1.manager m) (in_key key x.1.ovn) b)) (x.1 ∷ missing_known m test key xs bs) (missing_known m test key xs bs)) (missing_known m test key xs bs)
 
-missing-veiled : (m : List ℕ) (kind : Kind) (areas : List Region) (except : Option ℕ) (key : List (List ℕ)) (es : List (EntityKey × Entity)) → map (veiled m) (filter (is_missing_from key) (map (λ e. e.1) (filter (is_sought kind areas except) es)))
-    ≡ missing_known m (is_sought kind areas except) key (map (veiled_entry m) es) (map (λ e. same_text e.1.manager m || in_key key e.1.ovn) es)
-missing-veiled m kind areas except key [] = refl
-missing-veiled m kind areas except key (x ∷ es) =
-    let test : EntityKey × Entity → Bool = is_sought kind areas except in
+-- what is sought and not spared, where suppliers have set this
+abbrev met_and_owed : Availabilities → Kind → List Region → Option ℕ → EntityKey × Entity → Bool
+met_and_owed set kind areas except e = is_sought kind areas except e && not (spared e.1 (unwrap_or (get set e.1.manager) (Unknown, [])).0)
+
+missing-veiled : (m : List ℕ) (set : Availabilities) (kind : Kind) (areas : List Region) (except : Option ℕ) (key : List (List ℕ)) (es : List (EntityKey × Entity))
+    → map (veiled m) (filter (is_missing_from key) (map (λ e. e.1) (filter (met_and_owed set kind areas except) es)))
+    ≡ missing_known m (met_and_owed set kind areas except) key (map (veiled_entry m) es) (map (λ e. same_text e.1.manager m || in_key key e.1.ovn) es)
+missing-veiled m set kind areas except key [] = refl
+missing-veiled m set kind areas except key (x ∷ es) =
+    let test : EntityKey × Entity → Bool = met_and_owed set kind areas except in
     let rest : List Entity = missing_known m test key (map (veiled_entry m) es) (map (λ e. same_text e.1.manager m || in_key key e.1.ovn) es) in
-    let ih = missing-veiled m kind areas except key es in
-    elim (is_sought kind areas except x) as (λ b. map (veiled m) (filter (is_missing_from key) (map (λ e. e.1) (cond b (x ∷ filter test es) (filter test es))))
+    let ih = missing-veiled m set kind areas except key es in
+    elim (met_and_owed set kind areas except x) as (λ b. map (veiled m) (filter (is_missing_from key) (map (λ e. e.1) (cond b (x ∷ filter test es) (filter test es))))
     ≡ cond b (cond (not (cond (same_text x.1.manager m) (in_key key (cond (same_text x.1.manager m) x.1.ovn [])) (same_text x.1.manager m || in_key key x.1.ovn))) (veiled m x.1 ∷ rest) rest) rest) [
       | true ↦ subst (λ (k : Bool). map (veiled m) (cond (not (in_key key x.1.ovn)) (x.1 ∷ filter (is_missing_from key) (map (λ e. e.1) (filter test es))) (filter (is_missing_from key) (map (λ e. e.1) (filter test es)))) ≡ cond (not k) (veiled m x.1 ∷ rest) rest) (seen_known (same_text x.1.manager m) key x.1.ovn) (
           elim (in_key key x.1.ovn) as (λ k. map (veiled m) (cond (not k) (x.1 ∷ filter (is_missing_from key) (map (λ e. e.1) (filter test es))) (filter (is_missing_from key) (map (λ e. e.1) (filter test es)))) ≡ cond (not k) (veiled m x.1 ∷ rest) rest) [
@@ -246,12 +252,14 @@ missing-veiled m kind areas except key (x ∷ es) =
 
 met_missing_like : (m : List ℕ) (a b : Airspace) (kind : Kind) (areas : List Region) (except : Option ℕ) (key : List (List ℕ)) → IsLike m a b
     → map (λ e. same_text e.1.manager m || in_key key e.1.ovn) (entries a.entities) ≡ map (λ e. same_text e.1.manager m || in_key key e.1.ovn) (entries b.entities)
-    → map (veiled m) (missing_from key (meeting_in a.entities kind areas except)) ≡ map (veiled m) (missing_from key (meeting_in b.entities kind areas except))
+    → map (veiled m) (missing_from key (unspared a (meeting_in a.entities kind areas except))) ≡ map (veiled m) (missing_from key (unspared b (meeting_in b.entities kind areas except)))
 unfolding missing_from meeting_in
 met_missing_like m a b kind areas except key l k =
-    missing-veiled m kind areas except key (entries a.entities)
-    ∙ ((λ i. missing_known m (is_sought kind areas except) key (l.entities i) (k i))
-    ∙ sym (missing-veiled m kind areas except key (entries b.entities)))
+    let side : (x : Airspace) → map (veiled m) (filter (is_missing_from key) (unspared x (map (λ e. e.1) (filter (is_sought kind areas except) (entries x.entities)))))
+    ≡ missing_known m (met_and_owed x.availabilities kind areas except) key (map (veiled_entry m) (entries x.entities)) (map (λ e. same_text e.1.manager m || in_key key e.1.ovn) (entries x.entities)) =
+    λ x. ap (λ (es : List Entity). map (veiled m) (filter (is_missing_from key) es)) (both_at_once (λ (e : EntityKey × Entity). e.1) (λ e. not (is_spared x e)) (is_sought kind areas except) (entries x.entities))
+    ∙ missing-veiled m x.availabilities kind areas except key (entries x.entities) in
+    side a ∙ ((λ i. missing_known m (met_and_owed (l.availabilities i) kind areas except) key (l.entities i) (k i)) ∙ sym (side b))
 
 -- of what is asked for, or else of nothing
 asked_like : (m : List ℕ) (asked : Bool) (key : List (List ℕ)) (es fs : List Entity) → map (veiled m) (missing_from key es) ≡ map (veiled m) (missing_from key fs)
@@ -264,7 +272,7 @@ needed_like : (m : List ℕ) (kind : Kind) (a b : Airspace) (caller : Option Cal
     → map (veiled m) (missing_from put.key (needed_put kind a caller id put)) ≡ map (veiled m) (missing_from put.key (needed_put kind b caller id put))
 needed_like m kind a b caller id put l k =
     let areas : List Region = map region_of put.volumes in
-    asked_like m (is_asked kind caller put) put.key (meeting_in a.entities kind areas (left_out kind id)) (meeting_in b.entities kind areas (left_out kind id)) (met_missing_like m a b kind areas (left_out kind id) put.key l k)
+    asked_like m (is_asked kind caller put) put.key (unspared a (meeting_in a.entities kind areas (left_out kind id))) (unspared b (meeting_in b.entities kind areas (left_out kind id))) (met_missing_like m a b kind areas (left_out kind id) put.key l k)
 
 missing_put_like : (a b : Airspace) (caller : Caller) (id : ℕ) (put : Put) → IsLike caller.uss a b
     → map (λ e. same_text e.1.manager caller.uss || in_key put.key e.1.ovn) (entries a.entities) ≡ map (λ e. same_text e.1.manager caller.uss || in_key put.key e.1.ovn) (entries b.entities)

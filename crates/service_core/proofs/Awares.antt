@@ -1,6 +1,7 @@
 -- After a run, each later put knew the earlier ones that it meets.
 use Rattle.std.specs.Prelude.{◌≡◌, ℕ, ◌+◌, ◌≤◌, not, Bool, true, false, List, [], ◌∷◌, map, Option, Some, None, cond, refl, Contains}
 use Rattle.std.proofs.Common.{arith, sym, ap, ◌∙◌, subst, inl, inr}
+use Rattle.std.proofs.lemmas.Bool.{and_parts}
 use Rattle.std.proofs.lemmas.List.{nil_from_length}
 use Rattle.std.specs.Ordering.{eq_by_cmp}
 use Rattle.std.specs.List.{AllByRecursion}
@@ -17,7 +18,7 @@ use Rattle.policy_core.specs.declared.call.Put.{Put}
 use Rattle.policy_core.specs.declared.call.Operation.{Operation}
 use Rattle.policy_core.specs.declared.call.Operation.TheVariants.{NoRoute, NoMethod, Malformed, Query, Read, Create, Update, Delete, ReadAvail, SetAvail}
 use Rattle.policy_core.specs.Known.{is_declared, is_told_of, put_of}
-use Rattle.policy_core.specs.Missing.{key_shown}
+use Rattle.policy_core.specs.Missing.{is_spared, key_shown}
 use Rattle.policy_core.specs.Policy.{first_broken}
 use Rattle.policy_core.proofs.Puts.{puts_know}
 use Rattle.entity_core.proofs.Keys.{key_total, key_exact, one_key}
@@ -25,7 +26,7 @@ use Rattle.space_core.proofs.Maps.{entries-remove}
 use Rattle.space_core.specs.declared.space.Space.{Ghosts}
 use Rattle.service_core.specs.declared.reply.Reply.{Reply}
 use Rattle.service_core.specs.declared.reply.Reply.TheVariants.{Done, Denied, Fault, Stopped}
-use Rattle.service_core.specs.Aware.{MadeCall, is_done, left_by, put_in, last_writer, later_or, Knew, KnewOthers, SerialsDiffer, Aware}
+use Rattle.service_core.specs.Aware.{MadeCall, is_done, is_owed, left_by, put_in, last_writer, later_or, Knew, KnewOthers, SerialsDiffer, Aware}
 use Rattle.service_core.specs.Run.{Timed, Runs, replies_of, airspace_after, answered_calls, told_replies, has_stopped}
 use Rattle.service_core.specs.Stale.{IsNumbered, AllNumbered}
 use Rattle.service_core.specs.Step.{step, step_by, effect, created, updated, update_effect, delete_effect, read_effect}
@@ -50,7 +51,7 @@ raised salt serial x n = record { positive = n.positive; within = let w = n.with
 
 -- with an entity that knew the others
 kept_with : (salt : List ℕ) (last : EntityKey → Option MadeCall) (a : Airspace) (c : Call) (e : Entity) → Kept salt last a → e.serial ≡ a.serial + 1 → e.ovn ≡ ovn_text salt e.serial
-    → ((y : Entity) → get a.entities (key_of y) ≡ Some y → eq_by_cmp key_cmp (key_of y) (key_of e) ≡ false → is_declared e.nature ≡ true → any_meet y.volumes (map region_of e.volumes) ≡ true → is_told_of c.caller y.nature ≡ true → Contains (key_shown c.op) y.ovn)
+    → ((y : Entity) → get a.entities (key_of y) ≡ Some y → eq_by_cmp key_cmp (key_of y) (key_of e) ≡ false → is_declared e.nature ≡ true → any_meet y.volumes (map region_of e.volumes) ≡ true → is_owed (record { before = a; call = c }) y ≡ true → Contains (key_shown c.op) y.ovn)
     → Kept salt (λ k. later_or (cond (eq_by_cmp key_cmp k (key_of e)) (Some (record { before = a; call = c })) None) (last k)) (with_entity a e)
 kept_with salt last a c e s new text knows =
     record {
@@ -128,20 +129,31 @@ last_with last a c r = λ k. later_or (put_in k a c r) (last k)
 -- the key of an operation has the OVN of each other entity that a put of it is to know
 abbrev Knows : Airspace → Option Caller → Operation → Type 0
 Knows a caller op = (id : ℕ) (put : Put) (y : Entity) → put_of op ≡ Some (id, put) → is_declared put.nature ≡ true → get a.entities (key_of y) ≡ Some y → eq_by_cmp key_cmp (key_of y) (kind_of put.nature, id) ≡ false
-    → any_meet y.volumes (map region_of put.volumes) ≡ true → is_told_of caller y.nature ≡ true → Contains put.key y.ovn
+    → any_meet y.volumes (map region_of put.volumes) ≡ true → is_told_of caller y.nature ≡ true → is_spared a y ≡ false → Contains put.key y.ovn
+
+not_true : (b : Bool) → not b ≡ true → b ≡ false
+not_true true h = cc
+not_true false h = refl
+
+-- the same of what a call was to know of, where it was made
+knows_owed : (a : Airspace) (caller : Option Caller) (op : Operation) (id : ℕ) (put : Put) (y : Entity) → Knows a caller op → put_of op ≡ Some (id, put) → is_declared put.nature ≡ true → get a.entities (key_of y) ≡ Some y
+    → eq_by_cmp key_cmp (key_of y) (kind_of put.nature, id) ≡ false → any_meet y.volumes (map region_of put.volumes) ≡ true → is_owed (record { before = a; call = record { caller = caller; op = op } }) y ≡ true → Contains put.key y.ovn
+knows_owed a caller op id put y knows is needs found other meet owed =
+    let parts = and_parts (is_told_of caller y.nature) (not (is_spared a y)) owed in
+    knows id put y is needs found other meet parts.0 (not_true (is_spared a y) parts.1)
 
 kept_create : (salt : List ℕ) (last : EntityKey → Option MadeCall) (a : Airspace) (caller : Caller) (id : ℕ) (put : Put) → Kept salt last a → Knows a (Some caller) (Create id put)
     → Kept salt (last_with last a (record { caller = Some caller; op = Create id put }) (effect salt a (Some caller) (Create id put)).1) (effect salt a (Some caller) (Create id put)).0
 kept_create salt last a caller id put s knows =
     kept_with salt last a (record { caller = Some caller; op = Create id put }) (created salt (a.serial + 1) caller.uss id put) s refl refl
-    (λ y found other needs meet owed. knows id put y refl needs found other meet owed)
+    (λ y found other needs meet owed. knows_owed a (Some caller) (Create id put) id put y knows refl needs found other meet owed)
 
 kept_update : (salt : List ℕ) (last : EntityKey → Option MadeCall) (a : Airspace) (caller : Caller) (id : ℕ) (ovn : List ℕ) (put : Put) (o : Option Entity) → Kept salt last a → Knows a (Some caller) (Update id ovn put)
     → Kept salt (last_with last a (record { caller = Some caller; op = Update id ovn put }) (update_effect salt a caller.uss id put o).1) (update_effect salt a caller.uss id put o).0
 kept_update salt last a caller id ovn put None s knows = s
 kept_update salt last a caller id ovn put (Some e) s knows =
     kept_with salt last a (record { caller = Some caller; op = Update id ovn put }) (updated salt (a.serial + 1) id put e) s refl refl
-    (λ y found other needs meet owed. knows id put y refl needs found other meet owed)
+    (λ y found other needs meet owed. knows_owed a (Some caller) (Update id ovn put) id put y knows refl needs found other meet owed)
 
 kept_delete : (salt : List ℕ) (last : EntityKey → Option MadeCall) (a : Airspace) (caller : Caller) (kind : Kind) (id : ℕ) (ovn : List ℕ) (o : Option Entity) → Kept salt last a
     → Kept salt (last_with last a (record { caller = Some caller; op = Delete kind id ovn }) (delete_effect a caller.uss (kind, id) o).1) (delete_effect a caller.uss (kind, id) o).0

@@ -10,21 +10,19 @@ use Rattle.policy_core.specs.declared.call.Call.{Call}
 use Rattle.policy_core.specs.declared.call.Put.{Put}
 use Rattle.policy_core.specs.declared.scope.Caller.{Caller}
 use Rattle.policy_core.specs.declared.scope.Scope.TheVariants.{ConstraintProcessing}
-use Rattle.policy_core.specs.declared.call.Operation.{Operation}
-use Rattle.policy_core.specs.declared.call.Operation.TheVariants.{NoRoute, NoMethod, Malformed, Query, Read, Create, Update, Delete, ReadAvail, SetAvail}
 use Rattle.policy_core.specs.declared.rule.Rule.{Rule}
 use Rattle.policy_core.specs.declared.rule.Rule.TheVariants.{Key, Limit}
 use Rattle.policy_core.specs.declared.reference.Missing.{Missing}
 use Rattle.policy_core.specs.declared.reference.Reference.{Reference}
 use Rattle.policy_core.specs.Scope.{has_scope}
-use Rattle.policy_core.specs.Missing.{is_nothing, missing_from, missing_by, missing_for, missing_put, needs_key, nothing_missing}
+use Rattle.policy_core.specs.Missing.{is_nothing, missing_from, missing_by, missing_for, missing_put, needs_key, nothing_missing, unspared}
 use Rattle.policy_core.specs.Policy.{breaks, breaks_given, early_rules, standing_rules, last_rules, first_broken}
 use Rattle.policy_core.specs.Standing.{Facts}
 use Rattle.policy_core.specs.View.{view_of}
 use Rattle.policy_core.proofs.Finds.{find_has, find_rest}
 use Rattle.service_core.specs.declared.look.Grounds.{Grounds}
 use Rattle.service_core.specs.Step.{told_missing}
-use Rattle.service_core.specs.Looks.{facts_in, IsGround, IsFirst, IsReady}
+use Rattle.service_core.specs.Looks.{facts_in, IsGround, IsFirst}
 
 find_front : {X : Type 0} (p : X → Bool) (xs ys : List X) (x : X) → find p xs ≡ Some x → find p (xs ++ ys) ≡ Some x
 find_front p [] ys x h = cc
@@ -144,5 +142,5 @@ missing_none f key = refl
 pub needs_nothing : (a : Airspace) (caller : Caller) (id : ℕ) (put : Put) (m : Missing) → needs_key put.nature ≡ false → m ≡ nothing_missing → m ≡ missing_put a caller id put
 needs_nothing a caller id put m lacks none =
     none ∙ both [] _ [] _
-    (missing_none (view_of a caller.uss) put.key ∙ ap (λ (b : Bool). map (view_of a caller.uss) (missing_from put.key (cond b (meeting_in a.entities kinds.Intent (map region_of put.volumes) (Some id)) []))) (sym lacks))
-    (missing_none (view_of a caller.uss) put.key ∙ ap (λ (b : Bool). map (view_of a caller.uss) (missing_from put.key (cond (b && has_scope caller.scopes ConstraintProcessing) (meeting_in a.entities kinds.Constraint (map region_of put.volumes) None) []))) (sym lacks))
+    (missing_none (view_of a caller.uss) put.key ∙ ap (λ (b : Bool). map (view_of a caller.uss) (missing_from put.key (cond b (unspared a (meeting_in a.entities kinds.Intent (map region_of put.volumes) (Some id))) []))) (sym lacks))
+    (missing_none (view_of a caller.uss) put.key ∙ ap (λ (b : Bool). map (view_of a caller.uss) (missing_from put.key (cond (b && has_scope caller.scopes ConstraintProcessing) (unspared a (meeting_in a.entities kinds.Constraint (map region_of put.volumes) None)) []))) (sym lacks))

@@ -10,3 +10,4 @@ pub mod Kept
 pub mod Awares
 pub mod Stales
 pub mod Meetings
+pub mod Seen

@@ -1,5 +1,5 @@
 -- A put whose key has old OVNs alone is refused.
-use Rattle.std.specs.Prelude.{◌≡◌, ℕ, ◌||◌, Bool, true, false, List, [], ◌∷◌, map, filter, Option, cond, refl, Contains}
+use Rattle.std.specs.Prelude.{◌≡◌, ℕ, ◌||◌, not, Bool, true, false, List, [], ◌∷◌, map, filter, Option, cond, refl, Contains}
 use Rattle.std.proofs.Common.{sym, ap, ◌∙◌, subst, inl, inr}
 use Rattle.std.specs.Cmp.Lexicographic.{same_text as one_text}
 use Rattle.std.specs.List.{AllByRecursion}
@@ -18,7 +18,7 @@ use Rattle.policy_core.specs.declared.call.Operation.{Operation}
 use Rattle.policy_core.specs.declared.call.Operation.TheVariants.{NoRoute, NoMethod, Malformed, Query, Read, Create, Update, Delete, ReadAvail, SetAvail}
 use Rattle.policy_core.specs.declared.rule.Rule.{Rule}
 use Rattle.policy_core.specs.Known.{IsListed}
-use Rattle.policy_core.specs.Missing.{in_key, is_asked, key_shown, left_out, needed, needed_put}
+use Rattle.policy_core.specs.Missing.{in_key, is_asked, is_spared, key_shown, left_out, needed, needed_put, unspared}
 use Rattle.policy_core.proofs.Members.{contained, no_member}
 use Rattle.policy_core.proofs.Puts.{needed_asked}
 use Rattle.space_core.specs.declared.space.Space.{Ghosts}
@@ -46,6 +46,14 @@ all_sought P test (e ∷ es) all =
       | false ↦ all_sought P test es all.1
     ]
 
+all_unspared : (P : Entity → Type 0) (a : Airspace) (es : List Entity) → AllByRecursion P es → AllByRecursion P (unspared a es)
+all_unspared P a [] all = tt
+all_unspared P a (e ∷ es) all =
+    elim (is_spared a e) as (λ b. AllByRecursion P (cond (not b) (e ∷ unspared a es) (unspared a es))) [
+      | true ↦ all_unspared P a es all.1
+      | false ↦ (all.0, all_unspared P a es all.1)
+    ]
+
 -- ---- what is needed is numbered, and not in the key
 
 all_asked : (P : Entity → Type 0) (asked : Bool) (xs : List Entity) → AllByRecursion P xs → AllByRecursion P (cond asked xs [])
@@ -55,7 +63,7 @@ all_asked P false xs all = tt
 needed_numbered : (salt : List ℕ) (kind : Kind) (a : Airspace) (caller : Option Caller) (id : ℕ) (put : Put) → AllNumbered salt a → AllByRecursion (IsNumbered salt a.serial) (needed_put kind a caller id put)
 unfolding meeting_in
 needed_numbered salt kind a caller id put n =
-    all_asked (IsNumbered salt a.serial) (is_asked kind caller put) _ (all_sought (IsNumbered salt a.serial) (is_sought kind (map region_of put.volumes) (left_out kind id)) (entries a.entities) n)
+    all_asked (IsNumbered salt a.serial) (is_asked kind caller put) _ (all_unspared (IsNumbered salt a.serial) a _ (all_sought (IsNumbered salt a.serial) (is_sought kind (map region_of put.volumes) (left_out kind id)) (entries a.entities) n))
 
 not_known : (salt : List ℕ) (a : Airspace) (y : Entity) (key : List (List ℕ)) → DifferUpTo salt a.serial → IsNumbered salt a.serial y → AllByRecursion (IsOfAnother salt a y) key → in_key key y.ovn ≡ false
 not_known salt a y [] differ n old = refl

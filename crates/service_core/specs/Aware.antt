@@ -1,5 +1,5 @@
 -- What suppliers knew when they put what is kept.
-use Rattle.std.specs.Prelude.{◌≡◌, ℕ, ◌<◌, ◌&&◌, Bool, true, false, List, [], ◌∷◌, map, Option, Some, None, if◌then◌else◌, Contains}
+use Rattle.std.specs.Prelude.{◌≡◌, ℕ, ◌<◌, ◌&&◌, not, Bool, true, false, List, [], ◌∷◌, map, Option, Some, None, if◌then◌else◌, Contains}
 use Rattle.std.specs.Ordering.{eq_by_cmp}
 use Rattle.std.specs.FinMap.{get}
 use Rattle.grid_core.specs.Extent.{Extent, region_of, any_meet}
@@ -10,7 +10,7 @@ use Rattle.policy_core.specs.declared.call.Call.{Call}
 use Rattle.policy_core.specs.declared.call.Operation.{Operation}
 use Rattle.policy_core.specs.declared.call.Operation.TheVariants.{Create, Update}
 use Rattle.policy_core.specs.Known.{is_declared, is_told_of}
-use Rattle.policy_core.specs.Missing.{key_shown}
+use Rattle.policy_core.specs.Missing.{is_spared, key_shown}
 use Rattle.service_core.specs.declared.reply.Reply.{Reply}
 use Rattle.service_core.specs.declared.reply.Reply.TheVariants.{Done, Denied, Fault, Stopped}
 use Rattle.service_core.specs.Run.{Timed}
@@ -58,9 +58,10 @@ last_writer salt k a (c ∷ cs) (r ∷ rs) =
 
 -- ---- what it knew
 
--- whether a call was to know of an entity, where it was made
+-- whether a call was to know of an entity, where it was made: its caller is told of such entities,
+-- and this one was not spared then
 abbrev pub is_owed : MadeCall → Entity → Bool
-is_owed made y = is_told_of made.call.caller y.nature
+is_owed made y = is_told_of made.call.caller y.nature && not (is_spared made.before y)
 
 -- There is a call that put the one, the other stood there before it as it does now, and if the call
 -- was to know of it, its key had the OVN that it has now.

@@ -84,7 +84,7 @@ pub fn listing<S: Space>(
         (map (view_of a uss.now) (meeting_in a.entities kind (area.now ∷ []) None)))) }
 {
     let met = look_meeting(space, kind, from_ref(area), None)?;
-    let shown = references(space, alloc, uss, &met)?;
+    let shown = references(alloc, uss, &met)?;
     Ok(Made {
         change: None,
         answer: Answer::Listed(kind, shown),

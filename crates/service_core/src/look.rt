@@ -1,12 +1,13 @@
 //! Looks at a space, before a call is judged and its answer made.
-ghost use Rattle.std.specs.Prelude.{◌≡◌, ◌≢◌, ◌<◌, Err, length, option_map, map, unwrap_or, []};
+ghost use Rattle.std.specs.Prelude.{◌≡◌, ◌≢◌, ◌<◌, Err, IfOk, List, length, option_map, map, unwrap_or, []};
 ghost use Rattle.std.specs.List.{All, filter_map, slice_get};
 ghost use Rattle.std.specs.FinMap.{get};
-ghost use Rattle.entity_core.specs.Airspace.{availability_of};
-ghost use Rattle.entity_core.specs.Search.{meeting_in};
+ghost use Rattle.entity_core.specs.Airspace.{Airspace, availability_of};
+ghost use Rattle.entity_core.specs.declared.entity.Entity.{Entity};
 ghost use Rattle.policy_core.specs.Missing.{missing_from};
 ghost use Rattle.policy_core.specs.Standing.{found_of, kept_of};
 ghost use Rattle.policy_core.specs.View.{view_of};
+ghost use Rattle.space_core.specs.Met.{met_in, met_of};
 ghost use Rattle.service_core.specs.Looks.{Looks, IsGround};
 
 use crate::halt::Halt;
@@ -20,8 +21,9 @@ use grid_core::volume::Area;
 use policy_core::call::Operation;
 use policy_core::missing::missing;
 use policy_core::reference::{Reference, References, view};
+use space_core::met::Met;
 use space_core::space::Space;
-use std::alloc::Global;
+use std::alloc::{AllocError, Global};
 
 /// What was looked up for an operation.
 #[derive(Debug, Drop)]
@@ -100,15 +102,16 @@ pub fn look<S: Space>(space: &mut S, op: &Operation) -> Result<Grounds, Halt>
     })
 }
 
-/// The entities of a kind, but the one of an id, that meet some area, by rising ids.
+/// The entities of a kind, but the one of an id, that meet some area, by rising ids, each with its
+/// manager's availability.
 pub fn look_meeting<S: Space>(
     space: &mut S,
     kind: Kind,
     areas: &[Area],
     except: Option<EntityId>,
-) -> Result<Vec<Entity>, Halt>
+) -> Result<Vec<Met>, Halt>
     ensures { Looks S.Space space.old space.new result
-        (λ a found. found.items ≡ meeting_in a.entities kind areas.now except) }
+        (λ a found. found.items ≡ met_in a kind areas.now except) }
 {
     Ok(space.meeting(kind, areas, except)?)
 }
@@ -139,19 +142,14 @@ pub fn reference<S: Space>(space: &mut S, uss: &UssId, entity: &Entity) -> Resul
     Ok(view(uss, entity, availability)?)
 }
 
-/// The references of entities as a supplier sees them now, in their order.
-pub fn references<S: Space>(
-    space: &mut S,
-    alloc: Global,
-    uss: &UssId,
-    entities: &[Entity],
-) -> Result<References, Halt>
-    ensures { Looks S.Space space.old space.new result
-        (λ a references. references ≡ map (view_of a uss.now) entities.now) }
+/// The references of what was met, as a supplier sees it, in its order.
+pub fn references(alloc: Global, uss: &UssId, met: &[Met]) -> Result<References, AllocError>
+    ensures { IfOk result (λ references. (a : Airspace) (es : List Entity)
+        → met.now ≡ map (met_of a) es → references ≡ map (view_of a uss.now) es) }
 {
     let mut items = Vec::new(alloc);
-    for entity in entities {
-        items.push(reference(space, uss, entity)?)?;
+    for found in met {
+        items.push(view(uss, &found.entity, found.availability)?)?;
     }
     Ok(References::from_vec(items))
 }

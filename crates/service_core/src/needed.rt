@@ -1,7 +1,10 @@
 //! What a put needs to know.
-ghost use Rattle.std.specs.Prelude.{◌≡◌, Some, map};
+ghost use Rattle.std.specs.Prelude.{◌≡◌, IfOk, List, Some, map};
 ghost use Rattle.grid_core.specs.Extent.{region_of};
-ghost use Rattle.policy_core.specs.Missing.{is_asked, left_out, needed_put};
+ghost use Rattle.entity_core.specs.Airspace.{Airspace};
+ghost use Rattle.entity_core.specs.declared.entity.Entity.{Entity};
+ghost use Rattle.policy_core.specs.Missing.{is_asked, left_out, needed_put, unspared};
+ghost use Rattle.space_core.specs.Met.{met_of};
 ghost use Rattle.service_core.specs.Looks.{Looks};
 
 use crate::halt::Halt;
@@ -11,10 +14,11 @@ use entity_core::entity_id::EntityId;
 use entity_core::nature::Kind;
 use grid_core::volume::Area;
 use policy_core::call::Put;
-use policy_core::missing::needs_key;
+use policy_core::missing::{needs_key, spared};
 use policy_core::scope::{Caller, Scope};
+use space_core::met::Met;
 use space_core::space::Space;
-use std::alloc::Global;
+use std::alloc::{AllocError, Global};
 
 // Whether entities of a kind are needed.
 fn is_asked(kind: Kind, caller: &Caller, put: &Put) -> bool
@@ -38,6 +42,24 @@ fn left_out(kind: Kind, id: EntityId) -> Option<EntityId>
     }
 }
 
+// What was met and is not spared, in its order.
+fn unspared(alloc: Global, met: Vec<Met>) -> Result<Vec<Entity>, AllocError>
+    ensures { IfOk result (λ needed. (a : Airspace) (es : List Entity)
+        → met.items ≡ map (met_of a) es → needed.items ≡ unspared a es) }
+{
+    let mut needed = Vec::new(alloc);
+    for found in met {
+        let Met {
+            entity,
+            availability,
+        } = found;
+        if !spared(&entity, availability) {
+            needed.push(entity)?;
+        }
+    }
+    Ok(needed)
+}
+
 /// What a put under an id needs to know of a kind, by rising ids. The areas are its volumes'.
 pub fn needed_put<S: Space>(
     space: &mut S,
@@ -55,5 +77,6 @@ pub fn needed_put<S: Space>(
     if !is_asked(kind, caller, put) {
         return Ok(Vec::new(alloc));
     }
-    look_meeting(space, kind, areas, left_out(kind, id))
+    let met = look_meeting(space, kind, areas, left_out(kind, id))?;
+    Ok(unspared(alloc, met)?)
 }

@@ -190,7 +190,7 @@ impl<S: Space + Drop> Service<S> {
     /// Where the space was empty and nothing stopped: of two entities that meet in the end, where
     /// the later one is an intent that is planned or flown as planned, the last put of the later
     /// one had the OVN of the other in its key (that of a constraint, if its caller processes
-    /// constraints).
+    /// constraints; that of an intent that was only planned then, if its manager was not down).
     pub fn run(&mut self, alloc: Global, calls: &[(u64, Call)]) -> Result<Vec<Reply>, AllocError>
         ensures none_made { OnErr result (self.new ≡ self.old) }
         ensures answered { IfOk result (λ replies.

@@ -1,3 +1,4 @@
+pub mod Met
 pub mod Space
 pub mod Sorted
 pub mod Entities

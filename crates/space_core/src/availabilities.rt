@@ -1,5 +1,5 @@
 //! Availabilities in the order of their suppliers.
-ghost use Rattle.std.specs.Prelude.{◌≡◌, [], OnOk, OnErr, IfOk, IfErr, length};
+ghost use Rattle.std.specs.Prelude.{◌≡◌, [], OnOk, OnErr, IfOk, IfErr, length, unwrap_or};
 ghost use Rattle.std.specs.List.Sorted.{IsBinarySearchResult, IsSearchInRange};
 ghost use Rattle.std.specs.FinMap.{find, get, insert};
 ghost use Rattle.std.specs.FinMap.Entries.{put};
@@ -71,6 +71,18 @@ fn found(items: &[Entry], uss: &UssId) -> Result<Option<(Availability, Ovn)>, Al
     }
 }
 
+// The availability alone, without memory; of a supplier that has set none, `Unknown`.
+fn present(items: &[Entry], uss: &UssId) -> Availability
+    requires { InOrder items.now }
+    ensures { result ≡ (unwrap_or (find text_cmp uss.now (keyed pair_of items.now))
+        (Availability.Unknown, [])).0 }
+{
+    match place_of(items, uss) {
+        Ok(i) => items[i].availability,
+        Err(_) => Availability::Unknown,
+    }
+}
+
 fn put_in_place(items: &mut Vec<Entry>, entry: Entry) -> Result<(), AllocError>
     requires { InOrder items.old.items }
     ensures ok { OnOk result (keyed pair_of items.new.items
@@ -110,6 +122,15 @@ impl Availabilities {
         ensures { IfOk result (λ found. found ≡ get (availability_map self.now) uss.now) }
     {
         found(&self.items, uss)
+    }
+
+    /// The present availability of a supplier; of one that has set none, `Unknown`. It takes no
+    /// memory.
+    pub fn present(&self, uss: &UssId) -> Availability
+        ensures { result ≡ (unwrap_or (get (availability_map self.now) uss.now)
+            (Availability.Unknown, [])).0 }
+    {
+        present(&self.items, uss)
     }
 
     /// Puts what a supplier sets in the place of what it had set, or among the others where its

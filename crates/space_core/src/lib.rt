@@ -7,4 +7,5 @@ pub mod entities;
 mod indexed;
 pub mod laws;
 pub mod list;
+pub mod met;
 pub mod space;

@@ -1,7 +1,9 @@
 //! A space in memory: sorted lists of the entities and of what suppliers have set.
-ghost use Rattle.std.specs.Prelude.{◌≡◌, ◌≤◌, ℕ, false, ◌+◌, Ok, OnOk, OnErr, min, IsOk};
+ghost use Rattle.std.specs.Prelude.{◌≡◌, ◌≤◌, ℕ, false, ◌+◌, Ok, OnOk, OnErr, IfOk, map, min, IsOk};
 ghost use Rattle.entity_core.specs.Airspace.{Airspace, IsAirspace, empty_at};
 ghost use Rattle.entity_core.specs.Serial.{greatest_serial};
+ghost use Rattle.space_core.specs.Availabilities.{availability_map};
+ghost use Rattle.space_core.specs.Met.{met_in, met_of};
 ghost use Rattle.space_core.specs.List.{airspace_of, content_of, refusals_of};
 ghost use Rattle.space_core.specs.Proper.{content_is_proper};
 ghost use Rattle.space_core.specs.Space.{Fits, IsRemoval, Tells, changed, greatest_count};
@@ -10,6 +12,7 @@ ghost use Rattle.std.proofs.Common.{sym, ◌∙◌, refl, subst};
 
 use crate::availabilities::Availabilities;
 use crate::indexed::IndexedEntities;
+use crate::met::Met;
 use crate::space::{Change, Space, SpaceFault};
 use entity_core::availability::Availability;
 use entity_core::entity::Entity;
@@ -96,8 +99,15 @@ impl Space for ListSpace {
         kind: Kind,
         areas: &[Area],
         except: Option<EntityId>,
-    ) -> Result<Vec<Entity>, SpaceFault> {
-        match self.entities.meeting(self.alloc, kind, areas, except) {
+    ) -> Result<Vec<Met>, SpaceFault> {
+        match met_among(
+            self.alloc,
+            &self.entities,
+            &self.availabilities,
+            kind,
+            areas,
+            except,
+        ) {
             Ok(found) => Ok(found),
             Err(_) => Err(self.refuse()),
         }
@@ -140,6 +150,43 @@ impl Space for ListSpace {
             Err(_) => Err(self.refuse()),
         }
     }
+}
+
+// Entities, each with the present availability of its manager.
+fn with_availabilities(
+    alloc: Global,
+    availabilities: &Availabilities,
+    entities: Vec<Entity>,
+) -> Result<Vec<Met>, AllocError>
+    ensures { IfOk result (λ met. (a : Airspace)
+        → a.availabilities ≡ availability_map availabilities.now
+        → met.items ≡ map (met_of a) entities.items) }
+{
+    let mut met = Vec::with_capacity(alloc, entities.len())?;
+    for entity in entities {
+        let availability = availabilities.present(&entity.manager);
+        met.push(Met {
+            entity,
+            availability,
+        })?;
+    }
+    Ok(met)
+}
+
+// What is sought, with the availabilities of its managers.
+fn met_among(
+    alloc: Global,
+    entities: &IndexedEntities,
+    availabilities: &Availabilities,
+    kind: Kind,
+    areas: &[Area],
+    except: Option<EntityId>,
+) -> Result<Vec<Met>, AllocError>
+    ensures { IfOk result (λ met. (serial : ℕ) → met.items
+        ≡ met_in (airspace_of entities.now availabilities.now serial) kind areas.now except) }
+{
+    let found = entities.meeting(alloc, kind, areas, except)?;
+    with_availabilities(alloc, availabilities, found)
 }
 
 // Makes the change, but for the serial.

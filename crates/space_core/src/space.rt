@@ -1,10 +1,12 @@
 //! The trait of spaces: what its calls tell, read and change.
 ghost use Rattle.std.specs.Prelude.{◌≡◌, ℕ, Bool, false};
 ghost use Rattle.entity_core.specs.Airspace.{Airspace, IsAirspace};
-ghost use Rattle.entity_core.specs.Search.{meeting_in, all_in};
+ghost use Rattle.entity_core.specs.Search.{all_in};
 ghost use Rattle.std.specs.FinMap.{get};
+ghost use Rattle.space_core.specs.Met.{met_in};
 ghost use Rattle.space_core.specs.Space.{Tells, Reads, Changes, Fits, changed};
 
+use crate::met::Met;
 use entity_core::availability::Availability;
 use entity_core::entity::Entity;
 use entity_core::entity_id::EntityId;
@@ -64,17 +66,17 @@ pub trait Space {
             (λ a found. found ≡ get a.entities (kind, id)) };
 
     /// The entities of a kind, but the one of an id, of which some volume meets some area: each
-    /// once, by rising ids.
+    /// once, by rising ids, with its manager's present availability.
     fn meeting(
         &mut self,
         kind: Kind,
         areas: &[Area],
         except: Option<EntityId>,
-    ) -> Result<Vec<Entity>, SpaceFault>
+    ) -> Result<Vec<Met>, SpaceFault>
         ensures tells { Tells (refusals self.old) (refusals self.new)
             (is_broken self.old) (is_broken self.new) result }
         ensures reads { Reads holds is_sound is_whole self.old self.new result
-            (λ a found. found.items ≡ meeting_in a.entities kind areas.now except) };
+            (λ a found. found.items ≡ met_in a kind areas.now except) };
 
     /// The entities of a kind: each once, by rising ids.
     fn all(&mut self, kind: Kind) -> Result<Vec<Entity>, SpaceFault>

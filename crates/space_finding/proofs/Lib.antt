@@ -3,3 +3,4 @@ pub mod Shown
 pub mod Counted
 pub mod Found
 pub mod Exact
+pub mod MetLists

@@ -1,3 +1,4 @@
 pub mod Asked
 pub mod Numbers
 pub mod Candidates
+pub mod Met

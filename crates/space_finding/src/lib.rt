@@ -4,5 +4,6 @@
 mod asked;
 mod candidates;
 mod interval;
+mod managers;
 pub mod meeting;
 mod numbers;

@@ -2,45 +2,71 @@
 ghost use Rattle.std.specs.Prelude.{◌≡◌, false, IfOk, OnOk, IsTrue};
 ghost use Rattle.sqlite.specs.Held.{state};
 ghost use Rattle.sqlite.specs.State.{HasCleanDisk, Survives};
-ghost use Rattle.entity_core.specs.Search.{meeting_in};
-ghost use Rattle.space_core.specs.Entities.{entity_map};
+ghost use Rattle.space_core.specs.Met.{met_in};
 ghost use Rattle.space_tables.specs.Tables.{dss_schema};
-ghost use Rattle.space_reading.specs.Reading.{GoesBack, ReadsTables};
-ghost use Rattle.space_finding.specs.Candidates.{HoldsCandidates};
+ghost use Rattle.space_reading.specs.Reading.{GoesBack, Reads, ReadsTables};
+ghost use Rattle.space_finding.specs.Asked.{HasAllAncestors, HasRanges};
+ghost use Rattle.space_finding.specs.Met.{FindsMet};
 
 use crate::asked::{ancestors_of, ranges_of};
 use crate::candidates::read_candidates;
 use crate::interval::Interval;
-use entity_core::entity::Entity;
+use crate::managers::with_availabilities;
 use entity_core::entity_id::EntityId;
 use entity_core::nature::Kind;
 use grid_core::volume::Area;
-use space_core::entities::Entities;
+use space_core::met::Met;
 use space_reading::reading::{alive, known};
-use sqlite::{Alter, Connection, Error};
+use sqlite::{Alter, Connection, Error, Transaction};
 use std::alloc::Global;
+
+fn find_meeting<S: Alter>(
+    alloc: Global,
+    tx: &mut Transaction<'_, S>,
+    ranges: &[Interval],
+    ancestors: &[Interval],
+    kind: Kind,
+    areas: &[Area],
+    except: Option<EntityId>,
+) -> Result<Vec<Met>, Error>
+    requires ranges { HasRanges ranges.now areas.now }
+    requires ancestors { HasAllAncestors ancestors.now areas.now }
+    ensures same_reference { tx.new.conn.ghost_name ≡ tx.old.conn.ghost_name }
+    ensures reads { let old = state S.Store tx.old.conn.now in
+        Reads (λ db met. FindsMet kind areas.now except db met.items)
+        old (state S.Store tx.new.conn.now) result }
+{
+    let found = read_candidates(alloc, tx, ranges, ancestors)?;
+    let sought = found.meeting(alloc, kind, areas, except)?;
+    with_availabilities(alloc, tx, sought)
+}
 
 fn read_alone<S: Alter>(
     alloc: Global,
     conn: &mut Connection<S>,
     ranges: &[Interval],
     ancestors: &[Interval],
-) -> Result<Entities, Error>
-    requires { conn.old.in_transaction ≡ false }
+    kind: Kind,
+    areas: &[Area],
+    except: Option<EntityId>,
+) -> Result<Vec<Met>, Error>
+    requires outside { conn.old.in_transaction ≡ false }
+    requires ranges { HasRanges ranges.now areas.now }
+    requires ancestors { HasAllAncestors ancestors.now areas.now }
     ensures ended { conn.new.in_transaction ≡ false }
     ensures read { let old = state S.Store conn.old in
         HasCleanDisk (state S.Store conn.new)
-        → IfOk result (λ found. old.now.schema ≡ dss_schema
-        → HoldsCandidates ranges.now ancestors.now old.now (entity_map found)) }
+        → IfOk result (λ met. old.now.schema ≡ dss_schema
+        → FindsMet kind areas.now except old.now met.items) }
     ensures back { let old = state S.Store conn.old in
         let new = state S.Store conn.new in
         HasCleanDisk new → IsTrue new.is_open → old.now.schema ≡ dss_schema → GoesBack old new }
     ensures survives { Survives (state S.Store conn.old) (state S.Store conn.new) (λ _. ⊥) }
 {
     let mut tx = conn.transaction();
-    let found = read_candidates(alloc, &mut tx, ranges, ancestors)?;
+    let met = find_meeting(alloc, &mut tx, ranges, ancestors, kind, areas, except)?;
     tx.rollback();
-    Ok(found)
+    Ok(met)
 }
 
 // Of a store that still works after it.
@@ -49,40 +75,53 @@ fn read_alive<S: Alter>(
     conn: &mut Connection<S>,
     ranges: &[Interval],
     ancestors: &[Interval],
-) -> Result<Entities, Error>
-    requires { conn.old.in_transaction ≡ false }
+    kind: Kind,
+    areas: &[Area],
+    except: Option<EntityId>,
+) -> Result<Vec<Met>, Error>
+    requires outside { conn.old.in_transaction ≡ false }
+    requires ranges { HasRanges ranges.now areas.now }
+    requires ancestors { HasAllAncestors ancestors.now areas.now }
     ensures outside { conn.new.in_transaction ≡ false }
     ensures read { let old = state S.Store conn.old in
         HasCleanDisk (state S.Store conn.new)
-        → IfOk result (λ found. old.now.schema ≡ dss_schema
-        → HoldsCandidates ranges.now ancestors.now old.now (entity_map found)) }
+        → IfOk result (λ met. old.now.schema ≡ dss_schema
+        → FindsMet kind areas.now except old.now met.items) }
     ensures open { let new = state S.Store conn.new in
         HasCleanDisk new → OnOk result (IsTrue new.is_open) }
     ensures survives { Survives (state S.Store conn.old) (state S.Store conn.new) (λ _. ⊥) }
 {
-    let found = read_alone(alloc, conn, ranges, ancestors)?;
+    let met = read_alone(alloc, conn, ranges, ancestors, kind, areas, except)?;
     alive(conn)?;
-    Ok(found)
+    Ok(met)
 }
 
 /// The entities of a kind, but the one of an id, of which some volume meets some area, by rising
-/// ids, as the tables of format 1 spell them. Where they spell no airspace, anything may come of
-/// it. It reads the rows of `cell` that the index on `lo` and `hi` finds, and those of the entities
-/// that have them. An error is one of the store, or want of memory.
+/// ids, each with its manager's availability, as the tables of format 1 spell them. Where they spell
+/// no airspace, anything may come of it. It reads the rows of `cell` that the index on `lo` and `hi`
+/// finds, those of the entities that have them, and the row of `availability` of each manager of
+/// what meets, all in one transaction. An error is one of the store, or want of memory.
 pub fn read_meeting<S: Alter>(
     alloc: Global,
     conn: &mut Connection<S>,
     kind: Kind,
     areas: &[Area],
     except: Option<EntityId>,
-) -> Result<Vec<Entity>, Error>
+) -> Result<Vec<Met>, Error>
     requires { conn.old.in_transaction ≡ false }
     ensures outside { conn.new.in_transaction ≡ false }
     ensures reads { ReadsTables (state S.Store conn.old) (state S.Store conn.new) result
-        (λ a found. found.items ≡ meeting_in a.entities kind areas.now except) }
+        (λ a met. met.items ≡ met_in a kind areas.now except) }
 {
     let ranges = ranges_of(alloc, areas)?;
     let ancestors = ancestors_of(alloc, areas)?;
-    let found = read_alive(alloc, conn, ranges.as_slice(), ancestors.as_slice())?;
-    Ok(found.meeting(alloc, kind, areas, except)?)
+    read_alive(
+        alloc,
+        conn,
+        ranges.as_slice(),
+        ancestors.as_slice(),
+        kind,
+        areas,
+        except,
+    )
 }

@@ -5,3 +5,4 @@ pub mod Judging
 pub mod Selecting
 pub mod Numbered
 pub mod Named
+pub mod Stated

@@ -13,5 +13,6 @@ mod rows;
 mod select;
 mod settings;
 pub mod single;
+pub mod stated;
 mod tables;
 pub mod verdict;

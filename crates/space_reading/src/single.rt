@@ -34,8 +34,8 @@ fn serial_in(rows: &[Row]) -> Result<u64, Error>
     }
 }
 
-// What the rows say of a supplier: nothing, or what it has set.
-fn availability_of(
+/// What the rows say of a supplier: nothing, or what it has set.
+pub(crate) fn availability_of(
     alloc: Global,
     uss: &UssId,
     rows: &[Row],

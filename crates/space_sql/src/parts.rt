@@ -3,7 +3,8 @@ ghost use Rattle.std.specs.Prelude.{◌≡◌, false};
 ghost use Rattle.std.specs.FinMap.{get};
 ghost use Rattle.sqlite.specs.Held.{state};
 ghost use Rattle.entity_core.specs.Airspace.{Airspace};
-ghost use Rattle.entity_core.specs.Search.{all_in, meeting_in};
+ghost use Rattle.entity_core.specs.Search.{all_in};
+ghost use Rattle.space_core.specs.Met.{met_in};
 ghost use Rattle.space_core.specs.Space.{Changes, Fits, Reads, Tells, changed};
 ghost use Rattle.space_sql.specs.Holding.{IsKeeping, IsSound, holds_in, holds_of, is_sound_of, is_whole_of, kept};
 
@@ -17,6 +18,7 @@ use entity_core::ovn::Ovn;
 use entity_core::uss_id::UssId;
 use grid_core::volume::Area;
 use space_changes::change::make_change;
+use space_core::met::Met;
 use space_core::space::{Change, SpaceFault};
 use space_finding::meeting::read_meeting;
 use space_reading::reading::known;
@@ -55,13 +57,13 @@ pub(crate) fn meeting<S: Alter>(
     kind: Kind,
     areas: &[Area],
     except: Option<EntityId>,
-) -> Result<Vec<Entity>, SpaceFault>
+) -> Result<Vec<Met>, SpaceFault>
     requires { IsKeeping (state S.Store conn.old) broken.old }
     ensures keeping { IsKeeping (state S.Store conn.new) broken.new }
     ensures tells { Tells refusals.old refusals.new broken.old broken.new result }
     ensures reads { Reads (holds_of S.Store) (is_sound_of S.Store) (is_whole_of S.Store)
         (kept conn.old refusals.old broken.old) (kept conn.new refusals.new broken.new) result
-        (λ a found. found.items ≡ meeting_in a.entities kind areas.now except) }
+        (λ a found. found.items ≡ met_in a kind areas.now except) }
 {
     if *broken {
         return Err(SpaceFault::Broken);

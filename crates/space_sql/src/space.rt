@@ -11,6 +11,7 @@ use entity_core::nature::Kind;
 use entity_core::ovn::Ovn;
 use entity_core::uss_id::UssId;
 use grid_core::volume::Area;
+use space_core::met::Met;
 use space_core::space::{Change, Space, SpaceFault};
 use sqlite::{Alter, Connection};
 use std::alloc::Global;
@@ -86,7 +87,7 @@ impl<S: Alter> Space for SqlSpace<S> {
         kind: Kind,
         areas: &[Area],
         except: Option<EntityId>,
-    ) -> Result<Vec<Entity>, SpaceFault> {
+    ) -> Result<Vec<Met>, SpaceFault> {
         let alloc = self.alloc;
         parts::meeting(
             alloc,

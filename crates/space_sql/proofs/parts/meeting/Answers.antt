@@ -1,6 +1,6 @@
 use Rattle.std.proofs.Common.{◌≡◌}
 use Rattle.sqlite.specs.Held.{state}
-use Rattle.entity_core.specs.Search.{meeting_in}
+use Rattle.space_core.specs.Met.{met_in}
 use Rattle.space_sql.proofs.Outcomes.{Laws, Rests}
 use Rattle.space_sql.proofs.Readings.{reads_settled}
 use Rattle.space_sql.proofs.parts.meeting.Goals as goal
@@ -14,5 +14,5 @@ returns-clause-reads g c =
       settled = c.known.ensures.settled c.requires.outside;
     } in
     let after : Laws new = record { settled = λ db o may. g.met.S.Store.settled _ db o may; stays = λ o. g.met.S.Store.stays _ o } in
-    reads_settled g.S.Store c.args.conn.now c.read_meeting-read.new.conn c.settled.new.conn c.args.refusals.now c.settled.new.refusals c.args.broken.now c.settled.new.broken (λ a found. found.items ≡ meeting_in a.entities c.args.kind c.args.areas.now c.args.except) rests after (λ clean. c.requires.live clean c.if-broken.false)
+    reads_settled g.S.Store c.args.conn.now c.read_meeting-read.new.conn c.settled.new.conn c.args.refusals.now c.settled.new.refusals c.args.broken.now c.settled.new.broken (λ a found. found.items ≡ met_in a c.args.kind c.args.areas.now c.args.except) rests after (λ clean. c.requires.live clean c.if-broken.false)
     c.read_meeting-read.result c.settled.result c.read_meeting-read.ensures.reads c.settled.ensures.passes c.settled.ensures.same c.settled.ensures.survives

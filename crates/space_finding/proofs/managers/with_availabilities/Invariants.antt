@@ -1,0 +1,16 @@
+use Rattle.std.proofs.Common.{◌≡◌, ◌++◌, length, map, Ok}
+use Rattle.std.specs.Vec.Iter.{into_iter_items, into_iter_len}
+use Rattle.sqlite.specs.Held.{state}
+use Rattle.entity_core.specs.Airspace.{Airspace}
+use Rattle.space_core.specs.Met.{met_of}
+use Rattle.space_tables.specs.Spelling.{Spells}
+use Rattle.space_reading.specs.Reading.{Reads}
+use Rattle.space_finding.proofs.MetLists.{MakesAll}
+use Rattle.space_finding.proofs.managers.with_availabilities.Given as goal
+
+abbrev pub invariant-loop-entity : goal.invariant-loop-entity
+invariant-loop-entity g l = record {
+  same_reference : l.tx.conn.ghost_name ≡ l.fn.tx.conn.ghost_name;
+  so_far : Reads {X = Unit {0}} (λ db _. MakesAll l.fn.entities.items l.met.items (into_iter_items l.entity-iterator) db) (state g.S.Store l.fn.tx.conn.now) (state g.S.Store l.tx.conn.now) (Ok tt);
+  left : into_iter_len l.entity-iterator ≡ length (into_iter_items l.entity-iterator);
+}
