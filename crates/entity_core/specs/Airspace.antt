@@ -1,5 +1,5 @@
 -- What a service keeps.
-use Rattle.std.specs.Prelude.{◌≡◌, ℕ, ◌+◌, List, [], Some, unwrap_or}
+use Rattle.std.specs.Prelude.{◌≡◌, ℕ, ◌+◌, ◌≤◌, List, [], Some, unwrap_or}
 use Rattle.std.specs.Ordering.{nat_cmp, ordering_then}
 use Rattle.std.specs.declared.cmp.Ordering.{Ordering}
 use Rattle.std.specs.Cmp.Lexicographic.{slice_cmp}
@@ -8,6 +8,7 @@ use Rattle.entity_core.specs.declared.availability.Availability.{Availability}
 use Rattle.entity_core.specs.declared.availability.Availability.TheVariants.{Unknown}
 use Rattle.entity_core.specs.declared.nature.Kind.{Kind}
 use Rattle.entity_core.specs.declared.entity.Entity.{Entity}
+use Rattle.entity_core.specs.declared.subscription.Sub.{Sub}
 use Rattle.entity_core.specs.Entity.{kind_index, kind_of}
 
 -- texts in the order of their bytes
@@ -35,16 +36,24 @@ key_of e = (kind_of e.nature, e.id)
 abbrev pub Entities : Type 0
 Entities = FinMap key_cmp Entity
 
--- the entities by kind and id, the availability of each supplier that has set one, and how many
--- changes there were
+-- subscriptions by id; their ids are apart from those of entities
+abbrev pub Subscriptions : Type 0
+Subscriptions = FinMap nat_cmp Sub
+
+-- the entities by kind and id, the subscriptions by id, the availability of each supplier that has
+-- set one, and how many changes there were
 pub record Airspace : Type 0 where
   pub entities : Entities
+  pub subscriptions : Subscriptions
   pub availabilities : Availabilities
   pub serial : ℕ
 
--- an airspace that may be kept: each entity stands under its own kind and id
+-- an airspace that may be kept: each entity stands under its own kind and id, each subscription
+-- under its own id, and the index of none is over the serial
 pub record IsAirspace (a : Airspace) : Type 0 where
   pub keyed : (k : EntityKey) (x : Entity) → get a.entities k ≡ Some x → key_of x ≡ k
+  pub own : (id : ℕ) (s : Sub) → get a.subscriptions id ≡ Some s → s.id ≡ id
+  pub told : (id : ℕ) (s : Sub) → get a.subscriptions id ≡ Some s → s.index ≤ a.serial
 
 -- what is kept of a supplier; of one that has set nothing, `Unknown` under the empty version
 abbrev pub availability_of : Airspace → List ℕ → Stated
@@ -67,6 +76,25 @@ with_entity a e = record a { entities = insert a.entities (key_of e) e; serial =
 abbrev pub without_entity : Airspace → EntityKey → Airspace
 without_entity a k = record a { entities = remove a.entities k; serial = a.serial + 1 }
 
+-- with a subscription, in the place of the one that has its id
+abbrev pub with_subscription : Airspace → Sub → Airspace
+with_subscription a s = record a {
+  subscriptions = insert a.subscriptions s.id s;
+  serial = a.serial + 1;
+}
+
+-- without the subscription of an id
+abbrev pub without_subscription : Airspace → ℕ → Airspace
+without_subscription a id = record a {
+  subscriptions = remove a.subscriptions id;
+  serial = a.serial + 1;
+}
+
 -- an airspace in which nothing is kept, at a serial
 abbrev pub empty_at : ℕ → Airspace
-empty_at serial = record { entities = empty; availabilities = empty; serial = serial }
+empty_at serial = record {
+  entities = empty;
+  subscriptions = empty;
+  availabilities = empty;
+  serial = serial;
+}

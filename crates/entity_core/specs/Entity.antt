@@ -18,12 +18,17 @@ kind_index kind.Intent = 0
 kind_index kind.Constraint = 1
 
 abbrev pub kind_of : Nature → Kind
-kind_of (nature.Intent state) = kind.Intent
+kind_of (nature.Intent state named) = kind.Intent
 kind_of nature.Constraint = kind.Constraint
 
 abbrev pub state_of : Nature → Option State
-state_of (nature.Intent state) = Some state
+state_of (nature.Intent state named) = Some state
 state_of nature.Constraint = None
+
+-- the id of the subscription that an intent names
+abbrev pub subscription_of : Nature → Option ℕ
+subscription_of (nature.Intent state named) = named
+subscription_of nature.Constraint = None
 
 -- the name of a state
 abbrev pub state_name : State → List ℕ

@@ -1,13 +1,15 @@
--- What is looked for among the entities of an airspace.
-use Rattle.std.specs.Prelude.{ℕ, ◌&&◌, not, nat_eq, Bool, true, List, map, filter, Option, Some, None}
+-- What is looked for among the entities and the subscriptions of an airspace.
+use Rattle.std.specs.Prelude.{ℕ, ◌&&◌, not, nat_eq, Bool, true, false, List, map, filter, Option, Some, None}
 use Rattle.std.specs.Ordering.{nat_cmp}
 use Rattle.std.specs.FinMap.{entries}
 use Rattle.std.specs.List.Sorted.{IsStrictlySortedBy}
-use Rattle.grid_core.specs.Extent.{Region, any_meet}
+use Rattle.grid_core.specs.Extent.{Region, any_meet, meets, region_of}
 use Rattle.entity_core.specs.declared.nature.Kind.{Kind}
 use Rattle.entity_core.specs.declared.entity.Entity.{Entity}
-use Rattle.entity_core.specs.Airspace.{Airspace, Entities, EntityKey}
-use Rattle.entity_core.specs.Entity.{kind_index}
+use Rattle.entity_core.specs.declared.subscription.Sub.{Sub}
+use Rattle.entity_core.specs.Airspace.{Airspace, Entities, EntityKey, Subscriptions}
+use Rattle.entity_core.specs.Entity.{kind_index, subscription_of}
+use Rattle.entity_core.specs.IdTexts.{same_text}
 
 abbrev pub has_kind : Kind → EntityKey → Bool
 has_kind kind k = nat_eq (kind_index k.0) (kind_index kind)
@@ -29,8 +31,36 @@ meeting_in m kind areas except = map (λ e. e.1) (filter (is_sought kind areas e
 unfoldable pub all_in : Entities → Kind → List Entity
 all_in m kind = map (λ e. e.1) (filter (λ e. has_kind kind e.0) (entries m))
 
--- Of an airspace, what is sought, and all of a kind, comes by rising ids, and so each once.
+-- ---- subscriptions
+
+abbrev pub is_id : ℕ → Option ℕ → Bool
+is_id id None = false
+is_id id (Some named) = nat_eq named id
+
+-- an intent that names a subscription
+abbrev pub is_naming : ℕ → EntityKey × Entity → Bool
+is_naming id e = is_id id (subscription_of e.1.nature)
+
+-- the ids of the intents that name a subscription, rising
+unfoldable pub dependents_in : Entities → ℕ → List ℕ
+dependents_in m id = map (λ e. e.id) (map (λ e. e.1) (filter (is_naming id) (entries m)))
+
+-- a subscription of a supplier, whose volume meets an area
+abbrev pub is_own_near : List ℕ → Region → ℕ × Sub → Bool
+is_own_near uss area s = same_text s.1.manager uss && meets (region_of s.1.volume) area
+
+-- all of them, by rising ids
+unfoldable pub subscriptions_in : Subscriptions → List ℕ → Region → List Sub
+subscriptions_in m uss area = map (λ s. s.1) (filter (is_own_near uss area) (entries m))
+
+-- ---- their order
+
+-- Of an airspace, what is sought, all of a kind, what names a subscription, and a supplier's
+-- subscriptions come by rising ids, and so each once.
 pub record FoundInOrder (a : Airspace) : Type 0 where
   pub meeting : (kind : Kind) (areas : List Region) (except : Option ℕ)
       → IsStrictlySortedBy nat_cmp (map (λ e. e.id) (meeting_in a.entities kind areas except))
   pub all : (kind : Kind) → IsStrictlySortedBy nat_cmp (map (λ e. e.id) (all_in a.entities kind))
+  pub dependents : (id : ℕ) → IsStrictlySortedBy nat_cmp (dependents_in a.entities id)
+  pub subscriptions : (uss : List ℕ) (area : Region)
+      → IsStrictlySortedBy nat_cmp (map (λ s. s.id) (subscriptions_in a.subscriptions uss area))

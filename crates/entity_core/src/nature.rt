@@ -1,6 +1,8 @@
 //! What an entity is.
 ghost use Rattle.std.specs.Prelude.{◌≡◌, nat_eq};
-ghost use Rattle.entity_core.specs.Entity.{kind_index, kind_of, state_name, state_of};
+ghost use Rattle.entity_core.specs.Entity.{kind_index, kind_of, state_name, state_of, subscription_of};
+
+use crate::entity_id::EntityId;
 
 /// The kinds of entities. Each has ids of its own.
 #[derive(Clone, Copy, Debug, PartialEq, Eq)]
@@ -57,10 +59,12 @@ impl State {
     }
 }
 
-/// The kind of an entity, with what only that kind has: a state stands exactly for an intent.
+/// The kind of an entity, with what only that kind has: a state stands exactly for an intent, and
+/// only an intent names a subscription.
 #[derive(Clone, Copy, Debug, PartialEq, Eq)]
 pub enum Nature {
-    Intent(State),
+    /// With its state, and the id of the subscription that it names, if it names one.
+    Intent(State, Option<EntityId>),
     Constraint,
 }
 
@@ -70,7 +74,7 @@ impl Nature {
         ensures { result ≡ kind_of self }
     {
         match self {
-            Nature::Intent(_) => Kind::Intent,
+            Nature::Intent(_, _) => Kind::Intent,
             Nature::Constraint => Kind::Constraint,
         }
     }
@@ -80,7 +84,17 @@ impl Nature {
         ensures { result ≡ state_of self }
     {
         match self {
-            Nature::Intent(state) => Some(state),
+            Nature::Intent(state, _) => Some(state),
+            Nature::Constraint => None,
+        }
+    }
+
+    /// The id of the subscription that an intent names, if it names one.
+    pub fn subscription(self) -> Option<EntityId>
+        ensures { result ≡ subscription_of self }
+    {
+        match self {
+            Nature::Intent(_, named) => named,
             Nature::Constraint => None,
         }
     }

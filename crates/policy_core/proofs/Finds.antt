@@ -1,6 +1,6 @@
 -- The first of a list that passes a test.
 use Rattle.std.specs.Prelude.{◌≡◌, Bool, true, false, List, [], ◌∷◌, ◌++◌, Option, Some, None, cond, find, refl}
-use Rattle.std.proofs.Common.{subst}
+use Rattle.std.proofs.Common.{sym, ap, ◌∙◌, subst}
 use Rattle.std.proofs.lemmas.Option.{same_Some}
 use Rattle.std.specs.List.{AllByRecursion}
 
@@ -32,3 +32,23 @@ find_rest p (y ∷ xs) ys h =
       | true ↦ λ e. cc
       | false ↦ λ e. find_rest p xs ys e
     ] h
+
+-- the found one passes
+pub find_true : {X : Type 0} (p : X → Bool) (xs : List X) (x : X) → find p xs ≡ Some x → p x ≡ true
+find_true p [] x h = cc
+find_true p (y ∷ xs) x h =
+    elim (p y) as (λ b. p y ≡ b → cond b (Some y) (find p xs) ≡ Some x → p x ≡ true) [
+      | true ↦ λ t e. ap p (sym (same_Some y x e)) ∙ t
+      | false ↦ λ t e. find_true p xs x e
+    ] refl h
+
+head_fails : {X : Type 0} (p : X → Bool) (x : X) (ys : List X) → find p (x ∷ ys) ≡ None → p x ≡ false
+head_fails p x ys h =
+    elim (p x) as (λ b. cond b (Some x) (find p ys) ≡ None → b ≡ false) [
+      | true ↦ λ e. cc
+      | false ↦ λ e. refl
+    ] h
+
+-- where none passes, each fails
+pub none_passes : {X : Type 0} (p : X → Bool) (xs ys : List X) (x : X) → find p (xs ++ x ∷ ys) ≡ None → p x ≡ false
+none_passes p xs ys x h = head_fails p x ys (find_rest p xs (x ∷ ys) h)

@@ -1,6 +1,6 @@
 -- What puts know, and what they are told.
 use Rattle.std.specs.Prelude.{◌≡◌, ℕ, ◌≤◌, ◌&&◌, ◌||◌, not, nat_eq, Bool, true, false, List, [], ◌∷◌, ◌++◌, map, filter, Option, Some, None, cond, find, refl, Contains}
-use Rattle.std.proofs.Common.{arith, sym, ap, ◌∙◌, subst}
+use Rattle.std.proofs.Common.{arith, sym, ap, ◌∙◌, subst, inl, inr}
 use Rattle.std.proofs.lemmas.Option.{same_Some}
 use Rattle.std.specs.Cmp.{unsigned_tied}
 use Rattle.std.specs.Cmp.Lexicographic.{same_text as one_text}
@@ -10,7 +10,7 @@ use Rattle.std.specs.FinMap.{get, entries, get-entries}
 use Rattle.grid_core.specs.Extent.{Region, region_of, any_meet}
 use Rattle.entity_core.specs.IdTexts.{same_text}
 use Rattle.entity_core.specs.Airspace.{Airspace, EntityKey, key_cmp, key_of}
-use Rattle.entity_core.specs.Entity.{kind_of}
+use Rattle.entity_core.specs.Entity.{kind_of, subscription_of}
 use Rattle.entity_core.specs.Search.{meeting_in, is_sought}
 use Rattle.entity_core.specs.declared.entity.Entity.{Entity}
 use Rattle.entity_core.specs.declared.nature.Kind.{Kind}
@@ -20,21 +20,20 @@ use Rattle.entity_core.specs.declared.nature.Nature.{Nature}
 use Rattle.entity_core.specs.declared.nature.Nature.TheVariants.{Intent, Constraint}
 use Rattle.entity_core.proofs.Keys.{one_key}
 use Rattle.policy_core.specs.declared.scope.Caller.{Caller}
-use Rattle.policy_core.specs.declared.scope.Scope.TheVariants.{ConstraintProcessing}
 use Rattle.policy_core.specs.declared.call.Call.{Call}
 use Rattle.policy_core.specs.declared.call.Put.{Put}
 use Rattle.policy_core.specs.declared.call.Operation.{Operation}
-use Rattle.policy_core.specs.declared.call.Operation.TheVariants.{NoRoute, NoMethod, Malformed, Query, Read, Create, Update, Delete, ReadAvail, SetAvail}
+use Rattle.policy_core.specs.declared.call.Operation.TheVariants.{NoRoute, NoMethod, Malformed, Query, Read, Create, Update, Delete, ReadAvail, SetAvail, QuerySub, ReadSub, CreateSub, UpdateSub, DeleteSub}
 use Rattle.policy_core.specs.declared.rule.Rule.{Rule}
-use Rattle.policy_core.specs.declared.rule.Rule.TheVariants.{Route, Method, Token, Key, Limit}
+use Rattle.policy_core.specs.declared.rule.Rule.TheVariants.{Route, Method, Token, Scope, Form, Area, Found, Fresh, Manager, Version, Role, Change, Ended, Key, Limit, Depended}
 use Rattle.policy_core.specs.declared.reference.Reference.{Reference}
-use Rattle.policy_core.specs.Known.{put_of, is_declared, is_told_of, listed, IsAsked}
-use Rattle.policy_core.specs.Missing.{in_key, is_missing_from, is_spared, key_shown, missing_from, needed, needed_put, needs_key, is_none_of, is_nothing, missing_put, missing_by, missing_for}
-use Rattle.policy_core.specs.Policy.{breaks, early_rules, standing_rules, last_rules, first_broken}
+use Rattle.policy_core.specs.Known.{put_of, is_declared, is_told_of, listed, MayAsk, IsAsked}
+use Rattle.policy_core.specs.Missing.{in_key, is_missing_from, is_spared, key_shown, minds, missing_from, needed, needed_put, needs_key, is_none_of, is_nothing, missing_put, missing_by, missing_for}
+use Rattle.policy_core.specs.Policy.{breaks, breaks_depended, early_rules, standing_rules, last_rules, first_broken}
 use Rattle.policy_core.specs.Rule.{number_of}
-use Rattle.policy_core.specs.Scope.{has_scope}
+use Rattle.policy_core.specs.Standing.{depended_of, sub_under}
 use Rattle.policy_core.specs.View.{view_of}
-use Rattle.policy_core.proofs.Finds.{or_else, find-append, find_has, find_rest}
+use Rattle.policy_core.proofs.Finds.{or_else, find-append, find_has, find_rest, find_true}
 use Rattle.policy_core.proofs.Filters.{both_at_once}
 use Rattle.policy_core.proofs.Members.{no_member, later, passing, mapped}
 
@@ -53,6 +52,11 @@ none_asks a t (Update id ovn put) = (Token, refl, omega arith)
 none_asks a t (Delete kind id ovn) = (Token, refl, omega arith)
 none_asks a t (ReadAvail uss) = (Token, refl, omega arith)
 none_asks a t (SetAvail uss old availability) = (Token, refl, omega arith)
+none_asks a t (QuerySub area) = (Token, refl, omega arith)
+none_asks a t (ReadSub id) = (Token, refl, omega arith)
+none_asks a t (CreateSub id put) = (Token, refl, omega arith)
+none_asks a t (UpdateSub id version put) = (Token, refl, omega arith)
+none_asks a t (DeleteSub id version) = (Token, refl, omega arith)
 
 -- ---- a put of whose key nothing is missing
 
@@ -95,7 +99,7 @@ other_id n id h = ap not (sym (unsigned_tied n id) ∙ h)
 
 -- of two intents with one kind and different keys, the ids differ
 other_intent : (n id : ℕ) (nature : Nature) → needs_key nature ≡ true → eq_by_cmp key_cmp (kinds.Intent, n) (kind_of nature, id) ≡ false → not (nat_eq n id) ≡ true
-other_intent n id (Intent state) needs h = other_id n id h
+other_intent n id (Intent state named) needs h = other_id n id h
 other_intent n id Constraint needs h = cc
 
 -- where nothing is missing of what is met and not spared, the key has the OVN of each
@@ -105,22 +109,25 @@ none_unspared a v key test q y n f s owed =
     none_met a v key (λ e. test e && not (is_spared a e.1)) q y
     (subst (λ (es : List Entity). is_none_of (map v (filter (is_missing_from key) es)) ≡ true) (both_at_once (λ (e : EntityKey × Entity). e.1) (λ e. not (is_spared a e)) test (entries a.entities)) n) f (λ i. s i && not (owed i))
 
+-- whether a put is to know of such an entity
+abbrev minded : Airspace → Caller → Put → Nature → Bool
+minded a caller put nature = minds (kind_of nature) (Some caller) (subscription_of put.nature) (sub_under a (subscription_of put.nature))
+
 -- where nothing is missing, the key of a put has the OVN of each other entity that it is to know
 put_knows : (a : Airspace) (caller : Caller) (id : ℕ) (put : Put) (y : Entity) → is_nothing (missing_put a caller id put) ≡ true → get a.entities (key_of y) ≡ Some y
-    → eq_by_cmp key_cmp (key_of y) (kind_of put.nature, id) ≡ false → needs_key put.nature ≡ true → any_meet y.volumes (map region_of put.volumes) ≡ true → is_told_of (Some caller) y.nature ≡ true → is_spared a y ≡ false
+    → eq_by_cmp key_cmp (key_of y) (kind_of put.nature, id) ≡ false → needs_key put.nature ≡ true → any_meet y.volumes (map region_of put.volumes) ≡ true → minded a caller put y.nature ≡ true → is_spared a y ≡ false
     → in_key put.key y.ovn ≡ true
 unfolding missing_from meeting_in
 put_knows a caller id put y none found other needs meet owed unspared =
     let areas : List Region = map region_of put.volumes in
     let parts = both_true (is_none_of (missing_put a caller id put).intents) (is_none_of (missing_put a caller id put).constraints) none in
     let spare : List Entity → List Entity = λ es. filter (λ e. not (is_spared a e)) es in
-    elim (y.nature) as (λ n. y.nature ≡ n → is_told_of (Some caller) n ≡ true → get a.entities (kind_of n, y.id) ≡ Some y → eq_by_cmp key_cmp (kind_of n, y.id) (kind_of put.nature, id) ≡ false → in_key put.key y.ovn ≡ true) [
-      | Intent state ↦ λ is o f e.
-          let none_of = subst (λ (b : Bool). is_none_of (map (view_of a caller.uss) (filter (is_missing_from put.key) (cond b (spare (map (λ x. x.1) (filter (is_sought kinds.Intent areas (Some id)) (entries a.entities)))) []))) ≡ true) needs parts.0 in
+    elim (y.nature) as (λ n. y.nature ≡ n → minded a caller put n ≡ true → get a.entities (kind_of n, y.id) ≡ Some y → eq_by_cmp key_cmp (kind_of n, y.id) (kind_of put.nature, id) ≡ false → in_key put.key y.ovn ≡ true) [
+      | Intent state named ↦ λ is o f e.
+          let none_of = subst (λ (b : Bool). is_none_of (map (view_of a caller.uss) (filter (is_missing_from put.key) (cond b (spare (map (λ x. x.1) (filter (is_sought kinds.Intent areas (Some id)) (entries a.entities)))) []))) ≡ true) (λ i. needs i && o i) parts.0 in
           none_unspared a (view_of a caller.uss) put.key (is_sought kinds.Intent areas (Some id)) (kinds.Intent, y.id) y none_of f (λ i. other_intent y.id id put.nature needs e i && meet i) unspared
       | Constraint ↦ λ is o f e.
-          let asked : needs_key put.nature && has_scope caller.scopes ConstraintProcessing ≡ true = λ i. needs i && o i in
-          let none_of = subst (λ (b : Bool). is_none_of (map (view_of a caller.uss) (filter (is_missing_from put.key) (cond b (spare (map (λ x. x.1) (filter (is_sought kinds.Constraint areas None) (entries a.entities)))) []))) ≡ true) asked parts.1 in
+          let none_of = subst (λ (b : Bool). is_none_of (map (view_of a caller.uss) (filter (is_missing_from put.key) (cond b (spare (map (λ x. x.1) (filter (is_sought kinds.Constraint areas None) (entries a.entities)))) []))) ≡ true) (λ i. needs i && o i) parts.1 in
           none_unspared a (view_of a caller.uss) put.key (is_sought kinds.Constraint areas None) (kinds.Constraint, y.id) y none_of f meet unspared
     ] refl owed found other
 
@@ -148,21 +155,21 @@ in_list (k ∷ ks) ovn h =
     ] refl h
 
 declared_needs : (nature : Nature) → is_declared nature ≡ true → needs_key nature ≡ true
-declared_needs (Intent Accepted) h = refl
-declared_needs (Intent Activated) h = refl
-declared_needs (Intent Nonconforming) h = cc
-declared_needs (Intent Contingent) h = cc
+declared_needs (Intent Accepted named) h = refl
+declared_needs (Intent Activated named) h = refl
+declared_needs (Intent Nonconforming named) h = cc
+declared_needs (Intent Contingent named) h = cc
 declared_needs Constraint h = cc
 
 put_knows_of : (a : Airspace) (caller : Caller) (i : ℕ) (p : Put) (id : ℕ) (put : Put) (y : Entity) → ◌≡◌ {A = ℕ × Put} (i, p) (id, put) → is_nothing (missing_put a caller i p) ≡ true → is_declared put.nature ≡ true
-    → get a.entities (key_of y) ≡ Some y → eq_by_cmp key_cmp (key_of y) (kind_of put.nature, id) ≡ false → any_meet y.volumes (map region_of put.volumes) ≡ true → is_told_of (Some caller) y.nature ≡ true
+    → get a.entities (key_of y) ≡ Some y → eq_by_cmp key_cmp (key_of y) (kind_of put.nature, id) ≡ false → any_meet y.volumes (map region_of put.volumes) ≡ true → minded a caller p y.nature ≡ true
     → is_spared a y ≡ false → Contains put.key y.ovn
 put_knows_of a caller i p id put y same none declared found other meet owed unspared =
-    in_list put.key y.ovn (put_knows a caller id put y (subst (λ (q : ℕ × Put). is_nothing (missing_put a caller q.0 q.1) ≡ true) same none) found other (declared_needs put.nature declared) meet owed unspared)
+    in_list put.key y.ovn (put_knows a caller id put y (subst (λ (q : ℕ × Put). is_nothing (missing_put a caller q.0 q.1) ≡ true) same none) found other (declared_needs put.nature declared) meet (subst (λ (q : ℕ × Put). minded a caller q.1 y.nature ≡ true) same owed) unspared)
 
 pub puts_know : (a : Airspace) (t : ℕ) (caller : Option Caller) (op : Operation) (id : ℕ) (put : Put) (y : Entity) → put_of op ≡ Some (id, put) → first_broken a t (record { caller = caller; op = op }) ≡ None
     → is_declared put.nature ≡ true → get a.entities (key_of y) ≡ Some y → eq_by_cmp key_cmp (key_of y) (kind_of put.nature, id) ≡ false → any_meet y.volumes (map region_of put.volumes) ≡ true
-    → is_told_of caller y.nature ≡ true → is_spared a y ≡ false → Contains put.key y.ovn
+    → is_told_of a (record { caller = caller; op = op }) y.nature ≡ true → is_spared a y ≡ false → Contains put.key y.ovn
 puts_know a t None op id put y is h = let some = none_asks a t op in let bad : None ≡ Some some.0 = sym h ∙ some.1 in cc
 puts_know a t (Some caller) NoRoute id put y is h = cc
 puts_know a t (Some caller) NoMethod id put y is h = cc
@@ -176,6 +183,11 @@ puts_know a t (Some caller) (Update i ovn p) id put y is h =
 puts_know a t (Some caller) (Delete kind n ovn) id put y is h = cc
 puts_know a t (Some caller) (ReadAvail uss) id put y is h = cc
 puts_know a t (Some caller) (SetAvail uss old availability) id put y is h = cc
+puts_know a t (Some caller) (QuerySub area) id put y is h = cc
+puts_know a t (Some caller) (ReadSub n) id put y is h = cc
+puts_know a t (Some caller) (CreateSub n p) id put y is h = cc
+puts_know a t (Some caller) (UpdateSub n version p) id put y is h = cc
+puts_know a t (Some caller) (DeleteSub n version) id put y is h = cc
 
 -- ---- what is needed and not in the key
 
@@ -210,11 +222,75 @@ put_misses kinds.Constraint a caller id put y h k =
 
 -- ---- it is asked for
 
--- one of P1 to P13 is no P14
-earlier_rule : (a : Airspace) (t : ℕ) (c : Call) (p : Rule) → find (breaks a t c) (early_rules ++ standing_rules) ≡ Some p → number_of p ≤ 13
-earlier_rule a t c p h =
-    find_has (λ (r : Rule). number_of r ≤ 13) (breaks a t c) (early_rules ++ standing_rules) p
-    (omega arith, (omega arith, (omega arith, (omega arith, (omega arith, (omega arith, (omega arith, (omega arith, (omega arith, (omega arith, (omega arith, (omega arith, (omega arith, tt))))))))))))) h
+-- a rule of which something needed may be told, but not by listing it
+abbrev Before : Rule → Type 0
+Before rule = MayAsk rule × (rule ≡ Key → ⊥)
+
+before : (rule : Rule) → number_of rule ≤ 13 → Before rule
+before rule low = (inl (omega (arith, low)), λ is. let same : number_of rule ≡ 14 = ap number_of is in absurd (omega (arith, low, same)))
+
+-- P1 to P13 and P16 are no P14, and P17 is not broken by what needs anything
+earlier_rule : (a : Airspace) (t : ℕ) (c : Call) (p : Rule) → breaks a t c Depended ≡ false → find (breaks a t c) (early_rules ++ standing_rules) ≡ Some p → Before p
+earlier_rule a t c p never h =
+    let early = λ (r : Rule) (low : number_of r ≤ 13) (b : breaks a t c r ≡ true). before r low in
+    find_has (λ (r : Rule). breaks a t c r ≡ true → Before r) (breaks a t c) (early_rules ++ standing_rules) p (
+      early Route (omega arith),
+      (
+        early Method (omega arith),
+        (
+          early Token (omega arith),
+          (
+            early Scope (omega arith),
+            (
+              early Form (omega arith),
+              (
+                early Area (omega arith),
+                (
+                  early Found (omega arith),
+                  (
+                    early Fresh (omega arith),
+                    (
+                      early Manager (omega arith),
+                      (
+                        early Version (omega arith),
+                        (
+                          early Role (omega arith),
+                          (
+                            early Change (omega arith),
+                            (
+                              early Ended (omega arith),
+                              ((λ b. (inr refl, λ is. let same : 16 ≡ 14 = ap number_of is in absurd (omega (arith, same)))), ((λ b. cc (b, never)), tt)),
+                            ),
+                          ),
+                        ),
+                      ),
+                    ),
+                  ),
+                ),
+              ),
+            ),
+          ),
+        ),
+      ),
+    ) h (find_true (breaks a t c) (early_rules ++ standing_rules) p h)
+
+-- what needs anything deletes no subscription
+not_depended : (kind : Kind) (a : Airspace) (caller : Option Caller) (op : Operation) (y : Entity) → Contains (needed kind a caller op) y → breaks_depended op (depended_of a op) ≡ false
+not_depended kind a caller NoRoute y h = refl
+not_depended kind a caller NoMethod y h = refl
+not_depended kind a caller (Malformed of) y h = refl
+not_depended kind a caller (Query of area) y h = refl
+not_depended kind a caller (Read of id) y h = refl
+not_depended kind a caller (Create id put) y h = refl
+not_depended kind a caller (Update id ovn put) y h = refl
+not_depended kind a caller (Delete of id ovn) y h = refl
+not_depended kind a caller (ReadAvail uss) y h = refl
+not_depended kind a caller (SetAvail uss old availability) y h = refl
+not_depended kind a caller (QuerySub area) y h = refl
+not_depended kind a caller (ReadSub id) y h = refl
+not_depended kind a caller (CreateSub id put) y h = refl
+not_depended kind a caller (UpdateSub id version put) y h = refl
+not_depended kind a caller (DeleteSub id version) y h = absurd (no_member y h)
 
 call_misses : (kind : Kind) (a : Airspace) (caller : Caller) (op : Operation) (y : Entity) → Contains (needed kind a (Some caller) op) y → in_key (key_shown op) y.ovn ≡ false
     → (is_nothing (missing_by a caller op) ≡ false) × Contains (listed kind (missing_by a caller op)) (view_of a caller.uss y)
@@ -228,20 +304,25 @@ call_misses kind a caller (Update id ovn put) y h k = put_misses kind a caller i
 call_misses kind a caller (Delete of id ovn) y h k = absurd (no_member y h)
 call_misses kind a caller (ReadAvail uss) y h k = absurd (no_member y h)
 call_misses kind a caller (SetAvail uss old availability) y h k = absurd (no_member y h)
+call_misses kind a caller (QuerySub area) y h k = absurd (no_member y h)
+call_misses kind a caller (ReadSub id) y h k = absurd (no_member y h)
+call_misses kind a caller (CreateSub id put) y h k = absurd (no_member y h)
+call_misses kind a caller (UpdateSub id version put) y h k = absurd (no_member y h)
+call_misses kind a caller (DeleteSub id version) y h k = absurd (no_member y h)
 
-asked_by : (a : Airspace) (t : ℕ) (caller : Caller) (op : Operation) (kind : Kind) (y : Entity) → is_nothing (missing_by a caller op) ≡ false → Contains (listed kind (missing_by a caller op)) (view_of a caller.uss y)
+asked_by : (a : Airspace) (t : ℕ) (caller : Caller) (op : Operation) (kind : Kind) (y : Entity) → breaks_depended op (depended_of a op) ≡ false → is_nothing (missing_by a caller op) ≡ false → Contains (listed kind (missing_by a caller op)) (view_of a caller.uss y)
     → IsAsked kind a t (record { caller = Some caller; op = op }) y
 unfolding first_broken
-asked_by a t caller op kind y some told =
+asked_by a t caller op kind y never some told =
     let c : Call = record { caller = Some caller; op = op } in
     elim (find (breaks a t c) (early_rules ++ standing_rules)) as (λ o. find (breaks a t c) (early_rules ++ standing_rules) ≡ o → first_broken a t c ≡ or_else o (find (breaks a t c) last_rules) → IsAsked kind a t c y) [
       | Some p ↦ λ h first.
-          let low : number_of p ≤ 13 = earlier_rule a t c p h in
-          record { rule = p; first = first; number = omega (arith, low); listed = λ is. let same : number_of p ≡ 14 = ap number_of is in absurd (omega (arith, low, same)) }
+          let early : Before p = earlier_rule a t c p never h in
+          record { rule = p; first = first; number = early.0; listed = λ is. absurd (early.1 is) }
       | None ↦ λ h first. record {
         rule = Key;
         first = first ∙ ap (λ (b : Bool). cond (not b) (Some Key) (cond (breaks a t c Limit) (Some Limit) None)) some;
-        number = omega arith;
+        number = inl (omega arith);
         listed = λ is. told;
       }
     ] refl (find-append (breaks a t c) (early_rules ++ standing_rules) last_rules)
@@ -251,5 +332,5 @@ pub needed_asked : (a : Airspace) (t : ℕ) (caller : Option Caller) (op : Opera
 needed_asked a t None op kind y h k =
     let some = none_asks a t op in
     let low : number_of some.0 ≤ 3 = some.2 in
-    record { rule = some.0; first = some.1; number = omega (arith, low); listed = λ is. let same : number_of some.0 ≡ 14 = ap number_of is in absurd (omega (arith, low, same)) }
-needed_asked a t (Some caller) op kind y h k = let m = call_misses kind a caller op y h k in asked_by a t caller op kind y m.0 m.1
+    record { rule = some.0; first = some.1; number = inl (omega (arith, low)); listed = λ is. let same : number_of some.0 ≡ 14 = ap number_of is in absurd (omega (arith, low, same)) }
+needed_asked a t (Some caller) op kind y h k = let m = call_misses kind a caller op y h k in asked_by a t caller op kind y (not_depended kind a (Some caller) op y h) m.0 m.1

@@ -1,23 +1,26 @@
 -- What is the same behind a veil.
-use Rattle.std.specs.Prelude.{◌≡◌, ℕ, not, Bool, true, false, List, [], ◌∷◌, ◌++◌, map, Option, Some, None, cond, find, refl, option_map}
+use Rattle.std.specs.Prelude.{◌≡◌, ℕ, not, Bool, true, false, List, [], ◌∷◌, ◌++◌, map, filter, Option, Some, None, cond, find, refl, option_map}
 use Rattle.std.proofs.Common.{sym, ap, ◌∙◌, subst}
 use Rattle.std.specs.Cmp.Lexicographic.{same_text as one_text}
-use Rattle.std.specs.Ordering.{eq_by_cmp}
+use Rattle.std.specs.Ordering.{eq_by_cmp, nat_cmp}
 use Rattle.std.specs.FinMap as maps
 use Rattle.std.specs.FinMap.{get, get-entries, entries}
 use Rattle.entity_core.specs.IdTexts.{same_text}
 use Rattle.entity_core.specs.Airspace.{Airspace, EntityKey, Stated, Availabilities, key_cmp}
 use Rattle.entity_core.specs.Entity.{kind_of}
+use Rattle.entity_core.specs.Search.{dependents_in, is_naming}
 use Rattle.entity_core.specs.declared.entity.Entity.{Entity}
+use Rattle.entity_core.specs.declared.subscription.Sub.{Sub}
 use Rattle.policy_core.specs.declared.scope.Caller.{Caller}
 use Rattle.policy_core.specs.declared.call.Call.{Call}
 use Rattle.policy_core.specs.declared.call.Operation.{Operation}
-use Rattle.policy_core.specs.declared.call.Operation.TheVariants.{NoRoute, NoMethod, Malformed, Query, Read, Create, Update, Delete, ReadAvail, SetAvail}
+use Rattle.policy_core.specs.declared.call.Operation.TheVariants.{NoRoute, NoMethod, Malformed, Query, Read, Create, Update, Delete, ReadAvail, SetAvail, QuerySub, ReadSub, CreateSub, UpdateSub, DeleteSub}
 use Rattle.policy_core.specs.declared.rule.Rule.{Rule}
 use Rattle.policy_core.specs.declared.rule.Rule.TheVariants.{Manager, Version}
 use Rattle.policy_core.specs.Policy.{breaks, breaks_given, early_rules, standing_rules}
-use Rattle.policy_core.specs.Standing.{found_of, kept_of}
-use Rattle.policy_core.specs.Blind.{veiled, veiled_entry, IsLike, is_uss}
+use Rattle.policy_core.specs.Standing.{Facts, depended_of, facts_of, found_of, is_some_of, kept_of, sub_under}
+use Rattle.policy_core.specs.Call.{subject_of}
+use Rattle.policy_core.specs.Blind.{veiled, veiled_entry, veiled_sub, veiled_sub_entry, IsLike, is_uss}
 use Rattle.policy_core.proofs.Finds.{or_else, find-append}
 
 -- a supplier by its text
@@ -49,6 +52,11 @@ found_like m a b (Read kind id) l = get_like m a b (kind, id) l
 found_like m a b (Create id put) l = get_like m a b (kind_of put.nature, id) l
 found_like m a b (Update id ovn put) l = get_like m a b (kind_of put.nature, id) l
 found_like m a b (Delete kind id ovn) l = get_like m a b (kind, id) l
+found_like m a b (QuerySub area) l = refl
+found_like m a b (ReadSub id) l = refl
+found_like m a b (CreateSub id put) l = refl
+found_like m a b (UpdateSub id version put) l = refl
+found_like m a b (DeleteSub id version) l = refl
 found_like m a b (ReadAvail uss) l = refl
 found_like m a b (SetAvail uss old availability) l = refl
 
@@ -61,37 +69,141 @@ kept_like a b (Read kind id) l = refl
 kept_like a b (Create id put) l = refl
 kept_like a b (Update id ovn put) l = refl
 kept_like a b (Delete kind id ovn) l = refl
+kept_like a b (QuerySub area) l = refl
+kept_like a b (ReadSub id) l = refl
+kept_like a b (CreateSub id put) l = refl
+kept_like a b (UpdateSub id version put) l = refl
+kept_like a b (DeleteSub id version) l = refl
 kept_like a b (ReadAvail uss) l = ap (λ (x : Availabilities). get x uss) l
 kept_like a b (SetAvail uss old availability) l = ap (λ (x : Availabilities). get x uss) l
 
--- ---- P7 to P13
+-- ---- subscriptions
+
+find_sub-veiled : (m : List ℕ) (k : ℕ) (ss : List (ℕ × Sub)) → option_map (veiled_sub m) (maps.find nat_cmp k ss) ≡ maps.find nat_cmp k (map (veiled_sub_entry m) ss)
+find_sub-veiled m k [] = refl
+find_sub-veiled m k (s ∷ ss) =
+    elim (eq_by_cmp nat_cmp k s.0) as (λ b. option_map (veiled_sub m) (cond b (Some s.1) (maps.find nat_cmp k ss)) ≡ cond b (Some (veiled_sub m s.1)) (maps.find nat_cmp k (map (veiled_sub_entry m) ss))) [
+      | true ↦ refl
+      | false ↦ find_sub-veiled m k ss
+    ]
+
+get_sub-veiled : (m : List ℕ) (a : Airspace) (k : ℕ) → option_map (veiled_sub m) (get a.subscriptions k) ≡ maps.find nat_cmp k (map (veiled_sub_entry m) (entries a.subscriptions))
+get_sub-veiled m a k = ap (option_map (veiled_sub m)) (get-entries a.subscriptions k) ∙ find_sub-veiled m k (entries a.subscriptions)
+
+pub get_sub_like : (m : List ℕ) (a b : Airspace) (k : ℕ) → IsLike m a b → option_map (veiled_sub m) (get a.subscriptions k) ≡ option_map (veiled_sub m) (get b.subscriptions k)
+get_sub_like m a b k l = get_sub-veiled m a k ∙ (ap (maps.find nat_cmp k) l.subscriptions ∙ sym (get_sub-veiled m b k))
+
+pub under_like : (m : List ℕ) (a b : Airspace) (named : Option ℕ) → IsLike m a b → option_map (veiled_sub m) (sub_under a named) ≡ option_map (veiled_sub m) (sub_under b named)
+under_like m a b None l = refl
+under_like m a b (Some id) l = get_sub_like m a b id l
+
+-- an OVN has no part in what names a subscription
+dependents-veiled : (m : List ℕ) (id : ℕ) (es : List (EntityKey × Entity)) → map (λ e. e.id) (map (λ e. e.1) (filter (is_naming id) es)) ≡ map (λ e. e.id) (map (λ e. e.1) (filter (is_naming id) (map (veiled_entry m) es)))
+dependents-veiled m id [] = refl
+dependents-veiled m id (e ∷ es) =
+    let rest : List (EntityKey × Entity) = filter (is_naming id) es in
+    let others : List (EntityKey × Entity) = filter (is_naming id) (map (veiled_entry m) es) in
+    elim (is_naming id e) as (λ b. map (λ x. x.id) (map (λ x. x.1) (cond b (e ∷ rest) rest)) ≡ map (λ x. x.id) (map (λ x. x.1) (cond b (veiled_entry m e ∷ others) others))) [
+      | true ↦ ap (λ (ids : List ℕ). e.1.id ∷ ids) (dependents-veiled m id es)
+      | false ↦ dependents-veiled m id es
+    ]
+
+pub dependents_like : (m : List ℕ) (a b : Airspace) (id : ℕ) → IsLike m a b → dependents_in a.entities id ≡ dependents_in b.entities id
+unfolding dependents_in
+dependents_like m a b id l =
+    dependents-veiled m id (entries a.entities)
+    ∙ (ap (λ (es : List (EntityKey × Entity)). map (λ e. e.id) (map (λ e. e.1) (filter (is_naming id) es))) l.entities
+    ∙ sym (dependents-veiled m id (entries b.entities)))
+
+pub depended_like : (m : List ℕ) (a b : Airspace) (op : Operation) → IsLike m a b → depended_of a op ≡ depended_of b op
+depended_like m a b NoRoute l = refl
+depended_like m a b NoMethod l = refl
+depended_like m a b (Malformed kind) l = refl
+depended_like m a b (Query kind area) l = refl
+depended_like m a b (Read kind id) l = refl
+depended_like m a b (Create id put) l = refl
+depended_like m a b (Update id ovn put) l = refl
+depended_like m a b (Delete kind id ovn) l = refl
+depended_like m a b (ReadAvail uss) l = refl
+depended_like m a b (SetAvail uss old availability) l = refl
+depended_like m a b (QuerySub area) l = refl
+depended_like m a b (ReadSub id) l = refl
+depended_like m a b (CreateSub id put) l = refl
+depended_like m a b (UpdateSub id version put) l = refl
+depended_like m a b (DeleteSub id version) l = ap is_some_of (dependents_like m a b id l)
+
+-- ---- P7 to P13, P16 and P17
 
 -- whose it is comes before the OVN, so the OVN of another's entity is not looked at
 manager_first : (own : Bool) (ovn present : List ℕ) (rest : Option Rule) → cond (not own) (Some Manager) (cond (not (same_text ovn present)) (Some Version) rest) ≡ cond (not own) (Some Manager) (cond (not (same_text ovn (cond own present []))) (Some Version) rest)
 manager_first true ovn present rest = refl
 manager_first false ovn present rest = refl
 
-pub standing_veiled : (caller : Caller) (found : Option Entity) (kept : Option Stated) (serial t : ℕ) (op : Operation)
-    → find (breaks_given (record { found = found; kept = kept; serial = serial }) t (record { caller = Some caller; op = op })) standing_rules
-    ≡ find (breaks_given (record { found = option_map (veiled caller.uss) found; kept = kept; serial = serial }) t (record { caller = Some caller; op = op })) standing_rules
-standing_veiled caller None kept serial t op = refl
-standing_veiled caller (Some e) kept serial t NoRoute = refl
-standing_veiled caller (Some e) kept serial t NoMethod = refl
-standing_veiled caller (Some e) kept serial t (Malformed kind) = refl
-standing_veiled caller (Some e) kept serial t (Query kind area) = refl
-standing_veiled caller (Some e) kept serial t (Read kind id) = refl
-standing_veiled caller (Some e) kept serial t (Create id put) = refl
-standing_veiled caller (Some e) kept serial t (Update id ovn put) = manager_first (same_text e.manager caller.uss) ovn e.ovn _
-standing_veiled caller (Some e) kept serial t (Delete kind id ovn) = manager_first (same_text e.manager caller.uss) ovn e.ovn _
-standing_veiled caller (Some e) kept serial t (ReadAvail uss) = refl
-standing_veiled caller (Some e) kept serial t (SetAvail uss old availability) = refl
+veiled_found : (caller : Caller) (found : Option Entity) (kept : Option Stated) (serial t : ℕ) (sub : Option Sub) (depended : Bool) (op : Operation)
+    → find (breaks_given (record { found = found; kept = kept; serial = serial; sub = sub; depended = depended }) t (record { caller = Some caller; op = op })) standing_rules
+    ≡ find (breaks_given (record { found = option_map (veiled caller.uss) found; kept = kept; serial = serial; sub = sub; depended = depended }) t (record { caller = Some caller; op = op })) standing_rules
+veiled_found caller None kept serial t sub depended op = refl
+veiled_found caller (Some e) kept serial t sub depended NoRoute = refl
+veiled_found caller (Some e) kept serial t sub depended NoMethod = refl
+veiled_found caller (Some e) kept serial t sub depended (Malformed kind) = refl
+veiled_found caller (Some e) kept serial t sub depended (Query kind area) = refl
+veiled_found caller (Some e) kept serial t sub depended (Read kind id) = refl
+veiled_found caller (Some e) kept serial t sub depended (Create id put) = refl
+veiled_found caller (Some e) kept serial t sub depended (Update id ovn put) = manager_first (same_text e.manager caller.uss) ovn e.ovn _
+veiled_found caller (Some e) kept serial t sub depended (Delete kind id ovn) = manager_first (same_text e.manager caller.uss) ovn e.ovn _
+veiled_found caller (Some e) kept serial t sub depended (ReadAvail uss) = refl
+veiled_found caller (Some e) kept serial t sub depended (SetAvail uss old availability) = refl
+veiled_found caller (Some e) kept serial t sub depended (QuerySub area) = refl
+veiled_found caller (Some e) kept serial t sub depended (ReadSub id) = refl
+veiled_found caller (Some e) kept serial t sub depended (CreateSub id put) = refl
+veiled_found caller (Some e) kept serial t sub depended (UpdateSub id version put) = refl
+veiled_found caller (Some e) kept serial t sub depended (DeleteSub id version) = refl
+
+veiled_subject : (caller : Caller) (found : Option Entity) (kept : Option Stated) (serial t : ℕ) (sub : Option Sub) (depended : Bool) (op : Operation)
+    → find (breaks_given (record { found = found; kept = kept; serial = serial; sub = sub; depended = depended }) t (record { caller = Some caller; op = op })) standing_rules
+    ≡ find (breaks_given (record { found = found; kept = kept; serial = serial; sub = option_map (veiled_sub caller.uss) sub; depended = depended }) t (record { caller = Some caller; op = op })) standing_rules
+veiled_subject caller found kept serial t None depended op = refl
+veiled_subject caller found kept serial t (Some s) depended NoRoute = refl
+veiled_subject caller found kept serial t (Some s) depended NoMethod = refl
+veiled_subject caller found kept serial t (Some s) depended (Malformed kind) = refl
+veiled_subject caller found kept serial t (Some s) depended (Query kind area) = refl
+veiled_subject caller found kept serial t (Some s) depended (Read kind id) = refl
+veiled_subject caller found kept serial t (Some s) depended (Create id put) = refl
+veiled_subject caller found kept serial t (Some s) depended (Update id ovn put) = refl
+veiled_subject caller found kept serial t (Some s) depended (Delete kind id ovn) = refl
+veiled_subject caller found kept serial t (Some s) depended (ReadAvail uss) = refl
+veiled_subject caller found kept serial t (Some s) depended (SetAvail uss old availability) = refl
+veiled_subject caller found kept serial t (Some s) depended (QuerySub area) = refl
+veiled_subject caller found kept serial t (Some s) depended (ReadSub id) = refl
+veiled_subject caller found kept serial t (Some s) depended (CreateSub id put) = refl
+veiled_subject caller found kept serial t (Some s) depended (UpdateSub id version put) = manager_first (same_text s.manager caller.uss) version s.version _
+veiled_subject caller found kept serial t (Some s) depended (DeleteSub id version) = manager_first (same_text s.manager caller.uss) version s.version _
+
+-- the facts with what is behind the veil
+abbrev veiled_facts : List ℕ → Facts → Facts
+veiled_facts m f = record f { found = option_map (veiled m) f.found; sub = option_map (veiled_sub m) f.sub }
+
+pub standing_veiled : (caller : Caller) (f : Facts) (t : ℕ) (op : Operation)
+    → find (breaks_given f t (record { caller = Some caller; op = op })) standing_rules ≡ find (breaks_given (veiled_facts caller.uss f) t (record { caller = Some caller; op = op })) standing_rules
+standing_veiled caller f t op =
+    veiled_found caller f.found f.kept f.serial t f.sub f.depended op
+    ∙ veiled_subject caller (option_map (veiled caller.uss) f.found) f.kept f.serial t f.sub f.depended op
+
+facts_like : (m : List ℕ) (a b : Airspace) (op : Operation) → IsLike m a b → veiled_facts m (facts_of a op) ≡ veiled_facts m (facts_of b op)
+facts_like m a b op l = λ i. record {
+  found = found_like m a b op l i;
+  kept = kept_like a b op l.availabilities i;
+  serial = l.serial i;
+  sub = under_like m a b (subject_of op) l i;
+  depended = depended_like m a b op l i;
+}
 
 standing_by : (caller : Caller) (a b : Airspace) (t : ℕ) (op : Operation) → IsLike caller.uss a b → find (breaks a t (record { caller = Some caller; op = op })) standing_rules ≡ find (breaks b t (record { caller = Some caller; op = op })) standing_rules
 standing_by caller a b t op l =
     let c : Call = record { caller = Some caller; op = op } in
-    standing_veiled caller (found_of a op) (kept_of a op) a.serial t op
-    ∙ ((λ i. find (breaks_given (record { found = found_like caller.uss a b op l i; kept = kept_like a b op l.availabilities i; serial = l.serial i }) t c) standing_rules)
-    ∙ sym (standing_veiled caller (found_of b op) (kept_of b op) b.serial t op))
+    standing_veiled caller (facts_of a op) t op
+    ∙ (ap (λ (f : Facts). find (breaks_given f t c) standing_rules) (facts_like caller.uss a b op l)
+    ∙ sym (standing_veiled caller (facts_of b op) t op))
 
 -- the first of P1 to P13, by who calls
 pub rules_like : (m : List ℕ) (a b : Airspace) (t : ℕ) (caller : Option Caller) (op : Operation) → IsLike m a b → is_uss m caller ≡ true

@@ -1,13 +1,14 @@
--- What a supplier cannot tell apart: the OVNs of what others manage.
+-- What a supplier cannot tell apart: the OVNs and versions of what others manage.
 use Rattle.std.specs.Prelude.{◌≡◌, ℕ, ◌||◌, Bool, true, false, List, [], ◌++◌, map, Option, Some, None, find, if◌then◌else◌}
 use Rattle.std.specs.FinMap.{entries}
 use Rattle.entity_core.specs.IdTexts.{same_text}
 use Rattle.entity_core.specs.Airspace.{Airspace, EntityKey}
 use Rattle.entity_core.specs.declared.entity.Entity.{Entity}
+use Rattle.entity_core.specs.declared.subscription.Sub.{Sub}
 use Rattle.policy_core.specs.declared.scope.Caller.{Caller}
 use Rattle.policy_core.specs.declared.call.Call.{Call}
 use Rattle.policy_core.specs.declared.call.Operation.{Operation}
-use Rattle.policy_core.specs.declared.call.Operation.TheVariants.{Update, Delete}
+use Rattle.policy_core.specs.declared.call.Operation.TheVariants.{Update, Delete, UpdateSub, DeleteSub}
 use Rattle.policy_core.specs.Missing.{in_key, key_shown}
 use Rattle.policy_core.specs.Policy.{breaks, early_rules, standing_rules}
 use Rattle.policy_core.specs.View.{view_of}
@@ -21,11 +22,20 @@ veiled m e = record e { ovn = if same_text e.manager m then e.ovn else [] }
 abbrev pub veiled_entry : List ℕ → EntityKey × Entity → EntityKey × Entity
 veiled_entry m e = (e.0, veiled m e.1)
 
+-- a subscription without its version, unless the supplier manages it
+abbrev pub veiled_sub : List ℕ → Sub → Sub
+veiled_sub m s = record s { version = if same_text s.manager m then s.version else [] }
+
+abbrev pub veiled_sub_entry : List ℕ → ℕ × Sub → ℕ × Sub
+veiled_sub_entry m s = (s.0, veiled_sub m s.1)
+
 -- Two airspaces are alike to a supplier: they differ in nothing but the OVNs of the
--- entities that it does not manage.
+-- entities and the versions of the subscriptions that it does not manage.
 pub record IsLike (m : List ℕ) (a b : Airspace) : Type 0 where
   pub entities :
       map (veiled_entry m) (entries a.entities) ≡ map (veiled_entry m) (entries b.entities)
+  pub subscriptions : map (veiled_sub_entry m) (entries a.subscriptions)
+      ≡ map (veiled_sub_entry m) (entries b.subscriptions)
   pub availabilities : a.availabilities ≡ b.availabilities
   pub serial : a.serial ≡ b.serial
 
@@ -45,6 +55,12 @@ is_path (Update id ovn put) present = same_text ovn present
 is_path (Delete kind id ovn) present = same_text ovn present
 is_path op present = false
 
+-- whether the path has this version of a subscription
+abbrev pub is_sub_path : Operation → List ℕ → Bool
+is_sub_path (UpdateSub id version put) present = same_text version present
+is_sub_path (DeleteSub id version) present = same_text version present
+is_sub_path op present = false
+
 -- of each entity by its kind and id, whether the supplier manages it or the key has its OVN
 abbrev pub known : List ℕ → Operation → Airspace → List Bool
 known m op a =
@@ -54,15 +70,22 @@ known m op a =
 abbrev pub named : List ℕ → Operation → Airspace → List Bool
 named m op a = map (λ e. same_text e.1.manager m || is_path op e.1.ovn) (entries a.entities)
 
+-- of each subscription by its id, whether the supplier manages it or its version is in the path
+abbrev pub named_sub : List ℕ → Operation → Airspace → List Bool
+named_sub m op a =
+    map (λ s. same_text s.1.manager m || is_sub_path op s.1.version) (entries a.subscriptions)
+
 -- Of each entity that the supplier does not manage, the OVN in the one airspace is in the
 -- call's key exactly where that in the other is.
 abbrev pub KnowsTheSame : List ℕ → Call → Airspace → Airspace → Type 0
 KnowsTheSame m c a b = known m c.op a ≡ known m c.op b
 
--- And it is in the call's path exactly where that in the other is.
+-- And it is in the call's path exactly where that in the other is; so is the version of each
+-- subscription that the supplier does not manage.
 pub record ToldTheSame (m : List ℕ) (c : Call) (a b : Airspace) : Type 0 where
   pub known : known m c.op a ≡ known m c.op b
   pub named : named m c.op a ≡ named m c.op b
+  pub named_sub : named_sub m c.op a ≡ named_sub m c.op b
 
 -- ---- laws
 
@@ -71,7 +94,8 @@ abbrev pub ViewIsBlind : Type 0
 ViewIsBlind = (a : Airspace) (uss : List ℕ) (e : Entity) (ovn : List ℕ)
     → same_text e.manager uss ≡ false → view_of a uss (record e { ovn = ovn }) ≡ view_of a uss e
 
--- Which of P1 to P13 a supplier's call breaks first is the same in airspaces that are alike to it.
+-- Which of P1 to P13, P16 and P17 a supplier's call breaks first is the same in airspaces that are
+-- alike to it.
 abbrev pub RulesAreBlind : Type 0
 RulesAreBlind = (m : List ℕ) (a b : Airspace) (now : ℕ) (c : Call) → IsLike m a b → is_by m c ≡ true
     → find (breaks a now c) (early_rules ++ standing_rules)

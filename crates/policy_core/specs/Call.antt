@@ -5,7 +5,7 @@ use Rattle.entity_core.specs.Entity as entities
 use Rattle.policy_core.specs.declared.call.OpKind.{OpKind}
 use Rattle.policy_core.specs.declared.call.OpKind.TheVariants as kinds
 use Rattle.policy_core.specs.declared.call.Operation.{Operation}
-use Rattle.policy_core.specs.declared.call.Operation.TheVariants.{NoRoute, NoMethod, Malformed, Query, Read, Create, Update, Delete, ReadAvail, SetAvail}
+use Rattle.policy_core.specs.declared.call.Operation.TheVariants.{NoRoute, NoMethod, Malformed, Query, Read, Create, Update, Delete, ReadAvail, SetAvail, QuerySub, ReadSub, CreateSub, UpdateSub, DeleteSub}
 
 -- the kind of an operation; without a route and a method there is none
 abbrev pub kind_of : Operation → Option OpKind
@@ -19,6 +19,11 @@ kind_of (Update id ovn put) = Some (kinds.Update (entities.kind_of put.nature))
 kind_of (Delete kind id ovn) = Some (kinds.Delete kind)
 kind_of (ReadAvail uss) = Some kinds.ReadAvail
 kind_of (SetAvail uss old availability) = Some kinds.SetAvail
+kind_of (QuerySub area) = Some kinds.QuerySub
+kind_of (ReadSub id) = Some kinds.ReadSub
+kind_of (CreateSub id put) = Some kinds.CreateSub
+kind_of (UpdateSub id version put) = Some kinds.UpdateSub
+kind_of (DeleteSub id version) = Some kinds.DeleteSub
 
 -- whether the operation changes the airspace, where no rule is broken
 abbrev pub is_change : Operation → Bool
@@ -26,6 +31,9 @@ is_change (Create id put) = true
 is_change (Update id ovn put) = true
 is_change (Delete kind id ovn) = true
 is_change (SetAvail uss old availability) = true
+is_change (CreateSub id put) = true
+is_change (UpdateSub id version put) = true
+is_change (DeleteSub id version) = true
 is_change op = false
 
 -- how many cells of level 13 the areas of an operation count for
@@ -33,4 +41,30 @@ abbrev pub covered_of : Operation → ℕ
 covered_of (Query kind area) = covered_by area.cells
 covered_of (Create id put) = entities.covered_sum put.volumes
 covered_of (Update id ovn put) = entities.covered_sum put.volumes
+covered_of (QuerySub area) = covered_by area.cells
+covered_of (CreateSub id put) = covered_by put.volume.cells
+covered_of (UpdateSub id version put) = covered_by put.volume.cells
 covered_of op = 0
+
+-- the subscription that a put of an entity names
+abbrev pub named_by : Operation → Option ℕ
+named_by (Create id put) = entities.subscription_of put.nature
+named_by (Update id ovn put) = entities.subscription_of put.nature
+named_by op = None
+
+-- the subscription that an operation is about, or that its put names
+abbrev pub subject_of : Operation → Option ℕ
+subject_of (ReadSub id) = Some id
+subject_of (CreateSub id put) = Some id
+subject_of (UpdateSub id version put) = Some id
+subject_of (DeleteSub id version) = Some id
+subject_of op = named_by op
+
+-- whether an operation is about a subscription, or about the caller's
+abbrev pub is_about_sub : Operation → Bool
+is_about_sub (QuerySub area) = true
+is_about_sub (ReadSub id) = true
+is_about_sub (CreateSub id put) = true
+is_about_sub (UpdateSub id version put) = true
+is_about_sub (DeleteSub id version) = true
+is_about_sub op = false

@@ -1,5 +1,5 @@
 -- What a put that breaks no rule knew, and what one that does not know is told.
-use Rattle.std.specs.Prelude.{◌≡◌, ℕ, ◌≤◌, Bool, true, false, List, map, Option, Some, None, Contains}
+use Rattle.std.specs.Prelude.{◌≡◌, ℕ, ◌≤◌, Bool, true, false, List, map, Option, Some, None, Contains, ◌⊎◌}
 use Rattle.std.specs.Ordering.{eq_by_cmp}
 use Rattle.std.specs.FinMap.{get}
 use Rattle.grid_core.specs.Extent.{any_meet, region_of}
@@ -10,9 +10,8 @@ use Rattle.entity_core.specs.declared.nature.Kind.{Kind}
 use Rattle.entity_core.specs.declared.nature.Kind.TheVariants as kinds
 use Rattle.entity_core.specs.declared.nature.State.TheVariants.{Accepted, Activated}
 use Rattle.entity_core.specs.declared.nature.Nature.{Nature}
-use Rattle.entity_core.specs.declared.nature.Nature.TheVariants.{Intent, Constraint}
+use Rattle.entity_core.specs.declared.nature.Nature.TheVariants.{Intent}
 use Rattle.policy_core.specs.declared.scope.Caller.{Caller}
-use Rattle.policy_core.specs.declared.scope.Scope.TheVariants.{ConstraintProcessing}
 use Rattle.policy_core.specs.declared.call.Call.{Call}
 use Rattle.policy_core.specs.declared.call.Put.{Put}
 use Rattle.policy_core.specs.declared.call.Operation.{Operation}
@@ -20,11 +19,12 @@ use Rattle.policy_core.specs.declared.call.Operation.TheVariants.{Create, Update
 use Rattle.policy_core.specs.declared.reference.Missing.{Missing}
 use Rattle.policy_core.specs.declared.reference.Reference.{Reference}
 use Rattle.policy_core.specs.declared.rule.Rule.{Rule}
-use Rattle.policy_core.specs.declared.rule.Rule.TheVariants.{Key}
-use Rattle.policy_core.specs.Missing.{in_key, is_spared, key_shown, missing_for, needed}
+use Rattle.policy_core.specs.declared.rule.Rule.TheVariants.{Key, Subscription}
+use Rattle.policy_core.specs.Call.{named_by}
+use Rattle.policy_core.specs.Missing.{in_key, is_spared, key_shown, minds, missing_for, needed}
 use Rattle.policy_core.specs.Policy.{first_broken}
 use Rattle.policy_core.specs.Rule.{number_of}
-use Rattle.policy_core.specs.Scope.{has_scope}
+use Rattle.policy_core.specs.Standing.{sub_of}
 use Rattle.policy_core.specs.View.{view_of}
 
 -- ---- what a put knew
@@ -37,26 +37,23 @@ put_of op = None
 
 -- an intent that is planned or flown as planned
 abbrev pub is_declared : Nature → Bool
-is_declared (Intent Accepted) = true
-is_declared (Intent Activated) = true
+is_declared (Intent Accepted named) = true
+is_declared (Intent Activated named) = true
 is_declared nature = false
 
--- whether a caller is to know of such an entity: of each intent, and of constraints if it processes
--- them
-abbrev pub is_told_of : Option Caller → Nature → Bool
-is_told_of caller (Intent state) = true
-is_told_of (Some caller) Constraint = has_scope caller.scopes ConstraintProcessing
-is_told_of None Constraint = false
+-- whether a call in an airspace is to know of such an entity: of each intent, and of constraints if
+-- it names a subscription that is for them, or names none and its caller processes them
+abbrev pub is_told_of : Airspace → Call → Nature → Bool
+is_told_of a c nature = minds (kind_of nature) c.caller (named_by c.op) (sub_of a c.op)
 
 -- Where the put of an intent that is planned or flown as planned breaks no rule, its key has the
--- present OVN of each other entity that it meets, that its caller is to know of and that is not
--- spared.
+-- present OVN of each other entity that it meets, that it is to know of and that is not spared.
 abbrev pub PutsKnow : Type 0
 PutsKnow = (a : Airspace) (now : ℕ) (c : Call) (id : ℕ) (put : Put) (y : Entity)
     → put_of c.op ≡ Some (id, put) → first_broken a now c ≡ None → is_declared put.nature ≡ true
     → get a.entities (key_of y) ≡ Some y
     → eq_by_cmp key_cmp (key_of y) (kind_of put.nature, id) ≡ false
-    → any_meet y.volumes (map region_of put.volumes) ≡ true → is_told_of c.caller y.nature ≡ true
+    → any_meet y.volumes (map region_of put.volumes) ≡ true → is_told_of a c y.nature ≡ true
     → is_spared a y ≡ false → Contains put.key y.ovn
 
 -- ---- what a put is told
@@ -70,11 +67,15 @@ abbrev pub IsListed : Kind → Airspace → Option Caller → Entity → Missing
 IsListed kind a (Some caller) y m = Contains (listed kind m) (view_of a caller.uss y)
 IsListed kind a None y m = ⊥
 
--- One of P1 to P14 is the first that is broken, and where it is P14, an entity is listed.
+-- P1 to P14 or P16: neither the limits nor what keeps a subscription from being deleted
+abbrev pub MayAsk : Rule → Type 0
+MayAsk rule = (number_of rule ≤ 14) ⊎ (rule ≡ Subscription)
+
+-- One of P1 to P14 or P16 is the first that is broken, and where it is P14, an entity is listed.
 pub record IsAsked (kind : Kind) (a : Airspace) (now : ℕ) (c : Call) (y : Entity) : Type 0 where
   pub rule : Rule
   pub first : first_broken a now c ≡ Some rule
-  pub number : number_of rule ≤ 14
+  pub number : MayAsk rule
   pub listed : rule ≡ Key → IsListed kind a c.caller y (missing_for a c.caller c.op)
 
 -- What a call needs to know, and whose present OVN its key does not have, is asked for.

@@ -4,6 +4,7 @@ pub mod Rule
 pub mod Standing
 pub mod Policy
 pub mod View
+pub mod SubView
 pub mod Missing
 pub mod Blind
 pub mod Known

@@ -8,6 +8,9 @@ use Rattle.entity_core.specs.Search.{meeting_in}
 use Rattle.entity_core.specs.declared.availability.Availability.{Availability}
 use Rattle.entity_core.specs.declared.availability.Availability.TheVariants.{Down}
 use Rattle.entity_core.specs.declared.entity.Entity.{Entity}
+use Rattle.entity_core.specs.declared.subscription.Sub.{Sub}
+use Rattle.entity_core.specs.Entity.{subscription_of}
+use Rattle.entity_core.specs.Subscription.{wants}
 use Rattle.entity_core.specs.declared.nature.Kind.{Kind}
 use Rattle.entity_core.specs.declared.nature.Kind.TheVariants as kinds
 use Rattle.entity_core.specs.declared.nature.State.TheVariants.{Accepted, Activated}
@@ -21,26 +24,41 @@ use Rattle.policy_core.specs.declared.call.Operation.TheVariants.{Create, Update
 use Rattle.policy_core.specs.declared.reference.Missing.{Missing}
 use Rattle.policy_core.specs.declared.reference.Reference.{Reference}
 use Rattle.policy_core.specs.Scope.{has_scope}
+use Rattle.policy_core.specs.Standing.{sub_under}
 use Rattle.policy_core.specs.View.{view_of}
 
 -- ---- what is needed
 
 -- a key is asked of an intent that is planned or flown as planned
 abbrev pub needs_key : Nature → Bool
-needs_key (Intent Accepted) = true
-needs_key (Intent Activated) = true
+needs_key (Intent Accepted named) = true
+needs_key (Intent Activated named) = true
 needs_key nature = false
 
--- whether constraints are needed of a put by a caller: where the caller processes them, too
-abbrev pub needs_constraints : Option Caller → Put → Bool
-needs_constraints (Some caller) put =
-    needs_key put.nature && has_scope caller.scopes ConstraintProcessing
-needs_constraints None put = false
+-- whether a subscription is there that is for constraints
+abbrev pub is_for_constraints : Option Sub → Bool
+is_for_constraints (Some s) = wants s.interest kinds.Constraint
+is_for_constraints None = false
 
--- whether entities of a kind are needed
-abbrev pub is_asked : Kind → Option Caller → Put → Bool
-is_asked kinds.Intent caller put = needs_key put.nature
-is_asked kinds.Constraint caller put = needs_constraints caller put
+abbrev pub processes_constraints : Option Caller → Bool
+processes_constraints (Some caller) = has_scope caller.scopes ConstraintProcessing
+processes_constraints None = false
+
+-- Whether a caller that names a subscription, or none, is to know of constraints: one that names a
+-- subscription, exactly where that one is for them; one that names none, where it processes them.
+abbrev pub minds_constraints : Option Caller → Option ℕ → Option Sub → Bool
+minds_constraints caller (Some id) sub = is_for_constraints sub
+minds_constraints caller None sub = processes_constraints caller
+
+-- whether it is to know of entities of a kind
+abbrev pub minds : Kind → Option Caller → Option ℕ → Option Sub → Bool
+minds kinds.Intent caller named sub = true
+minds kinds.Constraint caller named sub = minds_constraints caller named sub
+
+-- whether entities of a kind are needed of a put, where this is the subscription that it names
+abbrev pub is_asked : Kind → Option Caller → Put → Option Sub → Bool
+is_asked kind caller put sub =
+    needs_key put.nature && minds kind caller (subscription_of put.nature) sub
 
 -- the id that is left out: an intent does not need itself, but a constraint of the same id
 abbrev pub left_out : Kind → ℕ → Option ℕ
@@ -49,7 +67,7 @@ left_out kinds.Constraint id = None
 
 -- an intent that is planned and not flown yet
 abbrev pub is_planned : Nature → Bool
-is_planned (Intent Accepted) = true
+is_planned (Intent Accepted named) = true
 is_planned nature = false
 
 abbrev pub is_down : Availability → Bool
@@ -69,12 +87,17 @@ is_spared a e = spared e (availability_of a e.manager).0
 abbrev pub unspared : Airspace → List Entity → List Entity
 unspared a es = filter (λ e. not (is_spared a e)) es
 
--- what meets a volume of a put and is not spared, whoever manages it
-abbrev pub needed_put : Kind → Airspace → Option Caller → ℕ → Put → List Entity
-needed_put kind a caller id put =
-    if is_asked kind caller put
+-- what meets a volume of a put and is not spared, whoever manages it, where this is the
+-- subscription that the put names
+abbrev pub needed_with : Kind → Airspace → Option Caller → Option Sub → ℕ → Put → List Entity
+needed_with kind a caller sub id put =
+    if is_asked kind caller put sub
     then unspared a (meeting_in a.entities kind (map region_of put.volumes) (left_out kind id))
     else []
+
+abbrev pub needed_put : Kind → Airspace → Option Caller → ℕ → Put → List Entity
+needed_put kind a caller id put =
+    needed_with kind a caller (sub_under a (subscription_of put.nature)) id put
 
 -- What a call needs to know of a kind, by rising ids: whoever makes it, and of other operations
 -- than puts nothing.
@@ -119,10 +142,14 @@ missing_of a caller key asked = record {
   constraints = map (view_of a caller.uss) (missing_from key (asked kinds.Constraint));
 }
 
--- of a put under an id
+-- of a put under an id, where this is the subscription that it names
+abbrev pub missing_with : Airspace → Caller → Option Sub → ℕ → Put → Missing
+missing_with a caller sub id put =
+    missing_of a caller put.key (λ kind. needed_with kind a (Some caller) sub id put)
+
 abbrev pub missing_put : Airspace → Caller → ℕ → Put → Missing
 missing_put a caller id put =
-    missing_of a caller put.key (λ kind. needed_put kind a (Some caller) id put)
+    missing_with a caller (sub_under a (subscription_of put.nature)) id put
 
 -- What a call needs to know and its key does not have: intents and constraints, each by rising ids.
 abbrev pub missing_by : Airspace → Caller → Operation → Missing

@@ -2,7 +2,7 @@
 use Rattle.std.specs.Prelude.{ℕ, ◌&&◌, ◌||◌, not, nat_eq, nat_le, nat_lt, Bool, true, false, List, [], ◌∷◌, ◌++◌, Option, Some, None, is_none, is_some, find, unwrap_or}
 use Rattle.std.specs.List.{list_any}
 use Rattle.entity_core.specs.IdTexts.{same_text}
-use Rattle.entity_core.specs.Entity.{greatest_version, span_of}
+use Rattle.entity_core.specs.Entity.{greatest_version, span_of, subscription_of}
 use Rattle.entity_core.specs.Airspace.{Airspace, Stated}
 use Rattle.entity_core.specs.Serial.{greatest_serial}
 use Rattle.entity_core.specs.declared.availability.Availability.TheVariants.{Unknown}
@@ -11,23 +11,27 @@ use Rattle.entity_core.specs.declared.nature.State.TheVariants.{Accepted, Activa
 use Rattle.entity_core.specs.declared.nature.Nature.{Nature}
 use Rattle.entity_core.specs.declared.nature.Nature.TheVariants.{Intent, Constraint}
 use Rattle.entity_core.specs.declared.entity.Entity.{Entity}
+use Rattle.entity_core.specs.declared.subscription.Sub.{Sub}
+use Rattle.entity_core.specs.declared.interest.Interest.{Interest}
+use Rattle.entity_core.specs.declared.nature.Kind.TheVariants as kinds
+use Rattle.entity_core.specs.Subscription.{wants}
 use Rattle.policy_core.specs.Scope.{Scopes}
-use Rattle.policy_core.specs.declared.scope.Scope.TheVariants.{StrategicCoordination, ConformanceMonitoring}
+use Rattle.policy_core.specs.declared.scope.Scope.TheVariants.{StrategicCoordination, ConformanceMonitoring, ConstraintProcessing}
 use Rattle.policy_core.specs.declared.scope.Caller.{Caller}
 use Rattle.policy_core.specs.declared.call.OpKind.{OpKind}
 use Rattle.policy_core.specs.declared.call.Operation.{Operation}
-use Rattle.policy_core.specs.declared.call.Operation.TheVariants.{NoRoute, NoMethod, Malformed, Read, Create, Update, Delete, SetAvail}
+use Rattle.policy_core.specs.declared.call.Operation.TheVariants.{NoRoute, NoMethod, Malformed, Read, Create, Update, Delete, SetAvail, ReadSub, CreateSub, UpdateSub, DeleteSub}
 use Rattle.policy_core.specs.declared.call.Call.{Call}
 use Rattle.policy_core.specs.declared.rule.Rule.{Rule}
-use Rattle.policy_core.specs.declared.rule.Rule.TheVariants.{Route, Method, Token, Scope, Form, Area, Found, Fresh, Manager, Version, Role, Change, Ended, Key, Limit}
+use Rattle.policy_core.specs.declared.rule.Rule.TheVariants.{Route, Method, Token, Scope, Form, Area, Found, Fresh, Manager, Version, Role, Change, Ended, Key, Limit, Subscription, Depended}
 use Rattle.policy_core.specs.Scope.{has_scope, is_open}
 use Rattle.policy_core.specs.Call.{kind_of, is_change, covered_of}
-use Rattle.policy_core.specs.Standing.{Facts, found_of, kept_of}
+use Rattle.policy_core.specs.Standing.{Facts, depended_of, found_of, kept_of, sub_of}
 use Rattle.policy_core.specs.Missing.{is_nothing, missing_for}
 
 -- Each rule in a section of its own. One that speaks of an entity or of a caller is not broken
 -- where there is none: `found` is the entity that a call names, `kept` what is kept of the
--- supplier.
+-- supplier, `sub` the subscription that it is about or that its put names.
 
 -- P1 ROUTE
 
@@ -76,18 +80,22 @@ breaks_area op = nat_lt greatest_cover (covered_of op)
 -- P7 FOUND
 
 -- a reading, an update or a deletion of what is not there
-abbrev pub breaks_found : Operation → Option Entity → Bool
-breaks_found (Read kind id) found = is_none found
-breaks_found (Update id ovn put) found = is_none found
-breaks_found (Delete kind id ovn) found = is_none found
-breaks_found op found = false
+abbrev pub breaks_found : Operation → Option Entity → Option Sub → Bool
+breaks_found (Read kind id) found sub = is_none found
+breaks_found (Update id ovn put) found sub = is_none found
+breaks_found (Delete kind id ovn) found sub = is_none found
+breaks_found (ReadSub id) found sub = is_none sub
+breaks_found (UpdateSub id version put) found sub = is_none sub
+breaks_found (DeleteSub id version) found sub = is_none sub
+breaks_found op found sub = false
 
 -- P8 FRESH
 
 -- a creation of what is there
-abbrev pub breaks_fresh : Operation → Option Entity → Bool
-breaks_fresh (Create id put) found = is_some found
-breaks_fresh op found = false
+abbrev pub breaks_fresh : Operation → Option Entity → Option Sub → Bool
+breaks_fresh (Create id put) found sub = is_some found
+breaks_fresh (CreateSub id put) found sub = is_some sub
+breaks_fresh op found sub = false
 
 -- P9 MANAGER
 
@@ -96,11 +104,20 @@ is_of_another (Some caller) (Some e) = not (same_text e.manager caller.uss)
 is_of_another (Some caller) None = false
 is_of_another None found = false
 
--- an update or a deletion of what another supplier manages
-abbrev pub breaks_manager : Option Caller → Operation → Option Entity → Bool
-breaks_manager caller (Update id ovn put) found = is_of_another caller found
-breaks_manager caller (Delete kind id ovn) found = is_of_another caller found
-breaks_manager caller op found = false
+abbrev pub is_sub_of_another : Option Caller → Option Sub → Bool
+is_sub_of_another (Some caller) (Some s) = not (same_text s.manager caller.uss)
+is_sub_of_another (Some caller) None = false
+is_sub_of_another None sub = false
+
+-- an update or a deletion of what another supplier manages, or the reading of a subscription that
+-- another one does
+abbrev pub breaks_manager : Option Caller → Operation → Option Entity → Option Sub → Bool
+breaks_manager caller (Update id ovn put) found sub = is_of_another caller found
+breaks_manager caller (Delete kind id ovn) found sub = is_of_another caller found
+breaks_manager caller (ReadSub id) found sub = is_sub_of_another caller sub
+breaks_manager caller (UpdateSub id version put) found sub = is_sub_of_another caller sub
+breaks_manager caller (DeleteSub id version) found sub = is_sub_of_another caller sub
+breaks_manager caller op found sub = false
 
 -- P10 VERSION
 
@@ -112,32 +129,51 @@ has_another_ovn None ovn = false
 abbrev pub availability_version : Option Stated → List ℕ
 availability_version kept = (unwrap_or kept (Unknown, [])).1
 
--- an update or a deletion by another OVN than the present one, a setting by another version
-abbrev pub breaks_version : Operation → Option Entity → Option Stated → Bool
-breaks_version (Update id ovn put) found kept = has_another_ovn found ovn
-breaks_version (Delete kind id ovn) found kept = has_another_ovn found ovn
-breaks_version (SetAvail uss old availability) found kept =
+abbrev pub has_another_version : Option Sub → List ℕ → Bool
+has_another_version (Some s) version = not (same_text version s.version)
+has_another_version None version = false
+
+-- an update or a deletion by another OVN or version than the present one, a setting by another
+-- version
+abbrev pub breaks_version : Operation → Option Entity → Option Stated → Option Sub → Bool
+breaks_version (Update id ovn put) found kept sub = has_another_ovn found ovn
+breaks_version (Delete kind id ovn) found kept sub = has_another_ovn found ovn
+breaks_version (SetAvail uss old availability) found kept sub =
     not (same_text old (availability_version kept))
-breaks_version op found kept = false
+breaks_version (UpdateSub id version put) found kept sub = has_another_version sub version
+breaks_version (DeleteSub id version) found kept sub = has_another_version sub version
+breaks_version op found kept sub = false
 
 -- P11 ROLE
 
 -- the scopes lack the one that the state asks for
 abbrev pub lacks_role : Scopes → Nature → Bool
-lacks_role s (Intent Accepted) = not (has_scope s StrategicCoordination)
-lacks_role s (Intent Activated) = not (has_scope s StrategicCoordination)
-lacks_role s (Intent Nonconforming) = not (has_scope s ConformanceMonitoring)
-lacks_role s (Intent Contingent) = not (has_scope s ConformanceMonitoring)
+lacks_role s (Intent Accepted named) = not (has_scope s StrategicCoordination)
+lacks_role s (Intent Activated named) = not (has_scope s StrategicCoordination)
+lacks_role s (Intent Nonconforming named) = not (has_scope s ConformanceMonitoring)
+lacks_role s (Intent Contingent named) = not (has_scope s ConformanceMonitoring)
 lacks_role s Constraint = false
 
 abbrev pub is_barred_from : Option Caller → Nature → Bool
 is_barred_from (Some caller) nature = lacks_role caller.scopes nature
 is_barred_from None nature = false
 
--- a put in a state that the caller's scopes do not allow
+-- the scopes lack one that goes with the interest
+abbrev pub lacks_interest : Scopes → Interest → Bool
+lacks_interest s interest =
+    (wants interest kinds.Intent && not (has_scope s StrategicCoordination))
+    || (wants interest kinds.Constraint && not (has_scope s ConstraintProcessing))
+
+abbrev pub is_barred_for : Option Caller → Interest → Bool
+is_barred_for (Some caller) interest = lacks_interest caller.scopes interest
+is_barred_for None interest = false
+
+-- a put in a state, or of a subscription with an interest, that the caller's scopes do not allow
 abbrev pub breaks_role : Option Caller → Operation → Bool
 breaks_role caller (Create id put) = is_barred_from caller put.nature
 breaks_role caller (Update id ovn put) = is_barred_from caller put.nature
+breaks_role caller (CreateSub id put) = is_barred_for caller put.interest
+breaks_role caller (UpdateSub id version put) = is_barred_for caller put.interest
 breaks_role caller op = false
 
 -- P12 CHANGE
@@ -162,7 +198,7 @@ abbrev pub may_become : State → State → Bool
 may_become state next = list_any (same_state next) (next_states state)
 
 abbrev pub may_turn : Nature → Nature → Bool
-may_turn (Intent state) (Intent next) = may_become state next
+may_turn (Intent state named) (Intent next named') = may_become state next
 may_turn nature next = true
 
 abbrev pub turns_wrongly : Option Entity → Nature → Bool
@@ -180,7 +216,31 @@ breaks_change op found = false
 abbrev pub breaks_ended : ℕ → Operation → Bool
 breaks_ended now (Create id put) = nat_le (span_of put.volumes).1 now
 breaks_ended now (Update id ovn put) = nat_le (span_of put.volumes).1 now
+breaks_ended now (CreateSub id put) = nat_le put.volume.time.1 now
+breaks_ended now (UpdateSub id version put) = nat_le put.volume.time.1 now
 breaks_ended now op = false
+
+-- P16 SUBSCRIPTION
+
+-- a name is of a subscription that is not there, or that another supplier manages
+abbrev pub names_wrongly : Option Caller → Option ℕ → Option Sub → Bool
+names_wrongly (Some caller) named sub =
+    is_some named && (is_none sub || is_sub_of_another (Some caller) sub)
+names_wrongly None named sub = false
+
+-- a put of an intent that names such a subscription
+abbrev pub breaks_subscription : Option Caller → Operation → Option Sub → Bool
+breaks_subscription caller (Create id put) sub = names_wrongly caller (subscription_of put.nature) sub
+breaks_subscription caller (Update id ovn put) sub =
+    names_wrongly caller (subscription_of put.nature) sub
+breaks_subscription caller op sub = false
+
+-- P17 DEPENDED
+
+-- a deletion of a subscription that some intent names
+abbrev pub breaks_depended : Operation → Bool → Bool
+breaks_depended (DeleteSub id version) depended = depended
+breaks_depended op depended = false
 
 -- P14 KEY
 
@@ -213,26 +273,30 @@ breaks a now c Token = breaks_token c.caller
 breaks a now c Scope = breaks_scope c.caller (kind_of c.op)
 breaks a now c Form = breaks_form c.op
 breaks a now c Area = breaks_area c.op
-breaks a now c Found = breaks_found c.op (found_of a c.op)
-breaks a now c Fresh = breaks_fresh c.op (found_of a c.op)
-breaks a now c Manager = breaks_manager c.caller c.op (found_of a c.op)
-breaks a now c Version = breaks_version c.op (found_of a c.op) (kept_of a c.op)
+breaks a now c Found = breaks_found c.op (found_of a c.op) (sub_of a c.op)
+breaks a now c Fresh = breaks_fresh c.op (found_of a c.op) (sub_of a c.op)
+breaks a now c Manager = breaks_manager c.caller c.op (found_of a c.op) (sub_of a c.op)
+breaks a now c Version = breaks_version c.op (found_of a c.op) (kept_of a c.op) (sub_of a c.op)
 breaks a now c Role = breaks_role c.caller c.op
 breaks a now c Change = breaks_change c.op (found_of a c.op)
 breaks a now c Ended = breaks_ended now c.op
 breaks a now c Key = breaks_key a c.caller c.op
 breaks a now c Limit = breaks_limit c.op (found_of a c.op) a.serial
+breaks a now c Subscription = breaks_subscription c.caller c.op (sub_of a c.op)
+breaks a now c Depended = breaks_depended c.op (depended_of a c.op)
 
--- The same of P7 to P13 and of P15, over what was looked up in place of the airspace.
+-- The same of P7 to P13 and of P15 to P17, over what was looked up in place of the airspace.
 abbrev pub breaks_given : Facts → ℕ → Call → Rule → Bool
-breaks_given f now c Found = breaks_found c.op f.found
-breaks_given f now c Fresh = breaks_fresh c.op f.found
-breaks_given f now c Manager = breaks_manager c.caller c.op f.found
-breaks_given f now c Version = breaks_version c.op f.found f.kept
+breaks_given f now c Found = breaks_found c.op f.found f.sub
+breaks_given f now c Fresh = breaks_fresh c.op f.found f.sub
+breaks_given f now c Manager = breaks_manager c.caller c.op f.found f.sub
+breaks_given f now c Version = breaks_version c.op f.found f.kept f.sub
 breaks_given f now c Role = breaks_role c.caller c.op
 breaks_given f now c Change = breaks_change c.op f.found
 breaks_given f now c Ended = breaks_ended now c.op
 breaks_given f now c Limit = breaks_limit c.op f.found f.serial
+breaks_given f now c Subscription = breaks_subscription c.caller c.op f.sub
+breaks_given f now c Depended = breaks_depended c.op f.depended
 breaks_given f now c p = false
 
 -- The rules in their order: those that look at the call alone, those that look at what is kept, and
@@ -241,7 +305,8 @@ abbrev pub early_rules : List Rule
 early_rules = Route ∷ Method ∷ Token ∷ Scope ∷ Form ∷ Area ∷ []
 
 abbrev pub standing_rules : List Rule
-standing_rules = Found ∷ Fresh ∷ Manager ∷ Version ∷ Role ∷ Change ∷ Ended ∷ []
+standing_rules =
+    Found ∷ Fresh ∷ Manager ∷ Version ∷ Role ∷ Change ∷ Ended ∷ Subscription ∷ Depended ∷ []
 
 abbrev pub last_rules : List Rule
 last_rules = Key ∷ Limit ∷ []

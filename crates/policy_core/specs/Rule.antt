@@ -1,7 +1,7 @@
 -- The rules by number, name and status.
 use Rattle.std.specs.Prelude.{ℕ, List, codes}
 use Rattle.policy_core.specs.declared.rule.Rule.{Rule}
-use Rattle.policy_core.specs.declared.rule.Rule.TheVariants.{Route, Method, Token, Scope, Form, Area, Found, Fresh, Manager, Version, Role, Change, Ended, Key, Limit}
+use Rattle.policy_core.specs.declared.rule.Rule.TheVariants.{Route, Method, Token, Scope, Form, Area, Found, Fresh, Manager, Version, Role, Change, Ended, Key, Limit, Subscription, Depended}
 
 abbrev pub number_of : Rule → ℕ
 number_of Route = 1
@@ -19,6 +19,8 @@ number_of Change = 12
 number_of Ended = 13
 number_of Key = 14
 number_of Limit = 15
+number_of Subscription = 16
+number_of Depended = 17
 
 abbrev pub name_of : Rule → List ℕ
 name_of Route = codes "ROUTE"
@@ -36,6 +38,8 @@ name_of Change = codes "CHANGE"
 name_of Ended = codes "ENDED"
 name_of Key = codes "KEY"
 name_of Limit = codes "LIMIT"
+name_of Subscription = codes "SUBSCRIPTION"
+name_of Depended = codes "DEPENDED"
 
 -- the HTTP status of a denial by the rule
 abbrev pub status_of : Rule → ℕ
@@ -54,3 +58,5 @@ status_of Change = 400
 status_of Ended = 400
 status_of Key = 409
 status_of Limit = 503
+status_of Subscription = 400
+status_of Depended = 409

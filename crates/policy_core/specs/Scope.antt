@@ -4,7 +4,7 @@ use Rattle.std.specs.List.{list_any}
 use Rattle.policy_core.specs.declared.scope.Scope.{Scope}
 use Rattle.policy_core.specs.declared.scope.Scope.TheVariants.{StrategicCoordination, ConformanceMonitoring, ConstraintProcessing, ConstraintManagement, AvailabilityArbitration}
 use Rattle.policy_core.specs.declared.call.OpKind.{OpKind}
-use Rattle.policy_core.specs.declared.call.OpKind.TheVariants.{Query, Read, Create, Update, Delete, ReadAvail, SetAvail}
+use Rattle.policy_core.specs.declared.call.OpKind.TheVariants.{Query, Read, Create, Update, Delete, ReadAvail, SetAvail, QuerySub, ReadSub, CreateSub, UpdateSub, DeleteSub}
 use Rattle.entity_core.specs.declared.nature.Kind.TheVariants.{Intent, Constraint}
 
 -- the name of a scope in a token file
@@ -72,6 +72,11 @@ openers (Update Constraint) = ConstraintManagement ∷ []
 openers (Delete Constraint) = ConstraintManagement ∷ []
 openers ReadAvail = AvailabilityArbitration ∷ StrategicCoordination ∷ ConformanceMonitoring ∷ []
 openers SetAvail = AvailabilityArbitration ∷ []
+openers QuerySub = StrategicCoordination ∷ ConstraintProcessing ∷ []
+openers ReadSub = StrategicCoordination ∷ ConstraintProcessing ∷ []
+openers CreateSub = StrategicCoordination ∷ ConstraintProcessing ∷ []
+openers UpdateSub = StrategicCoordination ∷ ConstraintProcessing ∷ []
+openers DeleteSub = StrategicCoordination ∷ ConstraintProcessing ∷ []
 
 -- whether one of the scopes opens a kind of operation
 abbrev pub is_open : OpKind → Scopes → Bool

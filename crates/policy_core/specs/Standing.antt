@@ -1,13 +1,17 @@
 -- What is looked up for an operation.
-use Rattle.std.specs.Prelude.{◌≡◌, ℕ, List, Option, None, option_map}
+use Rattle.std.specs.Prelude.{◌≡◌, ℕ, Bool, true, false, List, [], ◌∷◌, Option, Some, None, option_map}
 use Rattle.std.specs.Borrow.{Bor}
 use Rattle.std.specs.FinMap.{get}
 use Rattle.entity_core.specs.declared.availability.Availability.{Availability}
 use Rattle.entity_core.specs.declared.entity.Entity.{Entity}
+use Rattle.entity_core.specs.declared.subscription.Sub.{Sub}
 use Rattle.entity_core.specs.Entity.{kind_of}
 use Rattle.entity_core.specs.Airspace.{Airspace, Stated}
+use Rattle.entity_core.specs.Search.{dependents_in}
 use Rattle.policy_core.specs.declared.call.Operation.{Operation}
-use Rattle.policy_core.specs.declared.call.Operation.TheVariants.{Read, Create, Update, Delete, ReadAvail, SetAvail}
+use Rattle.policy_core.specs.declared.call.Operation.TheVariants.{Read, Create, Update, Delete, ReadAvail, SetAvail, DeleteSub}
+use Rattle.policy_core.specs.declared.standing.Facts as lent
+use Rattle.policy_core.specs.Call.{subject_of}
 
 -- what is kept under the kind and the id that the operation names
 abbrev pub found_of : Airspace → Operation → Option Entity
@@ -23,14 +27,40 @@ kept_of a (ReadAvail uss) = get a.availabilities uss
 kept_of a (SetAvail uss old availability) = get a.availabilities uss
 kept_of a op = None
 
+-- the subscription of an id
+abbrev pub sub_under : Airspace → Option ℕ → Option Sub
+sub_under a None = None
+sub_under a (Some id) = get a.subscriptions id
+
+-- the subscription that the operation is about, or that its put names
+abbrev pub sub_of : Airspace → Operation → Option Sub
+sub_of a op = sub_under a (subject_of op)
+
+abbrev pub is_some_of : List ℕ → Bool
+is_some_of [] = false
+is_some_of (id ∷ ids) = true
+
+-- whether some intent names the subscription that is to be deleted
+abbrev pub depended_of : Airspace → Operation → Bool
+depended_of a (DeleteSub id version) = is_some_of (dependents_in a.entities id)
+depended_of a op = false
+
 -- all that is looked up
 pub record Facts : Type 0 where
   pub found : Option Entity
   pub kept : Option Stated
   pub serial : ℕ
+  pub sub : Option Sub
+  pub depended : Bool
 
 abbrev pub facts_of : Airspace → Operation → Facts
-facts_of a op = record { found = found_of a op; kept = kept_of a op; serial = a.serial }
+facts_of a op = record {
+  found = found_of a op;
+  kept = kept_of a op;
+  serial = a.serial;
+  sub = sub_of a op;
+  depended = depended_of a op;
+}
 
 -- What was looked up is what the airspace has for the operation.
 abbrev pub Regards : Airspace → Operation → Facts → Type 0
@@ -44,9 +74,14 @@ lent_entity found = option_map (λ e. e.now) found
 abbrev pub lent_stated : Option (Availability × Bor (List ℕ)) → Option Stated
 lent_stated kept = option_map (λ x. (x.0, x.1.now)) kept
 
-abbrev pub lent_facts : Option (Bor Entity) → Option (Availability × Bor (List ℕ)) → ℕ → Facts
-lent_facts found kept serial = record {
-  found = lent_entity found;
-  kept = lent_stated kept;
-  serial = serial;
+abbrev pub lent_sub : Option (Bor Sub) → Option Sub
+lent_sub sub = option_map (λ s. s.now) sub
+
+abbrev pub lent_facts : lent.Facts → Facts
+lent_facts f = record {
+  found = lent_entity f.found;
+  kept = lent_stated f.avail;
+  serial = f.serial;
+  sub = lent_sub f.sub;
+  depended = f.depended;
 }

@@ -4,12 +4,13 @@ use crate::scope::Caller;
 use entity_core::availability::Availability;
 use entity_core::base_url::BaseUrl;
 use entity_core::entity_id::EntityId;
+use entity_core::interest::Interest;
 use entity_core::nature::{Kind, Nature};
 use entity_core::ovn::Ovn;
 use entity_core::text::Text;
 use entity_core::uss_id::UssId;
 use entity_core::volumes::Volumes;
-use grid_core::volume::Area;
+use grid_core::volume::{Area, Volume};
 
 /// A kind of operation, to which scopes are given.
 #[derive(Clone, Copy, Debug, PartialEq, Eq)]
@@ -28,17 +29,35 @@ pub enum OpKind {
     ReadAvail,
     /// The setting of a supplier's availability.
     SetAvail,
+    /// The query of an area for the caller's subscriptions.
+    QuerySub,
+    /// The reading of a subscription.
+    ReadSub,
+    /// The creation of one.
+    CreateSub,
+    /// The update of one.
+    UpdateSub,
+    /// The deletion of one.
+    DeleteSub,
 }
 
 /// What an entity is to be: what its supplier says of it.
 #[derive(Debug, Drop)]
 pub struct Put {
-    /// Its kind, and the state of an intent.
+    /// Its kind, and of an intent its state and the subscription that it names.
     pub nature: Nature,
     pub volumes: Volumes,
     /// The OVNs of what its supplier knows.
     pub key: Key,
     pub url: BaseUrl,
+}
+
+/// What a subscription is to be: what its supplier says of it.
+#[derive(Debug, Drop)]
+pub struct SubPut {
+    pub volume: Volume,
+    pub url: BaseUrl,
+    pub interest: Interest,
 }
 
 /// What is asked.
@@ -64,6 +83,16 @@ pub enum Operation {
     ReadAvail(UssId),
     /// Set the supplier's availability, whose availability version is the text.
     SetAvail(UssId, Text, Availability),
+    /// Which of the caller's subscriptions meet the area?
+    QuerySub(Area),
+    /// What is the subscription of the id?
+    ReadSub(EntityId),
+    /// Create this subscription under the id.
+    CreateSub(EntityId, SubPut),
+    /// Update the subscription that has this id and version.
+    UpdateSub(EntityId, Ovn, SubPut),
+    /// Delete the subscription that has this id and version.
+    DeleteSub(EntityId, Ovn),
 }
 
 /// An operation, and who asks for it, if a token says so.

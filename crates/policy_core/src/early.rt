@@ -58,6 +58,11 @@ fn kind_of(op: &Operation) -> Option<OpKind>
         Operation::Delete(kind, _, _) => Some(OpKind::Delete(*kind)),
         Operation::ReadAvail(_) => Some(OpKind::ReadAvail),
         Operation::SetAvail(_, _, _) => Some(OpKind::SetAvail),
+        Operation::QuerySub(_) => Some(OpKind::QuerySub),
+        Operation::ReadSub(_) => Some(OpKind::ReadSub),
+        Operation::CreateSub(_, _) => Some(OpKind::CreateSub),
+        Operation::UpdateSub(_, _, _) => Some(OpKind::UpdateSub),
+        Operation::DeleteSub(_, _) => Some(OpKind::DeleteSub),
     }
 }
 
@@ -85,6 +90,11 @@ fn openers(kind: OpKind) -> &'static [Scope]
             Scope::ConformanceMonitoring,
         ],
         OpKind::SetAvail => &[Scope::AvailabilityArbitration],
+        OpKind::QuerySub
+        | OpKind::ReadSub
+        | OpKind::CreateSub
+        | OpKind::UpdateSub
+        | OpKind::DeleteSub => &[Scope::StrategicCoordination, Scope::ConstraintProcessing],
     }
 }
 
@@ -115,6 +125,9 @@ fn covered_of(op: &Operation) -> u64
         Operation::Query(_, area) => area.covered(),
         Operation::Create(_, put) => put.volumes.covered(),
         Operation::Update(_, _, put) => put.volumes.covered(),
+        Operation::QuerySub(area) => area.covered(),
+        Operation::CreateSub(_, put) => put.volume.covered(),
+        Operation::UpdateSub(_, _, put) => put.volume.covered(),
         _ => 0,
     }
 }

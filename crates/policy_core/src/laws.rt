@@ -7,20 +7,20 @@ pub fn view_is_blind()
     ensures { ViewIsBlind }
 {}
 
-/// Which of P1 to P13 a supplier's call breaks first does not depend on the OVNs of
-/// what it does not manage.
+/// Which of P1 to P13, P16 and P17 a supplier's call breaks first does not depend on the OVNs and
+/// versions of what it does not manage.
 pub fn rules_are_blind()
     ensures { RulesAreBlind }
 {}
 
 /// A put that breaks no rule, of an intent that is planned or flown as planned, had in its key the
-/// OVN of each other entity that it meets, that its caller is to know of and that is not spared.
+/// OVN of each other entity that it meets, that it is to know of and that is not spared.
 pub fn puts_know()
     ensures { PutsKnow }
 {}
 
-/// What a call needs to know, and whose OVN its key does not have, is asked for: one of P1 to P14
-/// is broken, and where P14 is the first, it is listed.
+/// What a call needs to know, and whose OVN its key does not have, is asked for: one of P1 to P14 or
+/// P16 is the first that is broken, and where it is P14, it is listed.
 pub fn needed_is_asked()
     ensures { NeededIsAsked }
 {}

@@ -11,3 +11,4 @@ pub mod reference;
 pub mod rule;
 pub mod scope;
 pub mod standing;
+pub mod sub_view;

@@ -14,7 +14,7 @@ pub fn needs_key(nature: Nature) -> bool
     ensures { result ≡ needs_key nature }
 {
     match nature {
-        Nature::Intent(State::Accepted | State::Activated) => true,
+        Nature::Intent(State::Accepted | State::Activated, _) => true,
         _ => false,
     }
 }
@@ -25,7 +25,7 @@ pub fn spared(entity: &Entity, availability: Availability) -> bool
     ensures { result ≡ spared entity.now availability }
 {
     match (entity.nature, availability) {
-        (Nature::Intent(State::Accepted), Availability::Down) => true,
+        (Nature::Intent(State::Accepted, _), Availability::Down) => true,
         _ => false,
     }
 }

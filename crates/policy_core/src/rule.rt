@@ -2,7 +2,8 @@
 ghost use Rattle.std.specs.Prelude.{◌≡◌};
 ghost use Rattle.policy_core.specs.Rule.{number_of, name_of, status_of};
 
-/// A rule of the policy, P1 to P15. A call is denied by the first rule that it breaks.
+/// A rule of the policy, P1 to P17. A call is denied by the first rule that it breaks, in the order
+/// P1 to P13, P16, P17, P14, P15.
 #[derive(Clone, Copy, Debug, PartialEq, Eq)]
 pub enum Rule {
     /// P1: the path is no route.
@@ -25,7 +26,7 @@ pub enum Rule {
     Manager,
     /// P10: the OVN or the availability version is not the present one.
     Version,
-    /// P11: the caller's scopes do not allow the state.
+    /// P11: the caller's scopes do not allow the state, or the interest of a subscription.
     Role,
     /// P12: the state may not become this one.
     Change,
@@ -35,12 +36,16 @@ pub enum Rule {
     Key,
     /// P15: a serial or a version is the greatest.
     Limit,
+    /// P16: the subscription that is named is not there, or is another's.
+    Subscription,
+    /// P17: some intent names the subscription that is to be deleted.
+    Depended,
 }
 
 impl Rule {
     ghost use Rattle.policy_core.specs.Rule.{number_of, name_of, status_of};
 
-    /// The rule's number, 1 to 15.
+    /// The rule's number, 1 to 17.
     pub fn number(self) -> u8
         ensures { result ≡ number_of self }
     {
@@ -60,6 +65,8 @@ impl Rule {
             Rule::Ended => 13,
             Rule::Key => 14,
             Rule::Limit => 15,
+            Rule::Subscription => 16,
+            Rule::Depended => 17,
         }
     }
 
@@ -83,6 +90,8 @@ impl Rule {
             Rule::Ended => "ENDED",
             Rule::Key => "KEY",
             Rule::Limit => "LIMIT",
+            Rule::Subscription => "SUBSCRIPTION",
+            Rule::Depended => "DEPENDED",
         }
     }
 
@@ -95,9 +104,9 @@ impl Rule {
             Rule::Method => 405,
             Rule::Token => 401,
             Rule::Scope | Rule::Manager | Rule::Role => 403,
-            Rule::Form | Rule::Change | Rule::Ended => 400,
+            Rule::Form | Rule::Change | Rule::Ended | Rule::Subscription => 400,
             Rule::Area => 413,
-            Rule::Fresh | Rule::Version | Rule::Key => 409,
+            Rule::Fresh | Rule::Version | Rule::Key | Rule::Depended => 409,
             Rule::Limit => 503,
         }
     }

@@ -1,42 +1,48 @@
 -- Airspaces that are alike to a supplier stay so, and tell it the same.
 use Rattle.std.specs.Prelude.{◌≡◌, ℕ, ◌+◌, ◌&&◌, ◌||◌, not, Bool, true, false, List, [], ◌∷◌, ◌++◌, map, filter, Option, Some, None, cond, find, refl, option_map, unwrap_or}
 use Rattle.std.proofs.Common.{sym, ap, ◌∙◌, subst}
-use Rattle.std.specs.Ordering.{eq_by_cmp}
+use Rattle.std.specs.Ordering.{eq_by_cmp, nat_cmp}
+use Rattle.std.proofs.lemmas.Cmp.{nat_cmp_total}
 use Rattle.std.specs.declared.cmp.Ordering.TheVariants.{Less, Equal, Greater}
-use Rattle.std.specs.FinMap.{get, insert, remove, entries, entries-insert}
+use Rattle.std.specs.FinMap.{get, insert, remove, entries, entries-insert, nat_cmp-IsAntisymmetric}
 use Rattle.std.specs.FinMap.Entries.{put, where_key, by_order}
-use Rattle.grid_core.specs.Extent.{Region, region_of}
+use Rattle.grid_core.specs.Extent.{Region, meets, region_of}
 use Rattle.entity_core.specs.IdTexts.{same_text}
-use Rattle.entity_core.specs.Airspace.{Airspace, EntityKey, Availabilities, key_cmp, key_of, availability_of, with_entity, without_entity}
-use Rattle.entity_core.specs.Entity.{kind_of}
+use Rattle.entity_core.specs.Airspace.{Airspace, EntityKey, Availabilities, key_cmp, key_of, availability_of, with_entity, with_subscription, without_entity, without_subscription}
+use Rattle.entity_core.specs.Entity.{kind_of, subscription_of}
+use Rattle.entity_core.specs.Subscription.{wants}
 use Rattle.entity_core.specs.Ovn.{ovn_text}
-use Rattle.entity_core.specs.Search.{meeting_in, is_sought}
+use Rattle.entity_core.specs.Search.{meeting_in, is_own_near, is_sought, subscriptions_in}
 use Rattle.entity_core.specs.declared.availability.Availability.TheVariants.{Unknown}
 use Rattle.entity_core.specs.declared.entity.Entity.{Entity}
+use Rattle.entity_core.specs.declared.subscription.Sub.{Sub}
 use Rattle.entity_core.specs.declared.nature.Kind.{Kind}
 use Rattle.entity_core.specs.declared.nature.Kind.TheVariants as kinds
 use Rattle.policy_core.specs.declared.scope.Caller.{Caller}
 use Rattle.policy_core.specs.declared.call.Call.{Call}
 use Rattle.policy_core.specs.declared.call.Put.{Put}
+use Rattle.policy_core.specs.declared.call.SubPut.{SubPut}
+use Rattle.policy_core.specs.declared.sub_view.SubView.{SubView}
 use Rattle.policy_core.specs.declared.call.Operation.{Operation}
-use Rattle.policy_core.specs.declared.call.Operation.TheVariants.{NoRoute, NoMethod, Malformed, Query, Read, Create, Update, Delete, ReadAvail, SetAvail}
+use Rattle.policy_core.specs.declared.call.Operation.TheVariants.{NoRoute, NoMethod, Malformed, Query, Read, Create, Update, Delete, ReadAvail, SetAvail, QuerySub, ReadSub, CreateSub, UpdateSub, DeleteSub}
 use Rattle.policy_core.specs.declared.rule.Rule.{Rule}
-use Rattle.policy_core.specs.declared.rule.Rule.TheVariants.{Route, Method, Token, Scope, Form, Area, Found, Fresh, Manager, Version, Role, Change, Ended, Key, Limit}
+use Rattle.policy_core.specs.declared.rule.Rule.TheVariants.{Route, Method, Token, Scope, Form, Area, Found, Fresh, Manager, Version, Role, Change, Ended, Key, Limit, Subscription, Depended}
 use Rattle.policy_core.specs.declared.reference.Reference.{Reference}
-use Rattle.policy_core.specs.Blind.{veiled, veiled_entry, IsLike, is_uss, known}
-use Rattle.policy_core.specs.Missing.{in_key, is_asked, is_missing_from, is_spared, spared, unspared, left_out, missing_from, needed_put, is_none_of, is_nothing, missing_put, missing_by}
-use Rattle.policy_core.specs.Policy.{breaks, breaks_limit, early_rules, standing_rules, last_rules, first_broken}
-use Rattle.policy_core.specs.Standing.{found_of}
+use Rattle.policy_core.specs.Blind.{veiled, veiled_entry, veiled_sub, veiled_sub_entry, IsLike, is_uss, known}
+use Rattle.policy_core.specs.Missing.{in_key, is_asked, is_missing_from, is_spared, spared, unspared, left_out, minds, missing_from, needed_put, needs_key, is_none_of, is_nothing, missing_put, missing_by}
+use Rattle.policy_core.specs.Policy.{breaks, breaks_limit, breaks_manager, is_sub_of_another, early_rules, standing_rules, last_rules, first_broken}
+use Rattle.policy_core.specs.Standing.{found_of, sub_of, sub_under}
+use Rattle.policy_core.specs.SubView.{sub_view_of}
 use Rattle.policy_core.specs.View.{view_of, view_with}
 use Rattle.policy_core.proofs.Filters.{both_at_once}
-use Rattle.policy_core.proofs.Finds.{or_else, find-append}
-use Rattle.policy_core.proofs.Veils.{one_uss, get_like, found_like, rules_like}
+use Rattle.policy_core.proofs.Finds.{or_else, find-append, none_passes}
+use Rattle.policy_core.proofs.Veils.{one_uss, get_like, get_sub_like, under_like, dependents_like, found_like, rules_like}
 use Rattle.entity_core.proofs.Keys.{key_total, key_exact}
 use Rattle.space_core.proofs.Maps.{entries-remove}
 use Rattle.service_core.specs.declared.reply.Answer.TheVariants.{Created, Changed, Listed, Avail}
 use Rattle.service_core.specs.declared.reply.Answer.TheVariants as answers
 use Rattle.service_core.specs.declared.reply.Reply.TheVariants.{Done, Denied}
-use Rattle.service_core.specs.Step.{step, step_by, effect, effect_by, told_missing, created, updated, update_effect, delete_effect, read_effect}
+use Rattle.service_core.specs.Step.{step, step_by, effect, effect_by, told_missing, created, updated, update_effect, delete_effect, read_effect, sub_kept_as, seen_of, seen_sub, stored_reply, put_sub_effect, update_sub_effect, delete_sub_effect, read_sub_effect}
 
 -- ---- entries
 
@@ -66,6 +72,7 @@ with_like m a b e l =
     λ x. ap (map (veiled_entry m)) (entries-insert key_total x.entities (key_of e) e) ∙ put-veiled m (key_of e) e (entries x.entities) in
     record {
       entities = side a ∙ (ap (put key_cmp (key_of e) (veiled m e)) l.entities ∙ sym (side b));
+      subscriptions = l.subscriptions;
       availabilities = l.availabilities;
       serial = ap (λ (n : ℕ). n + 1) l.serial;
     }
@@ -77,9 +84,80 @@ without_like m a b k l =
     λ x. ap (map (veiled_entry m)) (entries-remove key_total key_exact x.entities k) ∙ where-veiled m p (entries x.entities) in
     record {
       entities = side a ∙ (ap (where_key key_cmp p) l.entities ∙ sym (side b));
+      subscriptions = l.subscriptions;
       availabilities = l.availabilities;
       serial = ap (λ (n : ℕ). n + 1) l.serial;
     }
+
+-- ---- changes of subscriptions
+
+put_sub-veiled : (m : List ℕ) (k : ℕ) (s : Sub) (ss : List (ℕ × Sub)) → map (veiled_sub_entry m) (put nat_cmp k s ss) ≡ put nat_cmp k (veiled_sub m s) (map (veiled_sub_entry m) ss)
+put_sub-veiled m k s [] = refl
+put_sub-veiled m k s (x ∷ ss) =
+    elim (nat_cmp k x.0) as (λ r. map (veiled_sub_entry m) (by_order r ((k, s) ∷ x ∷ ss) ((x.0, s) ∷ ss) (x ∷ put nat_cmp k s ss))
+    ≡ by_order r ((k, veiled_sub m s) ∷ veiled_sub_entry m x ∷ map (veiled_sub_entry m) ss) ((x.0, veiled_sub m s) ∷ map (veiled_sub_entry m) ss) (veiled_sub_entry m x ∷ put nat_cmp k (veiled_sub m s) (map (veiled_sub_entry m) ss))) [
+      | Less ↦ refl
+      | Equal ↦ refl
+      | Greater ↦ ap (λ (ys : List (ℕ × Sub)). veiled_sub_entry m x ∷ ys) (put_sub-veiled m k s ss)
+    ]
+
+where_sub-veiled : (m : List ℕ) (p : ℕ → Bool) (ss : List (ℕ × Sub)) → map (veiled_sub_entry m) (where_key nat_cmp p ss) ≡ where_key nat_cmp p (map (veiled_sub_entry m) ss)
+where_sub-veiled m p [] = refl
+where_sub-veiled m p (x ∷ ss) =
+    elim (p x.0) as (λ b. map (veiled_sub_entry m) (cond b (x ∷ where_key nat_cmp p ss) (where_key nat_cmp p ss)) ≡ cond b (veiled_sub_entry m x ∷ where_key nat_cmp p (map (veiled_sub_entry m) ss)) (where_key nat_cmp p (map (veiled_sub_entry m) ss))) [
+      | true ↦ ap (λ (ys : List (ℕ × Sub)). veiled_sub_entry m x ∷ ys) (where_sub-veiled m p ss)
+      | false ↦ where_sub-veiled m p ss
+    ]
+
+with_sub_like : (m : List ℕ) (a b : Airspace) (s : Sub) → IsLike m a b → IsLike m (with_subscription a s) (with_subscription b s)
+with_sub_like m a b s l =
+    let side : (x : Airspace) → map (veiled_sub_entry m) (entries (insert x.subscriptions s.id s)) ≡ put nat_cmp s.id (veiled_sub m s) (map (veiled_sub_entry m) (entries x.subscriptions)) =
+    λ x. ap (map (veiled_sub_entry m)) (entries-insert nat_cmp_total x.subscriptions s.id s) ∙ put_sub-veiled m s.id s (entries x.subscriptions) in
+    record {
+      entities = l.entities;
+      subscriptions = side a ∙ (ap (put nat_cmp s.id (veiled_sub m s)) l.subscriptions ∙ sym (side b));
+      availabilities = l.availabilities;
+      serial = ap (λ (n : ℕ). n + 1) l.serial;
+    }
+
+without_sub_like : (m : List ℕ) (a b : Airspace) (k : ℕ) → IsLike m a b → IsLike m (without_subscription a k) (without_subscription b k)
+without_sub_like m a b k l =
+    let p : ℕ → Bool = λ x. not (eq_by_cmp nat_cmp k x) in
+    let side : (x : Airspace) → map (veiled_sub_entry m) (entries (remove x.subscriptions k)) ≡ where_key nat_cmp p (map (veiled_sub_entry m) (entries x.subscriptions)) =
+    λ x. ap (map (veiled_sub_entry m)) (entries-remove nat_cmp_total nat_cmp-IsAntisymmetric x.subscriptions k) ∙ where_sub-veiled m p (entries x.subscriptions) in
+    record {
+      entities = l.entities;
+      subscriptions = side a ∙ (ap (where_key nat_cmp p) l.subscriptions ∙ sym (side b));
+      availabilities = l.availabilities;
+      serial = ap (λ (n : ℕ). n + 1) l.serial;
+    }
+
+same_sub_update : (m salt : List ℕ) (n k id : ℕ) (put : SubPut) (s r : Sub) → n ≡ k → veiled_sub m s ≡ veiled_sub m r → sub_kept_as salt (n + 1) s.manager s.index id put ≡ sub_kept_as salt (k + 1) r.manager r.index id put
+same_sub_update m salt n k id put s r e v = λ i. sub_kept_as salt (e i + 1) (v i).manager (v i).index id put
+
+update_sub_like : (m salt : List ℕ) (a b : Airspace) (uss : List ℕ) (id : ℕ) (put : SubPut) (o p : Option Sub) → IsLike m a b → option_map (veiled_sub m) o ≡ option_map (veiled_sub m) p
+    → IsLike m (update_sub_effect salt a uss id put o).0 (update_sub_effect salt b uss id put p).0
+update_sub_like m salt a b uss id put None None l v = l
+update_sub_like m salt a b uss id put None (Some r) l v = cc
+update_sub_like m salt a b uss id put (Some s) None l v = cc
+update_sub_like m salt a b uss id put (Some s) (Some r) l v =
+    let same : veiled_sub m s ≡ veiled_sub m r = cc in
+    let x : Sub = sub_kept_as salt (a.serial + 1) s.manager s.index id put in
+    subst (λ (y : Sub). IsLike m (with_subscription a x) (with_subscription b y)) (same_sub_update m salt a.serial b.serial id put s r l.serial same) (with_sub_like m a b x l)
+
+delete_sub_like : (m : List ℕ) (a b : Airspace) (id : ℕ) (o p : Option Sub) → IsLike m a b → option_map (veiled_sub m) o ≡ option_map (veiled_sub m) p → IsLike m (delete_sub_effect a id o).0 (delete_sub_effect b id p).0
+delete_sub_like m a b id None None l v = l
+delete_sub_like m a b id None (Some r) l v = cc
+delete_sub_like m a b id (Some s) None l v = cc
+delete_sub_like m a b id (Some s) (Some r) l v = without_sub_like m a b id l
+
+read_sub_like : (m : List ℕ) (a b : Airspace) (o p : Option Sub) → IsLike m a b → IsLike m (read_sub_effect a o).0 (read_sub_effect b p).0
+read_sub_like m a b None None l = l
+read_sub_like m a b None (Some r) l = l
+read_sub_like m a b (Some s) None l = l
+read_sub_like m a b (Some s) (Some r) l = l
+
+-- ---- changes of entities
 
 -- entities that differ behind the veil alone are updated to one entity
 same_update : (m salt : List ℕ) (n k id : ℕ) (put : Put) (e f : Entity) → n ≡ k → veiled m e ≡ veiled m f → updated salt (n + 1) id put e ≡ updated salt (k + 1) id put f
@@ -121,9 +199,17 @@ effect_like m salt a b (Some caller) (Delete kind id ovn) l = delete_like m a b 
 effect_like m salt a b (Some caller) (ReadAvail uss) l = l
 effect_like m salt a b (Some caller) (SetAvail uss old availability) l = record {
   entities = l.entities;
+  subscriptions = l.subscriptions;
   availabilities = λ i. insert (l.availabilities i) uss (availability, ovn_text salt (l.serial i + 1));
   serial = ap (λ (n : ℕ). n + 1) l.serial;
 }
+effect_like m salt a b (Some caller) (QuerySub area) l = l
+effect_like m salt a b (Some caller) (ReadSub id) l = read_sub_like m a b (get a.subscriptions id) (get b.subscriptions id) l
+effect_like m salt a b (Some caller) (CreateSub id put) l =
+    let x : ℕ → Sub = λ n. sub_kept_as salt (n + 1) caller.uss 0 id put in
+    subst (λ (n : ℕ). IsLike m (with_subscription a (x a.serial)) (with_subscription b (x n))) l.serial (with_sub_like m a b (x a.serial) l)
+effect_like m salt a b (Some caller) (UpdateSub id version put) l = update_sub_like m salt a b caller.uss id put (get a.subscriptions id) (get b.subscriptions id) l (get_sub_like m a b id l)
+effect_like m salt a b (Some caller) (DeleteSub id version) l = delete_sub_like m a b id (get a.subscriptions id) (get b.subscriptions id) l (get_sub_like m a b id l)
 
 -- ---- what the supplier sees
 
@@ -199,20 +285,117 @@ update_told m salt a b id put (Some e) (Some f) l v =
     let y : Entity = updated salt (b.serial + 1) id put f in
     ap (λ (r : Reference). Done (Changed r)) (view_like m (with_entity a x) (with_entity b y) x y l.availabilities (ap (veiled m) (same_update m salt a.serial b.serial id put e f l.serial same)))
 
-effect_told : (salt : List ℕ) (a b : Airspace) (caller : Caller) (op : Operation) → IsLike caller.uss a b → (effect_by salt a caller op).1 ≡ (effect_by salt b caller op).1
-effect_told salt a b caller NoRoute l = refl
-effect_told salt a b caller NoMethod l = refl
-effect_told salt a b caller (Malformed kind) l = refl
-effect_told salt a b caller (Query kind area) l =
+-- ---- what it is told of its subscriptions
+
+-- what a supplier manages stands before the veil
+unveiled : (m : List ℕ) (s : Sub) → same_text s.manager m ≡ true → veiled_sub m s ≡ s
+unveiled m s h = ap (λ (b : Bool). record s { version = cond b s.version [] }) h
+
+seen_sub_like : (m : List ℕ) (a b : Airspace) (s : Sub) → IsLike m a b → seen_sub a s ≡ seen_sub b s
+seen_sub_like m a b s l = ap (sub_view_of s) (dependents_like m a b s.id l)
+
+seen_subs_like : (m : List ℕ) (a b : Airspace) (ss : List Sub) → IsLike m a b → map (seen_sub a) ss ≡ map (seen_sub b) ss
+seen_subs_like m a b [] l = refl
+seen_subs_like m a b (s ∷ ss) l = λ i. seen_sub_like m a b s l i ∷ seen_subs_like m a b ss l i
+
+own-veiled : (m : List ℕ) (area : Region) (ss : List (ℕ × Sub)) → map (λ s. s.1) (filter (is_own_near m area) ss) ≡ map (λ s. s.1) (filter (is_own_near m area) (map (veiled_sub_entry m) ss))
+own-veiled m area [] = refl
+own-veiled m area (s ∷ ss) =
+    let rest : List (ℕ × Sub) = filter (is_own_near m area) ss in
+    let others : List (ℕ × Sub) = filter (is_own_near m area) (map (veiled_sub_entry m) ss) in
+    let ih = own-veiled m area ss in
+    elim (same_text s.1.manager m) as (λ b. map (λ x. x.1) (cond (b && meets (region_of s.1.volume) area) (s ∷ rest) rest)
+    ≡ map (λ x. x.1) (cond (b && meets (region_of s.1.volume) area) ((s.0, record s.1 { version = cond b s.1.version [] }) ∷ others) others)) [
+      | true ↦ elim (meets (region_of s.1.volume) area) as (λ b. map (λ x. x.1) (cond b (s ∷ rest) rest) ≡ map (λ x. x.1) (cond b (s ∷ others) others)) [
+        | true ↦ ap (λ (xs : List Sub). s.1 ∷ xs) ih
+        | false ↦ ih
+      ]
+      | false ↦ ih
+    ]
+
+own_like : (m : List ℕ) (a b : Airspace) (area : Region) → IsLike m a b → subscriptions_in a.subscriptions m area ≡ subscriptions_in b.subscriptions m area
+unfolding subscriptions_in
+own_like m a b area l =
+    own-veiled m area (entries a.subscriptions)
+    ∙ (ap (λ (ss : List (ℕ × Sub)). map (λ s. s.1) (filter (is_own_near m area) ss)) l.subscriptions
+    ∙ sym (own-veiled m area (entries b.subscriptions)))
+
+own_is : (b : Bool) → not b ≡ false → b ≡ true
+own_is true h = refl
+own_is false h = cc
+
+-- of two that differ behind the veil alone, the supplier's own is the other
+same_own : (m : List ℕ) (s r : Sub) → veiled_sub m s ≡ veiled_sub m r → same_text r.manager m ≡ true → s ≡ r
+same_own m s r v h =
+    let here : same_text s.manager m ≡ true = ap (λ (x : Sub). same_text x.manager m) v ∙ h in
+    sym (unveiled m s here) ∙ (v ∙ unveiled m r h)
+
+seen_own : (m : List ℕ) (a b : Airspace) (s r : Sub) → IsLike m a b → veiled_sub m s ≡ veiled_sub m r → same_text r.manager m ≡ true → Done (answers.SubFound (seen_sub a s)) ≡ Done (answers.SubFound (seen_sub b r))
+seen_own m a b s r l v h = ap (λ (x : SubView). Done (answers.SubFound x)) (seen_sub_like m a b s l ∙ ap (seen_sub b) (same_own m s r v h))
+
+read_sub_told : (caller : Caller) (a b : Airspace) (o p : Option Sub) → IsLike caller.uss a b → option_map (veiled_sub caller.uss) o ≡ option_map (veiled_sub caller.uss) p → is_sub_of_another (Some caller) p ≡ false → (read_sub_effect a o).1 ≡ (read_sub_effect b p).1
+read_sub_told caller a b None None l v own = refl
+read_sub_told caller a b None (Some r) l v own = cc
+read_sub_told caller a b (Some s) None l v own = cc
+read_sub_told caller a b (Some s) (Some r) l v own =
+    let same : veiled_sub caller.uss s ≡ veiled_sub caller.uss r = cc in
+    seen_own caller.uss a b s r l same (own_is (same_text r.manager caller.uss) own)
+
+delete_sub_told : (caller : Caller) (a b : Airspace) (id : ℕ) (o p : Option Sub) → IsLike caller.uss a b → option_map (veiled_sub caller.uss) o ≡ option_map (veiled_sub caller.uss) p → is_sub_of_another (Some caller) p ≡ false → (delete_sub_effect a id o).1 ≡ (delete_sub_effect b id p).1
+delete_sub_told caller a b id None None l v own = refl
+delete_sub_told caller a b id None (Some r) l v own = cc
+delete_sub_told caller a b id (Some s) None l v own = cc
+delete_sub_told caller a b id (Some s) (Some r) l v own =
+    let same : veiled_sub caller.uss s ≡ veiled_sub caller.uss r = cc in
+    seen_own caller.uss a b s r l same (own_is (same_text r.manager caller.uss) own)
+
+seen_of_like : (kind : Kind) (m : List ℕ) (a b : Airspace) (s : Sub) → IsLike m a b → seen_of kind a m s ≡ seen_of kind b m s
+seen_of_like kind m a b s l =
+    let near : List Region = region_of s.volume ∷ [] in
+    ap (λ (rs : List Reference). cond (wants s.interest kind) rs [])
+    (seen_like m a b (meeting_in a.entities kind near None) (meeting_in b.entities kind near None) l.availabilities (met_like m a b kind near None l))
+
+stored_like : (m : List ℕ) (a b : Airspace) (s : Sub) → IsLike m a b → stored_reply a m s ≡ stored_reply b m s
+stored_like m a b s l = λ i. Done (answers.SubStored (seen_sub_like m a b s l i) (seen_of_like kinds.Intent m a b s l i) (seen_of_like kinds.Constraint m a b s l i))
+
+put_sub_told : (m : List ℕ) (a b : Airspace) (s r : Sub) → IsLike m a b → s ≡ r → (put_sub_effect a m s).1 ≡ (put_sub_effect b m r).1
+put_sub_told m a b s r l e =
+    stored_like m (with_subscription a s) (with_subscription b s) s (with_sub_like m a b s l)
+    ∙ ap (λ (x : Sub). (put_sub_effect b m x).1) e
+
+update_sub_told : (m salt : List ℕ) (a b : Airspace) (id : ℕ) (put : SubPut) (o p : Option Sub) → IsLike m a b → option_map (veiled_sub m) o ≡ option_map (veiled_sub m) p → (update_sub_effect salt a m id put o).1 ≡ (update_sub_effect salt b m id put p).1
+update_sub_told m salt a b id put None None l v = refl
+update_sub_told m salt a b id put None (Some r) l v = cc
+update_sub_told m salt a b id put (Some s) None l v = cc
+update_sub_told m salt a b id put (Some s) (Some r) l v =
+    let same : veiled_sub m s ≡ veiled_sub m r = cc in
+    put_sub_told m a b (sub_kept_as salt (a.serial + 1) s.manager s.index id put) (sub_kept_as salt (b.serial + 1) r.manager r.index id put) l (same_sub_update m salt a.serial b.serial id put s r l.serial same)
+
+-- ---- what it is told of any effect
+
+-- of a call that looks at nothing of another's
+effect_told : (salt : List ℕ) (a b : Airspace) (caller : Caller) (op : Operation) → IsLike caller.uss a b → breaks_manager (Some caller) op (found_of b op) (sub_of b op) ≡ false → (effect_by salt a caller op).1 ≡ (effect_by salt b caller op).1
+effect_told salt a b caller NoRoute l own = refl
+effect_told salt a b caller NoMethod l own = refl
+effect_told salt a b caller (Malformed kind) l own = refl
+effect_told salt a b caller (Query kind area) l own =
     ap (λ (rs : List Reference). Done (Listed kind rs)) (seen_like caller.uss a b (meeting_in a.entities kind (area ∷ []) None) (meeting_in b.entities kind (area ∷ []) None) l.availabilities (met_like caller.uss a b kind (area ∷ []) None l))
-effect_told salt a b caller (Read kind id) l = read_told caller.uss a b (get a.entities (kind, id)) (get b.entities (kind, id)) l (get_like caller.uss a b (kind, id) l)
-effect_told salt a b caller (Create id put) l =
+effect_told salt a b caller (Read kind id) l own = read_told caller.uss a b (get a.entities (kind, id)) (get b.entities (kind, id)) l (get_like caller.uss a b (kind, id) l)
+effect_told salt a b caller (Create id put) l own =
     let x : ℕ → Entity = λ n. created salt (n + 1) caller.uss id put in
     ap (λ (r : Reference). Done (Created r)) (view_like caller.uss (with_entity a (x a.serial)) (with_entity b (x b.serial)) (x a.serial) (x b.serial) l.availabilities (ap (λ (n : ℕ). veiled caller.uss (x n)) l.serial))
-effect_told salt a b caller (Update id ovn put) l = update_told caller.uss salt a b id put (get a.entities (kind_of put.nature, id)) (get b.entities (kind_of put.nature, id)) l (get_like caller.uss a b (kind_of put.nature, id) l)
-effect_told salt a b caller (Delete kind id ovn) l = delete_told caller.uss a b (kind, id) (get a.entities (kind, id)) (get b.entities (kind, id)) l (get_like caller.uss a b (kind, id) l)
-effect_told salt a b caller (ReadAvail uss) l = λ i. Done (Avail uss (unwrap_or (get (l.availabilities i) uss) (Unknown, [])).0 (unwrap_or (get (l.availabilities i) uss) (Unknown, [])).1)
-effect_told salt a b caller (SetAvail uss old availability) l = λ i. Done (Avail uss availability (ovn_text salt (l.serial i + 1)))
+effect_told salt a b caller (Update id ovn put) l own = update_told caller.uss salt a b id put (get a.entities (kind_of put.nature, id)) (get b.entities (kind_of put.nature, id)) l (get_like caller.uss a b (kind_of put.nature, id) l)
+effect_told salt a b caller (Delete kind id ovn) l own = delete_told caller.uss a b (kind, id) (get a.entities (kind, id)) (get b.entities (kind, id)) l (get_like caller.uss a b (kind, id) l)
+effect_told salt a b caller (ReadAvail uss) l own = λ i. Done (Avail uss (unwrap_or (get (l.availabilities i) uss) (Unknown, [])).0 (unwrap_or (get (l.availabilities i) uss) (Unknown, [])).1)
+effect_told salt a b caller (SetAvail uss old availability) l own = λ i. Done (Avail uss availability (ovn_text salt (l.serial i + 1)))
+effect_told salt a b caller (QuerySub area) l own =
+    ap (λ (vs : List SubView). Done (answers.SubListed vs)) (seen_subs_like caller.uss a b (subscriptions_in a.subscriptions caller.uss area) l ∙ ap (map (seen_sub b)) (own_like caller.uss a b area l))
+effect_told salt a b caller (ReadSub id) l own = read_sub_told caller a b (get a.subscriptions id) (get b.subscriptions id) l (get_sub_like caller.uss a b id l) own
+effect_told salt a b caller (CreateSub id put) l own =
+    let x : ℕ → Sub = λ n. sub_kept_as salt (n + 1) caller.uss 0 id put in
+    put_sub_told caller.uss a b (x a.serial) (x b.serial) l (ap x l.serial)
+effect_told salt a b caller (UpdateSub id version put) l own = update_sub_told caller.uss salt a b id put (get a.subscriptions id) (get b.subscriptions id) l (get_sub_like caller.uss a b id l)
+effect_told salt a b caller (DeleteSub id version) l own = delete_sub_told caller a b id (get a.subscriptions id) (get b.subscriptions id) l (get_sub_like caller.uss a b id l) own
 
 -- ---- what is missing
 
@@ -267,12 +450,27 @@ asked_like : (m : List ℕ) (asked : Bool) (key : List (List ℕ)) (es fs : List
 asked_like m true key es fs h = h
 asked_like m false key es fs h = refl
 
+-- what a subscription is for is seen before the veil
+minds-veiled : (m : List ℕ) (kind : Kind) (caller : Option Caller) (named : Option ℕ) (o : Option Sub) → minds kind caller named o ≡ minds kind caller named (option_map (veiled_sub m) o)
+minds-veiled m kinds.Intent caller named o = refl
+minds-veiled m kinds.Constraint caller None o = refl
+minds-veiled m kinds.Constraint caller (Some id) None = refl
+minds-veiled m kinds.Constraint caller (Some id) (Some s) = refl
+
+asks_like : (m : List ℕ) (kind : Kind) (a b : Airspace) (caller : Option Caller) (put : Put) → IsLike m a b → is_asked kind caller put (sub_under a (subscription_of put.nature)) ≡ is_asked kind caller put (sub_under b (subscription_of put.nature))
+asks_like m kind a b caller put l =
+    let named : Option ℕ = subscription_of put.nature in
+    ap (λ (b : Bool). needs_key put.nature && b) (minds-veiled m kind caller named (sub_under a named)
+    ∙ (ap (minds kind caller named) (under_like m a b named l) ∙ sym (minds-veiled m kind caller named (sub_under b named))))
+
 needed_like : (m : List ℕ) (kind : Kind) (a b : Airspace) (caller : Option Caller) (id : ℕ) (put : Put) → IsLike m a b
     → map (λ e. same_text e.1.manager m || in_key put.key e.1.ovn) (entries a.entities) ≡ map (λ e. same_text e.1.manager m || in_key put.key e.1.ovn) (entries b.entities)
     → map (veiled m) (missing_from put.key (needed_put kind a caller id put)) ≡ map (veiled m) (missing_from put.key (needed_put kind b caller id put))
 needed_like m kind a b caller id put l k =
     let areas : List Region = map region_of put.volumes in
-    asked_like m (is_asked kind caller put) put.key (unspared a (meeting_in a.entities kind areas (left_out kind id))) (unspared b (meeting_in b.entities kind areas (left_out kind id))) (met_missing_like m a b kind areas (left_out kind id) put.key l k)
+    let of : Airspace → List Entity = λ x. unspared x (meeting_in x.entities kind areas (left_out kind id)) in
+    asked_like m (is_asked kind caller put (sub_under a (subscription_of put.nature))) put.key (of a) (of b) (met_missing_like m a b kind areas (left_out kind id) put.key l k)
+    ∙ ap (λ (asked : Bool). map (veiled m) (missing_from put.key (cond asked (of b) []))) (asks_like m kind a b caller put l)
 
 missing_put_like : (a b : Airspace) (caller : Caller) (id : ℕ) (put : Put) → IsLike caller.uss a b
     → map (λ e. same_text e.1.manager caller.uss || in_key put.key e.1.ovn) (entries a.entities) ≡ map (λ e. same_text e.1.manager caller.uss || in_key put.key e.1.ovn) (entries b.entities)
@@ -296,6 +494,11 @@ missing_like a b caller (Update id ovn put) l k = missing_put_like a b caller id
 missing_like a b caller (Delete kind id ovn) l k = refl
 missing_like a b caller (ReadAvail uss) l k = refl
 missing_like a b caller (SetAvail uss old availability) l k = refl
+missing_like a b caller (QuerySub area) l k = refl
+missing_like a b caller (ReadSub id) l k = refl
+missing_like a b caller (CreateSub id put) l k = refl
+missing_like a b caller (UpdateSub id version put) l k = refl
+missing_like a b caller (DeleteSub id version) l k = refl
 
 -- of another's call, something is missing in both or in neither
 none_like : (m : List ℕ) (v w : Entity → Reference) (es fs : List Entity) → map (veiled m) es ≡ map (veiled m) fs → is_none_of (map v es) ≡ is_none_of (map w fs)
@@ -325,6 +528,11 @@ nothing_like m a b caller (Update id ovn put) l k = nothing_put_like m a b calle
 nothing_like m a b caller (Delete kind id ovn) l k = refl
 nothing_like m a b caller (ReadAvail uss) l k = refl
 nothing_like m a b caller (SetAvail uss old availability) l k = refl
+nothing_like m a b caller (QuerySub area) l k = refl
+nothing_like m a b caller (ReadSub id) l k = refl
+nothing_like m a b caller (CreateSub id put) l k = refl
+nothing_like m a b caller (UpdateSub id version put) l k = refl
+nothing_like m a b caller (DeleteSub id version) l k = refl
 
 -- ---- P14 and P15
 
@@ -340,6 +548,11 @@ limit-veiled m (Some e) n (Update id ovn put) = refl
 limit-veiled m (Some e) n (Delete kind id ovn) = refl
 limit-veiled m (Some e) n (ReadAvail uss) = refl
 limit-veiled m (Some e) n (SetAvail uss old availability) = refl
+limit-veiled m (Some e) n (QuerySub area) = refl
+limit-veiled m (Some e) n (ReadSub id) = refl
+limit-veiled m (Some e) n (CreateSub id put) = refl
+limit-veiled m (Some e) n (UpdateSub id version put) = refl
+limit-veiled m (Some e) n (DeleteSub id version) = refl
 
 limit_like : (m : List ℕ) (a b : Airspace) (op : Operation) → IsLike m a b → breaks_limit op (found_of a op) a.serial ≡ breaks_limit op (found_of b op) b.serial
 limit_like m a b op l =
@@ -379,11 +592,18 @@ told_like a b caller op Change h = refl
 told_like a b caller op Ended h = refl
 told_like a b caller op Key h = h
 told_like a b caller op Limit h = refl
+told_like a b caller op Subscription h = refl
+told_like a b caller op Depended h = refl
 
-step_told : (salt : List ℕ) (a b : Airspace) (caller : Caller) (op : Operation) (r : Option Rule) → IsLike caller.uss a b → known caller.uss op a ≡ known caller.uss op b
+-- a call that breaks no rule is made on nothing of another's
+own_managed : (a : Airspace) (t : ℕ) (c : Call) → first_broken a t c ≡ None → breaks a t c Manager ≡ false
+unfolding first_broken
+own_managed a t c h = none_passes (breaks a t c) (Route ∷ Method ∷ Token ∷ Scope ∷ Form ∷ Area ∷ Found ∷ Fresh ∷ []) (Version ∷ Role ∷ Change ∷ Ended ∷ Subscription ∷ Depended ∷ Key ∷ Limit ∷ []) Manager h
+
+step_told : (salt : List ℕ) (a b : Airspace) (t : ℕ) (caller : Caller) (op : Operation) (r : Option Rule) → first_broken b t (record { caller = Some caller; op = op }) ≡ r → IsLike caller.uss a b → known caller.uss op a ≡ known caller.uss op b
     → (step_by salt a (record { caller = Some caller; op = op }) r).1 ≡ (step_by salt b (record { caller = Some caller; op = op }) r).1
-step_told salt a b caller op None l k = effect_told salt a b caller op l
-step_told salt a b caller op (Some p) l k = ap (Denied p) (told_like a b caller op p (missing_like a b caller op l k))
+step_told salt a b t caller op None h l k = effect_told salt a b caller op l (own_managed b t (record { caller = Some caller; op = op }) h)
+step_told salt a b t caller op (Some p) h l k = ap (Denied p) (told_like a b caller op p (missing_like a b caller op l k))
 
 step_like : (m salt : List ℕ) (a b : Airspace) (c : Call) (r : Option Rule) → IsLike m a b → IsLike m (step_by salt a c r).0 (step_by salt b c r).0
 step_like m salt a b c None l = effect_like m salt a b c.caller c.op l
@@ -394,7 +614,7 @@ own_told : (salt : List ℕ) (a b : Airspace) (t : ℕ) (caller : Caller) (op : 
 unfolding step
 own_told salt a b t caller op l is k =
     let c : Call = record { caller = Some caller; op = op } in
-    ap (λ (r : Option Rule). (step_by salt a c r).1) (own_first caller.uss a b t caller op l is k) ∙ step_told salt a b caller op (first_broken b t c) l k
+    ap (λ (r : Option Rule). (step_by salt a c r).1) (own_first caller.uss a b t caller op l is k) ∙ step_told salt a b t caller op (first_broken b t c) refl l k
 
 pub stays_like : (m salt : List ℕ) (a b : Airspace) (t : ℕ) (c : Call) → IsLike m a b → first_broken a t c ≡ first_broken b t c → IsLike m (step salt a t c).0 (step salt b t c).0
 unfolding step

@@ -7,16 +7,18 @@ use Rattle.std.specs.Ordering.{eq_by_cmp}
 use Rattle.std.specs.List.{AllByRecursion}
 use Rattle.std.specs.FinMap.{get, entries, empty, get-entries, get-empty, len-entries, len-empty, entries-insert}
 use Rattle.grid_core.specs.Extent.{region_of, any_meet}
-use Rattle.entity_core.specs.Airspace.{Airspace, IsAirspace, EntityKey, key_cmp, key_of, with_availability, with_entity, without_entity, empty_at, Stated}
+use Rattle.entity_core.specs.Airspace.{Airspace, IsAirspace, EntityKey, key_cmp, key_of, with_availability, with_entity, with_subscription, without_entity, without_subscription, empty_at, Stated}
 use Rattle.entity_core.specs.Entity.{kind_of}
 use Rattle.entity_core.specs.Ovn.{ovn_text}
 use Rattle.entity_core.specs.declared.entity.Entity.{Entity}
+use Rattle.entity_core.specs.declared.subscription.Sub.{Sub}
 use Rattle.entity_core.specs.declared.nature.Kind.{Kind}
 use Rattle.policy_core.specs.declared.scope.Caller.{Caller}
 use Rattle.policy_core.specs.declared.call.Call.{Call}
 use Rattle.policy_core.specs.declared.call.Put.{Put}
+use Rattle.policy_core.specs.declared.call.SubPut.{SubPut}
 use Rattle.policy_core.specs.declared.call.Operation.{Operation}
-use Rattle.policy_core.specs.declared.call.Operation.TheVariants.{NoRoute, NoMethod, Malformed, Query, Read, Create, Update, Delete, ReadAvail, SetAvail}
+use Rattle.policy_core.specs.declared.call.Operation.TheVariants.{NoRoute, NoMethod, Malformed, Query, Read, Create, Update, Delete, ReadAvail, SetAvail, QuerySub, ReadSub, CreateSub, UpdateSub, DeleteSub}
 use Rattle.policy_core.specs.Known.{is_declared, is_told_of, put_of}
 use Rattle.policy_core.specs.Missing.{is_spared, key_shown}
 use Rattle.policy_core.specs.Policy.{first_broken}
@@ -29,8 +31,9 @@ use Rattle.service_core.specs.declared.reply.Reply.TheVariants.{Done, Denied, Fa
 use Rattle.service_core.specs.Aware.{MadeCall, is_done, is_owed, left_by, put_in, last_writer, later_or, Knew, KnewOthers, SerialsDiffer, Aware}
 use Rattle.service_core.specs.Run.{Timed, Runs, replies_of, airspace_after, answered_calls, told_replies, has_stopped}
 use Rattle.service_core.specs.Stale.{IsNumbered, AllNumbered}
-use Rattle.service_core.specs.Step.{step, step_by, effect, created, updated, update_effect, delete_effect, read_effect}
-use Rattle.entity_core.proofs.Changes.{got, stayed, proper_with, proper_without, proper_stated, proper_empty}
+use Rattle.service_core.specs.Step.{step, step_by, effect, created, updated, update_effect, delete_effect, read_effect, sub_kept_as, read_sub_effect, update_sub_effect, delete_sub_effect}
+use Rattle.entity_core.proofs.Changes.{got, stayed, proper_with, proper_without, proper_stated, proper_sub, proper_without_sub, proper_empty}
+use Rattle.service_core.proofs.Keeps.{told_within}
 use Rattle.service_core.proofs.Kept.{all_found, all_put, all_where, all_turned}
 
 -- ---- what holds all along
@@ -120,6 +123,23 @@ kept_stated salt last a uss stated s = record {
   knew = s.knew;
 }
 
+-- with a subscription, or without one
+kept_sub : (salt : List ℕ) (last : EntityKey → Option MadeCall) (a : Airspace) (x : Sub) → x.index ≤ a.serial + 1 → Kept salt last a → Kept salt last (with_subscription a x)
+kept_sub salt last a x within s = record {
+  proper = proper_sub a x within s.proper;
+  numbered = all_turned (IsNumbered salt a.serial) (IsNumbered salt (a.serial + 1)) (raised salt a.serial) (entries a.entities) s.numbered;
+  serials = s.serials;
+  knew = s.knew;
+}
+
+kept_without_sub : (salt : List ℕ) (last : EntityKey → Option MadeCall) (a : Airspace) (id : ℕ) → Kept salt last a → Kept salt last (without_subscription a id)
+kept_without_sub salt last a id s = record {
+  proper = proper_without_sub a id s.proper;
+  numbered = all_turned (IsNumbered salt a.serial) (IsNumbered salt (a.serial + 1)) (raised salt a.serial) (entries a.entities) s.numbered;
+  serials = s.serials;
+  knew = s.knew;
+}
+
 -- ---- after a call
 
 -- the last put, after one more call with its reply
@@ -129,7 +149,7 @@ last_with last a c r = λ k. later_or (put_in k a c r) (last k)
 -- the key of an operation has the OVN of each other entity that a put of it is to know
 abbrev Knows : Airspace → Option Caller → Operation → Type 0
 Knows a caller op = (id : ℕ) (put : Put) (y : Entity) → put_of op ≡ Some (id, put) → is_declared put.nature ≡ true → get a.entities (key_of y) ≡ Some y → eq_by_cmp key_cmp (key_of y) (kind_of put.nature, id) ≡ false
-    → any_meet y.volumes (map region_of put.volumes) ≡ true → is_told_of caller y.nature ≡ true → is_spared a y ≡ false → Contains put.key y.ovn
+    → any_meet y.volumes (map region_of put.volumes) ≡ true → is_told_of a (record { caller = caller; op = op }) y.nature ≡ true → is_spared a y ≡ false → Contains put.key y.ovn
 
 not_true : (b : Bool) → not b ≡ true → b ≡ false
 not_true true h = cc
@@ -139,7 +159,7 @@ not_true false h = refl
 knows_owed : (a : Airspace) (caller : Option Caller) (op : Operation) (id : ℕ) (put : Put) (y : Entity) → Knows a caller op → put_of op ≡ Some (id, put) → is_declared put.nature ≡ true → get a.entities (key_of y) ≡ Some y
     → eq_by_cmp key_cmp (key_of y) (kind_of put.nature, id) ≡ false → any_meet y.volumes (map region_of put.volumes) ≡ true → is_owed (record { before = a; call = record { caller = caller; op = op } }) y ≡ true → Contains put.key y.ovn
 knows_owed a caller op id put y knows is needs found other meet owed =
-    let parts = and_parts (is_told_of caller y.nature) (not (is_spared a y)) owed in
+    let parts = and_parts (is_told_of a (record { caller = caller; op = op }) y.nature) (not (is_spared a y)) owed in
     knows id put y is needs found other meet parts.0 (not_true (is_spared a y) parts.1)
 
 kept_create : (salt : List ℕ) (last : EntityKey → Option MadeCall) (a : Airspace) (caller : Caller) (id : ℕ) (put : Put) → Kept salt last a → Knows a (Some caller) (Create id put)
@@ -165,6 +185,21 @@ kept_read : (salt : List ℕ) (last : EntityKey → Option MadeCall) (a : Airspa
 kept_read salt last a caller kind id None s = s
 kept_read salt last a caller kind id (Some e) s = s
 
+kept_read_sub : (salt : List ℕ) (last : EntityKey → Option MadeCall) (a : Airspace) (caller : Caller) (id : ℕ) (o : Option Sub) → Kept salt last a
+    → Kept salt (last_with last a (record { caller = Some caller; op = ReadSub id }) (read_sub_effect a o).1) (read_sub_effect a o).0
+kept_read_sub salt last a caller id None s = s
+kept_read_sub salt last a caller id (Some x) s = s
+
+kept_update_sub : (salt : List ℕ) (last : EntityKey → Option MadeCall) (a : Airspace) (caller : Caller) (id : ℕ) (version : List ℕ) (put : SubPut) (o : Option Sub) → get a.subscriptions id ≡ o → Kept salt last a
+    → Kept salt (last_with last a (record { caller = Some caller; op = UpdateSub id version put }) (update_sub_effect salt a caller.uss id put o).1) (update_sub_effect salt a caller.uss id put o).0
+kept_update_sub salt last a caller id version put None there s = s
+kept_update_sub salt last a caller id version put (Some x) there s = kept_sub salt last a (sub_kept_as salt (a.serial + 1) x.manager x.index id put) (told_within a id x s.proper there) s
+
+kept_delete_sub : (salt : List ℕ) (last : EntityKey → Option MadeCall) (a : Airspace) (caller : Caller) (id : ℕ) (version : List ℕ) (o : Option Sub) → Kept salt last a
+    → Kept salt (last_with last a (record { caller = Some caller; op = DeleteSub id version }) (delete_sub_effect a id o).1) (delete_sub_effect a id o).0
+kept_delete_sub salt last a caller id version None s = s
+kept_delete_sub salt last a caller id version (Some x) s = kept_without_sub salt last a id s
+
 -- the effect of a call
 kept_effect : (salt : List ℕ) (last : EntityKey → Option MadeCall) (a : Airspace) (caller : Option Caller) (op : Operation) → Kept salt last a → Knows a caller op
     → Kept salt (last_with last a (record { caller = caller; op = op }) (effect salt a caller op).1) (effect salt a caller op).0
@@ -179,6 +214,11 @@ kept_effect salt last a (Some caller) (Update id ovn put) s knows = kept_update 
 kept_effect salt last a (Some caller) (Delete kind id ovn) s knows = kept_delete salt last a caller kind id ovn (get a.entities (kind, id)) s
 kept_effect salt last a (Some caller) (ReadAvail uss) s knows = s
 kept_effect salt last a (Some caller) (SetAvail uss old availability) s knows = kept_stated salt last a uss (availability, ovn_text salt (a.serial + 1)) s
+kept_effect salt last a (Some caller) (QuerySub area) s knows = s
+kept_effect salt last a (Some caller) (ReadSub id) s knows = kept_read_sub salt last a caller id (get a.subscriptions id) s
+kept_effect salt last a (Some caller) (CreateSub id put) s knows = kept_sub salt last a (sub_kept_as salt (a.serial + 1) caller.uss 0 id put) (omega arith) s
+kept_effect salt last a (Some caller) (UpdateSub id version put) s knows = kept_update_sub salt last a caller id version put (get a.subscriptions id) refl s
+kept_effect salt last a (Some caller) (DeleteSub id version) s knows = kept_delete_sub salt last a caller id version (get a.subscriptions id) s
 
 pub kept_step : (salt : List ℕ) (last : EntityKey → Option MadeCall) (a : Airspace) (t : ℕ) (c : Call) → Kept salt last a → Kept salt (last_with last a c (step salt a t c).1) (step salt a t c).0
 unfolding step
@@ -210,6 +250,18 @@ delete_left : (a : Airspace) (uss : List ℕ) (k : EntityKey) (o : Option Entity
 delete_left a uss k None = refl
 delete_left a uss k (Some e) = refl
 
+read_sub_left : (a : Airspace) (o : Option Sub) → cond (is_done (read_sub_effect a o).1) (read_sub_effect a o).0 a ≡ (read_sub_effect a o).0
+read_sub_left a None = refl
+read_sub_left a (Some x) = refl
+
+update_sub_left : (salt : List ℕ) (a : Airspace) (uss : List ℕ) (id : ℕ) (put : SubPut) (o : Option Sub) → cond (is_done (update_sub_effect salt a uss id put o).1) (update_sub_effect salt a uss id put o).0 a ≡ (update_sub_effect salt a uss id put o).0
+update_sub_left salt a uss id put None = refl
+update_sub_left salt a uss id put (Some x) = refl
+
+delete_sub_left : (a : Airspace) (id : ℕ) (o : Option Sub) → cond (is_done (delete_sub_effect a id o).1) (delete_sub_effect a id o).0 a ≡ (delete_sub_effect a id o).0
+delete_sub_left a id None = refl
+delete_sub_left a id (Some x) = refl
+
 effect_left : (salt : List ℕ) (a : Airspace) (caller : Option Caller) (op : Operation) → cond (is_done (effect salt a caller op).1) (effect salt a caller op).0 a ≡ (effect salt a caller op).0
 effect_left salt a None op = refl
 effect_left salt a (Some caller) NoRoute = refl
@@ -222,6 +274,11 @@ effect_left salt a (Some caller) (Update id ovn put) = update_left salt a caller
 effect_left salt a (Some caller) (Delete kind id ovn) = delete_left a caller.uss (kind, id) (get a.entities (kind, id))
 effect_left salt a (Some caller) (ReadAvail uss) = refl
 effect_left salt a (Some caller) (SetAvail uss old availability) = refl
+effect_left salt a (Some caller) (QuerySub area) = refl
+effect_left salt a (Some caller) (ReadSub id) = read_sub_left a (get a.subscriptions id)
+effect_left salt a (Some caller) (CreateSub id put) = refl
+effect_left salt a (Some caller) (UpdateSub id version put) = update_sub_left salt a caller.uss id put (get a.subscriptions id)
+effect_left salt a (Some caller) (DeleteSub id version) = delete_sub_left a id (get a.subscriptions id)
 
 -- what is left by a call that the policy answers is what the policy leaves
 step_left : (salt : List ℕ) (a : Airspace) (c : Timed) → left_by salt a c (step salt a c.0 c.1).1 ≡ (step salt a c.0 c.1).0

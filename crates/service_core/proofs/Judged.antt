@@ -1,23 +1,26 @@
 -- Which rule is the first that is broken, and what is missing.
 use Rattle.std.specs.Prelude.{◌≡◌, ℕ, ◌&&◌, Bool, true, false, List, [], ◌∷◌, ◌++◌, map, Option, Some, None, find, cond, refl, IfSome, not}
 use Rattle.std.proofs.Common.{sym, ap, ◌∙◌, subst}
-use Rattle.grid_core.specs.Extent.{region_of}
-use Rattle.entity_core.specs.Airspace.{Airspace, Stated}
+use Rattle.grid_core.specs.Extent.{Region, region_of}
+use Rattle.entity_core.specs.Airspace.{Airspace}
 use Rattle.entity_core.specs.Search.{meeting_in}
 use Rattle.entity_core.specs.declared.entity.Entity.{Entity}
+use Rattle.entity_core.specs.declared.subscription.Sub.{Sub}
+use Rattle.entity_core.specs.Entity.{subscription_of}
+use Rattle.entity_core.specs.declared.nature.Kind.{Kind}
 use Rattle.entity_core.specs.declared.nature.Kind.TheVariants as kinds
 use Rattle.policy_core.specs.declared.call.Call.{Call}
 use Rattle.policy_core.specs.declared.call.Put.{Put}
+use Rattle.policy_core.specs.declared.call.Operation.{Operation}
+use Rattle.policy_core.specs.declared.call.Operation.TheVariants.{Create, Update}
 use Rattle.policy_core.specs.declared.scope.Caller.{Caller}
-use Rattle.policy_core.specs.declared.scope.Scope.TheVariants.{ConstraintProcessing}
 use Rattle.policy_core.specs.declared.rule.Rule.{Rule}
 use Rattle.policy_core.specs.declared.rule.Rule.TheVariants.{Key, Limit}
 use Rattle.policy_core.specs.declared.reference.Missing.{Missing}
 use Rattle.policy_core.specs.declared.reference.Reference.{Reference}
-use Rattle.policy_core.specs.Scope.{has_scope}
-use Rattle.policy_core.specs.Missing.{is_nothing, missing_from, missing_by, missing_for, missing_put, needs_key, nothing_missing, unspared}
+use Rattle.policy_core.specs.Missing.{is_nothing, missing_from, missing_by, minds, missing_for, missing_put, missing_with, needs_key, nothing_missing, unspared}
 use Rattle.policy_core.specs.Policy.{breaks, breaks_given, early_rules, standing_rules, last_rules, first_broken}
-use Rattle.policy_core.specs.Standing.{Facts}
+use Rattle.policy_core.specs.Standing.{Facts, sub_of, sub_under}
 use Rattle.policy_core.specs.View.{view_of}
 use Rattle.policy_core.proofs.Finds.{find_has, find_rest}
 use Rattle.service_core.specs.declared.look.Grounds.{Grounds}
@@ -68,26 +71,25 @@ pub told_early : (a : Airspace) (t : ℕ) (c : Call) (r : Rule) → find (breaks
 told_early a t c r h = find_has (λ (p : Rule). told_missing a c p ≡ nothing_missing) (breaks a t c) early_rules r (refl, (refl, (refl, (refl, (refl, (refl, tt)))))) h
 
 told_standing : (a : Airspace) (t : ℕ) (c : Call) (r : Rule) → find (breaks a t c) standing_rules ≡ Some r → told_missing a c r ≡ nothing_missing
-told_standing a t c r h = find_has (λ (p : Rule). told_missing a c p ≡ nothing_missing) (breaks a t c) standing_rules r (refl, (refl, (refl, (refl, (refl, (refl, (refl, tt))))))) h
+told_standing a t c r h = find_has (λ (p : Rule). told_missing a c p ≡ nothing_missing) (breaks a t c) standing_rules r (refl, (refl, (refl, (refl, (refl, (refl, (refl, (refl, (refl, tt))))))))) h
 
 -- ---- what was looked up
 
 -- what is first where what was looked up was lent
-lent_is : (g : Grounds) (found : Option Entity) (kept : Option Stated) → found ≡ g.found → kept ≡ g.kept → ◌≡◌ {A = Facts} (record { found = found; kept = kept; serial = g.serial }) (facts_in g)
-lent_is g found kept one two = λ i. record { found = one i; kept = two i; serial = g.serial }
+pub lent_first : (g : Grounds) (f : Facts) (t : ℕ) (c : Call) (r : Option Rule) → f ≡ facts_in g → r ≡ find (breaks_given f t c) standing_rules → find (breaks_given (facts_in g) t c) standing_rules ≡ r
+lent_first g f t c r one is = sym (is ∙ ap (λ (x : Facts). find (breaks_given x t c) standing_rules) one)
 
-pub lent_first : (g : Grounds) (found : Option Entity) (kept : Option Stated) (t : ℕ) (c : Call) (r : Option Rule) → found ≡ g.found → kept ≡ g.kept → r ≡ find (breaks_given (record { found = found; kept = kept; serial = g.serial }) t c) standing_rules
-    → find (breaks_given (facts_in g) t c) standing_rules ≡ r
-lent_first g found kept t c r one two is = sym (is ∙ ap (λ (f : Facts). find (breaks_given f t c) standing_rules) (lent_is g found kept one two))
+pub lent_limit : (g : Grounds) (f : Facts) (t : ℕ) (c : Call) (limit : Bool) → f ≡ facts_in g → limit ≡ breaks_given f t c Limit → limit ≡ breaks_given (facts_in g) t c Limit
+lent_limit g f t c limit one is = is ∙ ap (λ (x : Facts). breaks_given x t c Limit) one
 
-pub lent_limit : (g : Grounds) (found : Option Entity) (kept : Option Stated) (t : ℕ) (c : Call) (limit : Bool) → found ≡ g.found → kept ≡ g.kept → limit ≡ breaks_given (record { found = found; kept = kept; serial = g.serial }) t c Limit
-    → limit ≡ breaks_given (facts_in g) t c Limit
-lent_limit g found kept t c limit one two is = is ∙ ap (λ (f : Facts). breaks_given f t c Limit) (lent_is g found kept one two)
+-- the subscription that was looked up
+pub ground_sub : (a : Airspace) (op : Operation) (g : Grounds) → IsGround op a g → g.sub ≡ sub_of a op
+ground_sub a op g is = ap (λ (f : Facts). f.sub) is
 
 pub standing_from : (a : Airspace) (t : ℕ) (c : Call) (g : Grounds) → IsGround c.op a g → find (breaks_given (facts_in g) t c) standing_rules ≡ find (breaks a t c) standing_rules
 standing_from a t c g is = ap (λ (f : Facts). find (breaks_given f t c) standing_rules) is
 
--- the first of P7 to P13 that is broken is the first of all
+-- the first of P7 to P13, P16 and P17 that is broken is the first of all
 pub judged_standing : (a : Airspace) (t : ℕ) (c : Call) (g : Grounds) (r : Rule) (m : Missing) → find (breaks a t c) early_rules ≡ None → find (breaks_given (facts_in g) t c) standing_rules ≡ Some r → m ≡ nothing_missing → IsGround c.op a g
     → IsFirst t c a (Some (r, m))
 judged_standing a t c g r m early is none ground =
@@ -139,8 +141,21 @@ unfolding missing_from
 missing_none f key = refl
 
 -- a put without a key needs nothing
-pub needs_nothing : (a : Airspace) (caller : Caller) (id : ℕ) (put : Put) (m : Missing) → needs_key put.nature ≡ false → m ≡ nothing_missing → m ≡ missing_put a caller id put
-needs_nothing a caller id put m lacks none =
+pub needs_nothing : (a : Airspace) (caller : Caller) (sub : Option Sub) (id : ℕ) (put : Put) (m : Missing) → needs_key put.nature ≡ false → m ≡ nothing_missing → m ≡ missing_with a caller sub id put
+needs_nothing a caller sub id put m lacks none =
+    let areas : List Region = map region_of put.volumes in
+    let told : Kind → Bool = λ kind. minds kind (Some caller) (subscription_of put.nature) sub in
     none ∙ both [] _ [] _
-    (missing_none (view_of a caller.uss) put.key ∙ ap (λ (b : Bool). map (view_of a caller.uss) (missing_from put.key (cond b (unspared a (meeting_in a.entities kinds.Intent (map region_of put.volumes) (Some id))) []))) (sym lacks))
-    (missing_none (view_of a caller.uss) put.key ∙ ap (λ (b : Bool). map (view_of a caller.uss) (missing_from put.key (cond (b && has_scope caller.scopes ConstraintProcessing) (unspared a (meeting_in a.entities kinds.Constraint (map region_of put.volumes) None)) []))) (sym lacks))
+    (missing_none (view_of a caller.uss) put.key ∙ ap (λ (b : Bool). map (view_of a caller.uss) (missing_from put.key (cond (b && told kinds.Intent) (unspared a (meeting_in a.entities kinds.Intent areas (Some id))) []))) (sym lacks))
+    (missing_none (view_of a caller.uss) put.key ∙ ap (λ (b : Bool). map (view_of a caller.uss) (missing_from put.key (cond (b && told kinds.Constraint) (unspared a (meeting_in a.entities kinds.Constraint areas None)) []))) (sym lacks))
+
+-- of the subscription that is there, what is missing is what the policy says
+pub put_missing : (a : Airspace) (caller : Caller) (op : Operation) (sub : Option Sub) (id : ℕ) (put : Put) (m : Missing) → missing_by a caller op ≡ missing_put a caller id put → sub_of a op ≡ sub_under a (subscription_of put.nature)
+    → m ≡ missing_with a caller sub id put → sub ≡ sub_of a op → m ≡ missing_by a caller op
+put_missing a caller op sub id put m one two is h = is ∙ (ap (λ (s : Option Sub). missing_with a caller s id put) (h ∙ two) ∙ sym one)
+
+pub create_missing : (a : Airspace) (caller : Caller) (op : Operation) (sub : Option Sub) (id : ℕ) (put : Put) (m : Missing) → op ≡ Create id put → m ≡ missing_with a caller sub id put → sub ≡ sub_of a op → m ≡ missing_by a caller op
+create_missing a caller op sub id put m is = put_missing a caller op sub id put m (ap (missing_by a caller) is) (ap (sub_of a) is)
+
+pub update_missing : (a : Airspace) (caller : Caller) (op : Operation) (sub : Option Sub) (id : ℕ) (ovn : List ℕ) (put : Put) (m : Missing) → op ≡ Update id ovn put → m ≡ missing_with a caller sub id put → sub ≡ sub_of a op → m ≡ missing_by a caller op
+update_missing a caller op sub id ovn put m is = put_missing a caller op sub id put m (ap (missing_by a caller) is) (ap (sub_of a) is)

@@ -2,7 +2,7 @@
 use Rattle.std.specs.Prelude.{◌≡◌, ◌||◌, ℕ, Bool, Option, Some, None, Ok, Err, refl, find, is_some, List}
 use Rattle.std.proofs.Common.{arith, sym, ap, ◌∙◌, subst, inl, inr}
 use Rattle.std.proofs.lemmas.Bool.{false≢true, cases_lt}
-use Rattle.entity_core.specs.Airspace.{Airspace}
+use Rattle.entity_core.specs.Airspace.{Airspace, IsAirspace}
 use Rattle.space_core.specs.declared.space.Space.{Ghosts}
 use Rattle.space_core.specs.declared.space.SpaceFault.{SpaceFault}
 use Rattle.space_core.specs.declared.space.SpaceFault.TheVariants.{Unchanged, Broken}
@@ -88,12 +88,12 @@ module _ {S : Type 0} (g : Ghosts S) (salt : List ℕ) (t : ℕ) (c : Call) wher
   }
 
   -- a call that changes nothing
-  pub read_answers : (old new : S) (grounds : Grounds) (made : Made) → made.change ≡ None → Looks g old new (Ok made) (Prepares salt t c grounds) → (g.is_sound old → (a : Airspace) → g.holds old a → Judges t c a (Allowed grounds))
+  pub read_answers : (old new : S) (grounds : Grounds) (made : Made) → made.change ≡ None → Looks g old new (Ok made) (Prepares salt t c grounds) → (g.is_sound old → (a : Airspace) → g.holds old a → IsAirspace a) → (g.is_sound old → (a : Airspace) → g.holds old a → Judges t c a (Allowed grounds))
       → Answers g salt t c old new (Done made.answer)
-  read_answers old new grounds made is looks given = record {
+  read_answers old new grounds made is looks proper given = record {
     step = λ s a h.
         let k = given (looks.sound s) a h.held in
-        let e : step salt a t c ≡ (a, Done made.answer) = step_done salt a t c k.0 ∙ ((looks.found s a h.held k.0 k.1).effect ∙ ap (λ (o : Option Change). (changed_by o a, Done made.answer)) is) in
+        let e : step salt a t c ≡ (a, Done made.answer) = step_done salt a t c k.0 ∙ ((looks.found s a h.held (proper (looks.sound s) a h.held) k.0 k.1).effect ∙ ap (λ (o : Option Change). (changed_by o a, Done made.answer)) is) in
         (ap (λ (x : Airspace × Reply). x.1) e, subst (IsContent g.holds new) (ap (λ (x : Airspace × Reply). x.0) (sym e)) (same_content g old new a (looks.stays s) (looks.no_other s) h));
     fails = λ s a h. tt;
     sound = looks.sound;

@@ -15,8 +15,10 @@ use Rattle.policy_core.specs.declared.scope.Caller.{Caller}
 use Rattle.policy_core.specs.declared.call.Call.{Call}
 use Rattle.policy_core.specs.declared.call.Put.{Put}
 use Rattle.policy_core.specs.declared.call.Operation.{Operation}
-use Rattle.policy_core.specs.declared.call.Operation.TheVariants.{NoRoute, NoMethod, Malformed, Query, Read, Create, Update, Delete, ReadAvail, SetAvail}
+use Rattle.policy_core.specs.declared.call.Operation.TheVariants.{NoRoute, NoMethod, Malformed, Query, Read, Create, Update, Delete, ReadAvail, SetAvail, QuerySub, ReadSub, CreateSub, UpdateSub, DeleteSub}
 use Rattle.policy_core.specs.declared.rule.Rule.{Rule}
+use Rattle.entity_core.specs.Entity.{subscription_of}
+use Rattle.policy_core.specs.Standing.{sub_under}
 use Rattle.policy_core.specs.Known.{IsListed}
 use Rattle.policy_core.specs.Missing.{in_key, is_asked, is_spared, key_shown, left_out, needed, needed_put, unspared}
 use Rattle.policy_core.proofs.Members.{contained, no_member}
@@ -63,7 +65,7 @@ all_asked P false xs all = tt
 needed_numbered : (salt : List ℕ) (kind : Kind) (a : Airspace) (caller : Option Caller) (id : ℕ) (put : Put) → AllNumbered salt a → AllByRecursion (IsNumbered salt a.serial) (needed_put kind a caller id put)
 unfolding meeting_in
 needed_numbered salt kind a caller id put n =
-    all_asked (IsNumbered salt a.serial) (is_asked kind caller put) _ (all_unspared (IsNumbered salt a.serial) a _ (all_sought (IsNumbered salt a.serial) (is_sought kind (map region_of put.volumes) (left_out kind id)) (entries a.entities) n))
+    all_asked (IsNumbered salt a.serial) (is_asked kind caller put (sub_under a (subscription_of put.nature))) _ (all_unspared (IsNumbered salt a.serial) a _ (all_sought (IsNumbered salt a.serial) (is_sought kind (map region_of put.volumes) (left_out kind id)) (entries a.entities) n))
 
 not_known : (salt : List ℕ) (a : Airspace) (y : Entity) (key : List (List ℕ)) → DifferUpTo salt a.serial → IsNumbered salt a.serial y → AllByRecursion (IsOfAnother salt a y) key → in_key key y.ovn ≡ false
 not_known salt a y [] differ n old = refl
@@ -87,6 +89,11 @@ call_numbered salt kind a caller (Update id ovn put) n = needed_numbered salt ki
 call_numbered salt kind a caller (Delete of id ovn) n = tt
 call_numbered salt kind a caller (ReadAvail uss) n = tt
 call_numbered salt kind a caller (SetAvail uss old availability) n = tt
+call_numbered salt kind a caller (QuerySub area) n = tt
+call_numbered salt kind a caller (ReadSub id) n = tt
+call_numbered salt kind a caller (CreateSub id put) n = tt
+call_numbered salt kind a caller (UpdateSub id version put) n = tt
+call_numbered salt kind a caller (DeleteSub id version) n = tt
 
 -- ---- it is refused
 

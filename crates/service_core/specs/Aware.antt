@@ -58,10 +58,10 @@ last_writer salt k a (c ∷ cs) (r ∷ rs) =
 
 -- ---- what it knew
 
--- whether a call was to know of an entity, where it was made: its caller is told of such entities,
--- and this one was not spared then
+-- whether a call was to know of an entity, where it was made: it is told of such entities there, and
+-- this one was not spared then
 abbrev pub is_owed : MadeCall → Entity → Bool
-is_owed made y = is_told_of made.call.caller y.nature && not (is_spared made.before y)
+is_owed made y = is_told_of made.before made.call y.nature && not (is_spared made.before y)
 
 -- There is a call that put the one, the other stood there before it as it does now, and if the call
 -- was to know of it, its key had the OVN that it has now.

@@ -3,14 +3,17 @@ use Rattle.std.specs.Prelude.{◌≡◌, ℕ, ◌<◌, Bool, true, List, Option,
 use Rattle.space_core.specs.declared.space.Space.{Ghosts}
 use Rattle.space_core.specs.declared.space.SpaceFault.TheVariants.{Unchanged, Broken}
 use Rattle.space_core.specs.declared.space.Change.{Change}
-use Rattle.entity_core.specs.Airspace.{Airspace}
+use Rattle.space_core.specs.declared.space.Change.TheVariants as changes
+use Rattle.entity_core.specs.declared.nature.Kind.TheVariants as kinds
+use Rattle.entity_core.specs.Airspace.{Airspace, IsAirspace}
 use Rattle.space_core.specs.Space.{greatest_count, changed, Fits}
 use Rattle.policy_core.specs.declared.call.Call.{Call}
 use Rattle.policy_core.specs.declared.rule.Rule.{Rule}
 use Rattle.policy_core.specs.declared.reference.Missing.{Missing}
 use Rattle.policy_core.specs.declared.call.Operation.{Operation}
-use Rattle.policy_core.specs.declared.call.Operation.TheVariants.{Read, Update, Delete}
+use Rattle.policy_core.specs.declared.call.Operation.TheVariants.{Read, Update, Delete, ReadSub, UpdateSub, DeleteSub}
 use Rattle.entity_core.specs.declared.entity.Entity.{Entity}
+use Rattle.entity_core.specs.declared.subscription.Sub.{Sub}
 use Rattle.service_core.specs.declared.halt.Halt.{Halt}
 use Rattle.service_core.specs.declared.halt.Halt.TheVariants.{NoMemory, Space}
 use Rattle.service_core.specs.declared.look.Grounds.{Grounds}
@@ -18,10 +21,11 @@ use Rattle.service_core.specs.declared.decide.Verdict.{Verdict}
 use Rattle.service_core.specs.declared.decide.Verdict.TheVariants as verdicts
 use Rattle.service_core.specs.declared.made.Made.{Made}
 use Rattle.service_core.specs.declared.reply.Answer.{Answer}
+use Rattle.service_core.specs.declared.reply.Answer.TheVariants.{SubStored}
 use Rattle.service_core.specs.declared.reply.Reply.TheVariants.{Done}
 use Rattle.policy_core.specs.Policy.{first_broken}
 use Rattle.policy_core.specs.Standing.{Facts, Regards}
-use Rattle.service_core.specs.Step.{effect, told_missing}
+use Rattle.service_core.specs.Step.{effect, seen_of, seen_sub, told_missing}
 
 -- P, but where the space broke
 abbrev pub UnlessBroke : Halt → Type 0 → Type 0
@@ -51,18 +55,27 @@ pub record Looks {S T : Type 0} (g : Ghosts S) (old new : S) (result : Result T 
       (λ h. ToldBy h (g.refusals old) (g.refusals new) (g.is_broken old) (g.is_broken new))
 
 abbrev pub facts_in : Grounds → Facts
-facts_in g = record { found = g.found; kept = g.kept; serial = g.serial }
+facts_in g = record {
+  found = g.found;
+  kept = g.kept;
+  serial = g.serial;
+  sub = g.sub;
+  depended = g.depended;
+}
 
 -- what was looked up is what the airspace has for the operation
 abbrev pub IsGround : Operation → Airspace → Grounds → Type 0
 IsGround op a g = Regards a op (facts_in g)
 
 -- what is to be read, updated or deleted was found
-abbrev pub IsReady : Operation → Option Entity → Type 0
-IsReady (Read kind id) found = is_some found ≡ true
-IsReady (Update id ovn put) found = is_some found ≡ true
-IsReady (Delete kind id ovn) found = is_some found ≡ true
-IsReady op found = Unit {0}
+abbrev pub IsReady : Operation → Option Entity → Option Sub → Type 0
+IsReady (Read kind id) found sub = is_some found ≡ true
+IsReady (Update id ovn put) found sub = is_some found ≡ true
+IsReady (Delete kind id ovn) found sub = is_some found ≡ true
+IsReady (ReadSub id) found sub = is_some sub ≡ true
+IsReady (UpdateSub id version put) found sub = is_some sub ≡ true
+IsReady (DeleteSub id version) found sub = is_some sub ≡ true
+IsReady op found sub = Unit {0}
 
 -- the first rule that a call breaks, with what is missing
 abbrev pub IsFirst : ℕ → Call → Airspace → Option (Rule × Missing) → Type 0
@@ -81,7 +94,7 @@ Judges now c a (verdicts.Allowed g) = (first_broken a now c ≡ None) × IsGroun
 
 abbrev pub IsReadyIfAllowed : Operation → Verdict → Type 0
 IsReadyIfAllowed op (verdicts.Refused p m) = Unit {0}
-IsReadyIfAllowed op (verdicts.Allowed g) = IsReady op g.found
+IsReadyIfAllowed op (verdicts.Allowed g) = IsReady op g.found g.sub
 
 abbrev pub changed_by : Option Change → Airspace → Airspace
 changed_by None a = a
@@ -93,7 +106,12 @@ pub record Makes (salt : List ℕ) (now : ℕ) (c : Call) (g : Grounds) (a : Air
   pub effect : effect salt a c.caller c.op ≡ (changed_by change a, Done answer)
   pub fits : IfSome change (λ change. Fits change a)
 
--- for each airspace in which the call breaks no rule
+-- for each airspace that may be kept in which the call breaks no rule
 abbrev pub Prepares : List ℕ → ℕ → Call → Grounds → Airspace → Made → Type 0
-Prepares salt now c g a made = first_broken a now c ≡ None → IsGround c.op a g
+Prepares salt now c g a made = IsAirspace a → first_broken a now c ≡ None → IsGround c.op a g
     → Makes salt now c g a made.change made.answer
+
+-- A change puts a subscription, and its answer is what a supplier sees of it and of what it is for.
+abbrev pub PutsSub : Sub → Airspace → List ℕ → Made → Type 0
+PutsSub s a uss made = (made.change ≡ Some (changes.PutSub s))
+    × (made.answer ≡ SubStored (seen_sub a s) (seen_of kinds.Intent a uss s) (seen_of kinds.Constraint a uss s))

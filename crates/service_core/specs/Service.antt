@@ -34,8 +34,8 @@ Leaves g salt a now c Fault new = IsContent g.holds new a
 Leaves g salt a now c Stopped new = (b : Airspace) → g.holds new b
     → (b ≡ a) ⊎ (b ≡ (step salt a now c).0)
 
--- when a call may fail: only where no early rule is broken, and where a later one of P7 to P13 is,
--- only for the space
+-- when a call may fail: only where no early rule is broken, and where a later one of P7 to P13, P16
+-- and P17 is, only for the space
 abbrev pub MayFail : Airspace → ℕ → Call → Reply → ℕ → ℕ → Type 0
 MayFail a now c Fault refusals refusals' = IsNone (find (breaks a now c) early_rules)
     × (IsSome (find (breaks a now c) standing_rules)

@@ -8,9 +8,8 @@ use Rattle.entity_core.specs.declared.entity.Entity.{Entity}
 use Rattle.entity_core.specs.declared.nature.Kind.{Kind}
 use Rattle.policy_core.specs.declared.call.Call.{Call}
 use Rattle.policy_core.specs.declared.rule.Rule.TheVariants.{Key}
-use Rattle.policy_core.specs.Known.{IsListed}
+use Rattle.policy_core.specs.Known.{IsListed, MayAsk}
 use Rattle.policy_core.specs.Missing.{key_shown, needed}
-use Rattle.policy_core.specs.Rule.{number_of}
 use Rattle.service_core.specs.declared.reply.Reply.{Reply}
 use Rattle.service_core.specs.declared.reply.Reply.TheVariants.{Done, Denied, Fault, Stopped}
 use Rattle.service_core.specs.Step.{step}
@@ -44,9 +43,9 @@ pub record IsOfAnother (salt : List ℕ) (a : Airspace) (y : Entity) (ovn : List
 
 -- ---- the reply
 
--- A denial by one of P1 to P14; one by P14 lists the entity.
+-- A denial by one of P1 to P14 or P16; one by P14 lists the entity.
 abbrev pub IsRefusedFor : Kind → Airspace → Call → Entity → Reply → Type 0
-IsRefusedFor kind a c y (Denied p m) = (number_of p ≤ 14) × (p ≡ Key → IsListed kind a c.caller y m)
+IsRefusedFor kind a c y (Denied p m) = MayAsk p × (p ≡ Key → IsListed kind a c.caller y m)
 IsRefusedFor kind a c y (Done answer) = ⊥
 IsRefusedFor kind a c y Fault = ⊥
 IsRefusedFor kind a c y Stopped = ⊥

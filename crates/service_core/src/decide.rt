@@ -2,16 +2,18 @@
 ghost use Rattle.std.specs.Prelude.{◌≡◌, ℕ, map, not, Ok, Err, Some, None, find, IfOk};
 ghost use Rattle.entity_core.specs.Airspace.{Airspace};
 ghost use Rattle.grid_core.specs.Extent.{region_of};
-ghost use Rattle.policy_core.specs.Missing.{is_nothing, missing_by, missing_from, missing_put, needed_put};
+ghost use Rattle.policy_core.specs.Missing.{is_nothing, missing_by, missing_from, missing_with, needed_with};
+ghost use Rattle.policy_core.specs.Standing.{sub_of};
 ghost use Rattle.policy_core.specs.View.{view_of};
 ghost use Rattle.policy_core.specs.Policy.{breaks, breaks_given, early_rules, standing_rules};
 ghost use Rattle.service_core.specs.Looks.{Looks, facts_in, IsGround, IsFirst, IsReady, IsReadyIfAllowed, Judges, verdict_of};
 
 use crate::halt::Halt;
 use crate::look::{Grounds, look, missing_from};
-use crate::needed::needed_put;
+use crate::needed::needed_with;
 use entity_core::entity_id::EntityId;
 use entity_core::nature::Kind;
+use entity_core::subscription::Sub;
 use grid_core::volume::Area;
 use policy_core::call::{Call, Operation, Put};
 use policy_core::missing::needs_key;
@@ -31,20 +33,21 @@ pub enum Verdict {
     Allowed(Grounds),
 }
 
-// All that is missing from the key of an operation.
+// All that is missing from the key of an operation, where this is the subscription that it names.
 #[tactic(auto, unfolding(policy_core::specs::Missing::missing_from))]
 fn missing_by<S: Space>(
     space: &mut S,
     alloc: Global,
     caller: &Caller,
     op: &Operation,
+    sub: &Option<Sub>,
 ) -> Result<Missing, Halt>
-    ensures { Looks S.Space space.old space.new result
-        (λ a missing. missing ≡ missing_by a caller.now op.now) }
+    ensures { Looks S.Space space.old space.new result (λ a missing.
+        sub.now ≡ sub_of a op.now → missing ≡ missing_by a caller.now op.now) }
 {
     match op {
-        Operation::Create(id, put) => missing_of(space, alloc, caller, *id, put),
-        Operation::Update(id, _, put) => missing_of(space, alloc, caller, *id, put),
+        Operation::Create(id, put) => missing_of(space, alloc, caller, *id, put, sub),
+        Operation::Update(id, _, put) => missing_of(space, alloc, caller, *id, put, sub),
         _ => Ok(Missing::nothing(alloc)),
     }
 }
@@ -56,30 +59,32 @@ fn missing_of<S: Space>(
     caller: &Caller,
     id: EntityId,
     put: &Put,
+    sub: &Option<Sub>,
 ) -> Result<Missing, Halt>
     ensures { Looks S.Space space.old space.new result
-        (λ a missing. missing ≡ missing_put a caller.now id put.now) }
+        (λ a missing. missing ≡ missing_with a caller.now sub.now id put.now) }
 {
     if !needs_key(put.nature) {
         return Ok(Missing::nothing(alloc));
     }
-    missing_put(space, alloc, caller, id, put)
+    missing_with(space, alloc, caller, id, put, sub)
 }
 
 // What is missing from the key of a put that needs to know others.
-fn missing_put<S: Space>(
+fn missing_with<S: Space>(
     space: &mut S,
     alloc: Global,
     caller: &Caller,
     id: EntityId,
     put: &Put,
+    sub: &Option<Sub>,
 ) -> Result<Missing, Halt>
     ensures { Looks S.Space space.old space.new result
-        (λ a missing. missing ≡ missing_put a caller.now id put.now) }
+        (λ a missing. missing ≡ missing_with a caller.now sub.now id put.now) }
 {
     let areas = put.volumes.areas(alloc)?;
-    let intents = missing_kind(space, alloc, Kind::Intent, caller, id, put, &areas)?;
-    let constraints = missing_kind(space, alloc, Kind::Constraint, caller, id, put, &areas)?;
+    let intents = missing_kind(space, alloc, Kind::Intent, caller, id, put, sub, &areas)?;
+    let constraints = missing_kind(space, alloc, Kind::Constraint, caller, id, put, sub, &areas)?;
     Ok(Missing {
         intents,
         constraints,
@@ -94,14 +99,16 @@ fn missing_kind<S: Space>(
     caller: &Caller,
     id: EntityId,
     put: &Put,
+    sub: &Option<Sub>,
     areas: &[Area],
 ) -> Result<References, Halt>
     requires areas { areas.now ≡ map region_of put.now.volumes }
     ensures { Looks S.Space space.old space.new result (λ a references.
         references ≡ map (view_of a caller.now.uss)
-        (missing_from put.now.key (needed_put kind a (Some caller.now) id put.now))) }
+        (missing_from put.now.key
+        (needed_with kind a (Some caller.now) sub.now id put.now))) }
 {
-    let needed = needed_put(space, alloc, kind, caller, id, put, areas)?;
+    let needed = needed_with(space, alloc, kind, caller, id, put, sub, areas)?;
     missing_from(space, alloc, &caller.uss, put.key.items(), &needed)
 }
 
@@ -125,21 +132,17 @@ fn judge<S: Space>(
     requires early { (a : Airspace) → find (breaks a now call.now) early_rules ≡ None }
     ensures looks { Looks S.Space space.old space.new result
         (λ a broken. IsGround call.now.op a grounds.now → IsFirst now call.now a broken) }
-    ensures ready { result ≡ Ok None → IsReady call.now.op grounds.now.found }
+    ensures ready { result ≡ Ok None
+        → IsReady call.now.op grounds.now.found grounds.now.sub }
     ensures memory { result ≡ Err Halt.NoMemory
         → find (breaks_given (facts_in grounds.now) now call.now) standing_rules ≡ None }
 {
-    let findings = standing(
-        now,
-        call,
-        grounds.entity(),
-        grounds.stated(),
-        grounds.serial,
-    );
+    let facts = grounds.facts();
+    let findings = standing(now, call, &facts);
     if let Some(broken) = findings.first {
         return Ok(Some((broken, Missing::nothing(alloc))));
     }
-    let missing = missing_by(space, alloc, caller, &call.op)?;
+    let missing = missing_by(space, alloc, caller, &call.op, &grounds.sub)?;
     if breaks_key(&missing) {
         return Ok(Some((Rule::Key, missing)));
     }
@@ -158,8 +161,8 @@ fn settled(grounds: Grounds, judged: Option<(Rule, Missing)>) -> Verdict
     }
 }
 
-/// Decides a call that breaks no early rule. Want of memory comes only where none of P7 to P13 is
-/// broken.
+/// Decides a call that breaks no early rule. Want of memory comes only where none of P7 to P13,
+/// P16 and P17 is broken.
 pub fn decide<S: Space>(
     space: &mut S,
     alloc: Global,

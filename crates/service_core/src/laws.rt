@@ -4,13 +4,14 @@ ghost use Rattle.service_core.specs.Blind.{CallIsBlind, RunIsBlind};
 ghost use Rattle.service_core.specs.Stale.{StaleIsRefused};
 ghost use Rattle.service_core.specs.Step.{StepsKeep};
 
-/// After each call, an entity stands under its own kind and id, where each did so before.
+/// After each call, an entity stands under its own kind and id, a subscription under its own id, and
+/// no index is over the serial, where it was so before.
 pub fn steps_keep()
     ensures { StepsKeep }
 {}
 
-/// What a supplier's call is told, and what it leaves, does not depend on the OVNs of what
-/// others manage, where its key knows as much of them.
+/// What a supplier's call is told, and what it leaves, does not depend on the OVNs and versions of
+/// what others manage, where its key knows as much of them.
 pub fn call_is_blind()
     ensures { CallIsBlind }
 {}

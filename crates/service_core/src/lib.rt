@@ -13,3 +13,4 @@ mod made;
 mod needed;
 pub mod reply;
 pub mod service;
+mod sub_effects;

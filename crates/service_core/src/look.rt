@@ -1,14 +1,15 @@
 //! Looks at a space, before a call is judged and its answer made.
-ghost use Rattle.std.specs.Prelude.{◌≡◌, ◌≢◌, ◌<◌, Err, IfOk, List, length, option_map, map, unwrap_or, []};
+ghost use Rattle.std.specs.Prelude.{◌≡◌, ◌≢◌, ◌<◌, Err, IfOk, List, length, map, unwrap_or, []};
 ghost use Rattle.std.specs.List.{All, filter_map, slice_get};
 ghost use Rattle.std.specs.FinMap.{get};
 ghost use Rattle.entity_core.specs.Airspace.{Airspace, availability_of};
 ghost use Rattle.entity_core.specs.declared.entity.Entity.{Entity};
 ghost use Rattle.policy_core.specs.Missing.{missing_from};
-ghost use Rattle.policy_core.specs.Standing.{found_of, kept_of};
+ghost use Rattle.policy_core.specs.Call.{subject_of};
+ghost use Rattle.policy_core.specs.Standing.{depended_of, found_of, is_some_of, kept_of, lent_entity, lent_facts, lent_stated, lent_sub, sub_under};
 ghost use Rattle.policy_core.specs.View.{view_of};
 ghost use Rattle.space_core.specs.Met.{met_in, met_of};
-ghost use Rattle.service_core.specs.Looks.{Looks, IsGround};
+ghost use Rattle.service_core.specs.Looks.{Looks, IsGround, facts_in};
 
 use crate::halt::Halt;
 use entity_core::availability::Availability;
@@ -16,11 +17,13 @@ use entity_core::entity::Entity;
 use entity_core::entity_id::EntityId;
 use entity_core::nature::Kind;
 use entity_core::ovn::Ovn;
+use entity_core::subscription::Sub;
 use entity_core::uss_id::UssId;
 use grid_core::volume::Area;
 use policy_core::call::Operation;
 use policy_core::missing::missing;
 use policy_core::reference::{Reference, References, view};
+use policy_core::standing::Facts;
 use space_core::met::Met;
 use space_core::space::Space;
 use std::alloc::{AllocError, Global};
@@ -31,12 +34,26 @@ pub struct Grounds {
     pub found: Option<Entity>,
     pub kept: Option<(Availability, Ovn)>,
     pub serial: u64,
+    pub sub: Option<Sub>,
+    pub depended: bool,
 }
 
 impl Grounds {
-    /// The entity, lent.
-    pub fn entity(&self) -> Option<&Entity>
-        ensures { option_map (λ e. e.now) result ≡ self.now.found }
+    /// All of it, lent.
+    pub fn facts(&self) -> Facts<'_>
+        ensures { lent_facts result ≡ facts_in self.now }
+    {
+        Facts {
+            found: self.entity(),
+            avail: self.stated(),
+            serial: self.serial,
+            sub: self.subscription(),
+            depended: self.depended,
+        }
+    }
+
+    fn entity(&self) -> Option<&Entity>
+        ensures { lent_entity result ≡ self.now.found }
     {
         match &self.found {
             Some(entity) => Some(entity),
@@ -44,12 +61,20 @@ impl Grounds {
         }
     }
 
-    /// What is kept of the supplier, lent.
-    pub fn stated(&self) -> Option<(Availability, &Ovn)>
-        ensures { option_map (λ x. (x.0, x.1.now)) result ≡ self.now.kept }
+    fn stated(&self) -> Option<(Availability, &Ovn)>
+        ensures { lent_stated result ≡ self.now.kept }
     {
         match &self.kept {
             Some((availability, version)) => Some((*availability, version)),
+            None => None,
+        }
+    }
+
+    fn subscription(&self) -> Option<&Sub>
+        ensures { lent_sub result ≡ self.now.sub }
+    {
+        match &self.sub {
+            Some(sub) => Some(sub),
             None => None,
         }
     }
@@ -87,6 +112,50 @@ fn look_serial<S: Space>(space: &mut S) -> Result<u64, Halt>
     Ok(space.serial()?)
 }
 
+fn subject_of(op: &Operation) -> Option<EntityId>
+    ensures { result ≡ subject_of op.now }
+{
+    match op {
+        Operation::ReadSub(id) => Some(*id),
+        Operation::CreateSub(id, _) => Some(*id),
+        Operation::UpdateSub(id, _, _) => Some(*id),
+        Operation::DeleteSub(id, _) => Some(*id),
+        Operation::Create(_, put) => put.nature.subscription(),
+        Operation::Update(_, _, put) => put.nature.subscription(),
+        _ => None,
+    }
+}
+
+fn look_sub<S: Space>(space: &mut S, named: Option<EntityId>) -> Result<Option<Sub>, Halt>
+    ensures looks { Looks S.Space space.old space.new result (λ a sub. sub ≡ sub_under a named) }
+    ensures memory { result ≢ Err Halt.NoMemory }
+{
+    match named {
+        Some(id) => Ok(space.subscription(id)?),
+        None => Ok(None),
+    }
+}
+
+fn are_some(ids: &[EntityId]) -> bool
+    ensures { result ≡ is_some_of ids.now }
+{
+    !ids.is_empty()
+}
+
+fn look_depended<S: Space>(space: &mut S, op: &Operation) -> Result<bool, Halt>
+    ensures looks { Looks S.Space space.old space.new result
+        (λ a depended. depended ≡ depended_of a op.now) }
+    ensures memory { result ≢ Err Halt.NoMemory }
+{
+    match op {
+        Operation::DeleteSub(id, _) => {
+            let dependents = space.dependents(*id)?;
+            Ok(are_some(&dependents))
+        }
+        _ => Ok(false),
+    }
+}
+
 /// Looks up what the rules and the effect of an operation need. It takes no memory of its own.
 pub fn look<S: Space>(space: &mut S, op: &Operation) -> Result<Grounds, Halt>
     ensures looks { Looks S.Space space.old space.new result (IsGround op.now) }
@@ -95,10 +164,14 @@ pub fn look<S: Space>(space: &mut S, op: &Operation) -> Result<Grounds, Halt>
     let found = look_found(space, op)?;
     let kept = look_kept(space, op)?;
     let serial = look_serial(space)?;
+    let sub = look_sub(space, subject_of(op))?;
+    let depended = look_depended(space, op)?;
     Ok(Grounds {
         found,
         kept,
         serial,
+        sub,
+        depended,
     })
 }
 

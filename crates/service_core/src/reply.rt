@@ -7,6 +7,7 @@ use entity_core::text::Text;
 use entity_core::uss_id::UssId;
 use policy_core::reference::{Missing, Reference, References};
 use policy_core::rule::Rule;
+use policy_core::sub_view::{SubView, SubViews};
 
 /// The answer to a call that broke no rule.
 #[derive(Debug, Drop)]
@@ -21,6 +22,13 @@ pub enum Answer {
     Listed(Kind, References),
     /// A supplier's availability, and its version: that of its last setting, or the empty text.
     Avail(UssId, Availability, Text),
+    /// A subscription is kept now; the references of the intents and of the constraints that it is
+    /// for and that meet its volume, each by rising ids.
+    SubStored(SubView, References, References),
+    /// A subscription, as it is or as it was before its deletion.
+    SubFound(SubView),
+    /// The caller's subscriptions that meet an area, by rising ids.
+    SubListed(SubViews),
 }
 
 /// The reply to a call.

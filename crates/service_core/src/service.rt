@@ -72,7 +72,7 @@ fn allowed<S: Space>(
 ) -> Reply
     requires caller { call.now.caller ≡ Some caller.now }
     requires early { (a : Airspace) → find (breaks a now call.now) early_rules ≡ None }
-    requires ready { IsReady call.now.op grounds.now.found }
+    requires ready { IsReady call.now.op grounds.now.found grounds.now.sub }
     requires given { S.is_sound space.old → (a : Airspace) → S.holds space.old a
         → Judges now call.now a (Verdict.Allowed grounds.now) }
     ensures { Answers S.Space salt.now now call.now space.old space.new result }
@@ -157,12 +157,12 @@ impl<S: Space + Drop> Service<S> {
     ///
     /// After `Fault` (want of memory, or the space answered `Unchanged`) the content is as before.
     /// It does not come for a call that breaks one of P1 to P6, and for one that breaks one of P7
-    /// to P13 only where the space's count of refusals rose, or is at its greatest. `Stopped` comes
-    /// for the call in which the space answered `Broken`, and for each call after it. A call that
-    /// breaks one of P1 to P6 is denied without memory, and the space is not asked.
+    /// to P13, P16 or P17 only where the space's count of refusals rose, or is at its greatest.
+    /// `Stopped` comes for the call in which the space answered `Broken`, and for each call after
+    /// it. A call that breaks one of P1 to P6 is denied without memory, and the space is not asked.
     ///
     /// A put that needs to know an entity, and whose key has OVNs of other serials alone, is not
-    /// done: it is denied by one of P1 to P14, and where it is P14, the entity is listed.
+    /// done: it is denied by one of P1 to P14 or by P16, and where it is P14, the entity is listed.
     pub fn call(&mut self, alloc: Global, now: u64, call: &Call) -> Reply
         ensures reply { IsReplyTo S.Space self.old self.new now call.now result }
         ensures stale { is_shut self.old ≡ false → S.is_sound (space_of self.new)
@@ -189,8 +189,9 @@ impl<S: Space + Drop> Service<S> {
     ///
     /// Where the space was empty and nothing stopped: of two entities that meet in the end, where
     /// the later one is an intent that is planned or flown as planned, the last put of the later
-    /// one had the OVN of the other in its key (that of a constraint, if its caller processes
-    /// constraints; that of an intent that was only planned then, if its manager was not down).
+    /// one had the OVN of the other in its key (that of a constraint, if it named a subscription
+    /// that was for constraints, or none and its caller processes them; that of an intent that was
+    /// only planned then, if its manager was not down).
     pub fn run(&mut self, alloc: Global, calls: &[(u64, Call)]) -> Result<Vec<Reply>, AllocError>
         ensures none_made { OnErr result (self.new ≡ self.old) }
         ensures answered { IfOk result (λ replies.

@@ -1,5 +1,5 @@
--- What is found among the entities of an airspace comes by rising ids.
-use Rattle.std.specs.Prelude.{◌≡◌, ℕ, ◌&&◌, Bool, true, false, cond, T, List, [], ◌∷◌, map, filter, Some, None, refl}
+-- What is found among the entities and the subscriptions of an airspace comes by rising ids.
+use Rattle.std.specs.Prelude.{◌≡◌, ℕ, nat_eq, ◌&&◌, Bool, true, false, cond, T, List, [], ◌∷◌, map, filter, Some, None, refl}
 use Rattle.std.proofs.Common.{sym, ap, ◌∙◌}
 use Rattle.std.specs.List.{AllByRecursion}
 use Rattle.std.specs.List.Sorted.{IsStrictlySortedBy}
@@ -9,13 +9,18 @@ use Rattle.std.specs.declared.cmp.Ordering.TheVariants.{Less}
 use Rattle.std.specs.FinMap as maps
 use Rattle.std.specs.FinMap.{entries, entries_sorted, get-entries}
 use Rattle.std.specs.FinMap.Entries.{below_all, is_sorted}
-use Rattle.std.proofs.lemmas.Cmp.{eq_by_cmp_equiv}
+use Rattle.std.proofs.lemmas.Cmp.{eq_by_cmp_equiv, nat_cmp_total}
 use Rattle.grid_core.specs.Extent.{any_meet}
 use Rattle.entity_core.specs.Airspace.{Airspace, EntityKey, IsAirspace, key_cmp, key_of}
 use Rattle.entity_core.specs.declared.entity.Entity.{Entity}
+use Rattle.entity_core.specs.declared.subscription.Sub.{Sub}
+use Rattle.entity_core.specs.declared.nature.Nature.{Nature}
+use Rattle.entity_core.specs.declared.nature.Nature.TheVariants as natures
+use Rattle.entity_core.specs.Entity.{kind_index, kind_of, subscription_of}
+use Rattle.entity_core.proofs.Changes.{one_id}
 use Rattle.entity_core.specs.declared.nature.Kind.{Kind}
 use Rattle.entity_core.specs.declared.nature.Kind.TheVariants.{Intent, Constraint}
-use Rattle.entity_core.specs.Search.{FoundInOrder, all_in, has_kind, is_not, is_sought, meeting_in}
+use Rattle.entity_core.specs.Search.{FoundInOrder, all_in, dependents_in, has_kind, is_id, is_naming, is_not, is_own_near, is_sought, meeting_in, subscriptions_in}
 use Rattle.entity_core.proofs.Keys.{key_total, one_key}
 use Rattle.space_core.proofs.Maps.{first, second, less, sorted_kept}
 
@@ -72,28 +77,85 @@ all_kept P test [] all = tt
 all_kept P test (e ∷ es) all =
     elim (test e) as (λ b. AllByRecursion P (cond b (e ∷ filter test es) (filter test es))) [ true ↦ (all.0, all_kept P test es all.1) | false ↦ all_kept P test es all.1 ]
 
-all_pass : (P : EntityKey × Entity → Type 0) (test : EntityKey × Entity → Bool) → ((e : EntityKey × Entity) → test e ≡ true → P e) → (es : List (EntityKey × Entity)) → AllByRecursion P (filter test es)
-all_pass P test f [] = tt
-all_pass P test f (e ∷ es) =
-    elim (test e) as (λ b. test e ≡ b → AllByRecursion P (cond b (e ∷ filter test es) (filter test es))) [ true ↦ λ t. (f e t, all_pass P test f es) | false ↦ λ t. all_pass P test f es ] refl
-
 first_true : (a b : Bool) → (a && b) ≡ true → a ≡ true
 first_true true b h = refl
 first_true false b h = cc
 
+-- those that pass a test, where all bear their own keys
+all_own_pass : (P : EntityKey × Entity → Type 0) (test : EntityKey × Entity → Bool) → ((e : EntityKey × Entity) → Own e → test e ≡ true → P e) → (es : List (EntityKey × Entity)) → AllByRecursion Own es → AllByRecursion P (filter test es)
+all_own_pass P test f [] own = tt
+all_own_pass P test f (e ∷ es) own =
+    elim (test e) as (λ b. test e ≡ b → AllByRecursion P (cond b (e ∷ filter test es) (filter test es))) [ true ↦ λ t. (f e own.0 t, all_own_pass P test f es own.1) | false ↦ λ t. all_own_pass P test f es own.1 ] refl
+
 -- of entries that bear their own keys, those of a kind that pass a test come by rising ids
-filtered : (kind : Kind) (test : EntityKey × Entity → Bool) → ((e : EntityKey × Entity) → test e ≡ true → has_kind kind e.0 ≡ true) → (a : Airspace) → IsAirspace a
+filtered : (kind : Kind) (test : EntityKey × Entity → Bool) → ((e : EntityKey × Entity) → Own e → test e ≡ true → has_kind kind e.0 ≡ true) → (a : Airspace) → IsAirspace a
     → IsStrictlySortedBy nat_cmp (map (λ e. e.id) (map (λ e. e.1) (filter test (entries a.entities))))
 filtered kind test f a proper =
     let es = entries a.entities in
     let sorted = entries_sorted a.entities in
+    let own = own_entries es sorted (λ k x h. proper.keyed k x (get-entries a.entities k ∙ h)) in
     rising kind (filter test es) (sorted_kept key_cmp test es sorted)
-    (all_kept Own test es (own_entries es sorted (λ k x h. proper.keyed k x (get-entries a.entities k ∙ h))))
-    (all_pass (λ e. has_kind kind e.0 ≡ true) test f es)
+    (all_kept Own test es own)
+    (all_own_pass (λ e. has_kind kind e.0 ≡ true) test f es own)
+
+-- what names a subscription is an intent
+naming_intent : (id : ℕ) (k : EntityKey) (nature : Nature) → kind_of nature ≡ k.0 → is_id id (subscription_of nature) ≡ true → has_kind Intent k ≡ true
+naming_intent id k (natures.Intent state named) is h = ap (λ (kind : Kind). nat_eq (kind_index kind) 0) (sym is)
+naming_intent id k natures.Constraint is h = cc
+
+-- ---- subscriptions
+
+-- an entry bears its own id
+abbrev OwnId : ℕ × Sub → Type 0
+OwnId s = s.1.id ≡ s.0
+
+no_sub_below : (q : ℕ) (ss : List (ℕ × Sub)) → T (below_all nat_cmp q ss) → maps.find nat_cmp q ss ≡ None
+no_sub_below q [] h = refl
+no_sub_below q (s ∷ ss) h =
+    ap (λ (r : Ordering). cond (is_eq r) (Some s.1) (maps.find nat_cmp q ss)) (less (nat_cmp q s.0) (first _ _ h))
+    ∙ no_sub_below q ss (second (is_lt (nat_cmp q s.0)) _ h)
+
+own_subs : (ss : List (ℕ × Sub)) → T (is_sorted nat_cmp ss) → ((k : ℕ) (x : Sub) → maps.find nat_cmp k ss ≡ Some x → x.id ≡ k) → AllByRecursion OwnId ss
+own_subs [] s own = tt
+own_subs (e ∷ ss) s own =
+    let later : (k : ℕ) (x : Sub) → maps.find nat_cmp k ss ≡ Some x → eq_by_cmp nat_cmp k e.0 ≡ false = λ k x h.
+    elim (eq_by_cmp nat_cmp k e.0) as (λ b. eq_by_cmp nat_cmp k e.0 ≡ b → b ≡ false) [
+      | true ↦ λ t. let n : None ≡ Some x = sym (no_sub_below e.0 ss (first _ _ s)) ∙ (ap (λ (q : ℕ). maps.find nat_cmp q ss) (sym (one_id k e.0 t)) ∙ h) in cc
+      | false ↦ λ t. refl
+    ] refl in (
+      own e.0 e.1 (ap (λ (b : Bool). cond b (Some e.1) (maps.find nat_cmp e.0 ss)) ((eq_by_cmp_equiv nat_cmp_total).refl e.0)),
+      own_subs ss (second (below_all nat_cmp e.0 ss) _ s) (λ k x h. own k x (ap (λ (b : Bool). cond b (Some e.1) (maps.find nat_cmp k ss)) (later k x h) ∙ h)),
+    )
+
+sub_ids_below : (e : ℕ × Sub) (ss : List (ℕ × Sub)) → T (below_all nat_cmp e.0 ss) → OwnId e → AllByRecursion OwnId ss → AllByRecursion (λ n. nat_cmp e.1.id n ≡ Less) (map (λ f. f.id) (map (λ f. f.1) ss))
+sub_ids_below e [] s own all = tt
+sub_ids_below e (f ∷ ss) s own all = (
+  ap (λ (n : ℕ). nat_cmp n f.1.id) own ∙ (ap (λ (n : ℕ). nat_cmp e.0 n) all.0 ∙ less (nat_cmp e.0 f.0) (first _ _ s)),
+  sub_ids_below e ss (second (is_lt (nat_cmp e.0 f.0)) _ s) own all.1,
+)
+
+rising_subs : (ss : List (ℕ × Sub)) → T (is_sorted nat_cmp ss) → AllByRecursion OwnId ss → IsStrictlySortedBy nat_cmp (map (λ e. e.id) (map (λ e. e.1) ss))
+unfolding IsStrictlySortedBy
+rising_subs [] s own = tt
+rising_subs (e ∷ ss) s own = (sub_ids_below e ss (first _ _ s) own.0 own.1, rising_subs ss (second (below_all nat_cmp e.0 ss) _ s) own.1)
+
+subs_kept : (test : ℕ × Sub → Bool) (ss : List (ℕ × Sub)) → AllByRecursion OwnId ss → AllByRecursion OwnId (filter test ss)
+subs_kept test [] all = tt
+subs_kept test (e ∷ ss) all =
+    elim (test e) as (λ b. AllByRecursion OwnId (cond b (e ∷ filter test ss) (filter test ss))) [ true ↦ (all.0, subs_kept test ss all.1) | false ↦ subs_kept test ss all.1 ]
+
+filtered_subs : (test : ℕ × Sub → Bool) (a : Airspace) → IsAirspace a → IsStrictlySortedBy nat_cmp (map (λ e. e.id) (map (λ e. e.1) (filter test (entries a.subscriptions))))
+filtered_subs test a proper =
+    let ss = entries a.subscriptions in
+    let sorted = entries_sorted a.subscriptions in
+    rising_subs (filter test ss) (sorted_kept nat_cmp test ss sorted)
+    (subs_kept test ss (own_subs ss sorted (λ k x h. proper.own k x (get-entries a.subscriptions k ∙ h))))
 
 pub found_in_order : (a : Airspace) → IsAirspace a → FoundInOrder a
-unfolding meeting_in all_in
+unfolding meeting_in all_in dependents_in subscriptions_in
 found_in_order a proper = record {
-  meeting = λ kind areas except. filtered kind (is_sought kind areas except) (λ e t. first_true (has_kind kind e.0) (is_not except e.0 && any_meet e.1.volumes areas) t) a proper;
-  all = λ kind. filtered kind (λ e. has_kind kind e.0) (λ e t. t) a proper;
+  meeting = λ kind areas except. filtered kind (is_sought kind areas except) (λ e own t. first_true (has_kind kind e.0) (is_not except e.0 && any_meet e.1.volumes areas) t) a proper;
+  all = λ kind. filtered kind (λ e. has_kind kind e.0) (λ e own t. t) a proper;
+  dependents = λ id. filtered Intent (is_naming id) (λ e own t. naming_intent id e.0 e.1.nature (ap (λ (q : EntityKey). q.0) own) t) a proper;
+  subscriptions = λ uss area. filtered_subs (is_own_near uss area) a proper;
 }

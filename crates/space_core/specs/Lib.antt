@@ -3,6 +3,7 @@ pub mod Space
 pub mod Sorted
 pub mod Entities
 pub mod Availabilities
+pub mod Subscriptions
 pub mod List
 pub mod Proper
 pub mod CellIndex

@@ -1,12 +1,14 @@
 -- What the calls of a space tell and leave.
-use Rattle.std.specs.Prelude.{◌≡◌, ℕ, ◌+◌, ◌<◌, Bool, true, IsSome, Result, Ok, Err, IfOk, OnOk, IsErrOf, min, MatchResult, ◌⊎◌, ◌↔◌}
+use Rattle.std.specs.Prelude.{◌≡◌, ℕ, ◌+◌, ◌<◌, ◌≤◌, Bool, true, [], Option, Some, None, IsSome, Result, Ok, Err, IfOk, OnOk, IsErrOf, min, MatchResult, ◌⊎◌, ◌↔◌}
 use Rattle.std.specs.FinMap.{get}
-use Rattle.entity_core.specs.Airspace.{Airspace, with_availability, with_entity, without_entity}
+use Rattle.entity_core.specs.Airspace.{Airspace, with_availability, with_entity, with_subscription, without_entity, without_subscription}
+use Rattle.entity_core.specs.Entity.{subscription_of}
+use Rattle.entity_core.specs.Search.{dependents_in}
 use Rattle.entity_core.specs.Serial.{greatest_serial}
 use Rattle.space_core.specs.declared.space.SpaceFault.{SpaceFault}
 use Rattle.space_core.specs.declared.space.SpaceFault.TheVariants.{Unchanged, Broken}
 use Rattle.space_core.specs.declared.space.Change.{Change}
-use Rattle.space_core.specs.declared.space.Change.TheVariants.{Put, Remove, Avail}
+use Rattle.space_core.specs.declared.space.Change.TheVariants.{Put, Remove, Avail, PutSub, RemoveSub}
 
 -- the greatest count
 abbrev pub greatest_count : ℕ
@@ -29,12 +31,23 @@ abbrev pub changed : Change → Airspace → Airspace
 changed (Put e) a = with_entity a e
 changed (Remove kind id) a = without_entity a (kind, id)
 changed (Avail uss availability version) a = with_availability a uss (availability, version)
+changed (PutSub s) a = with_subscription a s
+changed (RemoveSub id) a = without_subscription a id
 
--- when a change is due: what is put bears the new serial, and what is removed is there
+-- the subscription that is named is there
+abbrev pub HasNamed : Airspace → Option ℕ → Type 0
+HasNamed a None = Unit {0}
+HasNamed a (Some id) = IsSome (get a.subscriptions id)
+
+-- when a change is due: what is put bears the new serial, and what is removed is there; what an
+-- entity names is there, no index is over the new serial, and no intent names a subscription that
+-- is removed
 abbrev pub IsDue : Change → Airspace → Type 0
-IsDue (Put e) a = e.serial ≡ a.serial + 1
+IsDue (Put e) a = (e.serial ≡ a.serial + 1) × HasNamed a (subscription_of e.nature)
 IsDue (Remove kind id) a = IsSome (get a.entities (kind, id))
 IsDue (Avail uss availability version) a = Unit {0}
+IsDue (PutSub s) a = (s.serial ≡ a.serial + 1) × (s.index ≤ a.serial + 1)
+IsDue (RemoveSub id) a = IsSome (get a.subscriptions id) × (dependents_in a.entities id ≡ [])
 
 -- The change can be made in the airspace, and its serial can go on.
 pub record Fits (change : Change) (a : Airspace) : Type 0 where
@@ -46,6 +59,8 @@ abbrev pub IsRemoval : Change → Type 0
 IsRemoval (Put e) = ⊥
 IsRemoval (Remove kind id) = Unit {0}
 IsRemoval (Avail uss availability version) = ⊥
+IsRemoval (PutSub s) = ⊥
+IsRemoval (RemoveSub id) = Unit {0}
 
 -- what each call tells of its faults
 pub record Tells {T : Type 0} (refusals refusals' : ℕ) (broken broken' : Bool)

@@ -1,11 +1,11 @@
 //! Entities in the order of their kinds and ids.
-ghost use Rattle.std.specs.Prelude.{◌≡◌, not, false, [], OnOk, OnErr, IfOk, IfErr, Some, filter, length};
+ghost use Rattle.std.specs.Prelude.{◌≡◌, not, false, [], OnOk, OnErr, IfOk, IfErr, Some, filter, length, map};
 ghost use Rattle.std.specs.List.Sorted.{IsBinarySearchResult, IsSearchInRange};
 ghost use Rattle.std.specs.Ordering.{eq_by_cmp};
 ghost use Rattle.std.specs.FinMap.{find, get, insert, remove};
 ghost use Rattle.std.specs.FinMap.Entries.{put};
 ghost use Rattle.entity_core.specs.Airspace.{key_cmp, key_of};
-ghost use Rattle.entity_core.specs.Search.{has_kind, is_not, is_sought, meeting_in, all_in};
+ghost use Rattle.entity_core.specs.Search.{has_kind, is_naming, is_not, is_sought, meeting_in, all_in, dependents_in};
 ghost use Rattle.space_core.specs.Sorted.{keyed, Hit, Gap};
 ghost use Rattle.entity_core.specs.Entity.{kind_index};
 ghost use Rattle.entity_core.specs.declared.entity.Entity.{Entity};
@@ -152,6 +152,29 @@ fn all_of(alloc: Global, items: &[Entity], kind: Kind) -> Result<Vec<Entity>, Al
     Ok(wanted)
 }
 
+fn is_naming(entity: &Entity, id: EntityId) -> bool
+    ensures { result ≡ is_naming id (pair_of entity.now) }
+{
+    match entity.nature.subscription() {
+        Some(named) => named.is(id),
+        None => false,
+    }
+}
+
+// The ids of the intents that name a subscription.
+fn all_naming(alloc: Global, items: &[Entity], id: EntityId) -> Result<Vec<EntityId>, AllocError>
+    ensures { IfOk result (λ found. found.items ≡ map (λ e. e.id) (filter
+        (λ e. is_naming id (pair_of e)) items.now)) }
+{
+    let mut found = Vec::new(alloc);
+    for entity in items {
+        if is_naming(entity, id) {
+            found.push(entity.id)?;
+        }
+    }
+    Ok(found)
+}
+
 // The entity of a kind and the number of an id, if it is sought.
 fn wanted(
     alloc: Global,
@@ -259,6 +282,13 @@ impl Entities {
         ensures { IfOk result (λ found. found.items ≡ all_in (entity_map self.now) kind) }
     {
         all_of(alloc, &self.items, kind)
+    }
+
+    /// The ids of the intents that name a subscription, rising.
+    pub fn dependents(&self, alloc: Global, id: EntityId) -> Result<Vec<EntityId>, AllocError>
+        ensures { IfOk result (λ found. found.items ≡ dependents_in (entity_map self.now) id) }
+    {
+        all_naming(alloc, &self.items, id)
     }
 
     /// Puts an entity in the place of the one that has its kind and id, or among the others where

@@ -2,7 +2,7 @@
 ghost use Rattle.std.specs.Prelude.{◌≡◌, [], OnOk, OnErr, IfOk};
 ghost use Rattle.std.specs.FinMap.{get, insert, remove};
 ghost use Rattle.entity_core.specs.Airspace.{key_of};
-ghost use Rattle.entity_core.specs.Search.{meeting_in, all_in};
+ghost use Rattle.entity_core.specs.Search.{meeting_in, all_in, dependents_in};
 ghost use Rattle.space_core.specs.Entities.{entity_map};
 ghost use Rattle.space_core.specs.CellIndex.{AddsSought, AllMarked, IsIndexOf, FindsSoughtAmong};
 
@@ -191,6 +191,17 @@ impl IndexedEntities {
         ensures { IfOk result (λ found. found.items ≡ all_in (entity_map self.now) kind) }
     {
         self.entities.all(alloc, kind)
+    }
+
+    /// The ids of the intents that name a subscription, rising.
+    pub(crate) fn dependents(
+        &self,
+        alloc: Global,
+        id: EntityId,
+    ) -> Result<Vec<EntityId>, AllocError>
+        ensures { IfOk result (λ found. found.items ≡ dependents_in (entity_map self.now) id) }
+    {
+        self.entities.dependents(alloc, id)
     }
 
     /// Puts an entity in the place of the one that has its kind and id, or among the others where

@@ -2,7 +2,8 @@
 ghost use Rattle.entity_core.specs.Airspace.{Airspace, IsAirspace};
 ghost use Rattle.entity_core.specs.Search.{FoundInOrder};
 
-/// What is sought among entities, and all of a kind, comes by rising ids, and so each once.
+/// What is sought among entities, all of a kind, what names a subscription, and a supplier's
+/// subscriptions come by rising ids, and so each once.
 pub fn found_in_order()
     ensures { (a : Airspace) → IsAirspace a → FoundInOrder a }
 {}

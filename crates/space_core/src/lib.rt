@@ -7,5 +7,7 @@ pub mod entities;
 mod indexed;
 pub mod laws;
 pub mod list;
+mod lists;
 pub mod met;
 pub mod space;
+pub mod subscriptions;

@@ -1,39 +1,43 @@
-//! A space in memory: sorted lists of the entities and of what suppliers have set.
-ghost use Rattle.std.specs.Prelude.{◌≡◌, ◌≤◌, ℕ, false, ◌+◌, Ok, OnOk, OnErr, IfOk, map, min, IsOk};
+//! A space in memory: sorted lists of the entities, of the subscriptions and of what suppliers have
+//! set.
+ghost use Rattle.std.specs.Prelude.{◌≡◌, ◌≤◌, ℕ, false, ◌+◌, Ok, OnOk, OnErr, min, IsOk};
 ghost use Rattle.entity_core.specs.Airspace.{Airspace, IsAirspace, empty_at};
 ghost use Rattle.entity_core.specs.Serial.{greatest_serial};
-ghost use Rattle.space_core.specs.Availabilities.{availability_map};
-ghost use Rattle.space_core.specs.Met.{met_in, met_of};
-ghost use Rattle.space_core.specs.List.{airspace_of, content_of, refusals_of};
-ghost use Rattle.space_core.specs.Proper.{content_is_proper};
 ghost use Rattle.space_core.specs.Space.{Fits, IsRemoval, Tells, changed, greatest_count};
+ghost use Rattle.space_core.specs.Subscriptions.{AllTold};
 ghost use Rattle.space_core.specs.declared.space.SpaceFault.TheVariants.{Unchanged};
 ghost use Rattle.std.proofs.Common.{sym, ◌∙◌, refl, subst};
 
 use crate::availabilities::Availabilities;
 use crate::indexed::IndexedEntities;
+use crate::lists::{make, met_among};
 use crate::met::Met;
 use crate::space::{Change, Space, SpaceFault};
+use crate::subscriptions::Subscriptions;
 use entity_core::availability::Availability;
 use entity_core::entity::Entity;
 use entity_core::entity_id::EntityId;
 use entity_core::nature::Kind;
 use entity_core::ovn::Ovn;
+use entity_core::subscription::Sub;
 use entity_core::uss_id::UssId;
 use grid_core::volume::Area;
-use std::alloc::{AllocError, Global};
+use std::alloc::Global;
 
 /// An airspace in memory. It answers `Unchanged` for want of memory alone, and never `Broken`.
 #[derive(Debug, Drop)]
 pub struct ListSpace {
     alloc: Global,
     entities: IndexedEntities,
+    subscriptions: Subscriptions,
     availabilities: Availabilities,
     serial: u64,
     refusals: u64,
+    ghost told: { AllTold subscriptions serial },
 }
 
 impl ListSpace {
+    ghost use Rattle.space_core.specs.List.{content_of};
     ghost use Rattle.space_core.specs.Space.{IsContent};
 
     /// An empty airspace.
@@ -51,6 +55,7 @@ impl ListSpace {
         ListSpace {
             alloc,
             entities: IndexedEntities::new(alloc),
+            subscriptions: Subscriptions::new(alloc),
             availabilities: Availabilities::new(alloc),
             serial,
             refusals: 0,
@@ -69,6 +74,9 @@ impl ListSpace {
 }
 
 impl Space for ListSpace {
+    ghost use Rattle.space_core.specs.List.{content_of, refusals_of};
+    ghost use Rattle.space_core.specs.Proper.{content_is_proper};
+
     ghost holds = { λ s a. a ≡ content_of s };
 
     ghost is_sound = { λ _. Unit {0} };
@@ -127,6 +135,27 @@ impl Space for ListSpace {
         }
     }
 
+    fn subscription(&mut self, id: EntityId) -> Result<Option<Sub>, SpaceFault> {
+        match self.subscriptions.subscription(id) {
+            Ok(found) => Ok(found),
+            Err(_) => Err(self.refuse()),
+        }
+    }
+
+    fn subscriptions_of(&mut self, uss: &UssId, area: &Area) -> Result<Vec<Sub>, SpaceFault> {
+        match self.subscriptions.own(self.alloc, uss, area) {
+            Ok(found) => Ok(found),
+            Err(_) => Err(self.refuse()),
+        }
+    }
+
+    fn dependents(&mut self, id: EntityId) -> Result<Vec<EntityId>, SpaceFault> {
+        match self.entities.dependents(self.alloc, id) {
+            Ok(found) => Ok(found),
+            Err(_) => Err(self.refuse()),
+        }
+    }
+
     fn serial(&mut self) -> Result<u64, SpaceFault>
         ensures done { result ≡ Ok (content_of self.old).serial }
         ensures same { self.new ≡ self.old }
@@ -142,72 +171,17 @@ impl Space for ListSpace {
         ensures tells { Tells (refusals_of self.old) (refusals_of self.new) false false result }
         ensures removed { IsRemoval change → IsOk result }
     {
-        match make(&mut self.entities, &mut self.availabilities, change) {
+        match make(
+            &mut self.entities,
+            &mut self.subscriptions,
+            &mut self.availabilities,
+            change,
+        ) {
             Ok(()) => {
                 self.serial += 1;
                 Ok(())
             }
             Err(_) => Err(self.refuse()),
         }
-    }
-}
-
-// Entities, each with the present availability of its manager.
-fn with_availabilities(
-    alloc: Global,
-    availabilities: &Availabilities,
-    entities: Vec<Entity>,
-) -> Result<Vec<Met>, AllocError>
-    ensures { IfOk result (λ met. (a : Airspace)
-        → a.availabilities ≡ availability_map availabilities.now
-        → met.items ≡ map (met_of a) entities.items) }
-{
-    let mut met = Vec::with_capacity(alloc, entities.len())?;
-    for entity in entities {
-        let availability = availabilities.present(&entity.manager);
-        met.push(Met {
-            entity,
-            availability,
-        })?;
-    }
-    Ok(met)
-}
-
-// What is sought, with the availabilities of its managers.
-fn met_among(
-    alloc: Global,
-    entities: &IndexedEntities,
-    availabilities: &Availabilities,
-    kind: Kind,
-    areas: &[Area],
-    except: Option<EntityId>,
-) -> Result<Vec<Met>, AllocError>
-    ensures { IfOk result (λ met. (serial : ℕ) → met.items
-        ≡ met_in (airspace_of entities.now availabilities.now serial) kind areas.now except) }
-{
-    let found = entities.meeting(alloc, kind, areas, except)?;
-    with_availabilities(alloc, availabilities, found)
-}
-
-// Makes the change, but for the serial.
-fn make(
-    entities: &mut IndexedEntities,
-    availabilities: &mut Availabilities,
-    change: Change,
-) -> Result<(), AllocError>
-    ensures ok { OnOk result ((serial : ℕ)
-        → airspace_of entities.new availabilities.new (serial + 1)
-        ≡ changed change (airspace_of entities.old availabilities.old serial)) }
-    ensures same_entities { OnErr result (entities.new ≡ entities.old) }
-    ensures same_availabilities { OnErr result (availabilities.new ≡ availabilities.old) }
-    ensures removed { IsRemoval change → IsOk result }
-{
-    match change {
-        Change::Put(entity) => entities.put(entity),
-        Change::Remove(kind, id) => {
-            entities.remove(kind, id);
-            Ok(())
-        }
-        Change::Avail(uss, availability, version) => availabilities.put(uss, availability, version),
     }
 }

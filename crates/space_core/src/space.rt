@@ -1,7 +1,7 @@
 //! The trait of spaces: what its calls tell, read and change.
 ghost use Rattle.std.specs.Prelude.{◌≡◌, ℕ, Bool, false};
 ghost use Rattle.entity_core.specs.Airspace.{Airspace, IsAirspace};
-ghost use Rattle.entity_core.specs.Search.{all_in};
+ghost use Rattle.entity_core.specs.Search.{all_in, dependents_in, subscriptions_in};
 ghost use Rattle.std.specs.FinMap.{get};
 ghost use Rattle.space_core.specs.Met.{met_in};
 ghost use Rattle.space_core.specs.Space.{Tells, Reads, Changes, Fits, changed};
@@ -12,6 +12,7 @@ use entity_core::entity::Entity;
 use entity_core::entity_id::EntityId;
 use entity_core::nature::Kind;
 use entity_core::ovn::Ovn;
+use entity_core::subscription::Sub;
 use entity_core::uss_id::UssId;
 use grid_core::volume::Area;
 
@@ -28,12 +29,17 @@ pub enum SpaceFault {
 #[derive(Debug, Drop)]
 pub enum Change {
     /// The entity is kept, in the place of the one that has its kind and id. It bears the new
-    /// serial.
+    /// serial, and the subscription that it names is there.
     Put(Entity),
     /// The entity of the kind and the id, which is there, is not kept any more.
     Remove(Kind, EntityId),
     /// The supplier has the availability, under the version.
     Avail(UssId, Availability, Ovn),
+    /// The subscription is kept, in the place of the one that has its id. It bears the new serial,
+    /// and its index is at most that.
+    PutSub(Sub),
+    /// The subscription of the id, which is there and which no intent names, is not kept any more.
+    RemoveSub(EntityId),
 }
 
 /// A place where an airspace is kept.
@@ -91,6 +97,27 @@ pub trait Space {
             (is_broken self.old) (is_broken self.new) result }
         ensures reads { Reads holds is_sound is_whole self.old self.new result
             (λ a found. found ≡ get a.availabilities uss.now) };
+
+    /// The subscription of an id, if there is one.
+    fn subscription(&mut self, id: EntityId) -> Result<Option<Sub>, SpaceFault>
+        ensures tells { Tells (refusals self.old) (refusals self.new)
+            (is_broken self.old) (is_broken self.new) result }
+        ensures reads { Reads holds is_sound is_whole self.old self.new result
+            (λ a found. found ≡ get a.subscriptions id) };
+
+    /// The subscriptions of a supplier whose volumes meet an area: each once, by rising ids.
+    fn subscriptions_of(&mut self, uss: &UssId, area: &Area) -> Result<Vec<Sub>, SpaceFault>
+        ensures tells { Tells (refusals self.old) (refusals self.new)
+            (is_broken self.old) (is_broken self.new) result }
+        ensures reads { Reads holds is_sound is_whole self.old self.new result
+            (λ a found. found.items ≡ subscriptions_in a.subscriptions uss.now area.now) };
+
+    /// The ids of the intents that name a subscription, rising.
+    fn dependents(&mut self, id: EntityId) -> Result<Vec<EntityId>, SpaceFault>
+        ensures tells { Tells (refusals self.old) (refusals self.new)
+            (is_broken self.old) (is_broken self.new) result }
+        ensures reads { Reads holds is_sound is_whole self.old self.new result
+            (λ a found. found.items ≡ dependents_in a.entities id) };
 
     /// How many changes there were.
     fn serial(&mut self) -> Result<u64, SpaceFault>

@@ -1,3 +1,4 @@
+use Rattle.std.proofs.Common.{sym}
 use Rattle.entity_core.specs.Airspace.{empty_at}
 use Rattle.service_core.proofs.Looked.{looks_map, looks_none}
 use Rattle.service_core.proofs.Steps.{well_formed, makes_create, makes_update, makes_delete, makes_set}
@@ -6,7 +7,7 @@ use Rattle.service_core.proofs.effects.prepared.Goals as goal
 pub unreachable-requires-in_default : goal.unreachable-requires-in_default
 unreachable-requires-in_default g c =
     well_formed (empty_at 0) c.args.now c.args.call.now.caller c.args.call.now.op (c.requires.early (empty_at 0))
-    c.in_default.not-Query c.in_default.not-Read c.in_default.not-Create c.in_default.not-Update c.in_default.not-Delete c.in_default.not-ReadAvail c.in_default.not-SetAvail
+    c.in_default.not-Query c.in_default.not-Read c.in_default.not-Create c.in_default.not-Update c.in_default.not-Delete c.in_default.not-ReadAvail c.in_default.not-SetAvail (sym c.if-is_about_sub.ensures)
 
 pub returns-in-Create : goal.returns-in-Create
 returns-in-Create g c =

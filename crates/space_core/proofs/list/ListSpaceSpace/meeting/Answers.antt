@@ -9,5 +9,5 @@ returns-in-Ok-clause-reads c = record {
   whole = λ s w. w;
   stays = λ s a h. h;
   no_other = λ s a h. h;
-  answer = λ s a h. c.in-Ok.ensures c.args.self.now.serial ∙ ap (λ (b : Airspace). met_in b c.args.kind c.args.areas.now c.args.except) (sym h);
+  answer = λ s a h. c.in-Ok.ensures c.args.self.now.subscriptions c.args.self.now.serial ∙ ap (λ (b : Airspace). met_in b c.args.kind c.args.areas.now c.args.except) (sym h);
 }

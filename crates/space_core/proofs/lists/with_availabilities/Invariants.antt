@@ -7,7 +7,7 @@ use Rattle.entity_core.specs.declared.availability.Availability.TheVariants.{Unk
 use Rattle.entity_core.specs.declared.entity.Entity.{Entity}
 use Rattle.space_core.specs.Availabilities.{availability_map}
 use Rattle.space_core.specs.declared.met.Met.{Met}
-use Rattle.space_core.proofs.list.with_availabilities.Given as goal
+use Rattle.space_core.proofs.lists.with_availabilities.Given as goal
 
 -- an entity with what a map has of its manager
 abbrev met_by : Availabilities → Entity → Met

@@ -1,0 +1,56 @@
+//! Notification indexes of subscriptions.
+ghost use Rattle.std.specs.Prelude.{◌≡◌, ◌≤◌, ◌<◌, IfSome, IfNone};
+ghost use Rattle.entity_core.specs.Serial.{greatest_serial};
+
+use crate::serial::GREATEST_SERIAL;
+use std::marker::Model;
+
+/// How many changes a subscription was told of, from 0 to the greatest serial (this project's
+/// profile). Contracts see the number.
+#[derive(Clone, Copy, Debug, PartialEq, Eq)]
+pub struct NotificationIndex {
+    number: u64,
+}
+
+impl Model for NotificationIndex {
+    ghost use Rattle.std.specs.Prelude.{ℕ, ◌≤◌};
+    ghost use Rattle.entity_core.specs.Serial.{greatest_serial};
+
+    ghost Value = { ℕ };
+
+    ghost view = { λ a. a.number };
+
+    ghost invariant = { λ a. a.number ≤ greatest_serial };
+
+    ghost inverse = { λ n. record { number = n } };
+}
+
+impl NotificationIndex {
+    /// That of a subscription which was created.
+    pub fn zero() -> NotificationIndex
+        ensures { result ≡ 0 }
+    {
+        NotificationIndex { number: 0 }
+    }
+
+    /// That of a number up to the greatest serial.
+    pub fn from_number(number: u64) -> Option<NotificationIndex>
+        ensures some { IfSome result (λ index. index ≡ number) }
+        ensures none { IfNone result (greatest_serial < number) }
+    {
+        if number <= GREATEST_SERIAL {
+            Some(NotificationIndex { number })
+        } else {
+            None
+        }
+    }
+
+    /// The number.
+    pub fn number(self) -> u64
+        ensures number { result ≡ self }
+        ensures most { self ≤ greatest_serial }
+    {
+        let NotificationIndex { number } = self;
+        number
+    }
+}

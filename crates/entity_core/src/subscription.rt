@@ -1,0 +1,48 @@
+//! Subscriptions: where a supplier is to be told of changes.
+ghost use Rattle.std.specs.Prelude.{◌≡◌, IfOk};
+
+use crate::base_url::BaseUrl;
+use crate::entity_id::EntityId;
+use crate::interest::Interest;
+use crate::notification_index::NotificationIndex;
+use crate::ovn::Ovn;
+use crate::serial::Serial;
+use crate::uss_id::UssId;
+use grid_core::volume::Volume;
+use std::alloc::AllocError;
+
+/// What is kept of a subscription. Its ids are apart from those of entities (all of it is this
+/// project's profile).
+#[derive(Debug, Drop)]
+pub struct Sub {
+    pub id: EntityId,
+    /// The supplier that created it, and alone may read and change it.
+    pub manager: UssId,
+    /// The OVN that goes with its serial.
+    pub version: Ovn,
+    /// The serial of its last put.
+    pub serial: Serial,
+    pub index: NotificationIndex,
+    pub volume: Volume,
+    /// Where its supplier is to be told.
+    pub url: BaseUrl,
+    pub interest: Interest,
+}
+
+impl Sub {
+    /// An equal subscription.
+    pub fn clone(&self) -> Result<Sub, AllocError>
+        ensures { IfOk result (λ sub. sub ≡ self.now) }
+    {
+        Ok(Sub {
+            id: self.id,
+            manager: self.manager.clone()?,
+            version: self.version.clone()?,
+            serial: self.serial,
+            index: self.index,
+            volume: self.volume.clone()?,
+            url: self.url.clone()?,
+            interest: self.interest,
+        })
+    }
+}

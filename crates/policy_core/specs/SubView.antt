@@ -1,0 +1,17 @@
+-- What a supplier sees of a subscription.
+use Rattle.std.specs.Prelude.{ℕ, List}
+use Rattle.entity_core.specs.declared.subscription.Sub.{Sub}
+use Rattle.policy_core.specs.declared.sub_view.SubView.{SubView}
+
+-- a subscription, with the ids of the intents that name it
+abbrev pub sub_view_of : Sub → List ℕ → SubView
+sub_view_of s dependents = record {
+  id = s.id;
+  version = s.version;
+  index = s.index;
+  interest = s.interest;
+  time_start = s.volume.time.0;
+  time_end = s.volume.time.1;
+  url = s.url;
+  dependents = dependents;
+}
