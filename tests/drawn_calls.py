@@ -4,14 +4,19 @@ import json
 
 import plain_policy
 import wire
-from plain_policy import CONSTRAINT, INTENT, NEXT_STATES, PATHS, STATES
+from plain_policy import CONSTRAINT, INTENT, NEXT_STATES, NO_SUBSCRIPTION, PATHS, STATES, SUBSCRIPTION
 
 NOW = 5_000
 SUPPLIERS = ("uss-a", "uss-b", "uss-c", "uss-v")
 TOKENS = tuple(wire.TOKENS)
 # Tokens whose scopes open the changes of a kind, and those that open its readings.
-HANDLERS = {INTENT: ("tok-a", "tok-as", "tok-b", "tok-bm", "tok-bc"), CONSTRAINT: ("tok-c", "tok-d")}
-VIEWERS = {INTENT: HANDLERS[INTENT], CONSTRAINT: ("tok-bc", "tok-c", "tok-d")}
+HANDLERS = {
+    INTENT: ("tok-a", "tok-as", "tok-b", "tok-bm", "tok-bc"),
+    CONSTRAINT: ("tok-c", "tok-d"),
+    SUBSCRIPTION: ("tok-a", "tok-as", "tok-b", "tok-bc"),
+}
+VIEWERS = {INTENT: HANDLERS[INTENT], CONSTRAINT: ("tok-bc", "tok-c", "tok-d"), SUBSCRIPTION: HANDLERS[SUBSCRIPTION]}
+KINDS = (INTENT,) * 5 + (CONSTRAINT,) * 2 + (SUBSCRIPTION,) * 4
 # One more supplier of constraints, beside those of the worked examples.
 MORE = {"tok-d": ("uss-d", {wire.MANAGEMENT, wire.STRATEGIC})}
 ALL_TOKENS = {**wire.TOKENS, **MORE}
@@ -22,12 +27,13 @@ WORKS = (
 )
 # What is wrong, so often.
 FLAWS = {
-    "create": ["id"] * 5 + ["key"] * 4 + ["time"] * 2 + ["state"] * 3 + ["form", "scope", "cover"] + [None] * 13,
-    "update": ["id", "manager", "manager", "ovn", "ovn", "both"] + ["state"] * 6 + ["key"] * 5 + ["time"] * 2
-    + ["form", "scope", "cover"] + [None] * 11,
+    "create": ["id"] * 5 + ["key"] * 4 + ["time"] * 2 + ["state"] * 3 + ["form", "scope", "cover"]
+    + ["subscription"] * 2 + [None] * 13,
+    "update": ["id", "manager", "manager", "ovn", "ovn", "both"] + ["state"] * 9 + ["key"] * 5 + ["time"] * 2
+    + ["form", "scope", "cover"] + ["subscription"] * 2 + [None] * 11,
     "query": ["form", "scope", "cover"] + [None] * 9,
     "read": ["id", "id", "form", "scope", "nobody"] + [None] * 7,
-    "delete": ["id", "manager", "ovn", "both", "form", "scope"] + [None] * 10,
+    "delete": ["id", "manager", "ovn", "both", "form", "scope"] + ["depended"] * 8 + [None] * 10,
     "set": ["ovn", "form", "scope"] + [None] * 6,
     "told": ["form", "scope", "nobody"] + [None] * 6,
     "route": [None],
@@ -64,18 +70,21 @@ class Drawn:
         flaw = self.draw.of(FLAWS[work])
         if work == "route":
             paths = ("/dss/v1/nothing", f"{wire.INTENTS}/query/x", f"{wire.INTENTS}/", "/dss/v1/uss_availability/a/b")
+            paths += (f"{wire.SUBSCRIPTIONS}/query/x", f"{wire.SUBSCRIPTIONS}/", "/dss/v1/subscription/query")
             return self.of_method("GET", self.draw.of(paths), self.draw.of(TOKENS), None)
         if work == "method":
             calls = (
                 ("GET", f"{wire.INTENTS}/query"),
                 ("DELETE", f"{wire.AVAILABILITY}/uss-a"),
                 ("put", self.path(INTENT, 1)),
+                ("GET", f"{wire.SUBSCRIPTIONS}/query"),
+                ("DELETE", self.path(SUBSCRIPTION, 1)),
             )
             return self.of_method(*self.draw.of(calls), self.draw.of(TOKENS), None)
         if work in ("set", "told"):
             method, target, token, body = self.availability(work, flaw)
         else:
-            kind = CONSTRAINT if self.draw.one_in(4) else INTENT
+            kind = self.draw.of(KINDS)
             method, target, token, body = getattr(self, work)(kind, flaw)
         if flaw == "scope":
             token = self.draw.of(TOKENS)
@@ -95,11 +104,15 @@ class Drawn:
         return "/".join([PATHS[kind], digits.upper() if self.draw.one_in(8) else digits, *words])
 
     def kept(self, kind):
+        if kind == SUBSCRIPTION:
+            return [it for _, it in sorted(self.airspace.subscriptions.items())]
         return [it for (_, it) in sorted(self.airspace.entities.items()) if it.kind == kind]
 
     def target(self, kind, flaw):
         """An entity that is there, or where there is none or the id is to be wrong, a number of one that is not."""
         kept = self.kept(kind)
+        if flaw == "depended" and kind == SUBSCRIPTION:
+            kept = [it for it in kept if self.airspace.dependents(it.id)] or kept
         return self.draw.of(kept) if kept and flaw != "id" else None
 
     def free(self, kind):
@@ -175,6 +188,8 @@ class Drawn:
     # ---- what bodies are made of
 
     def put(self, kind, flaw, token, entity):
+        if kind == SUBSCRIPTION:
+            return self.sub_put(flaw, token)
         volumes = [self.volume(flaw) for _ in range(1 + self.draw.below(3))]
         urls = ("https://a.example", "u", 'https://b.example/"x"\\y')
         put = {"extents": volumes, "uss_base_url": self.draw.of(urls)}
@@ -183,7 +198,29 @@ class Drawn:
             put["key"] = self.key(flaw)
             if not put["key"] and self.draw.one_in(3):
                 put["key"] = None
+            named = self.named(flaw, token)
+            if named or self.draw.one_in(8):
+                put["subscription_id"] = named
         return put
+
+    def sub_put(self, flaw, token):
+        """What a subscription is to be; what the token's scopes do not allow, where the state is to be wrong."""
+        scopes = ALL_TOKENS[token][1]
+        put = {"extents": self.volume(flaw), "uss_base_url": self.draw.of(("https://a.example", "https://b.example"))}
+        for name, scope in (("operational_intents", wire.STRATEGIC), ("constraints", wire.PROCESSING)):
+            flag = self.draw.of((True, True, False, None))
+            if flag is not None:
+                put[f"notify_for_{name}"] = flag and (scope in scopes or flaw == "state")
+        return put
+
+    def named(self, flaw, token):
+        """The id of a subscription that an intent names, or nothing."""
+        kept = self.kept(SUBSCRIPTION)
+        own = [it.id for it in kept if it.manager == ALL_TOKENS[token][0]]
+        others = [it.id for it in kept if it.id not in own] + ["00000000-0000-4000-8000-0000000000a9"]
+        if flaw == "subscription":
+            return self.draw.of(others)
+        return self.draw.of((None, NO_SUBSCRIPTION)) if not own or self.draw.one_in(3) else self.draw.of(own)
 
     def state(self, flaw, token, entity):
         states = NEXT_STATES[entity.put.state] if entity and entity.kind == INTENT else STATES

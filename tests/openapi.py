@@ -201,6 +201,7 @@ def validator_of(schema):
 # body the name of another or members other than its, and words where they are not the examples of the path's.
 ANOTHER, THIRD = ({"entityid": f"00000000-0000-4000-8000-0000000000{it}"} for it in ("b1", "b2"))
 AT = {serial: {"ovn": wire.ovn(serial)} for serial in range(1, 4)}
+OTHER, VERSION = {"subscriptionid": "00000000-0000-4000-8000-0000000000d2"}, {"version": wire.ovn(2)}
 SCENES = [
     [
         ("createIntent", "tok-a", "201 created"),
@@ -252,6 +253,35 @@ SCENES = [
         ("setAvailability", "tok-v", "200 set-again", "again"),
         ("readAvailability", "tok-a", "200 was-set"),
     ],
+    [
+        ("createSubscription", "tok-bc", "200 created"),
+        ("createSubscription", "tok-bc", "409 P8"),
+        ("createSubscription", "tok-b", "403 P11", "both", OTHER),
+        ("querySubscriptions", "tok-b", "200 one", "cells"),
+        ("querySubscriptions", "tok-a", "200 none", "cells"),
+        ("querySubscriptions", "tok-b", "413 P6", {"area_of_interest": {"cells": ["1"]}}),
+        ("readSubscription", "tok-b", "200 alone"),
+        ("readSubscription", "tok-a", "403 P9"),
+        ("readSubscription", "tok-b", "404 P7", None, OTHER),
+        ("updateSubscription", "tok-a", "403 P9"),
+        ("updateSubscription", "tok-b", "404 P7", "intents", OTHER),
+        ("updateSubscription", "tok-b", "403 P11", {"notify_for_constraints": True}),
+        ("updateSubscription", "tok-b", "200 updated"),
+        ("updateSubscription", "tok-b", "409 P10"),
+        ("createIntent", "tok-a", "400 P16", "naming"),
+        ("createIntent", "tok-b", "201 naming", "naming", ANOTHER),
+        ("updateIntent", "tok-b", "400 P16", {"subscription_id": OTHER["subscriptionid"]}, ANOTHER | AT[3]),
+        ("readSubscription", "tok-b", "200 named"),
+        ("deleteSubscription", "tok-b", "409 P17", None, VERSION),
+        ("deleteSubscription", "tok-b", "409 P10"),
+        ("deleteSubscription", "tok-a", "403 P9", None, VERSION),
+        ("deleteSubscription", "tok-b", "404 P7", None, OTHER),
+    ],
+    [
+        ("createSubscription", "tok-bc", "200 created"),
+        ("updateSubscription", "tok-b", "200 updated"),
+        ("deleteSubscription", "tok-b", "200 deleted", None, VERSION),
+    ],
 ]
 # A token whose scopes open each operation.
 OPENED_BY = {
@@ -259,6 +289,8 @@ OPENED_BY = {
     **dict.fromkeys(("queryConstraints", "readConstraint"), "tok-c"),
     **dict.fromkeys(("createConstraint", "updateConstraint", "deleteConstraint"), "tok-c"),
     **dict.fromkeys(("readAvailability", "setAvailability"), "tok-v"),
+    **dict.fromkeys((f"{it}Subscription" for it in ("read", "create", "update", "delete")), "tok-bc"),
+    "querySubscriptions": "tok-bc",
 }
 # What makes a request break a rule of the wire.
 WIRES = {
@@ -284,7 +316,8 @@ def scenes(document):
 def with_volume(operation, **members):
     """The first example of a put with other members of its volume."""
     put = operation.first()
-    return put | {"extents": [put["extents"][0] | members]}
+    extents = put["extents"]
+    return put | {"extents": [extents[0] | members] if isinstance(extents, list) else extents | members}
 
 
 def early(operation):
@@ -304,10 +337,10 @@ def early(operation):
 
 
 def ended(document, name, creation):
-    """An update by which an entity would have ended."""
+    """An update by which an entity or a subscription would have ended."""
     operation, created = document.operations[name], document.operations[creation]
     request = operation.request(OPENED_BY[name], with_volume(operation, time_end=NOW))
-    first = next(it for it in created.answers if it.startswith("201"))
+    first = next(it for it in created.answers if it.startswith("20"))
     return [(created.request(OPENED_BY[creation]), creation, first), (request, name, "400 P13")]
 
 
@@ -317,6 +350,7 @@ def all_streams(document):
         yield [(request, name, example) for request, example in early(operation)]
     yield ended(document, "updateIntent", "createIntent")
     yield ended(document, "updateConstraint", "createConstraint")
+    yield ended(document, "updateSubscription", "createSubscription")
 
 
 def is_valid_answer(operation, example, text):

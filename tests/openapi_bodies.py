@@ -102,9 +102,12 @@ ALTITUDES, TIMES = ("altitude_lower", "altitude_upper"), ("time_start", "time_en
 
 
 def of_extents():
-    first = ("extents", 0)
+    wrong = [[], volumes(33), [None], [[]], ["x"], *NO_LISTS]
+    return [(("extents",), (wrong, [volumes(1), volumes(2), volumes(32)])), *of_volume(("extents", 0))]
+
+
+def of_volume(first):
     edits = [
-        (("extents",), ([[], volumes(33), [None], [[]], ["x"], *NO_LISTS], [volumes(1), volumes(2), volumes(32)])),
         ((*first, "cells"), ([[], cells(513), *NO_LISTS], [cells(2), cells(512)])),
         *of_tokens((*first, "cells", 0)),
         *of_bounds(first, ALTITUDES, -100_000, 1_000_000),
@@ -135,6 +138,10 @@ AREA = {"cells": [CELL], **dict.fromkeys(ALTITUDES + TIMES)}
 WHOLE = ((), ([[], None, 7, "x", True, {}], []))
 OF_CONSTRAINT = [WHOLE, *of_extents(), *of_urls(("uss_base_url",))]
 OF_QUERY = [WHOLE, *of_area()]
+ZERO = "00000000-0000-4000-8000-000000000000"
+NAMES = [ZERO, ZERO[:-1] + "1", "F81D4FAE-7dec-11d0-a765-00a0c91e6bf6"]
+NO_FLAGS = [0, 1, "true", [], {}]
+SUBSCRIBED = {"notify_for_operational_intents": True, "notify_for_constraints": False}
 
 BODIES = {
     "createIntent": Bodies({**CREATED, "key": [OVN], "state": "Accepted"}, [
@@ -144,7 +151,18 @@ BODIES = {
         (("key", 0), (["k" * 15, "k" * 129, *(15 * "k" + it for it in " \n\u007f\u00fc"), *NO_TEXTS],
                       ["k" * 16, "k" * 128, "!" * 16, "~" * 16])),
         (("more",), ([], [None, 7, "x", [1e3], {"cells": []}, nested(126)])),
+        (("subscription_id",), (["", "x", ZERO[1:], ZERO + "0", 7, True, [], {}], [None, *NAMES])),
     ]),
+    "createSubscription": Bodies({"extents": VOLUME, "uss_base_url": "https://b.example", **SUBSCRIBED}, [
+        WHOLE,
+        (("extents",), ([volumes(1), None, ABSENT, [], "x", 7], [VOLUME])),
+        *of_volume(("extents",)),
+        *of_urls(("uss_base_url",)),
+        (("notify_for_constraints",), (NO_FLAGS, [None, ABSENT, True])),
+        (("notify_for_operational_intents",), ([False, None, ABSENT, *NO_FLAGS], [])),
+        (("more",), ([], [None, 7, "x"])),
+    ]),
+    "querySubscriptions": Bodies({"area_of_interest": AREA}, OF_QUERY),
     "createConstraint": Bodies(CREATED, [*OF_CONSTRAINT, (("key",), ([], [7, "x"])), (("state",), ([], [1, "x"]))]),
     "queryIntents": Bodies({"area_of_interest": AREA}, OF_QUERY),
     "queryConstraints": Bodies({"area_of_interest": AREA}, OF_QUERY),
@@ -196,6 +214,8 @@ WORDS = [
     ("readIntent", "entityid", NO_UUIDS, UUIDS),
     ("readConstraint", "entityid", NO_UUIDS, UUIDS),
     ("deleteIntent", "ovn", ["query", "k" * 15, "k" * 129], ["k" * 16, "k" * 128, "!" * 16, "~" * 16, "%20" * 6]),
+    ("readSubscription", "subscriptionid", NO_UUIDS, UUIDS),
+    ("deleteSubscription", "version", ["query", "k" * 15, "k" * 129], ["k" * 16, "k" * 128, "!" * 16, "~" * 16]),
     ("readAvailability", "uss_id", ["u" * 65, "a+b", "a%2Fb", "!"], ["u", "u" * 64, "A-z_0.9", "query", ".", "-"]),
 ]
 
@@ -206,7 +226,7 @@ OF_ANSWER = [
     ((*SEEN, "manager"), (["", "u" * 65, "a+b"], ["u", "u" * 64, "A-z_0.9"])),
     ((*SEEN, "ovn"), (["", "0" * 63, "0" * 65, "A" * 64, OVN], [ABSENT, "0" * 64, "9" * 64, "f" * 64])),
     ((*SEEN, "state"), (["accepted", None], list(STATES))),
-    ((*SEEN, "subscription_id"), ([UUID, None], [])),
+    ((*SEEN, "subscription_id"), (["", UUID.upper(), UUID[:-1], None], [UUID, ZERO])),
     ((*SEEN, "uss_availability"), (["Up", None], list(AVAILABILITIES))),
     ((*SEEN, "version"), ([0, 2_147_483_648, "1"], [1, 2_147_483_647])),
     *(((*SEEN, name), ([-1, LAST + 1, "0", None], [0, LAST])) for name in TIMES),

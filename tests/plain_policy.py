@@ -7,8 +7,8 @@ import json
 import wire
 from wire import ARBITRATION, MANAGEMENT, MONITORING, PROCESSING, STRATEGIC
 
-INTENT, CONSTRAINT = "operational_intent", "constraint"
-PATHS = {INTENT: wire.INTENTS, CONSTRAINT: wire.CONSTRAINTS}
+INTENT, CONSTRAINT, SUBSCRIPTION = "operational_intent", "constraint", "subscription"
+PATHS = {INTENT: wire.INTENTS, CONSTRAINT: wire.CONSTRAINTS, SUBSCRIPTION: wire.SUBSCRIPTIONS}
 STATES = ("Accepted", "Activated", "Nonconforming", "Contingent")
 NEXT_STATES = {
     "Accepted": STATES,
@@ -37,6 +37,8 @@ RULES = {
     11: (403, "ROLE"),
     12: (400, "CHANGE"),
     13: (400, "ENDED"),
+    16: (400, "SUBSCRIPTION"),
+    17: (409, "DEPENDED"),
     14: (409, "KEY"),
 }
 
@@ -162,9 +164,45 @@ class Put:
     key: tuple
     state: str
     url: str
+    subscription: str = None
+
+
+@dataclasses.dataclass(frozen=True)
+class SubPut:
+    """What a subscription is to be: where, and whether for intents and for constraints."""
+
+    extents: tuple
+    url: str
+    intents: bool
+    constraints: bool
+    state = None
+
+
+def flag_in(members, name):
+    value = members.get(name)
+    need(value is None or isinstance(value, bool))
+    return value is True
+
+
+def sub_put_of(body):
+    members = object_of(body)
+    url = members.get("uss_base_url")
+    need(isinstance(url, str) and is_visible(url, 1, 255))
+    flags = [flag_in(members, f"notify_for_{it}") for it in ("operational_intents", "constraints")]
+    need(any(flags))
+    return SubPut((extent_of(members.get("extents"), True),), url, *flags)
+
+
+def named_in(members):
+    """The subscription that the put of an intent names, or None."""
+    value = members.get("subscription_id")
+    need(value is None or isinstance(value, str))
+    return None if value is None or id_of(value) == NO_SUBSCRIPTION else id_of(value)
 
 
 def put_of(kind, body):
+    if kind == SUBSCRIPTION:
+        return sub_put_of(body)
     members = object_of(body)
     values = members.get("extents")
     need(isinstance(values, list) and 1 <= len(values) <= 32)
@@ -178,7 +216,7 @@ def put_of(kind, body):
     key = [] if key is None else key
     need(isinstance(key, list) and len(key) <= 4_096)
     need(members.get("state") in STATES)
-    return Put(extents, tuple(ovn_of(it) for it in key), members["state"], url)
+    return Put(extents, tuple(ovn_of(it) for it in key), members["state"], url, named_in(members))
 
 
 def setting_of(body):
@@ -231,6 +269,15 @@ class Entity:
     put: Put
 
 
+@dataclasses.dataclass(frozen=True)
+class Subscription:
+    id: str
+    manager: str
+    serial: int
+    index: int
+    put: SubPut
+
+
 # ---- what is asked
 
 
@@ -258,6 +305,8 @@ def openers(kind, work):
         return {STRATEGIC, MONITORING}
     if kind == CONSTRAINT:
         return {PROCESSING, MANAGEMENT} if work in ("query", "read") else {MANAGEMENT}
+    if kind == SUBSCRIPTION:
+        return {STRATEGIC, PROCESSING}
     return {ARBITRATION, STRATEGIC, MONITORING} if work == "read" else {ARBITRATION}
 
 
@@ -298,6 +347,7 @@ def asked_of(kind, work, words, body):
     if work == "query":
         return Asked(area=extent_of(object_of(body).get("area_of_interest"), False))
     id_ = id_of(words[0])
+    need(kind != SUBSCRIPTION or id_ != NO_SUBSCRIPTION or work in ("read", "delete"))
     ovn = ovn_of(words[1]) if len(words) == 2 else None
     return Asked(id=id_, ovn=ovn, put=put_of(kind, body) if work in ("create", "update") else None)
 
@@ -369,7 +419,8 @@ def breaks_fresh(airspace, call):
 
 # P9 MANAGER
 def breaks_manager(airspace, call):
-    return call.work in ("update", "delete") and airspace.found(call).manager != call.uss
+    works = ("read", "update", "delete") if call.kind == SUBSCRIPTION else ("update", "delete")
+    return call.work in works and airspace.found(call).manager != call.uss
 
 
 # P10 VERSION
@@ -381,6 +432,10 @@ def breaks_version(airspace, call):
 
 # P11 ROLE
 def breaks_role(_airspace, call):
+    put = call.asked.put
+    if call.kind == SUBSCRIPTION and put:
+        lacks = {STRATEGIC: put.intents, PROCESSING: put.constraints}
+        return any(it not in call.scopes for it, is_asked in lacks.items() if is_asked)
     state = call.asked.state()
     return state is not None and (STRATEGIC if state in STATES[:2] else MONITORING) not in call.scopes
 
@@ -395,6 +450,19 @@ def breaks_change(airspace, call):
 def breaks_ended(airspace, call):
     put = call.asked.put
     return put is not None and max(it.times[1] for it in put.extents) <= airspace.now
+
+
+# P16 SUBSCRIPTION
+def breaks_subscription(airspace, call):
+    if call.kind != INTENT or call.asked.put is None or call.asked.put.subscription is None:
+        return False
+    named = airspace.subscriptions.get(call.asked.put.subscription)
+    return named is None or named.manager != call.uss
+
+
+# P17 DEPENDED
+def breaks_depended(airspace, call):
+    return call.kind == SUBSCRIPTION and call.work == "delete" and bool(airspace.dependents(call.asked.id))
 
 
 # P14 KEY
@@ -416,6 +484,8 @@ BREAKS = {
     11: breaks_role,
     12: breaks_change,
     13: breaks_ended,
+    16: breaks_subscription,
+    17: breaks_depended,
     14: breaks_key,
 }
 
@@ -442,7 +512,7 @@ class Airspace:
     def __init__(self, now, tokens=None, salt=wire.SALT):
         self.now, self.salt = now, salt
         self.tokens = wire.TOKENS if tokens is None else tokens
-        self.entities, self.settings, self.serial = {}, {}, 0
+        self.entities, self.subscriptions, self.settings, self.serial = {}, {}, {}, 0
 
     def ask(self, method, target, authorization=None, body=b""):
         """Answers a request, and keeps what it changes."""
@@ -450,7 +520,8 @@ class Airspace:
         for rule, breaks in BREAKS.items():
             if breaks(self, call):
                 return self.denial(rule, call)
-        status, value = getattr(self, f"{call.work}_{'entity' if call.kind else 'availability'}")(call)
+        what = {None: "availability", SUBSCRIPTION: "subscription"}.get(call.kind, "entity")
+        status, value = getattr(self, f"{call.work}_{what}")(call)
         return Outcome(status, wire.compact(value), (), (call.kind, call.work))
 
     def denial(self, rule, call):
@@ -464,7 +535,9 @@ class Airspace:
     # ---- what is kept
 
     def found(self, call):
-        """The entity that a call names, or None."""
+        """The entity or the subscription that a call names, or None."""
+        if call.kind == SUBSCRIPTION:
+            return self.subscriptions.get(call.asked.id)
         return self.entities.get((call.kind, call.asked.id))
 
     def ovn(self, entity):
@@ -489,7 +562,8 @@ class Airspace:
         if call.asked.state() in STATES[:2]:
             others = [it for it in self.all_meeting(INTENT, put.extents) if it.id != call.asked.id]
             needed[INTENT] = [it for it in others if not self.is_spared(it)]
-            if PROCESSING in call.scopes:
+            named = self.subscriptions.get(put.subscription)
+            if named.put.constraints if named else PROCESSING in call.scopes:
                 needed[CONSTRAINT] = self.all_meeting(CONSTRAINT, put.extents)
         return {
             kind: [self.view(call.uss, it) for it in all_ if self.ovn(it) not in put.key]
@@ -509,7 +583,7 @@ class Airspace:
         if entity.manager == uss:
             seen["ovn"] = self.ovn(entity)
         if entity.kind == INTENT:
-            seen |= {"state": entity.put.state, "subscription_id": NO_SUBSCRIPTION}
+            seen |= {"state": entity.put.state, "subscription_id": entity.put.subscription or NO_SUBSCRIPTION}
         return seen
 
     # ---- effects
@@ -551,3 +625,54 @@ class Airspace:
     def set_availability(self, call):
         self.settings[call.asked.uss] = call.asked.availability, wire.ovn(self.next(), self.salt)
         return self.read_availability(call)
+
+    # ---- subscriptions
+
+    def dependents(self, id_):
+        """The ids of the intents that name a subscription."""
+        return [it.id for (_, it) in sorted(self.entities.items()) if it.put.subscription == id_]
+
+    def sub_view(self, kept):
+        start, end = kept.put.extents[0].times
+        return {
+            "dependent_operational_intents": self.dependents(kept.id),
+            "id": kept.id,
+            "implicit_subscription": False,
+            "notification_index": kept.index,
+            "notify_for_constraints": kept.put.constraints,
+            "notify_for_operational_intents": kept.put.intents,
+            "time_end": end,
+            "time_start": start,
+            "uss_base_url": kept.put.url,
+            "version": self.ovn(kept),
+        }
+
+    def keep_subscription(self, call, manager, index):
+        put = call.asked.put
+        kept = Subscription(call.asked.id, manager, self.next(), index, put)
+        self.subscriptions[kept.id] = kept
+        value = {"subscription": self.sub_view(kept)}
+        for kind, is_asked in ((INTENT, put.intents), (CONSTRAINT, put.constraints)):
+            meeting = self.all_meeting(kind, put.extents) if is_asked else []
+            value[f"{kind}_references"] = [self.view(call.uss, it) for it in meeting]
+        return 200, value
+
+    def create_subscription(self, call):
+        return self.keep_subscription(call, call.uss, 0)
+
+    def update_subscription(self, call):
+        old = self.found(call)
+        return self.keep_subscription(call, old.manager, old.index)
+
+    def delete_subscription(self, call):
+        seen = self.sub_view(self.found(call))
+        del self.subscriptions[call.asked.id]
+        self.next()
+        return 200, {"subscription": seen}
+
+    def read_subscription(self, call):
+        return 200, {"subscription": self.sub_view(self.found(call))}
+
+    def query_subscription(self, call):
+        kept = [it for (_, it) in sorted(self.subscriptions.items()) if it.manager == call.uss]
+        return 200, {"subscriptions": [self.sub_view(it) for it in kept if some_meet(it.put.extents, [call.asked.area])]}

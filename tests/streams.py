@@ -11,7 +11,7 @@ from program import BUILT, TOP, first_difference, run, serve
 
 CLOSE = b"Connection: close\r\n"
 SEEDS = range(1, 31)
-MANGLED_SEEDS = range(101, 131)
+MANGLED_SEEDS = range(101, 171)
 LEAST = 10
 
 
@@ -66,7 +66,7 @@ def answered_as_drawn(name, seeds, is_mangled):
         works |= {it.why for it in outcomes if it.why not in RULES}
     print(f"{name}: {counts.total()}, of which are " + ", ".join(f"P{it} {counts[it]}" for it in RULES))
     rare = [it for it in [*RULES, *works] if counts[it] < LEAST]
-    return found + ([f"under {LEAST} of {rare}"] if rare or len(works) != 12 else [])
+    return found + ([f"under {LEAST} of {rare}"] if rare or len(works) != 17 else [])
 
 
 def said():

@@ -24,6 +24,7 @@ SALT = "demo"
 INTENTS = "/dss/v1/operational_intent_references"
 CONSTRAINTS = "/dss/v1/constraint_references"
 AVAILABILITY = "/dss/v1/uss_availability"
+SUBSCRIPTIONS = "/dss/v1/subscriptions"
 
 REASONS = {
     200: "OK",

@@ -33,7 +33,7 @@ kind_word kind.Constraint = codes "constraint"
 
 -- the state of an intent; a constraint has none
 abbrev pub state_word : Nature → List ℕ
-state_word (nature.Intent state) = state_name state
+state_word (nature.Intent state named) = state_name state
 state_word nature.Constraint = codes "-"
 
 -- kind, id, version and state, with a space between

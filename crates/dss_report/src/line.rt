@@ -31,7 +31,7 @@ fn state_word(nature: Nature) -> &'static str
     ensures { result.now ≡ state_word nature }
 {
     match nature {
-        Nature::Intent(state) => state.name(),
+        Nature::Intent(state, _) => state.name(),
         Nature::Constraint => "-",
     }
 }

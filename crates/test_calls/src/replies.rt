@@ -13,7 +13,7 @@ use wire_json::answer::{reply_text, status};
 // What others see of an intent that ends at the greatest number.
 fn endless(alloc: Global) -> Option<Reply> {
     Some(Reply::Done(Answer::Found(Reference {
-        nature: Nature::Intent(State::Activated),
+        nature: Nature::Intent(State::Activated, None),
         id: EntityId::read("F81D4FAE-7DEC-11D0-A765-00A0C91E6BF6").ok()?,
         manager: UssId::read(alloc, "uss_b.7").ok()?,
         availability: Availability::Down,

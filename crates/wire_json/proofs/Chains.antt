@@ -1,5 +1,7 @@
 -- Steps of a reading that has read something.
-use Rattle.std.proofs.Common.{◌≡◌, List, [], ◌∷◌, refl, subst, cond, Bool, true, false, Option, Some, None, option_map}
+use Rattle.std.proofs.Common.{◌≡◌, ◌≢◌, ℕ, List, [], ◌∷◌, refl, sym, ◌∙◌, subst, cond, Bool, true, false, Option, Some, None, option_map, nat_eq, arith}
+use Rattle.std.proofs.lemmas.Bool.{false≢true}
+use Rattle.std.proofs.lemmas.Bool.Decides.{nat_tests}
 use Rattle.std.specs.Prelude.{option_and_then}
 use Rattle.std.specs.List.{AllByRecursion}
 use Rattle.serde_json.specs.Data.{Data, Items, no_items, item}
@@ -26,6 +28,17 @@ passed false x y e = absurd (let h : ⊥ = cc in h)
 pub let_through : {A : Type 0} (b : Bool) (o : Option A) (y : A) → cond b o None ≡ Some y → (b ≡ true) × (o ≡ Some y)
 let_through true o y e = (refl, e)
 let_through false o y e = absurd (let h : ⊥ = cc in h)
+
+-- what is read unless it is one number is not that one
+pub unless_same : (z n m : ℕ) → cond (nat_eq n z) None (Some n) ≡ Some m → m ≢ z
+unless_same z n m e = λ same. by (nat_eq n z) refl e same
+  where
+    by : (c : Bool) → nat_eq n z ≡ c → cond c None (Some n) ≡ Some m → m ≡ z → ⊥
+    by true q x same = let h : ⊥ = cc in h
+    by false q x same =
+        let is : n ≡ z = cc in
+        let here : nat_eq n z ≡ true = grind (arith, nat_tests) in
+        false≢true (sym q ∙ here)
 
 -- what holds of each value that is read holds of all in a list
 pub each_holds : {A : Type 0} (read : Data → Option A) (P : A → Type 0) → ((d : Data) (x : A) → read d ≡ Some x → P x) → (ds : Items) (xs : List A) → each read ds ≡ Some xs → AllByRecursion P xs

@@ -4,7 +4,7 @@ use Rattle.serde_json.specs.Data.{Data}
 use Rattle.serde_json.specs.Read.{read}
 use Rattle.policy_core.specs.declared.call.OpKind.TheVariants as kinds
 use Rattle.policy_core.specs.declared.call.Operation.{Operation}
-use Rattle.wire_json.specs.Body.{Says, query_of, create_of, update_of, setting_of}
+use Rattle.wire_json.specs.Body.{Says, query_of, create_of, update_of, setting_of, sub_query_of, sub_create_of, sub_update_of}
 use Rattle.wire_json.specs.Laws.{AsksForOne}
 
 says_one : (form : Data → Option Operation) (bytes : List ℕ) (op other : Operation) → Says form bytes op → Says form bytes other → other ≡ op
@@ -23,3 +23,8 @@ asks_for_one_lem (kinds.Update kind) words bytes op other x y = says_one (update
 asks_for_one_lem (kinds.Delete kind) words bytes op other x y = cc
 asks_for_one_lem kinds.ReadAvail words bytes op other x y = cc
 asks_for_one_lem kinds.SetAvail words bytes op other x y = says_one (setting_of words) bytes op other x y
+asks_for_one_lem kinds.QuerySub words bytes op other x y = says_one (sub_query_of words) bytes op other x y
+asks_for_one_lem kinds.ReadSub words bytes op other x y = cc
+asks_for_one_lem kinds.CreateSub words bytes op other x y = says_one (sub_create_of words) bytes op other x y
+asks_for_one_lem kinds.UpdateSub words bytes op other x y = says_one (sub_update_of words) bytes op other x y
+asks_for_one_lem kinds.DeleteSub words bytes op other x y = cc

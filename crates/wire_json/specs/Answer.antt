@@ -4,19 +4,22 @@ use Rattle.std.specs.Fmt.{decimal}
 use Rattle.json.specs.Print.{quoted}
 use Rattle.entity_core.specs.Entity.{kind_of}
 use Rattle.entity_core.specs.declared.nature.Kind.{Kind}
+use Rattle.entity_core.specs.declared.nature.Kind.TheVariants.{Intent, Constraint}
 use Rattle.entity_core.specs.declared.availability.Availability.{Availability}
 use Rattle.policy_core.specs.declared.reference.Missing.{Missing}
 use Rattle.policy_core.specs.declared.reference.Reference.{Reference}
 use Rattle.policy_core.specs.declared.rule.Rule.{Rule}
 use Rattle.policy_core.specs.declared.rule.Rule.TheVariants.{Key}
+use Rattle.policy_core.specs.declared.sub_view.SubView.{SubView}
 use Rattle.policy_core.specs.Rule as rules
 use Rattle.service_core.specs.declared.reply.Answer.{Answer}
-use Rattle.service_core.specs.declared.reply.Answer.TheVariants.{Created, Changed, Found, Listed, Avail}
+use Rattle.service_core.specs.declared.reply.Answer.TheVariants.{Created, Changed, Found, Listed, Avail, SubStored, SubFound, SubListed}
 use Rattle.service_core.specs.declared.reply.Reply.{Reply}
 use Rattle.service_core.specs.declared.reply.Reply.TheVariants.{Done, Denied, Fault, Stopped}
 use Rattle.wire_json.specs.Availability.{name_of}
 use Rattle.wire_json.specs.Json.{object_text, array_text}
 use Rattle.wire_json.specs.Reference.{reference_name, references_name, reference_text, references_text}
+use Rattle.wire_json.specs.SubView.{sub_text, subs_text}
 
 -- an availability and its version
 abbrev pub availability_text : List ℕ → Availability → List ℕ → List ℕ
@@ -34,8 +37,7 @@ availability_text uss a version =
 abbrev pub found_text : Reference → List ℕ
 found_text r = object_text ((reference_name (kind_of r.nature), reference_text r) ∷ [])
 
--- The reference of an entity that was put or deleted. No subscriber is to be told of it: the
--- service keeps none.
+-- The reference of an entity that was put or deleted. No subscriber is to be told of it.
 abbrev pub changed_text : Reference → List ℕ
 changed_text r = object_text ((reference_name (kind_of r.nature), reference_text r)
     ∷ (codes "subscribers", array_text []) ∷ [])
@@ -44,6 +46,21 @@ changed_text r = object_text ((reference_name (kind_of r.nature), reference_text
 abbrev pub listed_text : Kind → List Reference → List ℕ
 listed_text kind rs = object_text ((references_name kind, references_text rs) ∷ [])
 
+-- a subscription that was put, with the references of what it is for and meets
+abbrev pub sub_stored_text : SubView → List Reference → List Reference → List ℕ
+sub_stored_text s intents constraints =
+    object_text
+    ((references_name Constraint, references_text constraints)
+    ∷ (references_name Intent, references_text intents)
+    ∷ (codes "subscription", sub_text s)
+    ∷ [])
+
+abbrev pub sub_found_text : SubView → List ℕ
+sub_found_text s = object_text ((codes "subscription", sub_text s) ∷ [])
+
+abbrev pub sub_listed_text : List SubView → List ℕ
+sub_listed_text ss = object_text ((codes "subscriptions", subs_text ss) ∷ [])
+
 -- the body of the answer to a call that broke no rule
 abbrev pub answer_text : Answer → List ℕ
 answer_text (Created r) = changed_text r
@@ -51,6 +68,9 @@ answer_text (Changed r) = changed_text r
 answer_text (Found r) = found_text r
 answer_text (Listed kind rs) = listed_text kind rs
 answer_text (Avail uss a version) = availability_text uss a version
+answer_text (SubStored s intents constraints) = sub_stored_text s intents constraints
+answer_text (SubFound s) = sub_found_text s
+answer_text (SubListed ss) = sub_listed_text ss
 
 -- a message
 abbrev pub message_text : List ℕ → List ℕ
@@ -88,6 +108,9 @@ answer_status (Changed r) = 200
 answer_status (Found r) = 200
 answer_status (Listed kind rs) = 200
 answer_status (Avail uss a version) = 200
+answer_status (SubStored s intents constraints) = 200
+answer_status (SubFound s) = 200
+answer_status (SubListed ss) = 200
 
 -- the status of the answer to a call
 abbrev pub status_of : Reply → ℕ

@@ -4,6 +4,7 @@ use Rattle.std.specs.Str.{bytes_eq}
 use Rattle.serde_json.specs.Data.{Data}
 use Rattle.serde_json.specs.Read.{read}
 use Rattle.serde_json.specs.Find.{as_str}
+use Rattle.grid_core.specs.Extent.{Region}
 use Rattle.entity_core.specs.EntityId.{spelled}
 use Rattle.entity_core.specs.IdTexts.{name_fault, ovn_fault}
 use Rattle.entity_core.specs.declared.availability.Availability.{Availability}
@@ -11,11 +12,13 @@ use Rattle.entity_core.specs.declared.nature.Kind.{Kind}
 use Rattle.policy_core.specs.declared.call.OpKind.{OpKind}
 use Rattle.policy_core.specs.declared.call.OpKind.TheVariants as kinds
 use Rattle.policy_core.specs.declared.call.Operation.{Operation}
-use Rattle.policy_core.specs.declared.call.Operation.TheVariants.{Query, Read, Create, Update, Delete, ReadAvail, SetAvail}
+use Rattle.policy_core.specs.declared.call.Operation.TheVariants.{Query, Read, Create, Update, Delete, ReadAvail, SetAvail, QuerySub, ReadSub, CreateSub, UpdateSub, DeleteSub}
 use Rattle.wire_json.specs.declared.body.PathWords.{PathWords}
 use Rattle.wire_json.specs.Availability.{availability_named}
 use Rattle.wire_json.specs.Member.{◌>>=◌, without_fault, required, optional}
+use Rattle.wire_json.specs.Naming.{unless_zero}
 use Rattle.wire_json.specs.Put.{put_of}
+use Rattle.wire_json.specs.SubPut.{sub_put_of}
 use Rattle.wire_json.specs.Volume.{area_in}
 
 -- ---- words
@@ -39,9 +42,9 @@ only_word words = unless_second words.first words.second
 abbrev pub is_query : Words → Bool
 is_query words = is_none words.second && bytes_eq words.first (codes "query")
 
--- the entity of a path that has no OVN
-unfoldable pub entity_named : Words → Option ℕ
-entity_named words = option_and_then spelled (only_word words)
+-- the id that the only word of a path is
+unfoldable pub id_named : Words → Option ℕ
+id_named words = option_and_then spelled (only_word words)
 
 -- the OVN that a path names
 unfoldable pub ovn_named : Words → Option (List ℕ)
@@ -70,15 +73,20 @@ old_version_of d = option_map (λ version. unwrap_or version []) (optional short
 
 -- ---- operations
 
+-- the area of a query
+unfoldable pub area_asked : Words → Data → Option Region
+area_asked words d =
+    if is_query words then required area_in (codes "area_of_interest") d else None
+
 unfoldable pub query_of : Kind → Words → Data → Option Operation
-query_of kind words d = if is_query words then option_map (Query kind) (required area_in (codes "area_of_interest") d) else None
+query_of kind words d = option_map (Query kind) (area_asked words d)
 
 unfoldable pub read_of : Kind → Words → Option Operation
-read_of kind words = option_map (Read kind) (entity_named words)
+read_of kind words = option_map (Read kind) (id_named words)
 
 unfoldable pub create_of : Kind → Words → Data → Option Operation
 create_of kind words d = do
-  id ← entity_named words
+  id ← id_named words
   put ← put_of kind d
   Some (Create id put)
 
@@ -105,6 +113,34 @@ setting_of words d = do
   version ← old_version_of d
   Some (SetAvail uss version availability)
 
+-- ---- operations of subscriptions
+
+unfoldable pub sub_query_of : Words → Data → Option Operation
+sub_query_of words d = option_map QuerySub (area_asked words d)
+
+unfoldable pub sub_read_of : Words → Option Operation
+sub_read_of words = option_map ReadSub (id_named words)
+
+-- the zero id is no subscription's
+unfoldable pub sub_create_of : Words → Data → Option Operation
+sub_create_of words d = do
+  id ← option_and_then unless_zero (id_named words)
+  put ← sub_put_of d
+  Some (CreateSub id put)
+
+unfoldable pub sub_update_of : Words → Data → Option Operation
+sub_update_of words d = do
+  id ← option_and_then unless_zero (spelled words.first)
+  ovn ← ovn_named words
+  put ← sub_put_of d
+  Some (UpdateSub id ovn put)
+
+unfoldable pub sub_delete_of : Words → Option Operation
+sub_delete_of words = do
+  id ← spelled words.first
+  ovn ← ovn_named words
+  Some (DeleteSub id ovn)
+
 -- ---- bodies
 
 -- the bytes are UTF-8, and JSON reads them as that value
@@ -125,3 +161,8 @@ IsBody (kinds.Update kind) words bytes op = Says (update_of kind words) bytes op
 IsBody (kinds.Delete kind) words bytes op = delete_of kind words ≡ Some op
 IsBody kinds.ReadAvail words bytes op = availability_read_of words ≡ Some op
 IsBody kinds.SetAvail words bytes op = Says (setting_of words) bytes op
+IsBody kinds.QuerySub words bytes op = Says (sub_query_of words) bytes op
+IsBody kinds.ReadSub words bytes op = sub_read_of words ≡ Some op
+IsBody kinds.CreateSub words bytes op = Says (sub_create_of words) bytes op
+IsBody kinds.UpdateSub words bytes op = Says (sub_update_of words) bytes op
+IsBody kinds.DeleteSub words bytes op = sub_delete_of words ≡ Some op

@@ -4,7 +4,10 @@ pub mod State
 pub mod Reference
 pub mod Member
 pub mod Volume
+pub mod Naming
 pub mod Put
+pub mod SubPut
+pub mod SubView
 pub mod Given
 pub mod Body
 pub mod Laws

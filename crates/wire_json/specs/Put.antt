@@ -12,6 +12,7 @@ use Rattle.entity_core.specs.declared.nature.Nature.{Nature}
 use Rattle.entity_core.specs.declared.nature.Nature.TheVariants as natures
 use Rattle.policy_core.specs.declared.call.Put.{Put}
 use Rattle.wire_json.specs.Member.{◌>>=◌, without_fault, required, optional, list_of}
+use Rattle.wire_json.specs.Naming.{naming_of}
 use Rattle.wire_json.specs.State.{state_named}
 use Rattle.wire_json.specs.Volume.{volume_in}
 
@@ -52,9 +53,12 @@ key_of kinds.Constraint d = Some []
 abbrev pub state_in : Data → Option State
 state_in d = option_and_then state_named (as_str d)
 
--- An intent says its state, and a constraint has none.
+-- An intent says its state and may name a subscription. A constraint has neither.
 unfoldable pub nature_of : Kind → Data → Option Nature
-nature_of kinds.Intent d = option_map natures.Intent (required state_in (codes "state") d)
+nature_of kinds.Intent d = do
+  state ← required state_in (codes "state") d
+  named ← naming_of d
+  Some (natures.Intent state named)
 nature_of kinds.Constraint d = Some natures.Constraint
 
 unfoldable pub volumes_of : Data → Option (List Extent)

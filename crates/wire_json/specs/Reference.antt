@@ -10,6 +10,7 @@ use Rattle.entity_core.specs.declared.nature.Nature.{Nature}
 use Rattle.entity_core.specs.declared.nature.Nature.TheVariants.{Intent, Constraint}
 use Rattle.policy_core.specs.declared.reference.Reference.{Reference}
 use Rattle.wire_json.specs.Json.{object_text, array_text}
+use Rattle.wire_json.specs.Naming.{naming_text}
 use Rattle.wire_json.specs.Availability as availabilities
 
 -- the name under which an answer has the reference of one entity
@@ -22,10 +23,6 @@ abbrev pub references_name : Kind → List ℕ
 references_name kinds.Intent = codes "operational_intent_references"
 references_name kinds.Constraint = codes "constraint_references"
 
--- The subscription that each intent is said to have: the service keeps none.
-abbrev pub no_subscription : List ℕ
-no_subscription = codes "00000000-0000-4000-8000-000000000000"
-
 -- the OVN, where the reader is shown it
 abbrev pub ovn_members : Option (List ℕ) → List (List ℕ × List ℕ)
 ovn_members None = []
@@ -33,8 +30,8 @@ ovn_members (Some ovn) = (codes "ovn", quoted ovn) ∷ []
 
 -- what references of one kind alone have
 abbrev pub nature_members : Nature → List (List ℕ × List ℕ)
-nature_members (Intent state) = (codes "state", quoted (state_name state))
-    ∷ (codes "subscription_id", quoted no_subscription) ∷ []
+nature_members (Intent state named) = (codes "state", quoted (state_name state))
+    ∷ (codes "subscription_id", quoted (naming_text named)) ∷ []
 nature_members Constraint = []
 
 -- the members of a reference, in byte order of their names

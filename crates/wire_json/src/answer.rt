@@ -2,14 +2,16 @@
 ghost use Rattle.std.specs.Prelude.{◌≡◌, IfOk, string_bytes};
 ghost use Rattle.serde_json.specs.View.{view};
 ghost use Rattle.wire_json.specs.Answer.{rule_words, reply_text, answer_status, status_of};
-ghost use Rattle.wire_json.specs.Built.{availability_data, found_data, changed_data, listed_data, answer_data, message_data, missing_data, denied_data, reply_data};
+ghost use Rattle.wire_json.specs.Built.{availability_data, found_data, changed_data, listed_data, sub_stored_data, sub_found_data, sub_listed_data, answer_data, message_data, missing_data, denied_data, reply_data};
 
 use crate::availability::name_of;
 use crate::reference::{reference_json, reference_name, references_json, references_name};
+use crate::sub_view::{sub_json, subs_json};
 use entity_core::availability::Availability;
 use entity_core::nature::Kind;
 use policy_core::reference::{Missing, Reference, References};
 use policy_core::rule::Rule;
+use policy_core::sub_view::{SubView, SubViews};
 use serde_json::{Value, json};
 use service_core::reply::{Answer, Reply};
 use std::alloc::{AllocError, Global};
@@ -36,7 +38,7 @@ fn found_json(alloc: Global, reference: &Reference) -> Result<Value, AllocError>
     json!(in alloc; {name: value})
 }
 
-/// The reference of an entity that was put or deleted. The service keeps no subscriptions.
+/// The reference of an entity that was put or deleted. Nobody is told of it.
 fn changed_json(alloc: Global, reference: &Reference) -> Result<Value, AllocError>
     ensures { IfOk result (λ v. view v ≡ changed_data reference.now) }
 {
@@ -54,6 +56,41 @@ fn listed_json(alloc: Global, kind: Kind, references: &References) -> Result<Val
     json!(in alloc; {name: values})
 }
 
+/// A subscription that was put, with the references of what it is for and meets.
+fn sub_stored_json(
+    alloc: Global,
+    sub: &SubView,
+    intents: &References,
+    constraints: &References,
+) -> Result<Value, AllocError>
+    ensures { IfOk result (λ v. view v ≡ sub_stored_data sub.now intents.now constraints.now) }
+{
+    let constraints = references_json(alloc, constraints)?;
+    let intents = references_json(alloc, intents)?;
+    let sub = sub_json(alloc, sub)?;
+    json!(in alloc; {
+        "constraint_references": constraints,
+        "operational_intent_references": intents,
+        "subscription": sub,
+    })
+}
+
+/// A subscription.
+fn sub_found_json(alloc: Global, sub: &SubView) -> Result<Value, AllocError>
+    ensures { IfOk result (λ v. view v ≡ sub_found_data sub.now) }
+{
+    let sub = sub_json(alloc, sub)?;
+    json!(in alloc; {"subscription": sub})
+}
+
+/// The subscriptions of a query.
+fn sub_listed_json(alloc: Global, subs: &SubViews) -> Result<Value, AllocError>
+    ensures { IfOk result (λ v. view v ≡ sub_listed_data subs.now) }
+{
+    let subs = subs_json(alloc, subs)?;
+    json!(in alloc; {"subscriptions": subs})
+}
+
 fn answer_json(alloc: Global, answer: &Answer) -> Result<Value, AllocError>
     ensures { IfOk result (λ v. view v ≡ answer_data answer.now) }
 {
@@ -65,6 +102,11 @@ fn answer_json(alloc: Global, answer: &Answer) -> Result<Value, AllocError>
         Answer::Avail(uss, availability, version) => {
             availability_json(alloc, uss.text(), *availability, version.text())
         }
+        Answer::SubStored(sub, intents, constraints) => {
+            sub_stored_json(alloc, sub, intents, constraints)
+        }
+        Answer::SubFound(sub) => sub_found_json(alloc, sub),
+        Answer::SubListed(subs) => sub_listed_json(alloc, subs),
     }
 }
 
@@ -142,6 +184,9 @@ fn answer_status(answer: &Answer) -> u16
         Answer::Found(_) => 200,
         Answer::Listed(_, _) => 200,
         Answer::Avail(_, _, _) => 200,
+        Answer::SubStored(_, _, _) => 200,
+        Answer::SubFound(_) => 200,
+        Answer::SubListed(_) => 200,
     }
 }
 

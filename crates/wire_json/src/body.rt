@@ -1,17 +1,23 @@
 //! What the words of a path and a body ask for.
-ghost use Rattle.std.specs.Prelude.{◌≡◌, IfOk, IfErr};
+ghost use Rattle.std.specs.Prelude.{◌≡◌, IfOk, IfErr, option_and_then};
 ghost use Rattle.serde_json.specs.Data.{Data};
 ghost use Rattle.serde_json.specs.View.{view};
-ghost use Rattle.wire_json.specs.Body.{IsBody, IsJson, Says, words_of, query_of, read_of, create_of, update_of, delete_of, availability_read_of, setting_of};
+ghost use Rattle.wire_json.specs.Body.{IsBody, IsJson, Says, words_of, id_named, area_asked, query_of, read_of, create_of, update_of, delete_of, availability_read_of, setting_of, sub_query_of, sub_read_of, sub_create_of, sub_update_of, sub_delete_of};
 ghost use Rattle.wire_json.specs.Given.{Gives};
+ghost use Rattle.wire_json.specs.Naming as naming;
+ghost use Rattle.entity_core.specs.EntityId.{spelled};
 
 use crate::body_fault::BodyFault;
 use crate::member::member;
+use crate::naming::unless_zero;
 use crate::put::put_of;
 use crate::setting::{availability_of, old_version_of};
+use crate::sub_put::sub_put_of;
 use crate::volume::area_in;
-use crate::words::{entity_named, first_id, is_query, ovn_named, supplier_named};
+use crate::words::{first_id, id_named, is_query, ovn_named, supplier_named};
+use entity_core::entity_id::EntityId;
 use entity_core::nature::Kind;
+use grid_core::volume::Area;
 use policy_core::call::{OpKind, Operation};
 use serde_json::Value;
 use serde_json::error::Category;
@@ -40,6 +46,19 @@ fn json_of(alloc: Global, body: &[u8]) -> Result<Value, BodyFault>
     }
 }
 
+#[tactic(auto, unfolding(crate::specs::Body::area_asked))]
+fn area_asked(alloc: Global, words: &PathWords<'_>, value: &Value) -> Result<Area, BodyFault>
+    ensures { Gives result (area_asked (words_of words.now) (view value.now)) }
+{
+    if !is_query(words) {
+        return Err(BodyFault::Malformed);
+    }
+    let Some(found) = member(value, "area_of_interest") else {
+        return Err(BodyFault::Malformed);
+    };
+    area_in(alloc, found)
+}
+
 #[tactic(auto, unfolding(crate::specs::Body::query_of))]
 fn query_of(
     alloc: Global,
@@ -49,13 +68,7 @@ fn query_of(
 ) -> Result<Operation, BodyFault>
     ensures { Gives result (query_of kind (words_of words.now) (view value.now)) }
 {
-    if !is_query(words) {
-        return Err(BodyFault::Malformed);
-    }
-    let Some(found) = member(value, "area_of_interest") else {
-        return Err(BodyFault::Malformed);
-    };
-    let area = area_in(alloc, found)?;
+    let area = area_asked(alloc, words, value)?;
     Ok(Operation::Query(kind, area))
 }
 
@@ -63,7 +76,7 @@ fn query_of(
 fn read_of(kind: Kind, words: &PathWords<'_>) -> Option<Operation>
     ensures { result ≡ read_of kind (words_of words.now) }
 {
-    let id = entity_named(words)?;
+    let id = id_named(words)?;
     Some(Operation::Read(kind, id))
 }
 
@@ -76,7 +89,7 @@ fn create_of(
 ) -> Result<Operation, BodyFault>
     ensures { Gives result (create_of kind (words_of words.now) (view value.now)) }
 {
-    let Some(id) = entity_named(words) else {
+    let Some(id) = id_named(words) else {
         return Err(BodyFault::Malformed);
     };
     let put = put_of(alloc, kind, value)?;
@@ -131,6 +144,82 @@ fn setting_of(alloc: Global, words: &PathWords<'_>, value: &Value) -> Result<Ope
     Ok(Operation::SetAvail(uss, version, availability))
 }
 
+#[tactic(auto, unfolding(crate::specs::Body::sub_query_of))]
+fn sub_query_of(alloc: Global, words: &PathWords<'_>, value: &Value) -> Result<Operation, BodyFault>
+    ensures { Gives result (sub_query_of (words_of words.now) (view value.now)) }
+{
+    let area = area_asked(alloc, words, value)?;
+    Ok(Operation::QuerySub(area))
+}
+
+#[tactic(auto, unfolding(crate::specs::Body::sub_read_of))]
+fn sub_read_of(words: &PathWords<'_>) -> Option<Operation>
+    ensures { result ≡ sub_read_of (words_of words.now) }
+{
+    let id = id_named(words)?;
+    Some(Operation::ReadSub(id))
+}
+
+fn new_id_named(words: &PathWords<'_>) -> Option<EntityId>
+    ensures { result ≡ option_and_then naming.unless_zero (id_named (words_of words.now)) }
+{
+    match id_named(words) {
+        Some(id) => unless_zero(id),
+        None => None,
+    }
+}
+
+#[tactic(auto, unfolding(crate::specs::Body::sub_create_of))]
+fn sub_create_of(
+    alloc: Global,
+    words: &PathWords<'_>,
+    value: &Value,
+) -> Result<Operation, BodyFault>
+    ensures { Gives result (sub_create_of (words_of words.now) (view value.now)) }
+{
+    let Some(id) = new_id_named(words) else {
+        return Err(BodyFault::Malformed);
+    };
+    let put = sub_put_of(alloc, value)?;
+    Ok(Operation::CreateSub(id, put))
+}
+
+fn first_sub_id(words: &PathWords<'_>) -> Option<EntityId>
+    ensures { result ≡ option_and_then naming.unless_zero (spelled (words_of words.now).first) }
+{
+    match first_id(words) {
+        Some(id) => unless_zero(id),
+        None => None,
+    }
+}
+
+#[tactic(auto, unfolding(crate::specs::Body::sub_update_of))]
+fn sub_update_of(
+    alloc: Global,
+    words: &PathWords<'_>,
+    value: &Value,
+) -> Result<Operation, BodyFault>
+    ensures { Gives result (sub_update_of (words_of words.now) (view value.now)) }
+{
+    let Some(id) = first_sub_id(words) else {
+        return Err(BodyFault::Malformed);
+    };
+    let ovn = ovn_named(alloc, words)?;
+    let put = sub_put_of(alloc, value)?;
+    Ok(Operation::UpdateSub(id, ovn, put))
+}
+
+#[tactic(auto, unfolding(crate::specs::Body::sub_delete_of))]
+fn sub_delete_of(alloc: Global, words: &PathWords<'_>) -> Result<Operation, BodyFault>
+    ensures { Gives result (sub_delete_of (words_of words.now)) }
+{
+    let Some(id) = first_id(words) else {
+        return Err(BodyFault::Malformed);
+    };
+    let ovn = ovn_named(alloc, words)?;
+    Ok(Operation::DeleteSub(id, ovn))
+}
+
 /// The operation of a kind that the words of a path and a body ask for (this project's profile).
 ///
 /// `Malformed` comes only where they ask for none. The body of a reading and of a deletion is not
@@ -153,5 +242,10 @@ pub fn read_body(
         OpKind::Delete(kind) => delete_of(alloc, kind, words),
         OpKind::ReadAvail => availability_read_of(alloc, words),
         OpKind::SetAvail => setting_of(alloc, words, &json_of(alloc, body)?),
+        OpKind::QuerySub => sub_query_of(alloc, words, &json_of(alloc, body)?),
+        OpKind::ReadSub => sub_read_of(words).ok_or(BodyFault::Malformed),
+        OpKind::CreateSub => sub_create_of(alloc, words, &json_of(alloc, body)?),
+        OpKind::UpdateSub => sub_update_of(alloc, words, &json_of(alloc, body)?),
+        OpKind::DeleteSub => sub_delete_of(alloc, words),
     }
 }

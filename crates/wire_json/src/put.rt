@@ -1,14 +1,15 @@
 //! What an entity is to be, from JSON.
-ghost use Rattle.std.specs.Prelude.{◌≡◌};
+ghost use Rattle.std.specs.Prelude.{◌≡◌, codes};
 ghost use Rattle.serde_json.specs.View.{view, items_view};
 ghost use Rattle.entity_core.specs.IdTexts.{ovn_fault, url_fault};
 ghost use Rattle.wire_json.specs.Given.{Gives, GivesBy};
-ghost use Rattle.wire_json.specs.Member.{each, list_of};
+ghost use Rattle.wire_json.specs.Member.{each, list_of, required};
 ghost use Rattle.wire_json.specs.Put.{text_in, are_few_cells, few_volumes, volumes_in, few_ovns, key_in, key_of, state_in, nature_of, volumes_of, url_of, put_of};
 ghost use Rattle.wire_json.specs.Volume.{volume_in};
 
 use crate::body_fault::BodyFault;
 use crate::member::member;
+use crate::naming::naming_of;
 use crate::state::named;
 use crate::volume::volume_in;
 use entity_core::base_url::BaseUrl;
@@ -155,18 +156,30 @@ fn state_in(value: &Value) -> Option<State>
     }
 }
 
+fn state_of(value: &Value) -> Option<State>
+    ensures { result ≡ required state_in (codes "state") (view value.now) }
+{
+    match member(value, "state") {
+        Some(found) => state_in(found),
+        None => None,
+    }
+}
+
+#[tactic(auto, unfolding(crate::specs::Put::nature_of))]
+fn intent_of(value: &Value) -> Option<Nature>
+    ensures { result ≡ nature_of Kind.Intent (view value.now) }
+{
+    let state = state_of(value)?;
+    let named = naming_of(value)?;
+    Some(Nature::Intent(state, named))
+}
+
 #[tactic(auto, unfolding(crate::specs::Put::nature_of))]
 fn nature_of(kind: Kind, value: &Value) -> Option<Nature>
     ensures { result ≡ nature_of kind (view value.now) }
 {
     match kind {
-        Kind::Intent => match member(value, "state") {
-            Some(found) => match state_in(found) {
-                Some(state) => Some(Nature::Intent(state)),
-                None => None,
-            },
-            None => None,
-        },
+        Kind::Intent => intent_of(value),
         Kind::Constraint => Some(Nature::Constraint),
     }
 }
@@ -185,8 +198,9 @@ fn url_in(alloc: Global, value: &Value) -> Result<BaseUrl, BodyFault>
     }
 }
 
+/// The address of a supplier.
 #[tactic(auto, unfolding(crate::specs::Put::url_of))]
-fn url_of(alloc: Global, value: &Value) -> Result<BaseUrl, BodyFault>
+pub(crate) fn url_of(alloc: Global, value: &Value) -> Result<BaseUrl, BodyFault>
     ensures { Gives result (url_of (view value.now)) }
 {
     match member(value, "uss_base_url") {

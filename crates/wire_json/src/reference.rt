@@ -6,15 +6,12 @@ ghost use Rattle.wire_json.specs.Built.{with_ovn, with_nature, reference_data, r
 ghost use Rattle.wire_json.specs.Reference.{reference_name, references_name};
 
 use crate::availability;
+use crate::naming::put_naming;
 use entity_core::nature::{Kind, Nature};
 use entity_core::ovn::Ovn;
 use policy_core::reference::{Reference, References};
 use serde_json::{Map, Value, put};
 use std::alloc::{AllocError, Global};
-
-/// The subscription that each intent is said to have: the service keeps none (this project's
-/// profile).
-const NO_SUBSCRIPTION: &str = "00000000-0000-4000-8000-000000000000";
 
 /// The name under which an answer has the reference of one entity of the kind.
 pub(crate) fn reference_name(kind: Kind) -> &'static str
@@ -36,7 +33,8 @@ pub(crate) fn references_name(kind: Kind) -> &'static str
     }
 }
 
-fn put_text(
+/// A text, as a member of a name.
+pub(crate) fn put_text(
     members: &mut Map<String, Value>,
     alloc: Global,
     name: &str,
@@ -49,7 +47,8 @@ fn put_text(
     put(members, alloc, name, text)
 }
 
-fn put_number(
+/// A number, as a member of a name.
+pub(crate) fn put_number(
     members: &mut Map<String, Value>,
     alloc: Global,
     name: &str,
@@ -86,9 +85,9 @@ fn put_nature(
         ≡ with_nature nature (members_view members.old.entries)) }
 {
     match nature {
-        Nature::Intent(state) => {
+        Nature::Intent(state, named) => {
             put_text(members, alloc, "state", state.name())?;
-            put_text(members, alloc, "subscription_id", NO_SUBSCRIPTION)
+            put_naming(members, alloc, named)
         }
         Nature::Constraint => Ok(()),
     }

@@ -1,6 +1,6 @@
 //! The words of a path.
 ghost use Rattle.std.specs.Prelude.{◌≡◌, option_map};
-ghost use Rattle.wire_json.specs.Body.{words_of, only_word, is_query, entity_named, ovn_named, supplier_named};
+ghost use Rattle.wire_json.specs.Body.{words_of, only_word, is_query, id_named, ovn_named, supplier_named};
 ghost use Rattle.wire_json.specs.Given.{Gives};
 ghost use Rattle.entity_core.specs.EntityId.{spelled};
 
@@ -31,29 +31,30 @@ pub(crate) fn is_query(words: &PathWords<'_>) -> bool
     }
 }
 
-fn id_in(word: &str) -> Option<EntityId>
-    ensures { result ≡ spelled word.now }
+/// The id that a text spells.
+pub(crate) fn id_of(text: &str) -> Option<EntityId>
+    ensures { result ≡ spelled text.now }
 {
-    match EntityId::read(word) {
+    match EntityId::read(text) {
         Ok(id) => Some(id),
         Err(_) => None,
     }
 }
 
-/// The entity that the first word names.
+/// The id that the first word is.
 pub(crate) fn first_id(words: &PathWords<'_>) -> Option<EntityId>
     ensures { result ≡ spelled (words_of words.now).first }
 {
-    id_in(words.first)
+    id_of(words.first)
 }
 
-/// The entity that the only word names.
-#[tactic(auto, unfolding(crate::specs::Body::entity_named))]
-pub(crate) fn entity_named(words: &PathWords<'_>) -> Option<EntityId>
-    ensures { result ≡ entity_named (words_of words.now) }
+/// The id that the only word is.
+#[tactic(auto, unfolding(crate::specs::Body::id_named))]
+pub(crate) fn id_named(words: &PathWords<'_>) -> Option<EntityId>
+    ensures { result ≡ id_named (words_of words.now) }
 {
     match only_word(words) {
-        Some(word) => id_in(word),
+        Some(word) => id_of(word),
         None => None,
     }
 }

@@ -16,9 +16,9 @@ use Rattle.entity_core.specs.declared.nature.Kind.{Kind}
 use Rattle.entity_core.specs.declared.nature.Kind.TheVariants.{Intent, Constraint}
 use Rattle.wire_json.specs.Body.{Words}
 use Rattle.wire_route.specs.declared.place.Place.{Place}
-use Rattle.wire_route.specs.declared.place.Place.TheVariants.{Query, Entity, EntityAtOvn, Availability}
-use Rattle.wire_route.specs.Place.{references_of, front_of}
-use Rattle.wire_route.specs.Route.{has_slash, is_part, names_entity, two_words, AreTwoWords, AreWordsOf, IsRoute, HasNoRoute}
+use Rattle.wire_route.specs.declared.place.Place.TheVariants.{Query, Entity, EntityAtOvn, Availability, SubscriptionQuery, Subscription, SubscriptionAtVersion}
+use Rattle.wire_route.specs.Place.{references_of, subscriptions, front_of}
+use Rattle.wire_route.specs.Route.{has_slash, is_part, may_be_id, two_words, AreTwoWords, AreWordsOf, IsRoute, HasNoRoute}
 use Rattle.wire_route.specs.Table.{table, with_route, named_place}
 use Rattle.wire_route.proofs.Seeks.{is_plain, steps, pass, seek-empty, leaf, single, two_parts, last_part}
 
@@ -94,21 +94,27 @@ part_lacks w e = by (has_slash w) (and_parts _ _ e).1
     by true x = absurd (false≢true x)
     by false x = refl
 
-not_query : (w : List ℕ) → names_entity w ≡ true → w ≡ codes "query" → ⊥
+not_query : (w : List ℕ) → may_be_id w ≡ true → w ≡ codes "query" → ⊥
 not_query w e same =
-    let bad : names_entity (codes "query") ≡ true = subst (λ (v : List ℕ). names_entity v ≡ true) same e in false≢true bad
+    let bad : may_be_id (codes "query") ≡ true = subst (λ (v : List ℕ). may_be_id v ≡ true) same e in false≢true bad
 
 pub two_are : (rest id ovn : List ℕ) (words : Words) → rest ≡ id ++ 47 ∷ ovn → has_slash id ≡ false → (a : AreTwoWords rest words) → (a.id ≡ id) × (a.ovn ≡ ovn)
 two_are rest id ovn words e p a =
     one_split a.id a.ovn id ovn (part_lacks a.id (and_parts _ _ a.names).0) p (sym a.splits ∙ e)
 
+same_two : (rest : List ℕ) (v w : Words) → AreTwoWords rest v → AreTwoWords rest w → w ≡ v
+same_two rest v w x y =
+    let same = two_are rest x.id x.ovn w x.splits (part_lacks x.id (and_parts _ _ x.names).0) y in
+    y.words_are ∙ ap (λ i. two_words i y.ovn) same.0 ∙ ap (two_words x.id) same.1 ∙ sym x.words_are
+
 one_words : (place : Place) (rest : List ℕ) (v w : Words) → AreWordsOf place rest v → AreWordsOf place rest w → w ≡ v
 one_words (Query kind) rest v w x y = y.1 ∙ sym x.1
 one_words (Entity kind) rest v w x y = y.1 ∙ sym x.1
-one_words (EntityAtOvn kind) rest v w x y =
-    let same = two_are rest x.id x.ovn w x.splits (part_lacks x.id (and_parts _ _ x.names).0) y in
-    y.words_are ∙ ap (λ i. two_words i y.ovn) same.0 ∙ ap (two_words x.id) same.1 ∙ sym x.words_are
+one_words (EntityAtOvn kind) rest v w x y = same_two rest v w x y
 one_words Availability rest v w x y = y.1 ∙ sym x.1
+one_words SubscriptionQuery rest v w x y = y.1 ∙ sym x.1
+one_words Subscription rest v w x y = y.1 ∙ sym x.1
+one_words SubscriptionAtVersion rest v w x y = same_two rest v w x y
 
 -- ---- the table
 
@@ -141,30 +147,56 @@ availability_steps : steps (front_of Availability) places ≡ (256 ∷ [], Avail
 unfolding places matchit_on_literals table with_route
 availability_steps = refl
 
-query_named : (kind : Kind) → seek.seek 0 (leaf (Query kind) (EntityAtOvn kind) (Entity kind)) (codes "query") ≡ Some (Query kind)
+subscriptions_plain : is_plain subscriptions places ≡ true
+unfolding places matchit_on_literals table with_route
+subscriptions_plain = refl
+
+subscriptions_steps : steps subscriptions places ≡ leaf SubscriptionQuery SubscriptionAtVersion Subscription
+unfolding places matchit_on_literals table with_route
+subscriptions_steps = refl
+
+-- a front, and the places of its query, of an id and of an id with a part after it
+record LeadsTo (front : List ℕ) (query id at : Place) : Type 0 where
+  plain : is_plain front places ≡ true
+  rest_is : steps front places ≡ leaf query at id
+
+references_lead : (kind : Kind) → LeadsTo (references_of kind) (Query kind) (Entity kind) (EntityAtOvn kind)
+references_lead kind = record { plain = references_plain kind; rest_is = references_steps kind }
+
+subscriptions_lead : LeadsTo subscriptions SubscriptionQuery Subscription SubscriptionAtVersion
+subscriptions_lead = record { plain = subscriptions_plain; rest_is = subscriptions_steps }
+
+-- what stands after such a front
+named_after : (front : List ℕ) (query id at : Place) → LeadsTo front query id at → (rest : List ℕ) → named_place (front ++ rest) ≡ seek.seek 0 (leaf query at id) rest
+named_after front query id at leads rest =
+    named_is (front ++ rest) ∙ pass front places rest leads.plain ∙ ap (λ (rows : RowsOf Place). seek.seek 0 rows rest) leads.rest_is
+
+query_named : (query id at : Place) → seek.seek 0 (leaf query at id) (codes "query") ≡ Some query
 unfolding matchit_on_literals
-query_named kind = refl
+query_named query id at = refl
 
--- what stands after the front of references
-named_at : (kind : Kind) (rest : List ℕ) → named_place (references_of kind ++ rest) ≡ seek.seek 0 (leaf (Query kind) (EntityAtOvn kind) (Entity kind)) rest
-named_at kind rest =
-    named_is (references_of kind ++ rest) ∙ pass (references_of kind) places rest (references_plain kind)
-    ∙ ap (λ (rows : RowsOf Place). seek.seek 0 rows rest) (references_steps kind)
+query_found : (front : List ℕ) (query id at : Place) → LeadsTo front query id at → (rest : List ℕ) → rest ≡ codes "query" → named_place (front ++ rest) ≡ Some query
+query_found front query id at leads rest e =
+    ap (λ v. named_place (front ++ v)) e ∙ named_after front query id at leads (codes "query") ∙ query_named query id at
 
-entity_found : (kind : Kind) (w : List ℕ) → names_entity w ≡ true → named_place (references_of kind ++ w) ≡ Some (Entity kind)
-entity_found kind [] e = absurd (false≢true e)
-entity_found kind (b ∷ w) e =
-    named_at kind (b ∷ w)
-    ∙ single (Query kind) (EntityAtOvn kind) (Entity kind) b w (no_slash (b ∷ w) (part_lacks (b ∷ w) (and_parts _ _ e).0)) (not_query (b ∷ w) e)
+id_found : (front : List ℕ) (query id at : Place) → LeadsTo front query id at → (w : List ℕ) → may_be_id w ≡ true → named_place (front ++ w) ≡ Some id
+id_found front query id at leads [] e = absurd (false≢true e)
+id_found front query id at leads (b ∷ w) e =
+    named_after front query id at leads (b ∷ w)
+    ∙ single query at id b w (no_slash (b ∷ w) (part_lacks (b ∷ w) (and_parts _ _ e).0)) (not_query (b ∷ w) e)
 
-ovn_found : (kind : Kind) (id ovn : List ℕ) → names_entity id ≡ true → is_part ovn ≡ true
-    → named_place (references_of kind ++ (id ++ 47 ∷ ovn)) ≡ Some (EntityAtOvn kind)
-ovn_found kind [] ovn e f = absurd (false≢true e)
-ovn_found kind (b ∷ id) [] e f = absurd (false≢true f)
-ovn_found kind (b ∷ id) (c ∷ ovn) e f =
-    named_at kind (b ∷ id ++ 47 ∷ c ∷ ovn)
-    ∙ two_parts (Query kind) (EntityAtOvn kind) (Entity kind) b id c ovn (no_slash (b ∷ id) (part_lacks (b ∷ id) (and_parts _ _ e).0))
-    (no_slash (c ∷ ovn) (part_lacks (c ∷ ovn) f))
+parts_found : (front : List ℕ) (query id at : Place) → LeadsTo front query id at → (first second : List ℕ) → may_be_id first ≡ true → is_part second ≡ true
+    → named_place (front ++ (first ++ 47 ∷ second)) ≡ Some at
+parts_found front query id at leads [] second e f = absurd (false≢true e)
+parts_found front query id at leads (b ∷ first) [] e f = absurd (false≢true f)
+parts_found front query id at leads (b ∷ first) (c ∷ second) e f =
+    named_after front query id at leads (b ∷ first ++ 47 ∷ c ∷ second)
+    ∙ two_parts query at id b first c second (no_slash (b ∷ first) (part_lacks (b ∷ first) (and_parts _ _ e).0))
+    (no_slash (c ∷ second) (part_lacks (c ∷ second) f))
+
+two_found : (front : List ℕ) (query id at : Place) → LeadsTo front query id at → (rest : List ℕ) (words : Words) → AreTwoWords rest words → named_place (front ++ rest) ≡ Some at
+two_found front query id at leads rest words x =
+    ap (λ v. named_place (front ++ v)) x.splits ∙ parts_found front query id at leads x.id x.ovn x.names x.part
 
 supplier_found : (w : List ℕ) → is_part w ≡ true → named_place (front_of Availability ++ w) ≡ Some Availability
 supplier_found [] e = absurd (false≢true e)
@@ -174,10 +206,13 @@ supplier_found (b ∷ w) e =
 
 -- the router finds every path of a place
 at_rest : (place : Place) (rest : List ℕ) (words : Words) → AreWordsOf place rest words → named_place (front_of place ++ rest) ≡ Some place
-at_rest (Query kind) rest words x = ap (λ v. named_place (references_of kind ++ v)) x.0 ∙ named_at kind (codes "query") ∙ query_named kind
-at_rest (Entity kind) rest words x = entity_found kind rest x.0
-at_rest (EntityAtOvn kind) rest words x = ap (λ v. named_place (references_of kind ++ v)) x.splits ∙ ovn_found kind x.id x.ovn x.names x.part
+at_rest (Query kind) rest words x = query_found (references_of kind) (Query kind) (Entity kind) (EntityAtOvn kind) (references_lead kind) rest x.0
+at_rest (Entity kind) rest words x = id_found (references_of kind) (Query kind) (Entity kind) (EntityAtOvn kind) (references_lead kind) rest x.0
+at_rest (EntityAtOvn kind) rest words x = two_found (references_of kind) (Query kind) (Entity kind) (EntityAtOvn kind) (references_lead kind) rest words x
 at_rest Availability rest words x = supplier_found rest x.0
+at_rest SubscriptionQuery rest words x = query_found subscriptions SubscriptionQuery Subscription SubscriptionAtVersion subscriptions_lead rest x.0
+at_rest Subscription rest words x = id_found subscriptions SubscriptionQuery Subscription SubscriptionAtVersion subscriptions_lead rest x.0
+at_rest SubscriptionAtVersion rest words x = two_found subscriptions SubscriptionQuery Subscription SubscriptionAtVersion subscriptions_lead rest words x
 
 pub found : (path : List ℕ) (place : Place) (words : Words) → IsRoute path place words → named_place path ≡ Some place
 found path place words (rest, e, x) = ap named_place e ∙ at_rest place rest words x
@@ -213,10 +248,10 @@ not_halved rest words e a =
     let bad : has_slash rest ≡ true = ap has_slash a.splits ∙ slash_between a.id a.ovn in
     false≢true (sym e ∙ bad)
 
-pub not_named : (rest id ovn : List ℕ) (words : Words) → rest ≡ id ++ 47 ∷ ovn → has_slash id ≡ false → names_entity id ≡ false → AreTwoWords rest words → ⊥
+pub not_named : (rest id ovn : List ℕ) (words : Words) → rest ≡ id ++ 47 ∷ ovn → has_slash id ≡ false → may_be_id id ≡ false → AreTwoWords rest words → ⊥
 not_named rest id ovn words e p n a =
     let same = two_are rest id ovn words e p a in
-    let bad : names_entity id ≡ true = subst (λ (z : List ℕ). names_entity z ≡ true) same.0 a.names in
+    let bad : may_be_id id ≡ true = subst (λ (z : List ℕ). may_be_id z ≡ true) same.0 a.names in
     false≢true (sym n ∙ bad)
 
 pub not_part : (rest id ovn : List ℕ) (words : Words) → rest ≡ id ++ 47 ∷ ovn → has_slash id ≡ false → is_part ovn ≡ false → AreTwoWords rest words → ⊥
@@ -245,18 +280,26 @@ wrong_words path rest place e split none =
 
 -- ---- samples
 
--- an OVN may not stand after `query`
+-- neither an OVN nor a version may stand after `query`
 named_past : named_place (codes "/dss/v1/operational_intent_references/query/x") ≡ Some (EntityAtOvn Intent)
 unfolding matchit_on_literals table with_route
 named_past = refl
 
+named_past_subscriptions : named_place (codes "/dss/v1/subscriptions/query/x") ≡ Some SubscriptionAtVersion
+unfolding matchit_on_literals table with_route
+named_past_subscriptions = refl
+
+no_words_past : (words : Words) → AreTwoWords (codes "query/x") words → ⊥
+no_words_past words a = not_query a.id a.names (two_are (codes "query/x") (codes "query") (codes "x") words refl refl a).0
+
 pub past_query : HasNoRoute (codes "/dss/v1/operational_intent_references/query/x")
-past_query =
-    wrong_words (codes "/dss/v1/operational_intent_references/query/x") (codes "query/x") (EntityAtOvn Intent) named_past refl
-    (λ words a. not_query a.id a.names (two_are (codes "query/x") (codes "query") (codes "x") words refl refl a).0)
+past_query = wrong_words (codes "/dss/v1/operational_intent_references/query/x") (codes "query/x") (EntityAtOvn Intent) named_past refl no_words_past
+
+pub past_subscription_query : HasNoRoute (codes "/dss/v1/subscriptions/query/x")
+past_subscription_query = wrong_words (codes "/dss/v1/subscriptions/query/x") (codes "query/x") SubscriptionAtVersion named_past_subscriptions refl no_words_past
 
 -- two words
-pub both : (id ovn : List ℕ) → names_entity id ≡ true → is_part ovn ≡ true → AreTwoWords (id ++ 47 ∷ ovn) (two_words id ovn)
+pub both : (id ovn : List ℕ) → may_be_id id ≡ true → is_part ovn ≡ true → AreTwoWords (id ++ 47 ∷ ovn) (two_words id ovn)
 both id ovn e f = record { id = id; ovn = ovn; splits = refl; names = e; part = f; words_are = refl }
 
 -- a path goes nowhere after a text with which no route begins
@@ -265,9 +308,13 @@ lost text rest plain none =
     nowhere (text ++ rest)
     (named_is (text ++ rest) ∙ pass text places rest plain ∙ ap (λ (rows : RowsOf Place). seek.seek 0 rows rest) none ∙ seek-empty 0 rest)
 
-pub other : HasNoRoute (codes "/dss/v1/subscriptions/a")
+pub other : HasNoRoute (codes "/dss/v1/reports/a")
 unfolding places matchit_on_literals table with_route
-other = lost (codes "/dss/v1/s") (codes "ubscriptions/a") refl refl
+other = lost (codes "/dss/v1/r") (codes "eports/a") refl refl
+
+pub one_subscription : HasNoRoute (codes "/dss/v1/subscription/d1")
+unfolding places matchit_on_literals table with_route
+one_subscription = lost (codes "/dss/v1/subscription/") (codes "d1") refl refl
 
 pub no_front : HasNoRoute (codes "dss/v1/uss_availability/a")
 unfolding places matchit_on_literals table with_route
@@ -284,7 +331,7 @@ no_slash_there = nowhere (codes "/dss/v1/operational_intent_references") ends_at
 
 -- or after the front of references
 gap : (rest : List ℕ) → seek.seek 0 (leaf (Query Intent) (EntityAtOvn Intent) (Entity Intent)) rest ≡ None → HasNoRoute (references_of Intent ++ rest)
-gap rest e = nowhere (references_of Intent ++ rest) (named_at Intent rest ∙ e)
+gap rest e = nowhere (references_of Intent ++ rest) (named_after (references_of Intent) (Query Intent) (Entity Intent) (EntityAtOvn Intent) (references_lead Intent) rest ∙ e)
 
 pub no_ovn : HasNoRoute (codes "/dss/v1/operational_intent_references/a1/")
 unfolding matchit_on_literals
@@ -297,6 +344,22 @@ no_word = gap [] refl
 pub three_words : HasNoRoute (codes "/dss/v1/operational_intent_references/a1/o1/x")
 unfolding matchit_on_literals
 three_words = gap (codes "a1/o1/x") refl
+
+-- or of subscriptions
+subscription_gap : (rest : List ℕ) → seek.seek 0 (leaf SubscriptionQuery SubscriptionAtVersion Subscription) rest ≡ None → HasNoRoute (subscriptions ++ rest)
+subscription_gap rest e = nowhere (subscriptions ++ rest) (named_after subscriptions SubscriptionQuery Subscription SubscriptionAtVersion subscriptions_lead rest ∙ e)
+
+pub no_version : HasNoRoute (codes "/dss/v1/subscriptions/d1/")
+unfolding matchit_on_literals
+no_version = subscription_gap (codes "d1/") refl
+
+pub no_subscription : HasNoRoute (codes "/dss/v1/subscriptions/")
+unfolding matchit_on_literals
+no_subscription = subscription_gap [] refl
+
+pub three_subscription_words : HasNoRoute (codes "/dss/v1/subscriptions/d1/o1/x")
+unfolding matchit_on_literals
+three_subscription_words = subscription_gap (codes "d1/o1/x") refl
 
 -- or of suppliers
 supplier_gap : (rest : List ℕ) → seek.seek 0 ((256 ∷ [], Availability) ∷ []) rest ≡ None → HasNoRoute (front_of Availability ++ rest)

@@ -6,12 +6,16 @@ use Rattle.entity_core.specs.declared.nature.Kind.TheVariants.{Intent, Constrain
 use Rattle.policy_core.specs.declared.call.OpKind.{OpKind}
 use Rattle.policy_core.specs.declared.call.OpKind.TheVariants as kinds
 use Rattle.wire_route.specs.declared.place.Place.{Place}
-use Rattle.wire_route.specs.declared.place.Place.TheVariants.{Query, Entity, EntityAtOvn, Availability}
+use Rattle.wire_route.specs.declared.place.Place.TheVariants.{Query, Entity, EntityAtOvn, Availability, SubscriptionQuery, Subscription, SubscriptionAtVersion}
 
 -- what stands before the words of the paths to references of a kind
 abbrev pub references_of : Kind → List ℕ
 references_of Intent = codes "/dss/v1/operational_intent_references/"
 references_of Constraint = codes "/dss/v1/constraint_references/"
+
+-- before those of the paths to subscriptions
+abbrev pub subscriptions : List ℕ
+subscriptions = codes "/dss/v1/subscriptions/"
 
 -- and before those of a place's paths
 abbrev pub front_of : Place → List ℕ
@@ -19,6 +23,9 @@ front_of (Query kind) = references_of kind
 front_of (Entity kind) = references_of kind
 front_of (EntityAtOvn kind) = references_of kind
 front_of Availability = codes "/dss/v1/uss_availability/"
+front_of SubscriptionQuery = subscriptions
+front_of Subscription = subscriptions
+front_of SubscriptionAtVersion = subscriptions
 
 -- the route of a place, its words in braces
 abbrev pub route_of : Place → List ℕ
@@ -26,6 +33,9 @@ route_of (Query kind) = references_of kind ++ codes "query"
 route_of (Entity kind) = references_of kind ++ codes "{entityid}"
 route_of (EntityAtOvn kind) = references_of kind ++ codes "{entityid}/{ovn}"
 route_of Availability = codes "/dss/v1/uss_availability/{uss_id}"
+route_of SubscriptionQuery = subscriptions ++ codes "query"
+route_of Subscription = subscriptions ++ codes "{subscriptionid}"
+route_of SubscriptionAtVersion = subscriptions ++ codes "{subscriptionid}/{version}"
 
 -- methods by name, with what each asks
 abbrev pub Methods : Type 0
@@ -38,6 +48,10 @@ methods_of (Entity kind) = (codes "GET", kinds.Read kind) ∷ (codes "PUT", kind
 methods_of (EntityAtOvn kind) = (codes "PUT", kinds.Update kind)
     ∷ (codes "DELETE", kinds.Delete kind) ∷ []
 methods_of Availability = (codes "GET", kinds.ReadAvail) ∷ (codes "PUT", kinds.SetAvail) ∷ []
+methods_of SubscriptionQuery = (codes "POST", kinds.QuerySub) ∷ []
+methods_of Subscription = (codes "GET", kinds.ReadSub) ∷ (codes "PUT", kinds.CreateSub) ∷ []
+methods_of SubscriptionAtVersion = (codes "PUT", kinds.UpdateSub)
+    ∷ (codes "DELETE", kinds.DeleteSub) ∷ []
 
 -- what the method of a name asks; names have case
 abbrev pub kind_among : Methods → List ℕ → Option OpKind

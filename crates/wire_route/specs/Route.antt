@@ -5,7 +5,7 @@ use Rattle.std.specs.Str.{bytes_eq}
 use Rattle.std.specs.List.{list_any}
 use Rattle.wire_json.specs.Body.{Words}
 use Rattle.wire_route.specs.declared.place.Place.{Place}
-use Rattle.wire_route.specs.declared.place.Place.TheVariants.{Query, Entity, EntityAtOvn, Availability}
+use Rattle.wire_route.specs.declared.place.Place.TheVariants.{Query, Entity, EntityAtOvn, Availability, SubscriptionQuery, Subscription, SubscriptionAtVersion}
 use Rattle.wire_route.specs.Place.{front_of}
 
 abbrev pub has_slash : List ℕ → Bool
@@ -15,9 +15,9 @@ has_slash text = list_any (λ b. b == 47) text
 abbrev pub is_part : List ℕ → Bool
 is_part text = nat_lt 0 (length text) && not (has_slash text)
 
--- a part that names an entity: any but `query`
-abbrev pub names_entity : List ℕ → Bool
-names_entity text = is_part text && not (bytes_eq text (codes "query"))
+-- a part that may stand for an id: any but `query`
+abbrev pub may_be_id : List ℕ → Bool
+may_be_id text = is_part text && not (bytes_eq text (codes "query"))
 
 abbrev pub one_word : List ℕ → Words
 one_word first = record { first = first; second = None }
@@ -25,21 +25,24 @@ one_word first = record { first = first; second = None }
 abbrev pub two_words : List ℕ → List ℕ → Words
 two_words first second = record { first = first; second = Some second }
 
--- a word that names an entity, a slash, and a part
+-- a part that may be an id, a slash, and a part
 pub record AreTwoWords (rest : List ℕ) (words : Words) : Type 0 where
   pub id : List ℕ
   pub ovn : List ℕ
   pub splits : rest ≡ id ++ (codes "/" ++ ovn)
-  pub names : names_entity id ≡ true
+  pub names : may_be_id id ≡ true
   pub part : is_part ovn ≡ true
   pub words_are : words ≡ two_words id ovn
 
 -- what may follow the front of a place's path, and the words that it is
 abbrev pub AreWordsOf : Place → List ℕ → Words → Type 0
 AreWordsOf (Query kind) rest words = (rest ≡ codes "query") × (words ≡ one_word rest)
-AreWordsOf (Entity kind) rest words = (names_entity rest ≡ true) × (words ≡ one_word rest)
+AreWordsOf (Entity kind) rest words = (may_be_id rest ≡ true) × (words ≡ one_word rest)
 AreWordsOf (EntityAtOvn kind) rest words = AreTwoWords rest words
 AreWordsOf Availability rest words = (is_part rest ≡ true) × (words ≡ one_word rest)
+AreWordsOf SubscriptionQuery rest words = (rest ≡ codes "query") × (words ≡ one_word rest)
+AreWordsOf Subscription rest words = (may_be_id rest ≡ true) × (words ≡ one_word rest)
+AreWordsOf SubscriptionAtVersion rest words = AreTwoWords rest words
 
 -- the path leads to the place, and has these words there
 abbrev pub IsRoute : List ℕ → Place → Words → Type 0

@@ -9,7 +9,7 @@ use Rattle.matchit.specs.Seek.{first}
 use Rattle.matchit.specs.declared.error.InsertError.{InsertError}
 use Rattle.entity_core.specs.declared.nature.Kind.TheVariants.{Intent, Constraint}
 use Rattle.wire_route.specs.declared.place.Place.{Place}
-use Rattle.wire_route.specs.declared.place.Place.TheVariants.{Query, Entity, EntityAtOvn, Availability}
+use Rattle.wire_route.specs.declared.place.Place.TheVariants.{Query, Entity, EntityAtOvn, Availability, SubscriptionQuery, Subscription, SubscriptionAtVersion}
 use Rattle.wire_route.specs.Place.{route_of}
 
 abbrev pub Rows : Type 0
@@ -34,11 +34,15 @@ Fits place rows = fits_read (parse_route (route_of place)) rows
 -- the routes
 unfoldable pub table : Rows
 table =
-    with_route Availability
+    with_route SubscriptionAtVersion
+    (with_route Subscription
+    (with_route SubscriptionQuery
+    (with_route Availability
     (with_route (EntityAtOvn Constraint)
     (with_route (Entity Constraint)
     (with_route (Query Constraint)
-    (with_route (EntityAtOvn Intent) (with_route (Entity Intent) (with_route (Query Intent) []))))))
+    (with_route (EntityAtOvn Intent)
+    (with_route (Entity Intent) (with_route (Query Intent) [])))))))))
 
 -- the place to which the router leads a path
 abbrev pub named_place : List ℕ → Option Place

@@ -3,7 +3,7 @@ ghost use Rattle.std.specs.Prelude.{◌≡◌, ℕ, List, codes};
 ghost use Rattle.entity_core.specs.declared.nature.Kind.TheVariants.{Intent, Constraint};
 ghost use Rattle.wire_json.specs.Body.{Words};
 ghost use Rattle.wire_route.specs.declared.place.Place.{Place};
-ghost use Rattle.wire_route.specs.declared.place.Place.TheVariants.{Query, Entity, EntityAtOvn, Availability};
+ghost use Rattle.wire_route.specs.declared.place.Place.TheVariants.{Query, Entity, EntityAtOvn, Availability, SubscriptionQuery, Subscription, SubscriptionAtVersion};
 ghost use Rattle.wire_route.specs.Place.{allow_of};
 ghost use Rattle.wire_route.specs.Route.{one_word, two_words, IsRoute, HasNoRoute};
 
@@ -13,8 +13,8 @@ pub fn one_route()
         → IsRoute path p v → IsRoute path q w → (q ≡ p) × (w ≡ v) }
 {}
 
-/// What some paths lead to: `quer` and `queryx` name entities, and `query` may stand where an OVN
-/// stands.
+/// What some paths lead to: `quer` and `queryx` may be ids, and `query` may stand where an OVN or a
+/// version stands.
 pub fn sample_paths()
     ensures intents { IsRoute (codes "/dss/v1/operational_intent_references/query")
         (Query Intent) (one_word (codes "query")) }
@@ -36,6 +36,14 @@ pub fn sample_paths()
         (Entity Intent) (one_word (codes "queryx")) }
     ensures as_ovn { IsRoute (codes "/dss/v1/operational_intent_references/a1/query")
         (EntityAtOvn Intent) (two_words (codes "a1") (codes "query")) }
+    ensures subscriptions { IsRoute (codes "/dss/v1/subscriptions/query")
+        SubscriptionQuery (one_word (codes "query")) }
+    ensures subscription { IsRoute (codes "/dss/v1/subscriptions/d1")
+        Subscription (one_word (codes "d1")) }
+    ensures subscription_at { IsRoute (codes "/dss/v1/subscriptions/d1/o1")
+        SubscriptionAtVersion (two_words (codes "d1") (codes "o1")) }
+    ensures as_version { IsRoute (codes "/dss/v1/subscriptions/d1/query")
+        SubscriptionAtVersion (two_words (codes "d1") (codes "query")) }
 {}
 
 /// Some paths that lead nowhere.
@@ -47,7 +55,12 @@ pub fn sample_gaps()
     ensures three_words { HasNoRoute (codes "/dss/v1/operational_intent_references/a1/o1/x") }
     ensures no_supplier { HasNoRoute (codes "/dss/v1/uss_availability/") }
     ensures two_suppliers { HasNoRoute (codes "/dss/v1/uss_availability/a/b") }
-    ensures other { HasNoRoute (codes "/dss/v1/subscriptions/a") }
+    ensures past_subscription_query { HasNoRoute (codes "/dss/v1/subscriptions/query/x") }
+    ensures no_version { HasNoRoute (codes "/dss/v1/subscriptions/d1/") }
+    ensures no_subscription { HasNoRoute (codes "/dss/v1/subscriptions/") }
+    ensures three_subscription_words { HasNoRoute (codes "/dss/v1/subscriptions/d1/o1/x") }
+    ensures one_subscription { HasNoRoute (codes "/dss/v1/subscription/d1") }
+    ensures other { HasNoRoute (codes "/dss/v1/reports/a") }
     ensures no_front { HasNoRoute (codes "dss/v1/uss_availability/a") }
 {}
 
@@ -57,4 +70,7 @@ pub fn allowed()
     ensures entity { allow_of (Entity Constraint) ≡ codes "GET, PUT" }
     ensures at { allow_of (EntityAtOvn Intent) ≡ codes "PUT, DELETE" }
     ensures supplier { allow_of Availability ≡ codes "GET, PUT" }
+    ensures subscriptions { allow_of SubscriptionQuery ≡ codes "POST" }
+    ensures subscription { allow_of Subscription ≡ codes "GET, PUT" }
+    ensures subscription_at { allow_of SubscriptionAtVersion ≡ codes "PUT, DELETE" }
 {}

@@ -1,6 +1,6 @@
 //! The places that paths lead to.
-ghost use Rattle.std.specs.Prelude.{◌≡◌};
-ghost use Rattle.wire_route.specs.Place.{front_of, route_of, kind_at, allow_of};
+ghost use Rattle.std.specs.Prelude.{◌≡◌, ◌∷◌, [], codes};
+ghost use Rattle.wire_route.specs.Place.{front_of, route_of, kind_among, kind_at, allow_of};
 
 use entity_core::nature::Kind;
 use policy_core::call::OpKind;
@@ -16,6 +16,12 @@ pub enum Place {
     EntityAtOvn(Kind),
     /// The availability of a supplier.
     Availability,
+    /// The query for subscriptions.
+    SubscriptionQuery,
+    /// A subscription.
+    Subscription,
+    /// A subscription as it is by a version.
+    SubscriptionAtVersion,
 }
 
 impl Place {
@@ -31,6 +37,9 @@ impl Place {
             Place::EntityAtOvn(Kind::Intent) => "/dss/v1/operational_intent_references/",
             Place::EntityAtOvn(Kind::Constraint) => "/dss/v1/constraint_references/",
             Place::Availability => "/dss/v1/uss_availability/",
+            Place::SubscriptionQuery => "/dss/v1/subscriptions/",
+            Place::Subscription => "/dss/v1/subscriptions/",
+            Place::SubscriptionAtVersion => "/dss/v1/subscriptions/",
         }
     }
 
@@ -50,6 +59,9 @@ impl Place {
                 "/dss/v1/constraint_references/{entityid}/{ovn}"
             }
             Place::Availability => "/dss/v1/uss_availability/{uss_id}",
+            Place::SubscriptionQuery => "/dss/v1/subscriptions/query",
+            Place::Subscription => "/dss/v1/subscriptions/{subscriptionid}",
+            Place::SubscriptionAtVersion => "/dss/v1/subscriptions/{subscriptionid}/{version}",
         }
     }
 
@@ -59,10 +71,17 @@ impl Place {
         ensures { result ≡ kind_at self method.now }
     {
         match self {
-            Place::Query(kind) => query_kind(kind, method),
-            Place::Entity(kind) => entity_kind(kind, method),
-            Place::EntityAtOvn(kind) => ovn_kind(kind, method),
-            Place::Availability => availability_kind(method),
+            Place::Query(kind) => by_post(method, OpKind::Query(kind)),
+            Place::Entity(kind) => by_get_or_put(method, OpKind::Read(kind), OpKind::Create(kind)),
+            Place::EntityAtOvn(kind) => {
+                by_put_or_delete(method, OpKind::Update(kind), OpKind::Delete(kind))
+            }
+            Place::Availability => by_get_or_put(method, OpKind::ReadAvail, OpKind::SetAvail),
+            Place::SubscriptionQuery => by_post(method, OpKind::QuerySub),
+            Place::Subscription => by_get_or_put(method, OpKind::ReadSub, OpKind::CreateSub),
+            Place::SubscriptionAtVersion => {
+                by_put_or_delete(method, OpKind::UpdateSub, OpKind::DeleteSub)
+            }
         }
     }
 
@@ -76,51 +95,45 @@ impl Place {
             Place::Entity(_) => "GET, PUT",
             Place::EntityAtOvn(_) => "PUT, DELETE",
             Place::Availability => "GET, PUT",
+            Place::SubscriptionQuery => "POST",
+            Place::Subscription => "GET, PUT",
+            Place::SubscriptionAtVersion => "PUT, DELETE",
         }
     }
 }
 
-fn query_kind(kind: Kind, method: &[u8]) -> Option<OpKind>
-    ensures { result ≡ kind_at (Place.Query kind) method.now }
+// What POST asks where no other method is taken.
+fn by_post(method: &[u8], post: OpKind) -> Option<OpKind>
+    ensures { result ≡ kind_among ((codes "POST", post) ∷ []) method.now }
 {
     if method == b"POST".as_slice() {
-        Some(OpKind::Query(kind))
+        Some(post)
     } else {
         None
     }
 }
 
-fn entity_kind(kind: Kind, method: &[u8]) -> Option<OpKind>
-    ensures { result ≡ kind_at (Place.Entity kind) method.now }
+// What GET and PUT ask where these are taken.
+fn by_get_or_put(method: &[u8], get: OpKind, put: OpKind) -> Option<OpKind>
+    ensures { result ≡ kind_among ((codes "GET", get) ∷ (codes "PUT", put) ∷ []) method.now }
 {
     if method == b"GET".as_slice() {
-        Some(OpKind::Read(kind))
+        Some(get)
     } else if method == b"PUT".as_slice() {
-        Some(OpKind::Create(kind))
+        Some(put)
     } else {
         None
     }
 }
 
-fn ovn_kind(kind: Kind, method: &[u8]) -> Option<OpKind>
-    ensures { result ≡ kind_at (Place.EntityAtOvn kind) method.now }
+// What PUT and DELETE ask where these are taken.
+fn by_put_or_delete(method: &[u8], put: OpKind, delete: OpKind) -> Option<OpKind>
+    ensures { result ≡ kind_among ((codes "PUT", put) ∷ (codes "DELETE", delete) ∷ []) method.now }
 {
     if method == b"PUT".as_slice() {
-        Some(OpKind::Update(kind))
+        Some(put)
     } else if method == b"DELETE".as_slice() {
-        Some(OpKind::Delete(kind))
-    } else {
-        None
-    }
-}
-
-fn availability_kind(method: &[u8]) -> Option<OpKind>
-    ensures { result ≡ kind_at Place.Availability method.now }
-{
-    if method == b"GET".as_slice() {
-        Some(OpKind::ReadAvail)
-    } else if method == b"PUT".as_slice() {
-        Some(OpKind::SetAvail)
+        Some(delete)
     } else {
         None
     }

@@ -1,7 +1,7 @@
 //! The routes of the service, and the way from a path to its place.
 ghost use Rattle.std.specs.Prelude.{◌≡◌, ◌++◌, List, ℕ, false, codes, IfOk, OnOk, MatchOption, option_map, if◌then◌else◌, Some, None};
 ghost use Rattle.wire_json.specs.Body.{Words, words_of};
-ghost use Rattle.wire_route.specs.Route.{has_slash, is_part, names_entity, one_word, AreTwoWords, AreWordsOf, IsRoute, HasNoRoute};
+ghost use Rattle.wire_route.specs.Route.{has_slash, is_part, may_be_id, one_word, AreTwoWords, AreWordsOf, IsRoute, HasNoRoute};
 ghost use Rattle.wire_route.specs.Place.{front_of};
 ghost use Rattle.wire_route.specs.Table.{Fits, table, with_route, named_place};
 
@@ -62,8 +62,8 @@ fn is_part(text: &str) -> bool
     !text.is_empty() && !has_slash(text)
 }
 
-fn names_entity(text: &str) -> bool
-    ensures { result ≡ names_entity text.now }
+fn may_be_id(text: &str) -> bool
+    ensures { result ≡ may_be_id text.now }
 {
     is_part(text) && text != "query"
 }
@@ -91,7 +91,7 @@ fn halves(rest: &str) -> Option<(&str, &str)>
     rest.split_once('/')
 }
 
-// A word that names an entity, and one more part.
+// A word that may be an id, and one more part.
 fn two_words(rest: &str) -> Option<PathWords<'_>>
     ensures { MatchOption result ((words : Words) → AreTwoWords rest.now words → ⊥)
         (λ words. AreTwoWords rest.now (words_of words)) }
@@ -99,7 +99,7 @@ fn two_words(rest: &str) -> Option<PathWords<'_>>
     let Some((id, ovn)) = halves(rest) else {
         return None;
     };
-    if !names_entity(id) {
+    if !may_be_id(id) {
         return None;
     }
     if !is_part(ovn) {
@@ -118,9 +118,12 @@ fn words_at(place: Place, rest: &str) -> Option<PathWords<'_>>
 {
     match place {
         Place::Query(_) => one_word(rest, rest == "query"),
-        Place::Entity(_) => one_word(rest, names_entity(rest)),
+        Place::Entity(_) => one_word(rest, may_be_id(rest)),
         Place::EntityAtOvn(_) => two_words(rest),
         Place::Availability => one_word(rest, is_part(rest)),
+        Place::SubscriptionQuery => one_word(rest, rest == "query"),
+        Place::Subscription => one_word(rest, may_be_id(rest)),
+        Place::SubscriptionAtVersion => two_words(rest),
     }
 }
 
@@ -135,6 +138,9 @@ impl Routes {
         put(&mut router, Place::Entity(Kind::Constraint))?;
         put(&mut router, Place::EntityAtOvn(Kind::Constraint))?;
         put(&mut router, Place::Availability)?;
+        put(&mut router, Place::SubscriptionQuery)?;
+        put(&mut router, Place::Subscription)?;
+        put(&mut router, Place::SubscriptionAtVersion)?;
         Ok(Routes { router })
     }
 

@@ -22,6 +22,21 @@ returns-clause-no_supplier c = paths.no_supplier
 pub returns-clause-two_suppliers : goal.returns-clause-two_suppliers
 returns-clause-two_suppliers c = paths.two_suppliers
 
+pub returns-clause-past_subscription_query : goal.returns-clause-past_subscription_query
+returns-clause-past_subscription_query c = paths.past_subscription_query
+
+pub returns-clause-no_version : goal.returns-clause-no_version
+returns-clause-no_version c = paths.no_version
+
+pub returns-clause-no_subscription : goal.returns-clause-no_subscription
+returns-clause-no_subscription c = paths.no_subscription
+
+pub returns-clause-three_subscription_words : goal.returns-clause-three_subscription_words
+returns-clause-three_subscription_words c = paths.three_subscription_words
+
+pub returns-clause-one_subscription : goal.returns-clause-one_subscription
+returns-clause-one_subscription c = paths.one_subscription
+
 pub returns-clause-other : goal.returns-clause-other
 returns-clause-other c = paths.other
 

@@ -11,3 +11,9 @@ returns-clause-constraint_at c = (codes "c1/o1", refl, both (codes "c1") (codes 
 
 pub returns-clause-as_ovn : goal.returns-clause-as_ovn
 returns-clause-as_ovn c = (codes "a1/query", refl, both (codes "a1") (codes "query") refl refl)
+
+pub returns-clause-subscription_at : goal.returns-clause-subscription_at
+returns-clause-subscription_at c = (codes "d1/o1", refl, both (codes "d1") (codes "o1") refl refl)
+
+pub returns-clause-as_version : goal.returns-clause-as_version
+returns-clause-as_version c = (codes "d1/query", refl, both (codes "d1") (codes "query") refl refl)
