@@ -149,6 +149,7 @@ module _ (db : Database) (a : Airspace) (p : Spells db a) (uss : List ℕ) (stat
     volumes = IsPermutation-refl _;
     cells = IsPermutation-refl _;
     kept = p.kept;
+    subscriptions = p.subscriptions;
     availabilities = IsPermutation-trans _ _ _ (IsPermutation-sym _ _ together) (IsPermutation-append_comm ((uss, stated) ∷ []) (others text_cmp nat_list_cmp_total text_exact uss (entries a.availabilities)));
     stated = recursion_from_All IsStated _ (All-permutation IsStated _ _ together (All-from_recursion IsStated ((uss, stated) ∷ others text_cmp nat_list_cmp_total text_exact uss (entries a.availabilities)) (is, all-filter IsStated _ (entries a.availabilities) p.stated)));
   }

@@ -65,6 +65,7 @@ module _ (db : Database) (a : Airspace) (p : Spells db a) (k : EntityKey) (none 
     cells = IsPermutation-refl _;
     kept = subst₂ (λ x y. IsPermutation x y) all_kept (sym (removed key_cmp key_total key_exact a.entities k)) (IsPermutation-filter (λ e. not (hits key_cmp key_total key_exact k e)) _ _ p.kept);
     availabilities = IsPermutation-refl _;
+    subscriptions = p.subscriptions;
     stated = p.stated;
   }
 
@@ -105,6 +106,7 @@ module _ (l : Layout) (gs : List Group) (a : Airspace) (e : Entity) (row : Entit
     cells = beside (λ (g : Group). g.cells) l.cells are.cells;
     kept = IsPermutation-trans _ _ _ (IsPermutation-map pair_of _ _ turned) (IsPermutation-trans _ _ _ (IsPermutation-cons (key_of e, e) _ _ (subst (IsPermutation (map pair_of gs)) (removed key_cmp key_total key_exact a.entities (key_of e)) are.kept)) (inserted key_cmp key_total key_exact a.entities (key_of e) e));
     availabilities = are.availabilities;
+    subscriptions = are.subscriptions;
     stated = are.stated;
   }
 
@@ -117,12 +119,12 @@ module _ (e : Entity) (num : ℤ) (old room rows new : Database) (makes : MakesR
       let with = with_rows inserts.row inserts.volumes inserts.cells l in
       let low : l.serial < greatest_serial = subst (λ n. n < greatest_serial) (sym serial) fits.room in
       let laid = inserts.relays l tt has in
-      let joined = rows_joined l gs a e inserts.row inserts.volumes inserts.cells are (subst (λ n. AllByRecursion (λ (g : Group). int_eq g.row.num n ≡ false) gs) (sym inserts.number) other) inserts.spelt fits.due in
+      let joined = rows_joined l gs a e inserts.row inserts.volumes inserts.cells are (subst (λ n. AllByRecursion (λ (g : Group). int_eq g.row.num n ≡ false) gs) (sym inserts.number) other) inserts.spelt fits.due.0 in
       (spell_out new (with_next_serial with) _ (with_entity a e) (raises.0 with low laid) joined, raises.1 with low laid)
 
   pub puts_entity : MakesChange (Put e) old new
   puts_entity a p fits = elim (makes a p) [
     | inl there ↦ puts_beside a (without_rows num (layout_of old a p)) (filter (is_other num) p.groups) fits refl there.1 (rows_left old a p num (key_of e) there.0 fits.room) (none_left_of (λ (g : Group). g.row.num) num p.groups)
     | inr none ↦ puts_beside a (layout_of old a p) p.groups fits refl none.2 (rows_stand old a p (key_of e) none.0 fits.room)
-        (subst (λ n. AllByRecursion (λ (g : Group). int_eq g.row.num n ≡ false) p.groups) (sym none.1) (numbers_below a.serial e.serial p.groups fits.due p.each))
+        (subst (λ n. AllByRecursion (λ (g : Group). int_eq g.row.num n ≡ false) p.groups) (sym none.1) (numbers_below a.serial e.serial p.groups fits.due.0 p.each))
   ]

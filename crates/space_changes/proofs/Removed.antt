@@ -116,6 +116,7 @@ module _ (db : Database) (a : Airspace) (p : Spells db a) (num : ℤ) (k : Entit
     cells = subst (IsPermutation (flat_map (λ (g : Group). g.cells) (filter (is_other num) p.groups))) (rows_of_others (λ (c : CellRow). c.entity) (λ g. g.cells) num p.groups (cells_borne a.serial p.groups p.each)) (IsPermutation-refl _);
     kept = subst₂ (λ x y. IsPermutation x y) (sym others_kept) (sym (removed key_cmp key_total key_exact a.entities k)) (IsPermutation-filter (λ e. not (hits key_cmp key_total key_exact k e)) _ _ p.kept);
     availabilities = IsPermutation-refl _;
+    subscriptions = p.subscriptions;
     stated = p.stated;
   }
 

@@ -3,7 +3,7 @@ use Rattle.std.proofs.Common.{◌≡◌, ◌≤◌, List, [], ◌∷◌, map, fl
 use Rattle.std.specs.Prelude.{IsPermutation}
 use Rattle.std.specs.List.{AllByRecursion}
 use Rattle.std.specs.Ordering.{int_cmp}
-use Rattle.std.specs.FinMap.{entries}
+use Rattle.std.specs.FinMap.{entries, empty}
 use Rattle.std.proofs.lemmas.List.Sorted.{IsPermutation-map, IsPermutation-trans}
 use Rattle.sqlite_keyed.proofs.ListLemmas.{map-map, map-flat_map, ascending-map}
 use Rattle.sqlite_trees.specs.Tree.{IsAscending}
@@ -42,6 +42,7 @@ pub record AreRowsOf (l : Layout) (gs : List Group) (a : Airspace) : Type 0 wher
   pub volumes : IsPermutation (flat_map (λ (g : Group). g.volumes) gs) l.volumes
   pub cells : IsPermutation (flat_map (λ (g : Group). g.cells) gs) l.cells
   pub kept : IsPermutation (map pair_of gs) (entries a.entities)
+  pub subscriptions : a.subscriptions ≡ empty
   pub availabilities : IsPermutation (entries a.availabilities) l.availabilities
   pub stated : AllByRecursion IsStated (entries a.availabilities)
 
@@ -58,6 +59,7 @@ spell_out db l gs a has are = record {
   volumes = IsPermutation-trans _ _ _ (subst (λ k. IsPermutation k (map volume_values l.volumes)) (map-flat_map volume_values (λ (g : Group). g.volumes) gs) (IsPermutation-map volume_values _ _ are.volumes)) has.volumes;
   cells = IsPermutation-trans _ _ _ (subst (λ k. IsPermutation k (map cell_values l.cells)) (map-flat_map cell_values (λ (g : Group). g.cells) gs) (IsPermutation-map cell_values _ _ are.cells)) has.cells;
   kept = are.kept;
+  subscriptions = are.subscriptions;
   availabilities = IsPermutation-trans _ _ _ (IsPermutation-map availability_values _ _ are.availabilities) has.availabilities;
   stated = are.stated;
   apart = has.apart;

@@ -28,6 +28,8 @@ fn write_change<S: Alter>(
         Change::Avail(uss, availability, version) => {
             set_availability(tx, uss, *availability, version)
         }
+        // No table keeps subscriptions.
+        Change::PutSub(_) | Change::RemoveSub(_) => Err(Error::QueryReturnedNoRows),
     }
 }
 
@@ -37,8 +39,9 @@ fn write_change<S: Alter>(
 ///
 /// # Errors
 ///
-/// An error of the database, or want of memory. While the connection stays open, it shows what was
-/// committed before.
+/// An error of the database, or want of memory. Of a change that keeps or removes a subscription, or
+/// keeps an intent that names one, it is always an error: no table keeps subscriptions. While the
+/// connection stays open, it shows what was committed before.
 pub fn make_change<S: Alter>(
     alloc: Global,
     conn: &mut Connection<S>,

@@ -1,6 +1,7 @@
 //! An entity is put in the place of the one that has its kind and id.
-ghost use Rattle.std.specs.Prelude.{◌≡◌, ◌≤ℤ◌, pos, IfOk};
+ghost use Rattle.std.specs.Prelude.{◌≡◌, ◌≤ℤ◌, pos, IfOk, None};
 ghost use Rattle.sqlite.specs.Held.{state};
+ghost use Rattle.entity_core.specs.Entity.{subscription_of};
 ghost use Rattle.space_core.specs.declared.space.Change.TheVariants.{Put};
 ghost use Rattle.space_changes.specs.Statements.{Runs, MakesChange};
 ghost use Rattle.space_changes.specs.Putting.{InsertsEntity, MakesRoom};
@@ -48,6 +49,7 @@ fn insert_entity<S: Alter>(
 ) -> Result<(), Error>
     requires least { pos 1 ≤ℤ num }
     requires most { num ≤ℤ pos entity.now.serial }
+    requires unnamed { subscription_of entity.now.nature ≡ None }
     ensures same_reference { tx.new.conn.ghost_name ≡ tx.old.conn.ghost_name }
     ensures inserts { let old = state S.Store tx.old.conn.now in
         let new = state S.Store tx.new.conn.now in
@@ -57,7 +59,8 @@ fn insert_entity<S: Alter>(
     insert_rows(tx, &row, &volumes, &cells)
 }
 
-/// Puts an entity. It keeps the number of the one that has its kind and id, if there is one.
+/// Puts an entity. It keeps the number of the one that has its kind and id, if there is one. It is an
+/// error where the entity names a subscription, since no table keeps one.
 pub(crate) fn put_entity<S: Alter>(
     alloc: Global,
     tx: &mut Transaction<'_, S>,
@@ -68,6 +71,9 @@ pub(crate) fn put_entity<S: Alter>(
         let new = state S.Store tx.new.conn.now in
         Runs (λ _. MakesChange (Put entity.now)) old new result }
 {
+    if entity.nature.subscription().is_some() {
+        return Err(Error::QueryReturnedNoRows);
+    }
     let num = make_room(alloc, tx, entity)?;
     insert_entity(alloc, tx, entity, num)?;
     raise_serial(tx)?;

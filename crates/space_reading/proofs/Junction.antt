@@ -104,6 +104,7 @@ module _ (db : Database) (t : Tables) (a : Airspace) (has : db.schema ≡ dss_sc
         volumes = IsPermutation-sym _ _ (subst (IsPermutation (map six_columns (db.trees 3))) (l.entities.volumes_are ∙ (ap (map volume_values) (sym g.volumes_are) ∙ map-flat_map volume_values (λ (x : Group). x.volumes) g.groups)) r.entities.volumes.all);
         cells = IsPermutation-sym _ _ (subst (IsPermutation (map six_columns (db.trees 5))) (l.entities.cells_are ∙ (ap (map cell_values) (sym g.cells_are) ∙ map-flat_map cell_values (λ (x : Group). x.cells) g.groups)) r.entities.cells.all);
         kept = subst (λ k. IsPermutation k (entries a.entities)) (append-nil (map pair_of g.groups)) es;
+        subscriptions = l.subscriptions;
         availabilities = IsPermutation-sym _ _ (IsPermutation-trans _ _ _ (subst (IsPermutation (map three_columns (db.trees 8))) s.1 r.settings) (IsPermutation-map availability_values _ _ stated));
         stated = all_stated s.0 (entries a.availabilities) stated s.2;
         apart = (apart_from 3 db t.rowids.volumes.items r.rowids.volumes l.rising.0, apart_from 5 db t.rowids.cells.items r.rowids.cells l.rising.1, apart_from 8 db t.rowids.settings.items r.rowids.settings l.rising.2);
@@ -138,6 +139,7 @@ module _ (db : Database) (t : Tables) (a : Airspace) (has : db.schema ≡ dss_sc
           cells_are = cells;
           gathered = gathered;
         };
+        subscriptions = p.subscriptions;
         availabilities = subst (λ rs. Settles rs empty a.availabilities) (sym back.0) settled;
         rising = (rising_from 3 db t.rowids.volumes.items r.rowids.volumes p.apart.0, rising_from 5 db t.rowids.cells.items r.rowids.cells p.apart.1, rising_from 8 db t.rowids.settings.items r.rowids.settings p.apart.2);
       }

@@ -110,6 +110,7 @@ pub record IsListed (t : Tables) (a : Airspace) : Type 0 where
   pub meta : t.metas.items ≡ meta_values 1 a.serial ∷ []
   pub most : a.serial ≤ greatest_serial
   pub entities : ListsEntities a.serial t.entities a.entities
+  pub subscriptions : a.subscriptions ≡ empty
   pub availabilities : Settles t.settings.items empty a.availabilities
   pub rising : HaveRisingIds t
 

@@ -10,8 +10,9 @@ use Rattle.space_reading.specs.declared.verdict.Listed.{Listed}
 use Rattle.space_reading.specs.declared.verdict.Verdict.{Verdict}
 use Rattle.space_reading.specs.declared.verdict.Verdict.TheVariants.{Spelt, OtherFormat, Unspelt}
 
+-- the airspace of what was read; no table keeps subscriptions
 abbrev pub listed_airspace : Listed → Airspace
-listed_airspace l = airspace_of l.entities l.availabilities l.serial
+listed_airspace l = airspace_of l.entities [] l.availabilities l.serial
 
 -- meta has one row, and its format is not 1
 pub record IsOtherFormat (db : Database) : Type 0 where

@@ -17,7 +17,7 @@ pub has_head : (row : EntityRow) (volumes : List VolumeRow) (cells : List CellRo
 has_head row volumes cells e s = record {
   least = s.entity.least;
   most = s.entity.most;
-  nature = record { kind_is = s.entity.kind; state_is = s.entity.state };
+  nature = record { kind_is = s.entity.kind; state_is = s.entity.state; named = s.named };
   id = record { text_is = s.entity.id; fits = s.kept.id };
   manager = record { same = s.entity.manager; right = s.kept.manager };
   version = record { number = s.entity.version; least = s.kept.version.0; most = s.kept.version.1 };
@@ -42,6 +42,7 @@ whole row volumes cells h es p v n = record {
   };
   volumes_are = v.volumes_are;
   cells_are = v.cells_are;
+  named = p.nature.named;
   kept = record {
     id = p.id.fits;
     manager = p.manager.right;

@@ -1,5 +1,5 @@
 -- Rows spell one entity at most.
-use Rattle.std.specs.Prelude.{◌≡◌, ◌≢◌, ℕ, zero, suc, ℤ, pos, ◌<◌, List, [], ◌∷◌, ◌^◌, map, refl}
+use Rattle.std.specs.Prelude.{◌≡◌, ◌≢◌, ℕ, zero, suc, ℤ, pos, ◌<◌, List, [], ◌∷◌, ◌^◌, map, None, refl}
 use Rattle.std.specs.List.{AllByRecursion, AllZip, flat_map}
 use Rattle.std.proofs.Common.{sym, ap, ap₂, ◌∙◌, arith}
 use Rattle.grid_core.specs.Cell.{Cell, IsCell}
@@ -8,6 +8,7 @@ use Rattle.grid_core.specs.Extent.{Extent}
 use Rattle.entity_core.specs.declared.nature.State.TheVariants.{Accepted, Activated, Nonconforming, Contingent}
 use Rattle.entity_core.specs.declared.nature.Nature.{Nature}
 use Rattle.entity_core.specs.declared.nature.Nature.TheVariants.{Intent, Constraint}
+use Rattle.entity_core.specs.Entity.{subscription_of}
 use Rattle.entity_core.specs.EntityId.{printed}
 use Rattle.entity_core.proofs.Ids.{printed_spells}
 use Rattle.space_rows.specs.declared.rows.VolumeRow.{VolumeRow}
@@ -16,24 +17,24 @@ use Rattle.space_rows.specs.Rows.{state_number, placed, PlacedCell, cells_at, pl
 use Rattle.space_rows.specs.Laws.{OneEntity}
 use Rattle.space_rows.proofs.Pieces.{Borne, Differ, all_joined, all_turned, one_flat}
 
--- the nature that a state's number is of
+-- the nature that a state's number is of, where no subscription is named
 nature_at : ℤ → Nature
-nature_at (pos zero) = Intent Accepted
-nature_at (pos (suc zero)) = Intent Activated
-nature_at (pos (suc (suc zero))) = Intent Nonconforming
-nature_at (pos (suc (suc (suc zero)))) = Intent Contingent
+nature_at (pos zero) = Intent Accepted None
+nature_at (pos (suc zero)) = Intent Activated None
+nature_at (pos (suc (suc zero))) = Intent Nonconforming None
+nature_at (pos (suc (suc (suc zero)))) = Intent Contingent None
 nature_at _ = Constraint
 
-nature_again : (n : Nature) → nature_at (state_number n) ≡ n
+nature_again : (n : Nature) → subscription_of n ≡ None → nature_at (state_number n) ≡ n
 unfolding nature_at
-nature_again (Intent Accepted) = refl
-nature_again (Intent Activated) = refl
-nature_again (Intent Nonconforming) = refl
-nature_again (Intent Contingent) = refl
-nature_again Constraint = refl
+nature_again (Intent Accepted named) none = ap (Intent Accepted) (sym none)
+nature_again (Intent Activated named) none = ap (Intent Activated) (sym none)
+nature_again (Intent Nonconforming named) none = ap (Intent Nonconforming) (sym none)
+nature_again (Intent Contingent named) none = ap (Intent Contingent) (sym none)
+nature_again Constraint none = refl
 
-pub one_state : (a b : Nature) → state_number a ≡ state_number b → a ≡ b
-one_state a b e = sym (nature_again a) ∙ (ap nature_at e ∙ nature_again b)
+pub one_state : (a b : Nature) → subscription_of a ≡ None → subscription_of b ≡ None → state_number a ≡ state_number b → a ≡ b
+one_state a b none no_other e = sym (nature_again a none) ∙ (ap nature_at e ∙ nature_again b no_other)
 
 pub one_pos : (m n : ℕ) (x : ℤ) → x ≡ pos m → x ≡ pos n → m ≡ n
 one_pos m n x p q = let e = sym p ∙ q in cc
@@ -136,7 +137,7 @@ one_id text m n a b p q = let e = sym (printed_spells m text p a) ∙ printed_sp
 -- rows spell one entity
 pub one_entity : OneEntity
 one_entity row volumes cells e f p q =
-    let nature = one_state e.nature f.nature (sym p.entity.state ∙ q.entity.state) in
+    let nature = one_state e.nature f.nature p.named q.named (sym p.entity.state ∙ q.entity.state) in
     let id = one_id row.id e.id f.id p.kept.id q.kept.id p.entity.id q.entity.id in
     let manager = sym p.entity.manager ∙ q.entity.manager in
     let version = one_pos e.version f.version row.version p.entity.version q.entity.version in

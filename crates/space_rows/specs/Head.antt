@@ -5,7 +5,7 @@ use Rattle.entity_core.specs.declared.entity.Entity.{Entity}
 use Rattle.entity_core.specs.declared.nature.Nature.{Nature}
 use Rattle.entity_core.specs.declared.id_fault.IdFault.{IdFault}
 use Rattle.entity_core.specs.IdTexts.{name_fault, ovn_fault, url_fault}
-use Rattle.entity_core.specs.Entity.{kind_of, greatest_version}
+use Rattle.entity_core.specs.Entity.{kind_of, subscription_of, greatest_version}
 use Rattle.entity_core.specs.Serial.{greatest_serial}
 use Rattle.entity_core.specs.EntityId.{printed}
 use Rattle.space_rows.specs.declared.rows.EntityRow.{EntityRow}
@@ -42,10 +42,11 @@ pub record HasVolumes (h : Head) (vs : List Extent) (e : Entity) : Type 0 where
   pub whole : e ≡ with_volumes h vs
   pub count : (1 ≤ length vs) × (length vs ≤ 32)
 
--- the numbers of a kind and a state
+-- the numbers of a kind and a state; no subscription is named
 pub record SpellsNature (kind state : ℤ) (n : Nature) : Type 0 where
   pub kind_is : kind ≡ kind_number (kind_of n)
   pub state_is : state ≡ state_number n
+  pub named : subscription_of n ≡ None
 
 -- the text that is printed of an id
 pub record SpellsId (text : List ℕ) (id : ℕ) : Type 0 where

@@ -10,7 +10,7 @@ use Rattle.entity_core.specs.declared.nature.State.TheVariants.{Accepted, Activa
 use Rattle.entity_core.specs.declared.nature.Nature.{Nature}
 use Rattle.entity_core.specs.declared.nature.Nature.TheVariants as nature
 use Rattle.entity_core.specs.declared.entity.Entity.{Entity}
-use Rattle.entity_core.specs.Entity.{kind_of, greatest_version}
+use Rattle.entity_core.specs.Entity.{kind_of, subscription_of, greatest_version}
 use Rattle.entity_core.specs.Serial.{greatest_serial}
 use Rattle.entity_core.specs.EntityId.{printed}
 use Rattle.entity_core.specs.IdTexts.{name_fault, ovn_fault, url_fault}
@@ -25,10 +25,10 @@ kind_number kind.Constraint = pos 1
 
 -- the number of a state, and 4 for a constraint
 abbrev pub state_number : Nature → ℤ
-state_number (nature.Intent Accepted) = pos 0
-state_number (nature.Intent Activated) = pos 1
-state_number (nature.Intent Nonconforming) = pos 2
-state_number (nature.Intent Contingent) = pos 3
+state_number (nature.Intent Accepted named) = pos 0
+state_number (nature.Intent Activated named) = pos 1
+state_number (nature.Intent Nonconforming named) = pos 2
+state_number (nature.Intent Contingent named) = pos 3
 state_number nature.Constraint = pos 4
 
 -- ---- places
@@ -107,10 +107,12 @@ pub record IsCellRow (num : ℤ) (row : CellRow) (c : PlacedCell) : Type 0 where
 
 -- A row of `entity`, the rows of `volume` by rising places, and those of `cell` by rising volumes
 -- and places, spell an entity: each reads by its types, and places count from 0 without gaps. There
--- is a volume, and each volume has a cell, as `IsEntity` and `region_fault` say.
+-- is a volume, and each volume has a cell, as `IsEntity` and `region_fault` say. No row tells of a
+-- subscription, and so the entity names none.
 pub record SpellsEntity (row : EntityRow) (volumes : List VolumeRow) (cells : List CellRow)
     (e : Entity) : Type 0 where
   pub entity : IsEntityRow row e
   pub volumes_are : AllZip (IsVolumeRow row.num) volumes (placed 0 e.volumes)
   pub cells_are : AllZip (IsCellRow row.num) cells (all_cells e.volumes)
+  pub named : subscription_of e.nature ≡ None
   pub kept : IsEntity e

@@ -1,5 +1,6 @@
 //! The entity that rows spell, and the rows of an entity.
-ghost use Rattle.std.specs.Prelude.{◌≡◌, ◌≤ℤ◌, pos, IfOk};
+ghost use Rattle.std.specs.Prelude.{◌≡◌, ◌≤ℤ◌, pos, IfOk, None};
+ghost use Rattle.entity_core.specs.Entity.{subscription_of};
 ghost use Rattle.space_rows.specs.Rows.{SpellsEntity};
 ghost use Rattle.space_rows.specs.Finds.{Finds};
 ghost use Rattle.space_rows.specs.Head.{HasVolumes};
@@ -50,7 +51,8 @@ pub fn entity_of(
 }
 
 /// The rows of an entity under a number: that of `entity`, those of `volume` by rising places, and
-/// those of `cell` by rising volumes and then places.
+/// those of `cell` by rising volumes and then places. They spell it, unless it names a subscription:
+/// no row tells that.
 pub fn rows_of(
     alloc: Global,
     entity: &Entity,
@@ -59,7 +61,8 @@ pub fn rows_of(
     requires least { pos 1 ≤ℤ num }
     requires most { num ≤ℤ pos entity.now.serial }
     ensures num { IfOk result (λ r. r.0.num ≡ num) }
-    ensures spells { IfOk result (λ r. SpellsEntity r.0 r.1.items r.2.items entity.now) }
+    ensures spells { subscription_of entity.now.nature ≡ None
+        → IfOk result (λ r. SpellsEntity r.0 r.1.items r.2.items entity.now) }
 {
     let row = entity_row(alloc, entity, num)?;
     let (volumes, cells) = volume_rows(alloc, num, entity.volumes.items())?;

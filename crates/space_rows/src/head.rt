@@ -1,7 +1,7 @@
 //! What a row of the table `entity` spells, and the row of an entity.
-ghost use Rattle.std.specs.Prelude.{◌≡◌, ◌↔◌, ◌≤◌, ◌^◌, ◌≤ℤ◌, ℕ, pos, IsTrue, IfOk, Some};
+ghost use Rattle.std.specs.Prelude.{◌≡◌, ◌↔◌, ◌≤◌, ◌^◌, ◌≤ℤ◌, ℕ, pos, IsTrue, IfOk, Some, None};
 ghost use Rattle.entity_core.specs.EntityId.{spelled};
-ghost use Rattle.entity_core.specs.Entity.{greatest_version};
+ghost use Rattle.entity_core.specs.Entity.{greatest_version, subscription_of};
 ghost use Rattle.entity_core.specs.Serial.{greatest_serial};
 ghost use Rattle.entity_core.specs.declared.nature.Nature.TheVariants.{Intent};
 ghost use Rattle.space_rows.specs.Rows.{kind_number, state_number};
@@ -36,7 +36,7 @@ pub(crate) struct Head {
 }
 
 fn state_of(number: i64) -> Option<State>
-    ensures { Finds (λ s. number ≡ state_number (Intent s)) result }
+    ensures { Finds (λ s. number ≡ state_number (Intent s None)) result }
 {
     match number {
         0 => Some(State::Accepted),
@@ -51,7 +51,7 @@ fn intent_of(state: i64) -> Option<Nature>
     ensures { Finds (SpellsNature (pos 0) state) result }
 {
     match state_of(state) {
-        Some(state) => Some(Nature::Intent(state)),
+        Some(state) => Some(Nature::Intent(state, None)),
         None => None,
     }
 }
@@ -154,12 +154,13 @@ pub(crate) fn head_of(alloc: Global, row: &EntityRow) -> Result<Option<Head>, Al
     }))
 }
 
-/// The row of an entity under a number.
+/// The row of an entity under a number; of one that names a subscription, that is not told by it.
 pub(crate) fn entity_row(alloc: Global, entity: &Entity, num: i64) -> Result<EntityRow, AllocError>
     requires least { pos 1 ≤ℤ num }
     requires most { num ≤ℤ pos entity.now.serial }
     ensures num { IfOk result (λ row. row.num ≡ num) }
-    ensures row { IfOk result (λ row. SpellsHead row (head_part entity.now)) }
+    ensures row { subscription_of entity.now.nature ≡ None
+        → IfOk result (λ row. SpellsHead row (head_part entity.now)) }
 {
     let _number = entity.id.number();
     Ok(EntityRow {

@@ -19,10 +19,10 @@ pub(crate) fn state_number(nature: Nature) -> i64
     ensures { result ≡ state_number nature }
 {
     match nature {
-        Nature::Intent(State::Accepted) => 0,
-        Nature::Intent(State::Activated) => 1,
-        Nature::Intent(State::Nonconforming) => 2,
-        Nature::Intent(State::Contingent) => 3,
+        Nature::Intent(State::Accepted, _) => 0,
+        Nature::Intent(State::Activated, _) => 1,
+        Nature::Intent(State::Nonconforming, _) => 2,
+        Nature::Intent(State::Contingent, _) => 3,
         Nature::Constraint => 4,
     }
 }

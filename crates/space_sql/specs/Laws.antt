@@ -1,16 +1,16 @@
 -- What the outcomes of a crash keep. Proved, so nothing has to be believed here: a law of an `impl`
 -- cites `specs/` alone.
-use Rattle.std.specs.Prelude.{◌≡◌, true, false, List, [], ◌∷◌, map, Some, cond, refl}
+use Rattle.std.specs.Prelude.{◌≡◌, ℕ, true, false, List, [], ◌∷◌, map, None, Some, cond, refl}
 use Rattle.std.proofs.Common.{sym, ap, subst, ◌∙◌}
 use Rattle.std.proofs.Math.Logic.{∥∥₁_map}
 use Rattle.std.proofs.lemmas.Option.{same_Some}
 use Rattle.std.specs.List.{AllByRecursion}
-use Rattle.std.specs.Ordering.{eq_by_cmp}
+use Rattle.std.specs.Ordering.{eq_by_cmp, nat_cmp}
 use Rattle.std.specs.FinMap as maps
-use Rattle.std.specs.FinMap.{entries, get-entries}
+use Rattle.std.specs.FinMap.{empty, entries, get, get-empty, get-entries}
 use Rattle.sqlite_trees.specs.Tree.{Trees}
 use Rattle.sqlite_trees.proofs.ListLemmas.{all-permutation}
-use Rattle.entity_core.specs.Airspace.{Airspace, EntityKey, IsAirspace, key_cmp, key_of}
+use Rattle.entity_core.specs.Airspace.{Airspace, EntityKey, IsAirspace, Subscriptions, key_cmp, key_of}
 use Rattle.entity_core.specs.declared.entity.Entity.{Entity}
 use Rattle.entity_core.proofs.Keys.{one_key}
 use Rattle.space_tables.specs.Spelling.{Group, Spells, pair_of}
@@ -44,9 +44,17 @@ own_key (e ∷ es) k x all h =
       | false ↦ λ t s. own_key es k x all.1 s
     ] refl h
 
+-- where no subscription is kept, none is found
+pub no_subscription : (a : Airspace) → a.subscriptions ≡ empty → (id : ℕ) → get a.subscriptions id ≡ None
+no_subscription a none id = ap (λ (m : Subscriptions). get m id) none ∙ get-empty nat_cmp id
+
 -- what tables spell is an airspace that may be kept
 pub spelt_is_proper : (db : Trees) (a : Airspace) → Spells (with_tables db) a → IsAirspace a
-spelt_is_proper db a p = record { keyed = λ k x h. own_key (entries a.entities) k x (all-permutation IsUnderItsKey _ _ p.kept (own_keys p.groups)) (sym (get-entries a.entities k) ∙ h) }
+spelt_is_proper db a p = record {
+  keyed = λ k x h. own_key (entries a.entities) k x (all-permutation IsUnderItsKey _ _ p.kept (own_keys p.groups)) (sym (get-entries a.entities k) ∙ h);
+  own = λ id s h. let none = no_subscription a p.subscriptions id in cc;
+  told = λ id s h. let none = no_subscription a p.subscriptions id in cc;
+}
 
 -- what an outcome keeps is an airspace that may be kept
 pub kept_is_proper : {May : Trees → Type 0} (a : Airspace) → ((db : Trees) × May db × Keeps db a) → IsAirspace a

@@ -8,3 +8,4 @@ pub mod open_fault;
 mod parts;
 mod reading;
 pub mod space;
+mod subscriptions;

@@ -3,12 +3,13 @@ ghost use Rattle.std.specs.Prelude.{◌≡◌, false};
 ghost use Rattle.sqlite.specs.Held.{state};
 ghost use Rattle.space_sql.specs.Holding.{holds_in, is_whole_in, IsSound};
 
-use crate::parts;
+use crate::{parts, subscriptions};
 use entity_core::availability::Availability;
 use entity_core::entity::Entity;
 use entity_core::entity_id::EntityId;
 use entity_core::nature::Kind;
 use entity_core::ovn::Ovn;
+use entity_core::subscription::Sub;
 use entity_core::uss_id::UssId;
 use grid_core::volume::Area;
 use space_core::met::Met;
@@ -22,7 +23,8 @@ use std::marker::Model;
 /// What a space holds is what a crash at this moment may leave of its tables: those of format 1 and
 /// no other, and the airspace that they spell. What is said of it stands as long as the disk has
 /// returned what was written; a store in memory has no disk. After `Broken` every call answers
-/// `Broken`, and the tables are left.
+/// `Broken`, and the tables are left. No table keeps subscriptions: none is found, and a change that
+/// keeps one, or an intent that names one, is refused.
 #[derive(Drop)]
 pub struct SqlSpace<S: Alter> {
     pub(crate) conn: Connection<S>,
@@ -119,6 +121,33 @@ impl<S: Alter> Space for SqlSpace<S> {
             &mut self.refusals,
             &mut self.broken,
             uss,
+        )
+    }
+
+    fn subscription(&mut self, id: EntityId) -> Result<Option<Sub>, SpaceFault> {
+        subscriptions::subscription(&mut self.conn, &mut self.refusals, &mut self.broken, id)
+    }
+
+    fn subscriptions_of(&mut self, uss: &UssId, area: &Area) -> Result<Vec<Sub>, SpaceFault> {
+        let alloc = self.alloc;
+        subscriptions::subscriptions_of(
+            alloc,
+            &mut self.conn,
+            &mut self.refusals,
+            &mut self.broken,
+            uss,
+            area,
+        )
+    }
+
+    fn dependents(&mut self, id: EntityId) -> Result<Vec<EntityId>, SpaceFault> {
+        let alloc = self.alloc;
+        subscriptions::dependents(
+            alloc,
+            &mut self.conn,
+            &mut self.refusals,
+            &mut self.broken,
+            id,
         )
     }
 

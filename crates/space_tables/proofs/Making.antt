@@ -115,6 +115,7 @@ spells_empty db schema first one three five eight = record {
   volumes = no_permutation (ap (map six_columns) three) refl;
   cells = no_permutation (ap (map six_columns) five) refl;
   kept = no_permutation (no_entries key_cmp) refl;
+  subscriptions = refl;
   availabilities = no_permutation (ap (map three_columns) eight) (ap (map availability_values) (no_entries text_cmp));
   stated = subst (AllByRecursion IsStated) (sym (no_entries text_cmp)) tt;
   apart = (none_apart _ three, none_apart _ five, none_apart _ eight);

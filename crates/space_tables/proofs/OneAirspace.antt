@@ -200,4 +200,5 @@ one_airspace D E a b same p q =
     let entities = one_map key_cmp key_total a.entities b.entities pairs in
     let stated = one_table availability_values stated_of_values stated_back (entries a.availabilities) (entries b.availabilities) _ _ (ap (map three_columns) (tree 8)) p.availabilities q.availabilities in
     let availabilities = one_map text_cmp nat_list_cmp_total a.availabilities b.availabilities stated in
-    λ i. record { entities = entities i; availabilities = availabilities i; serial = serial i }
+    let subscriptions = p.subscriptions ∙ sym q.subscriptions in
+    λ i. record { entities = entities i; subscriptions = subscriptions i; availabilities = availabilities i; serial = serial i }

@@ -3,7 +3,7 @@ use Rattle.std.specs.Prelude.{◌≡◌, ℕ, ℤ, pos, ◌≤◌, List, [], ◌
 use Rattle.std.specs.List.{AllByRecursion, flat_map}
 use Rattle.std.specs.Ordering.{int_cmp}
 use Rattle.std.specs.declared.cmp.Ordering.TheVariants.{Less}
-use Rattle.std.specs.FinMap.{entries}
+use Rattle.std.specs.FinMap.{entries, empty}
 use Rattle.sqlite_value.specs.declared.value.Value.TheVariants.{Int, Text}
 use Rattle.sqlite_value.specs.Order.{Row, column}
 use Rattle.sqlite_trees.specs.Tree.{rowid, IsAscending}
@@ -96,7 +96,7 @@ AreApart rows = (ids : List ℤ) × IsAscending (λ m n. int_cmp m n ≡ Less) i
 
 -- The tables are those of format 1 and no other; meta has its one row; the rows of entity, volume
 -- and cell fall into groups, one for each entity of the airspace; and the rows of availability are
--- what each USS has set.
+-- what each USS has set. No table keeps subscriptions, and so there are none.
 pub record Spells (db : Database) (a : Airspace) : Type 0 where
   pub schema : db.schema ≡ dss_schema
   pub meta : map meta_columns (db.trees 0) ≡ meta_values 1 a.serial ∷ []
@@ -112,6 +112,7 @@ pub record Spells (db : Database) (a : Airspace) : Type 0 where
   pub cells : IsPermutation (flat_map (λ g. map cell_values g.cells) groups)
       (map six_columns (db.trees 5))
   pub kept : IsPermutation (map pair_of groups) (entries a.entities)
+  pub subscriptions : a.subscriptions ≡ empty
   pub availabilities : IsPermutation (map availability_values (entries a.availabilities))
       (map three_columns (db.trees 8))
   pub stated : AllByRecursion IsStated (entries a.availabilities)

@@ -14,5 +14,5 @@ returns-clause-inserts g c =
     let cells = c.in_ok-row.cells.items in
     let own : to_z w64 (of_z w64 c.args.num) ≡ c.args.num = search rules in
     runs_weaker (λ _. Relays Always (with_rows row volumes cells)) (λ _. InsertsEntity c.args.entity.now c.args.num) old new c.insert_rows.result
-    (λ _ joins. record { row = row; volumes = volumes; cells = cells; number = c.in_ok-row.ensures.num ∙ own; spelt = c.in_ok-row.ensures.spells; relays = joins })
+    (λ _ joins. record { row = row; volumes = volumes; cells = cells; number = c.in_ok-row.ensures.num ∙ own; spelt = c.in_ok-row.ensures.spells c.requires.unnamed; relays = joins })
     (rw (c.deref.ensures.value, c.deref-2.ensures.value) at c.insert_rows.ensures.inserts)

@@ -1,6 +1,5 @@
 use Rattle.std.proofs.Common.{refl}
 use Rattle.sqlite.specs.Held.{state}
-use Rattle.sqlite.specs.declared.types.Value.TheVariants.{Text}
 use Rattle.space_reading.specs.Stated.{AnswersStated, FindsStated}
 use Rattle.space_reading.proofs.Found.{availability_told}
 use Rattle.space_reading.proofs.OwnEntity.{reads_judged}

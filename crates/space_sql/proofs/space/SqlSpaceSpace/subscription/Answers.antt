@@ -1,0 +1,8 @@
+use Rattle.std.proofs.Common.{◌≡◌, subst}
+use Rattle.std.specs.FinMap.{get}
+use Rattle.space_core.specs.Space.{Reads}
+use Rattle.space_sql.specs.Holding.{holds_of, is_sound_of, is_whole_of, kept}
+use Rattle.space_sql.proofs.space.SqlSpaceSpace.subscription.Goals as goal
+
+pub returns-clause-reads : goal.returns-clause-reads
+returns-clause-reads g c = subst (λ v. Reads (holds_of g.S.Store) (is_sound_of g.S.Store) (is_whole_of g.S.Store) v (kept c.subscription.new.conn c.subscription.new.refusals c.subscription.new.broken) c.subscription.result (λ a found. found ≡ get a.subscriptions c.args.id)) c.self.view_is c.subscription.ensures.reads

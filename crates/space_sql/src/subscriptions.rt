@@ -1,0 +1,78 @@
+//! What a space over tables tells of subscriptions: no table keeps any.
+ghost use Rattle.std.specs.Prelude.{◌≡◌};
+ghost use Rattle.std.specs.FinMap.{get};
+ghost use Rattle.sqlite.specs.Held.{state};
+ghost use Rattle.entity_core.specs.Search.{dependents_in, subscriptions_in};
+ghost use Rattle.space_core.specs.Space.{Reads, Tells};
+ghost use Rattle.space_sql.specs.Holding.{IsKeeping, holds_of, is_sound_of, is_whole_of, kept};
+
+use entity_core::entity_id::EntityId;
+use entity_core::subscription::Sub;
+use entity_core::uss_id::UssId;
+use grid_core::volume::Area;
+use space_core::space::SpaceFault;
+use sqlite::{Alter, Connection};
+use std::alloc::Global;
+
+pub(crate) fn subscription<S: Alter>(
+    conn: &mut Connection<S>,
+    refusals: &mut u64,
+    broken: &mut bool,
+    id: EntityId,
+) -> Result<Option<Sub>, SpaceFault>
+    requires { IsKeeping (state S.Store conn.old) broken.old }
+    ensures keeping { IsKeeping (state S.Store conn.new) broken.new }
+    ensures tells { Tells refusals.old refusals.new broken.old broken.new result }
+    ensures reads { Reads (holds_of S.Store) (is_sound_of S.Store) (is_whole_of S.Store)
+        (kept conn.old refusals.old broken.old) (kept conn.new refusals.new broken.new) result
+        (λ a found. found ≡ get a.subscriptions id) }
+{
+    let (_conn, _refusals, _id) = (conn, refusals, id);
+    if *broken {
+        return Err(SpaceFault::Broken);
+    }
+    Ok(None)
+}
+
+pub(crate) fn subscriptions_of<S: Alter>(
+    alloc: Global,
+    conn: &mut Connection<S>,
+    refusals: &mut u64,
+    broken: &mut bool,
+    uss: &UssId,
+    area: &Area,
+) -> Result<Vec<Sub>, SpaceFault>
+    requires { IsKeeping (state S.Store conn.old) broken.old }
+    ensures keeping { IsKeeping (state S.Store conn.new) broken.new }
+    ensures tells { Tells refusals.old refusals.new broken.old broken.new result }
+    ensures reads { Reads (holds_of S.Store) (is_sound_of S.Store) (is_whole_of S.Store)
+        (kept conn.old refusals.old broken.old) (kept conn.new refusals.new broken.new) result
+        (λ a found. found.items ≡ subscriptions_in a.subscriptions uss.now area.now) }
+{
+    let (_conn, _refusals, _uss, _area) = (conn, refusals, uss, area);
+    if *broken {
+        return Err(SpaceFault::Broken);
+    }
+    Ok(Vec::new(alloc))
+}
+
+pub(crate) fn dependents<S: Alter>(
+    alloc: Global,
+    conn: &mut Connection<S>,
+    refusals: &mut u64,
+    broken: &mut bool,
+    id: EntityId,
+) -> Result<Vec<EntityId>, SpaceFault>
+    requires { IsKeeping (state S.Store conn.old) broken.old }
+    ensures keeping { IsKeeping (state S.Store conn.new) broken.new }
+    ensures tells { Tells refusals.old refusals.new broken.old broken.new result }
+    ensures reads { Reads (holds_of S.Store) (is_sound_of S.Store) (is_whole_of S.Store)
+        (kept conn.old refusals.old broken.old) (kept conn.new refusals.new broken.new) result
+        (λ a found. found.items ≡ dependents_in a.entities id) }
+{
+    let (_conn, _refusals, _id) = (conn, refusals, id);
+    if *broken {
+        return Err(SpaceFault::Broken);
+    }
+    Ok(Vec::new(alloc))
+}
