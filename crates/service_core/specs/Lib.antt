@@ -1,5 +1,6 @@
 pub mod Step
 pub mod Looks
+pub mod Needed
 pub mod Service
 pub mod Held
 pub mod Run

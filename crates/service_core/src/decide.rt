@@ -9,8 +9,8 @@ ghost use Rattle.policy_core.specs.Policy.{breaks, breaks_given, early_rules, st
 ghost use Rattle.service_core.specs.Looks.{Looks, facts_in, IsGround, IsFirst, IsReady, IsReadyIfAllowed, Judges, verdict_of};
 
 use crate::halt::Halt;
-use crate::look::{Grounds, look, missing_from};
-use crate::needed::needed_with;
+use crate::look::{Grounds, look};
+use crate::needed::{missing_from, needed_with};
 use entity_core::entity_id::EntityId;
 use entity_core::nature::Kind;
 use entity_core::subscription::Sub;
@@ -109,7 +109,7 @@ fn missing_kind<S: Space>(
         (needed_with kind a (Some caller.now) sub.now id put.now))) }
 {
     let needed = needed_with(space, alloc, kind, caller, id, put, sub, areas)?;
-    missing_from(space, alloc, &caller.uss, put.key.items(), &needed)
+    Ok(missing_from(alloc, &caller.uss, put.key.items(), &needed)?)
 }
 
 // P14 KEY

@@ -1,10 +1,8 @@
 //! Looks at a space, before a call is judged and its answer made.
-ghost use Rattle.std.specs.Prelude.{◌≡◌, ◌≢◌, ◌<◌, Err, IfOk, List, length, map, unwrap_or, []};
-ghost use Rattle.std.specs.List.{All, filter_map, slice_get};
+ghost use Rattle.std.specs.Prelude.{◌≡◌, ◌≢◌, Err, IfOk, List, map, unwrap_or, []};
 ghost use Rattle.std.specs.FinMap.{get};
 ghost use Rattle.entity_core.specs.Airspace.{Airspace, availability_of};
 ghost use Rattle.entity_core.specs.declared.entity.Entity.{Entity};
-ghost use Rattle.policy_core.specs.Missing.{missing_from};
 ghost use Rattle.policy_core.specs.Call.{subject_of};
 ghost use Rattle.policy_core.specs.Standing.{depended_of, found_of, is_some_of, kept_of, lent_entity, lent_facts, lent_stated, lent_sub, sub_under};
 ghost use Rattle.policy_core.specs.View.{view_of};
@@ -21,7 +19,6 @@ use entity_core::subscription::Sub;
 use entity_core::uss_id::UssId;
 use grid_core::volume::Area;
 use policy_core::call::Operation;
-use policy_core::missing::missing;
 use policy_core::reference::{Reference, References, view};
 use policy_core::standing::Facts;
 use space_core::met::Met;
@@ -225,39 +222,4 @@ pub fn references(alloc: Global, uss: &UssId, met: &[Met]) -> Result<References,
         items.push(view(uss, &found.entity, found.availability)?)?;
     }
     Ok(References::from_vec(items))
-}
-
-// The references of the entities at some places.
-fn references_at<S: Space>(
-    space: &mut S,
-    alloc: Global,
-    uss: &UssId,
-    entities: &[Entity],
-    places: &[usize],
-) -> Result<References, Halt>
-    requires { All (λ i. i < length entities.now) places.now }
-    ensures { Looks S.Space space.old space.new result
-        (λ a references. references ≡ map (view_of a uss.now)
-        (filter_map (slice_get entities.now) places.now)) }
-{
-    let mut items = Vec::new(alloc);
-    for place in places {
-        items.push(reference(space, uss, &entities[*place])?)?;
-    }
-    Ok(References::from_vec(items))
-}
-
-/// The references of those entities whose OVNs are not in a key, in their order.
-pub fn missing_from<S: Space>(
-    space: &mut S,
-    alloc: Global,
-    uss: &UssId,
-    key: &[Ovn],
-    needed: &[Entity],
-) -> Result<References, Halt>
-    ensures { Looks S.Space space.old space.new result
-        (λ a references. references ≡ map (view_of a uss.now) (missing_from key.now needed.now)) }
-{
-    let places = missing(alloc, key, needed)?;
-    references_at(space, alloc, uss, needed, &places)
 }
