@@ -1,5 +1,5 @@
 -- The command line's grammar, in `clap`'s words: its commands, and the rule of each argument.
-use Rattle.std.specs.Prelude.{List, ℕ, Some, codes, true}
+use Rattle.std.specs.Prelude.{Some, codes, true}
 use Rattle.clap.specs.Simple.{on_top}
 use Rattle.clap.specs.Words.{App, Rule, Text, new_app, new_rule, with_rule, with_subcommand}
 use Rattle.clap.specs.declared.builder.value_parser.ValueParser.TheVariants.{Unsigned}

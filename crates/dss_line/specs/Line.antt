@@ -1,5 +1,5 @@
 -- What a command line asks for.
-use Rattle.std.specs.Prelude.{◌≡◌, ◌≤◌, ◌⊎◌, ℕ, List, Option, Some, None, codes, map, option_map}
+use Rattle.std.specs.Prelude.{◌≡◌, ◌≤◌, ◌⊎◌, ℕ, List, [], Option, Some, None, codes, map, option_map}
 use Rattle.std.specs.Borrow.{Bor}
 use Rattle.std.specs.Str.Parse.{IsNumeral, digits_value, without_leading_plus}
 use Rattle.clap.specs.Kinds.{IsAmong}
@@ -63,11 +63,11 @@ abbrev pub AsksNothing : Option (Text × List Row) → Type 0
 AsksNothing subcommand = (line : Line) → Asks subcommand line → ⊥
 
 -- The fault explains a command line whose words have these mistakes and else this subcommand: it is
--- of one of the mistakes, or no line is asked for. Memory may run out at any line.
+-- of one of the mistakes, or there is none and no line is asked for. Memory may run out at any line.
 abbrev pub Explains : List ErrorKind → Option (Text × List Row) → LineFault → Type 0
 Explains mistakes subcommand fault.Memory = Unit {0}
 Explains mistakes subcommand (fault.Shown text) = (kind : ErrorKind) × IsAmong kind mistakes
     × IsFaultOf kind (fault.Shown text)
 Explains mistakes subcommand (fault.Refused text) =
     ((kind : ErrorKind) × IsAmong kind mistakes
-    × IsFaultOf kind (fault.Refused text)) ⊎ AsksNothing subcommand
+    × IsFaultOf kind (fault.Refused text)) ⊎ ((mistakes ≡ []) × AsksNothing subcommand)

@@ -1,5 +1,5 @@
 //! What a command line asks for.
-ghost use Rattle.std.specs.Prelude.{ℕ, ◌≤◌, ◌≡◌, IfErr, IfNone, IfOk, IfSome, Some, codes};
+ghost use Rattle.std.specs.Prelude.{ℕ, ◌≤◌, ◌≡◌, [], IfErr, IfNone, IfOk, IfSome, Some, codes};
 ghost use Rattle.clap.specs.Faults.{fault_of as mistakes_of};
 ghost use Rattle.clap.specs.Words.{found_of, rows_of, subcommand_of, subcommand_rows_of};
 ghost use Rattle.dss_line.specs.Grammar.{dss_app};
@@ -186,11 +186,13 @@ fn line_in<'a>(matches: &ArgMatches<'a>) -> Option<Line<'a>>
     }
 }
 
-/// Reads the words of a command line, of which the first is the program's name. A fault has the
-/// whole text that the user reads, its line ends included. What the words ask for, and which
-/// mistakes they have, is by `clap`'s own account of the grammar.
+/// Reads the words of a command line, of which the first is the program's name. A line is answered
+/// only for words without a mistake. A fault has the whole text that the user reads, its line ends
+/// included. What the words ask for, and which mistakes they have, is by `clap`'s own account of
+/// the grammar.
 pub fn parse<'a>(alloc: Global, words: &'a [&'a str]) -> Result<Line<'a>, LineFault>
     ensures ok { IfOk result (Asks (subcommand_of dss_app (texts words.entry.now))) }
+    ensures faultless { IfOk result (λ _. mistakes_of dss_app (texts words.entry.now) ≡ []) }
     ensures err { IfErr result (Explains (mistakes_of dss_app (texts words.entry.now))
         (subcommand_of dss_app (texts words.entry.now))) }
 {

@@ -3,7 +3,7 @@ use Rattle.std.proofs.lemmas.Result.{IfOk-weaker}
 use Rattle.clap.specs.Simple.{app_of_fields, on_top}
 use Rattle.clap.specs.Words.{App, app_of, new_app, with_subcommand}
 use Rattle.clap.specs.declared.builder.command.Command.TheViews.{out-Command}
-use Rattle.dss_line.specs.Grammar.{cell_app, report_app, run_app, self_app, serve_app}
+use Rattle.dss_line.specs.Grammar.{cell_app, run_app, self_app, serve_app}
 use Rattle.dss_line.proofs.grammar.command.Goals as goal
 
 -- the program's own command

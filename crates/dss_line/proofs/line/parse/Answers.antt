@@ -1,7 +1,7 @@
-use Rattle.std.proofs.Common.{◌≡◌, true, refl, ap, subst, inr, ◌∙◌}
+use Rattle.std.proofs.Common.{◌≡◌, true, List, [], refl, ap, subst, inr, ◌∙◌}
 use Rattle.clap.specs.Faults.{fault_of as mistakes_of, is_simple_and_free}
 use Rattle.clap.specs.Kinds.{HasKind}
-use Rattle.clap.specs.Words.{App, app_of, is_simple, subcommand_of, subcommand_rows_of}
+use Rattle.clap.specs.Words.{App, Text, app_of, is_simple, subcommand_of, subcommand_rows_of}
 use Rattle.dss_line.specs.Grammar.{dss_app}
 use Rattle.dss_line.specs.Line.{AsksNothing, texts}
 use Rattle.dss_line.proofs.Matches.{fault_of_kind}
@@ -13,6 +13,11 @@ is_free = refl
 simple : is_simple dss_app ≡ true
 simple = refl
 
+-- what a parse that succeeds says of its mistakes, of the program's own command
+faultless : (a : App) (words : List Text) → a ≡ dss_app → (is_simple_and_free a ≡ true → mistakes_of a words ≡ []) → mistakes_of dss_app words ≡ []
+faultless a words same none =
+    subst (λ (b : App). mistakes_of b words ≡ []) same (none (ap is_simple_and_free same ∙ is_free))
+
 pub returns-in-Err-clause-err : goal.returns-in-Err-clause-err
 returns-in-Err-clause-err c =
     let app : app_of c.in_ok-command.field-0 ≡ dss_app = c.in_ok-command.ensures.0 in
@@ -23,4 +28,9 @@ pub returns-clause-err : goal.returns-clause-err
 returns-clause-err c =
     let app : app_of c.in_ok-command.field-0 ≡ dss_app = c.in_ok-command.ensures.0 in
     let rows : subcommand_rows_of c.in-Ok.matches ≡ subcommand_of dss_app (texts c.args.words.now) = (c.in-Ok.ensures.matches (ap is_simple app ∙ simple)).1 ∙ ap (λ (a : App). subcommand_of a (texts c.args.words.now)) app in
-    inr (subst AsksNothing rows c.in-None.ensures.none)
+    inr (faultless _ _ app c.in-Ok.ensures.kinds, subst AsksNothing rows c.in-None.ensures.none)
+
+pub returns-in-Some-clause-faultless : goal.returns-in-Some-clause-faultless
+returns-in-Some-clause-faultless c =
+    let app : app_of c.in_ok-command.field-0 ≡ dss_app = c.in_ok-command.ensures.0 in
+    faultless _ _ app c.in-Ok.ensures.kinds
