@@ -3,7 +3,7 @@ import dataclasses
 import json
 
 import wire
-from wire import CONSTRAINTS, INTENTS
+from wire import CONSTRAINTS, INTENTS, SUBSCRIPTIONS
 
 NOW = 1000
 ID = "00000000-0000-4000-8000-0000000000A1"
@@ -239,6 +239,94 @@ def settings():
     return scene
 
 
+def of_subscription(extents=V1, flags=',"notify_for_operational_intents":true', url="u"):
+    return f'{{"extents":{extents},"uss_base_url":"{url}"{flags}}}'
+
+
+def puts_of_subscriptions():
+    """What a subscription's put may be: one that reads is judged by the rules after it, and there is no such
+    subscription. The zero id is none."""
+    scene = Scene("puts of subscriptions", [], [])
+
+    def judged(body, is_read):
+        scene.ask(NOT_FOUND if is_read else MALFORMED, "PUT", f"{SUBSCRIPTIONS}/{ID}/{OVN}", "tok-bc", body)
+
+    intents, constraints = ',"notify_for_operational_intents":', ',"notify_for_constraints":'
+    for flags, is_read in (
+        (f"{intents}true{constraints}true", True),
+        (f"{intents}true{constraints}false", True),
+        (f"{intents}false{constraints}true", True),
+        (f"{intents}null{constraints}true", True),
+        (f"{intents}true{constraints}null", True),
+        (f"{constraints}true", True),
+        ("", False),
+        (f"{intents}false{constraints}false", False),
+        (f"{intents}null{constraints}null", False),
+        (f"{intents}false", False),
+        (f"{intents}1", False),
+        (f'{intents}"true"', False),
+        (f"{intents}true{constraints}0", False),
+        (f"{intents}true{constraints}[]", False),
+        (f"{intents}false{intents}true", True),
+        (f"{intents}true,\"more\":[1e3]", True),
+    ):
+        judged(of_subscription(flags=flags), is_read)
+    low, high, last = -100_000, 1_000_000, 253_402_300_799
+    for extents, is_read in (
+        (f"[{V1}]", False),
+        ("null", False),
+        ("{}", False),
+        (volume(cells(0)), False),
+        (volume(cells(512)), True),
+        (volume(cells(513)), False),
+        (volume('["89c25902"]'), False),
+        (volume(altitudes=(low, high)), True),
+        (volume(altitudes=(low - 1, high)), False),
+        (volume(altitudes=(low, high + 1)), False),
+        (volume(altitudes=(8, 7)), False),
+        (volume(altitudes=(0, "1.5")), False),
+        (volume(times=(0, last)), True),
+        (volume(times=(0, last + 1)), False),
+        (volume(times=(8, 7)), False),
+        (V1.replace(',"time_end":2000', ""), False),
+    ):
+        judged(of_subscription(extents), is_read)
+    for url, is_read in (("", False), ("a b", False), ("u" * 255, True), ("u" * 256, False)):
+        judged(of_subscription(url=url), is_read)
+    judged(of_subscription().replace(',"uss_base_url":"u"', ""), False)
+    judged("", False)
+    for method, path, body, wanted in (
+        ("PUT", NO_SUBSCRIPTION, of_subscription(), MALFORMED),
+        ("PUT", f"{NO_SUBSCRIPTION}/{OVN}", of_subscription(), MALFORMED),
+        ("GET", NO_SUBSCRIPTION, None, NOT_FOUND),
+        ("DELETE", f"{NO_SUBSCRIPTION}/{OVN}", None, NOT_FOUND),
+        ("PUT", f"{ID}/{OVN[1:]}", of_subscription(), MALFORMED),
+        ("DELETE", f"{ID}/{OVN[1:]}", None, MALFORMED),
+        ("GET", f"{ID}0", None, MALFORMED),
+        ("PUT", f"query/{OVN}", of_subscription(), (404, '{"message":"P1 ROUTE"}')),
+    ):
+        scene.ask(wanted, method, f"{SUBSCRIPTIONS}/{path}", "tok-bc", body)
+    return scene
+
+
+def names_of_subscriptions():
+    """What the put of an intent may name, and what it names so. A constraint's is not looked at."""
+    scene = Scene("names of subscriptions", [], [])
+    absent = (400, '{"message":"P16 SUBSCRIPTION"}')
+
+    def named(text):
+        return put(more=f',"state":"Accepted","subscription_id":{text}')
+
+    for text in "null", f'"{NO_SUBSCRIPTION}"':
+        scene.created(named(text))
+    for text in f'"{ID}"', f'"{ID.lower()}"':
+        scene.refused(named(text), wanted=absent)
+    for text in '""', "7", "false", "[]", f'"{ID[1:]}"', f'"{ID}0"', f'"{ID.replace("-", "")}"', '"query"':
+        scene.refused(named(text))
+    scene.created(put(more=',"subscription_id":7'), CONSTRAINTS, "tok-c")
+    return scene
+
+
 def meetings():
     """What a volume meets, seen by queries: its cells, altitudes and times, the ends among them."""
     scene = Scene("meetings", [], [])
@@ -415,6 +503,8 @@ def scenes():
         bounds_of_extents(),
         areas(),
         settings(),
+        puts_of_subscriptions(),
+        names_of_subscriptions(),
         meetings(),
         shown_to_others(),
         changes_of_state(),
@@ -492,6 +582,9 @@ COMMAND_LINES = (
     (["nothing"], 2, ""),
     (["cell"], 2, ""),
     (["cell", "1", "3"], 2, ""),
+    # bytes that are no UTF-8
+    (["cell", "\udcff"], 2, "not UTF-8"),
+    (["\udcc3("], 2, "not UTF-8"),
     (["cell", "--now", "1", "3"], 2, ""),
     (["--version"], 2, ""),
     (["run"], 2, ""),

@@ -316,7 +316,7 @@ PATHS = [
 OTHERS = [
     ("GET", "/", P1), ("GET", "dss/v1/uss_availability/a", P1), ("GET", "/dss/v1/uss_availability", P1),
     ("GET", "/dss/v1/uss_availability/", P1), ("GET", "/dss/v1/uss_availability/a/b", P1), ("GET", "/dss/v2/uss_availability/a", P1),
-    ("POST", "/dss/v1/uss_availability/a", ALLOW_ENTITY), ("GET", "/dss/v1/subscriptions/a", P1),
+    ("POST", "/dss/v1/uss_availability/a", ALLOW_ENTITY), ("GET", "/dss/v1/reports/a", P1),
     ("GET", "http://localhost/dss/v1/uss_availability/a", P1), ("GET", "/dss/v1/uss_availability/a%2Fb", P5),
 ]
 

@@ -96,11 +96,13 @@ def filled():
 
 
 def worked_examples():
-    """Each worked example gives over a database the bytes that it gives in memory, in one stream and with a program
-    for each step."""
+    """Each worked example without subscriptions, which a database does not keep, gives over one the bytes that it gives
+    in memory, in one stream and with a program for each step."""
     found = []
     for example in json.loads((TOP / "tests" / "worked_examples.json").read_text()):
         requests = [step["request"].encode("latin-1") for step in example["steps"]]
+        if any(f"PUT {wire.SUBSCRIPTIONS}/".encode() in it for it in requests):
+            continue
         answers = [step["answer"].encode("latin-1") for step in example["steps"]]
         with Room() as room:
             for at, (request, answer) in enumerate(zip(requests, answers), 1):
@@ -120,7 +122,7 @@ def drawn():
     finds nothing wrong with it."""
     found = []
     for seed in SEEDS:
-        requests, outcomes = drawn_calls.stream(seed, is_mangled=False)
+        requests, outcomes = drawn_calls.stream(seed, keeps_subscriptions=False)
         wanted = [it.text(closes=False) for it in outcomes]
         got = []
         with Room() as room:

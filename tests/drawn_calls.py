@@ -22,7 +22,7 @@ MORE = {"tok-d": ("uss-d", {wire.MANAGEMENT, wire.STRATEGIC})}
 ALL_TOKENS = {**wire.TOKENS, **MORE}
 
 WORKS = (
-    ["create"] * 8 + ["update"] * 12 + ["query"] * 4 + ["read"] * 4 + ["delete"] * 5 + ["set"] * 3 + ["told"] * 2
+    ["create"] * 8 + ["update"] * 12 + ["query"] * 4 + ["read"] * 4 + ["delete"] * 5 + ["set"] * 5 + ["told"] * 2
     + ["route"] * 1 + ["method"] * 1
 )
 # What is wrong, so often.
@@ -179,7 +179,7 @@ class Drawn:
         if work == "told":
             return "GET", target, self.draw.of(("tok-a", "tok-bm", "tok-v")), None
         old = self.airspace.settings.get(uss, ("", ""))[1]
-        put = {"availability": self.draw.of(plain_policy.AVAILABILITIES)}
+        put = {"availability": self.draw.of((*plain_policy.AVAILABILITIES, "Down"))}
         put["old_version"] = self.old_ovn() if flaw == "ovn" else old
         if not put["old_version"] and self.draw.one_in(3):
             del put["old_version"]
@@ -305,14 +305,16 @@ def mangled(draw, call):
     return method, target, authorization, bytes(body) if call[3] is not None else None
 
 
-def stream(seed, count=wire.MOST_REQUESTS, is_mangled=False):
-    """The requests of a stream, and the outcomes that the plain policy gives them."""
+def stream(seed, count=wire.MOST_REQUESTS, is_mangled=False, keeps_subscriptions=True, met=None):
+    """The requests of a stream, and the outcomes that the plain policy gives them. What puts met is counted in `met`."""
     draw = Draw(seed)
-    airspace = plain_policy.Airspace(NOW, ALL_TOKENS)
+    airspace = plain_policy.Airspace(NOW, ALL_TOKENS, keeps_subscriptions=keeps_subscriptions)
     drawn = Drawn(draw, airspace)
     requests, outcomes = [], []
     for _ in range(count):
         call = mangled(draw, drawn.call()) if is_mangled else drawn.call()
         requests.append(wire.request(*call))
         outcomes.append(airspace.ask(*call))
+    if met is not None:
+        met.update(airspace.met)
     return requests, outcomes

@@ -1,6 +1,7 @@
 """The policy as a plain program, written from the rules and formats that docs/POLICY.md states: what a
 request is answered, and what is kept after it. It reads whole lists and knows nothing of the built
 program's ways."""
+import collections
 import dataclasses
 import json
 
@@ -507,12 +508,14 @@ class Outcome:
 
 
 class Airspace:
-    """What is kept, and by which tokens it is asked."""
+    """What is kept, and by which tokens it is asked. One in a database keeps no subscriptions: the put of one fails."""
 
-    def __init__(self, now, tokens=None, salt=wire.SALT):
-        self.now, self.salt = now, salt
+    def __init__(self, now, tokens=None, salt=wire.SALT, keeps_subscriptions=True):
+        self.now, self.salt, self.keeps_subscriptions = now, salt, keeps_subscriptions
         self.tokens = wire.TOKENS if tokens is None else tokens
         self.entities, self.subscriptions, self.settings, self.serial = {}, {}, {}, 0
+        # how often a put that needs a key met an intent of each state, of a manager of each availability
+        self.met = collections.Counter()
 
     def ask(self, method, target, authorization=None, body=b""):
         """Answers a request, and keeps what it changes."""
@@ -520,6 +523,8 @@ class Airspace:
         for rule, breaks in BREAKS.items():
             if breaks(self, call):
                 return self.denial(rule, call)
+        if (call.kind, call.work) == (SUBSCRIPTION, "create") and not self.keeps_subscriptions:
+            return Outcome(500, wire.compact({"message": "fault"}), (), (call.kind, call.work))
         what = {None: "availability", SUBSCRIPTION: "subscription"}.get(call.kind, "entity")
         status, value = getattr(self, f"{call.work}_{what}")(call)
         return Outcome(status, wire.compact(value), (), (call.kind, call.work))
@@ -561,6 +566,7 @@ class Airspace:
         put = call.asked.put
         if call.asked.state() in STATES[:2]:
             others = [it for it in self.all_meeting(INTENT, put.extents) if it.id != call.asked.id]
+            self.met.update((it.put.state, self.setting(it.manager)[0]) for it in others)
             needed[INTENT] = [it for it in others if not self.is_spared(it)]
             named = self.subscriptions.get(put.subscription)
             if named.put.constraints if named else PROCESSING in call.scopes:

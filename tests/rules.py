@@ -3,12 +3,13 @@ have it.
 
 A row begins on an empty airspace with requests that are done, and ends with the one whose whole answer is compared.
 P15 has no row: no stream of a hundred requests comes to the greatest serial or version. Forms (P5) and changes of state
-(P12) are in bodies.py."""
+(P12) are in bodies.py, rows on subscriptions in subscriptions.py."""
+import subscriptions
 import wire
 from connections import ask, volume
 from plain_policy import RULES
 from program import first_difference, serve
-from wire import CONSTRAINTS, INTENTS
+from wire import CONSTRAINTS, INTENTS, SUBSCRIPTIONS
 
 NOW = 1000
 URL = "https://a.example"
@@ -458,7 +459,8 @@ def stream(requests):
 def rows():
     """The last answer of each row is the one wanted, and all before it were done."""
     wrong = []
-    for name, first, last, wanted in AREAS + ENTITIES + ROLES + KEYS + SPARED + VIEWS:
+    of_subscriptions = subscriptions.rows(intent, constraint, seen, put, missing, denied)
+    for name, first, last, wanted in AREAS + ENTITIES + ROLES + KEYS + SPARED + VIEWS + of_subscriptions:
         *before, answer = stream([*first, last])
         undone = [it for it in before if not it.startswith(b"HTTP/1.1 20")]
         wrong += [f"{name}: not done: {undone}"] if undone or len(before) != len(first) else []
@@ -471,6 +473,7 @@ def rows():
 # Tokens of one scope each, and one of none.
 HOLDERS = ("tok-a", "tok-bm", "tok-p", "tok-c", "tok-v", "tok-n")
 STRATEGIC_OR_MONITORING = {"tok-a", "tok-bm"}
+STRATEGIC_OR_PROCESSING = {"tok-a", "tok-p"}
 UNKNOWN = done(200, {"status": {"availability": "Unknown", "uss": "uss-b"}, "version": ""})
 # An operation, a body that is not its form where it has one, its answer where it is open, and to whom that is.
 OPERATIONS = (
@@ -486,15 +489,23 @@ OPERATIONS = (
     ("DELETE", target(CONSTRAINTS, "c1", 1), None, denied(7), {"tok-c"}),
     ("GET", f"{wire.AVAILABILITY}/uss-b", None, UNKNOWN, {"tok-a", "tok-bm", "tok-v"}),
     ("PUT", f"{wire.AVAILABILITY}/uss-b", "[", denied(5), {"tok-v"}),
+    ("POST", f"{SUBSCRIPTIONS}/query", "[", denied(5), STRATEGIC_OR_PROCESSING),
+    ("GET", target(SUBSCRIPTIONS, "d1"), None, denied(7), STRATEGIC_OR_PROCESSING),
+    ("PUT", target(SUBSCRIPTIONS, "d1"), "[", denied(5), STRATEGIC_OR_PROCESSING),
+    ("PUT", target(SUBSCRIPTIONS, "d1", 1), "[", denied(5), STRATEGIC_OR_PROCESSING),
+    ("DELETE", target(SUBSCRIPTIONS, "d1", 1), None, denied(7), STRATEGIC_OR_PROCESSING),
 )
 
 
 def scopes():
     """Each operation is open to the scopes of its row, and denied to each other one and to a caller without scopes."""
-    requests = [ask(method, path, token, body) for method, path, body, _, _ in OPERATIONS for token in HOLDERS]
-    wanted = [answer if token in opened else denied(4) for *_, answer, opened in OPERATIONS for token in HOLDERS]
-    why = first_difference(wanted, stream(requests))
-    return [why] if why else []
+    found = []
+    for token in HOLDERS:
+        requests = [ask(method, path, token, body) for method, path, body, _, _ in OPERATIONS]
+        wanted = [answer if token in opened else denied(4) for *_, answer, opened in OPERATIONS]
+        why = first_difference(wanted, stream(requests))
+        found += [f"{token}: {why}"] if why else []
+    return found
 
 
 # ---- all limits at once

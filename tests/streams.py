@@ -1,18 +1,22 @@
 """Streams whose answers come from outside: worked examples, drawn calls beside the plain policy, and bodies,
 words and token files with what is wanted of each."""
 import collections
+import itertools
 import json
 
 import bodies
 import drawn_calls
 import wire
-from plain_policy import RULES
+from plain_policy import AVAILABILITIES, RULES, STATES
 from program import BUILT, TOP, first_difference, run, serve
 
 CLOSE = b"Connection: close\r\n"
-SEEDS = range(1, 31)
-MANGLED_SEEDS = range(101, 171)
-LEAST = 10
+SEEDS = range(1, 121)
+MANGLED_SEEDS = range(201, 291)
+# how often each rule is broken by drawn calls, and by mangled ones; each operation succeeds so often, too
+LEAST, LEAST_MANGLED = 49, 10
+# how often a put meets an intent of each state beside each availability of its manager
+LEAST_MET = 20
 
 
 def served(name, requests, wanted, now, tokens=None):
@@ -47,26 +51,30 @@ def worked_examples():
 
 
 def drawn():
-    """Streams of drawn calls are answered as the plain policy says, and each rule and each work comes."""
-    return answered_as_drawn("drawn calls", SEEDS, is_mangled=False)
+    """Streams of drawn calls are answered as the plain policy says, and each rule and each work comes. Intents of
+    each state are met, of managers of each availability."""
+    met = collections.Counter()
+    found = answered_as_drawn("drawn calls", SEEDS, LEAST, met=met)
+    rare = [it for it in itertools.product(STATES, AVAILABILITIES) if met[it] < LEAST_MET]
+    return found + ([f"under {LEAST_MET} of {rare}"] if rare else [])
 
 
 def mangled():
     """The same of drawn calls in which letters of bodies and targets are others."""
-    return answered_as_drawn("mangled calls", MANGLED_SEEDS, is_mangled=True)
+    return answered_as_drawn("mangled calls", MANGLED_SEEDS, LEAST_MANGLED, is_mangled=True)
 
 
-def answered_as_drawn(name, seeds, is_mangled):
+def answered_as_drawn(name, seeds, least, **how):
     found, counts, works = [], collections.Counter(), set()
     for seed in seeds:
-        requests, outcomes = drawn_calls.stream(seed, is_mangled=is_mangled)
+        requests, outcomes = drawn_calls.stream(seed, **how)
         wanted = [it.text(closes=at == wire.MOST_REQUESTS) for at, it in enumerate(outcomes, 1)]
         found += served(f"seed {seed}", requests, wanted, drawn_calls.NOW, wire.token_file(drawn_calls.ALL_TOKENS))
         counts.update(it.why for it in outcomes)
         works |= {it.why for it in outcomes if it.why not in RULES}
     print(f"{name}: {counts.total()}, of which are " + ", ".join(f"P{it} {counts[it]}" for it in RULES))
-    rare = [it for it in [*RULES, *works] if counts[it] < LEAST]
-    return found + ([f"under {LEAST} of {rare}"] if rare or len(works) != 17 else [])
+    rare = [it for it in [*RULES, *works] if counts[it] < least]
+    return found + ([f"under {least} of {rare}"] if rare or len(works) != 17 else [])
 
 
 def said():

@@ -9,7 +9,7 @@ use entity_core::version::{GREATEST_VERSION, Version};
 use policy_core::call::{Call, OpKind, Operation};
 use policy_core::rule::Rule;
 use policy_core::scope::{Caller, Scope, ScopeSet};
-use policy_core::standing::{Findings, standing};
+use policy_core::standing::{Facts, Findings, standing};
 use service_core::reply::{Answer, Reply};
 use service_core::service::Service;
 use space_core::list::ListSpace;
@@ -71,7 +71,14 @@ fn update(alloc: Global) -> Option<Call> {
 // What it breaks where the intent is there at that version, at a serial that is not the greatest.
 fn found_at(alloc: Global, update: &Call, number: u32) -> Option<Findings> {
     let entity = kept(alloc, &update.op, number)?;
-    Some(standing(1000, update, Some(&entity), None, 7))
+    let facts = Facts {
+        found: Some(&entity),
+        avail: None,
+        serial: 7,
+        sub: None,
+        depended: false,
+    };
+    Some(standing(1000, update, &facts))
 }
 
 // Whether an update of the intent at that version breaks no rule, and meets a limit or none.

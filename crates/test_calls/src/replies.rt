@@ -2,10 +2,15 @@
 use entity_core::availability::Availability;
 use entity_core::base_url::BaseUrl;
 use entity_core::entity_id::EntityId;
+use entity_core::interest::Interest;
 use entity_core::nature::{Nature, State};
+use entity_core::notification_index::NotificationIndex;
+use entity_core::ovn::Ovn;
+use entity_core::serial::GREATEST_SERIAL;
 use entity_core::uss_id::UssId;
 use entity_core::version::Version;
 use policy_core::reference::Reference;
+use policy_core::sub_view::{Ids, SubView};
 use service_core::reply::{Answer, Reply};
 use std::alloc::Global;
 use wire_json::answer::{reply_text, status};
@@ -38,6 +43,34 @@ fn is_told(alloc: Global, reply: &Reply, code: u16, text: &str) -> bool {
     status(reply) == code && found.as_slice() == text.as_bytes()
 }
 
+// What its manager sees of a subscription that was told as often as one can be.
+fn most_told(alloc: Global) -> Option<Reply> {
+    Some(Reply::Done(Answer::SubFound(SubView {
+        id: EntityId::read("F81D4FAE-7DEC-11D0-A765-00A0C91E6BF6").ok()?,
+        version: Ovn::read(alloc, "0123456789abcdef").ok()?,
+        index: NotificationIndex::from_number(GREATEST_SERIAL)?,
+        interest: Interest::of(false, true)?,
+        time_start: 0,
+        time_end: 1,
+        url: BaseUrl::read(alloc, "https://b.example").ok()?,
+        dependents: Ids::from_vec(Vec::new(alloc)),
+    })))
+}
+
+const MOST_TOLD: &str = "{\"subscription\":{\"dependent_operational_intents\":[],\
+    \"id\":\"f81d4fae-7dec-11d0-a765-00a0c91e6bf6\",\"implicit_subscription\":false,\
+    \"notification_index\":9223372036854775807,\"notify_for_constraints\":true,\
+    \"notify_for_operational_intents\":false,\"time_end\":1,\"time_start\":0,\
+    \"uss_base_url\":\"https://b.example\",\"version\":\"0123456789abcdef\"}}";
+
+fn is_most_told(alloc: Global) -> bool {
+    let none = NotificationIndex::from_number(GREATEST_SERIAL + 1);
+    match most_told(alloc) {
+        Some(reply) => none.is_none() && is_told(alloc, &reply, 200, MOST_TOLD),
+        None => false,
+    }
+}
+
 fn is_endless_told(alloc: Global) -> bool {
     match endless(alloc) {
         Some(reply) => is_told(alloc, &reply, 200, ENDLESS),
@@ -50,4 +83,5 @@ fn texts_of_replies(rt: HostRuntime) {
     let text = r#"{"message":"stopped"}"#;
     assert!(rt; is_told(rt.alloc(), &Reply::Stopped, 503, text));
     assert!(rt; is_endless_told(rt.alloc()));
+    assert!(rt; is_most_told(rt.alloc()));
 }
