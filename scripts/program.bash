@@ -1,243 +1,224 @@
-# A built program and whether it is current; for scripts that have set `top` to the folder of the
-# repository and `program` to the program's name. It stands in .dss/, beside the file of its identity:
-# a line for the kit, one for each folder of sources, and the time of the program.
+# Which program is run, and that it is of these sources; for scripts that have set `top` to the folder of the
+# repository, and that call `forget` when they end. A program counts as of these sources by what was written of it when
+# it was made: SHA-256 of the sources and of itself. No time of a file counts, and no kit is asked.
 
-shopt -s nullglob
-sources=("$top"/crates/*/src "$top"/crates/*/specs "$top"/crates/*/proofs)
+# where a program stands that was built or unpacked here
 built=$top/.dss
+release=$top/release
+packed=$release/dss-x86_64-linux.gz
+# what a run makes that ends too early: folders of its own, and what proves
+room='' place='' job=''
 
-# Prints the kit's own line. Where no kit is on PATH, it is taken to be the one that built the program.
-kit_line() {
-    local rt kit=none
-    if rt=$(command -v rt); then
-        rt=$(readlink -f -- "$rt")
-        if [ -r "${rt%/bin/*}/KIT-ID" ]; then
-            kit=$(<"${rt%/bin/*}/KIT-ID")
-        else
-            kit=$(rt version)
-        fi
-    elif [ -r "$built/$program.identity" ]; then
-        read -r kit <"$built/$program.identity"
-    fi
-    printf '%s\n' "$kit"
+# Prints the SHA-256 of a file, or nothing.
+sum_of() {
+    local sum
+    sum=$(sha256sum <"$1") && printf '%s\n' "${sum%% *}"
+} 2>/dev/null
+
+# Prints the SHA-256 of what is read from find's list of files: of the lines that sha256sum prints of them, by their names.
+sum_of_list() {
+    local sum
+    sum=$(set -o pipefail && LC_ALL=C sort -z | xargs -0 sha256sum -- | sha256sum) && printf '%s\n' "${sum%% *}"
 }
 
-# Sets `identity`: what the program is made from, whatever the age of its files.
-find_identity() {
-    printf -v identity '%s\n' "$(kit_line)" "${sources[@]#"$top"/}"
-    identity=${identity%$'\n'}
+# Prints the SHA-256 of all that the program is made from: crates.txt and each file below a crate's src, specs and
+# proofs. One file more there makes other sources of them, tracked or not; what is made, in out, does not count.
+sum_of_sources() (
+    unset CDPATH
+    cd -- "$top" && shopt -s nullglob && set -o pipefail &&
+        find crates.txt crates/*/src crates/*/specs crates/*/proofs ! -type d -print0 | sum_of_list
+)
+
+# Prints the files among the sources that git does not track, where the repository is git's.
+strays() (
+    unset CDPATH
+    cd -- "$top" && shopt -s nullglob && [ -e .git ] && git ls-files --others -- crates/*/src crates/*/specs crates/*/proofs
+) 2>/dev/null
+
+# Sets `made` to what stands in the file of a program that was made: its kit, processor, sources, its own sum, and
+# here whether it came `by` the release or by a build.
+read_made() {
+    local word rest
+    declare -gA made=()
+    [ -r "$1" ] || return 1
+    while read -r word rest; do
+        made[${word:-none}]=$rest
+    done <"$1"
 }
 
-# Whether the program stands as it was built from exactly these sources. Both the time of a file's
-# last change and that of its last move or copy count, and a program that was copied here does not.
+# Whether the program in a folder is of these sources, and as it was made; its sum may be given. Where it is not, `other`
+# says why.
 is_current() {
-    local newer
-    [ -x "$built/$program" ] && [ -r "$built/$program.identity" ] || return 1
-    [ "$(<"$built/$program.identity")" = "$identity"$'\n'"$(stat -c %.9Y -- "$built/$program")" ] ||
+    local is_damaged='the program that was built here is damaged'
+    other=
+    [ -e "$1/dss" ] || return 1
+    other='the program that was built here is of other sources'
+    read_made "$1/made-of" && [ "${made[sources]-}" = "$sources" ] || return 1
+    if [ "${DSS_BUILD-}" = source ] && [ "${made[by]-}" != build ]; then
+        other='DSS_BUILD asks for a build'
         return 1
-    newer=$(find "$top/crates.txt" "${sources[@]}" \
-        \( -newer "$built/$program" -o -cnewer "$built/$program" \) -print -quit 2>&1) || return 1
-    [ -z "$newer" ]
+    fi
+    # another run may have put it there since its sum was taken
+    [ "${made[program]-}" = "${2-}" ] || [ "${made[program]-}" = "$(sum_of "$1/dss")" ] || { other=$is_damaged && return 1; }
+    [ -x "$1/dss" ] || { other=$is_damaged && return 1; }
 }
 
-# Notes the time at which a build begins, in `began`.
-begin() {
-    local left
-    mkdir -p "$built" || return 1
-    # what is left of a run that was killed
-    for left in "$built"/began.*; do
-        [ -d "/proc/${left##*.}" ] || rm -f -- "$left"
-    done
-    began=$built/began.$$ && : >"$began"
-}
-
-# Keeps the program that was proved and built since `begin`, in the repository or the copy of it given, under the
-# time of that call: a source that was edited meanwhile counts as newer.
-keep() {
-    cp -- "${1-$top}/crates/$program/out/$program" "$built/$program.$$" &&
-        touch -r "$began" "$built/$program.$$" &&
-        printf '%s\n' "$identity" "$(stat -c %.9Y -- "$built/$program.$$")" \
-            >"$built/$program.identity.$$" &&
-        mv -f -- "$built/$program.$$" "$built/$program" &&
-        mv -f -- "$built/$program.identity.$$" "$built/$program.identity"
-}
-
-# Stops all that runs side by side, each with what it has started: each leads a group of its own.
-stop_jobs() {
-    local job
-    for job in $(jobs -p); do
-        kill -- "-$job"
+# Sets `place` to a new folder in the first of the folders given that can be written.
+make_place() {
+    local folder
+    for folder in "$@"; do
+        mkdir -p -- "$folder" && place=$(mktemp -d -- "$folder/new.XXXXXX") && return
     done 2>/dev/null
-    # bash would tell of each that it ended, if `jobs` had not told so here
-    { wait; jobs; } >/dev/null 2>&1
+    return 1
 }
 
-# Removes what a build that was broken off leaves, and gives back what it had made of its crates.
-forget() {
-    local room
-    stop_jobs
-    for room in ${rooms:+"$rooms"/*/}; do
-        give_back "${room%/}"
-    done
-    rm -rf -- ${rooms:+"$rooms"} "$built/began.$$" "$built/$program.$$" "$built/$program.identity.$$"
+# Puts what was made in `place` into the folder around it, under its name. Another run that does so has the same, and one
+# that comes in between finds no program, or one that is not as it was made.
+put_in_place() {
+    program=${place%/*}/dss
+    mv -f -- "$place/made-of" "${place%/*}/made-of" && mv -f -- "$place/dss" "$program" && rmdir -- "$place" && place=
 }
 
-# Prints the crates that the program stands on, and it, lowest first, each with all that are below it.
+# Unpacks the release to a file, where it is of these sources, for this processor and undamaged. Else `why` says what is wrong.
+unpack() {
+    why='there is no release'
+    read_made "$release/made-of" || return 1
+    why='the release is of other sources'
+    [ "${made[sources]-}" = "$sources" ] || return 1
+    why="the release is for the processor ${made[processor]-}, and this one is $(uname -m)"
+    [ "${made[processor]-}" = "$(uname -m)" ] || return 1
+    why='the release is damaged'
+    gzip -dc -- "$packed" >"$1" 2>/dev/null && [ "$(sum_of "$1")" = "${made[program]-}" ] || return 1
+    why='the release does not start on this system, which may have a C library before glibc 2.34'
+    chmod 755 -- "$1" && "$1" --help </dev/null >/dev/null 2>&1
+}
+
+# Puts the release's program beside the repository's files, or where they cannot be written in the user's folder for what can
+# be made anew, and sets `program`.
+take_release() {
+    make_place "$built" "$cache" || { why="neither $built nor $cache can be written" && return 1; }
+    unpack "$place/dss" && { cat -- "$release/made-of" && printf 'by release\n'; } >"$place/made-of" && put_in_place && return
+    forget
+    return 1
+}
+
+# Prints the crates that the program stands on, and itself.
 stands_on() {
-    awk -v program="$program" '
-        /^[a-z]/ {
-            name = $1
-            sub(/:$/, "", name)
-            below[name] = " "
-            for (at = 2; at <= NF; at++)
-                if ($at in below) {
-                    count = split(below[$at] $at, parts)
-                    for (part = 1; part <= count; part++)
-                        if (!index(below[name], " " parts[part] " "))
-                            below[name] = below[name] parts[part] " "
-                }
-            order[++crates] = name
-        }
+    awk '
+        /^[a-z]/ { name = $1; sub(/:$/, "", name); names[name]; sub(/[^:]*:/, ""); uses[name] = $0 }
         END {
-            for (at = 1; at <= crates; at++)
-                if (order[at] == program || index(below[program], " " order[at] " "))
-                    print order[at] below[order[at]]
+            left[1] = "dss"; count = 1
+            for (at = 1; at <= count; at++) {
+                if (!(left[at] in names) || left[at] in seen) continue
+                seen[left[at]]; print left[at]
+                words = split(uses[left[at]], word, " ")
+                for (each = 1; each <= words; each++) left[++count] = word[each]
+            }
         }
     ' "$top/crates.txt"
 }
 
-# Prints how many proofs may run at once: one a processor, and two gigabytes of memory for each.
-proofs_at_once() {
-    local cores room
-    cores=$(nproc)
-    room=$(awk '/^MemAvailable/ { print int($2 / 2097152) }' /proc/meminfo)
-    [ "${room:-1}" -ge "$cores" ] || cores=${room:-1}
-    [ "$cores" -gt 0 ] || cores=1
-    printf '%s\n' "$cores"
+# Proves and builds the program by the gate's own command over a copy of its crates, without the edits that must fail, and
+# sets `made_here`. That proves them side by side, takes what earlier runs on this machine passed, and keeps what it passes
+# for the gate.
+build_in_copy() {
+    local name said status
+    local -a crates
+    mapfile -t crates < <(stands_on)
+    room=$(mktemp -d) && said=$room/said && : >"$said" && mkdir -- "$room/copy" || return 1
+    tar -C "$top" --exclude='crates/*/out' --exclude='crates/*/must-fail' -c "${crates[@]/#/crates/}" |
+        tar -C "$room/copy" -x && cp -- "$top/HANDLES" "$room/copy" || return 1
+    for name in "${crates[@]}"; do
+        grep "^${name}[ :]" "$top/crates.txt"
+    done >"$room/copy/crates.txt"
+    # in a group of its own, which can be stopped with all that it starts
+    set -m
+    (unset CDPATH && cd -- "$room/copy" && rt ci </dev/null) >"$said" 2>&1 &
+    job=$!
+    set +m
+    tail -n +1 -s 0.2 -f --pid="$job" -- "$said" | awk -v of="${#crates[@]}" '
+        /^rt: [a-z0-9_]+ (proved$|is kept:)/ { printf "dss: %s proved, %d of %d\n", $2, ++number, of; fflush() }'
+    wait "$job"
+    status=$?
+    job=
+    made_here=$room/copy/crates/dss/out/dss
+    [ "$status" = 0 ] || { cat -- "$said" && return 1; }
 }
 
-# Gives back to the repository what was made of a crate in the room that is named for it.
-give_back() {
-    local made=crates/${1##*/}/out
-    [ ! -d "$1/$made" ] || { rm -rf -- "${top:?}/$made" && mv -- "$1/$made" "$top/$made"; }
+# Proves and builds the program over what `rt check` kept of the crates, and sets `made_here`.
+build_in_place() {
+    made_here=$top/crates/dss/out/dss
+    (unset CDPATH && cd -- "$top/crates/dss" && rt run -- --help </dev/null >/dev/null)
 }
 
-# Proves and builds a library with so many proofs at once, over the libraries named, in a room of its
-# own: rt lets one of its runs at a time into a crate and those below it, and in rooms those that stand on
-# the same crates are proved side by side. What is made of the crate is kept, as it would be without rooms.
-prove_library() {
-    local name=$1 room=$rooms/$1 crate status
-    for crate in "$name" "${@:3}"; do
-        mkdir -p "$room/crates/$crate/out" &&
-            cp -R -- "$top/crates/$crate"/{src,specs,proofs} "$room/crates/$crate" &&
-            grep "^$crate:" "$top/crates.txt" >>"$room/crates.txt" || return 1
-    done
-    for crate in "${@:3}"; do
-        cp -Rl -- "$top/crates/$crate/out/rlib" "$room/crates/$crate/out" || return 1
-    done
-    {
-        flock 8
-        rm -rf -- "$room/crates/$name/out"
-        [ ! -d "$top/crates/$name/out" ] || mv -- "$top/crates/$name/out" "$room/crates/$name" || return 1
-        (unset CDPATH && cd -- "$room/crates/$name" && rt lib --jobs "$2" </dev/null) >"$room/said" 2>&1
-        status=$?
-        give_back "$room" && return "$status"
-    } 8<"$top/crates/$name"
+# Ends what a build that was broken off has started, and removes what it leaves.
+forget() {
+    [ -z "${job-}" ] || kill -- "-$job" 2>/dev/null
+    rm -rf -- ${room:+"$room"} ${place:+"$place"}
+    room='' place='' job=''
 }
 
-# Proves the libraries that the program stands on: each as soon as those below it are proved, first those with
-# the most lines in the longest chain above them. Those that can begin share the processors that are free, since a
-# second process for a crate reads once more what stands below it. Says when each begins, and of one that fails
-# all that rt said.
-prove_libraries() {
-    local free each name names other lines at number=0 pid
-    local -a order=() waiting=() ready
-    local -A below=() chain=() running=() taken=()
-    free=$(proofs_at_once)
-    mkdir -- "$rooms" || return 1
-    while read -r name names; do
-        below[$name]=$names
-        order=("$name" "${order[@]}")
-    done < <(stands_on)
-    for name in "${order[@]}"; do
-        lines=$(find "$top/crates/$name"/{src,specs,proofs} -type f -exec cat {} + | wc -l)
-        chain[$name]=$((${chain[$name]:-0} + lines))
-        for other in ${below[$name]}; do
-            [ "${chain[$other]:-0}" -ge "${chain[$name]}" ] || chain[$other]=${chain[$name]}
-        done
-    done
-    mapfile -t waiting < <(for name in "${order[@]:1}"; do
-        printf '%s %s\n' "${chain[$name]}" "$name"
-    done | sort -rn | cut -d ' ' -f 2)
-    while [ "$((${#waiting[@]} + ${#running[@]}))" != 0 ]; do
-        ready=()
-        for at in "${!waiting[@]}"; do
-            for other in "${running[@]}" "${waiting[@]}"; do
-                [[ " ${below[${waiting[at]}]} " != *" $other "* ]] || continue 2
-            done
-            ready+=("$at")
-        done
-        while [ "$free" != 0 ] && [ "${#ready[@]}" != 0 ]; do
-            name=${waiting[ready[0]]}
-            unset "waiting[ready[0]]"
-            each=$((free / ${#ready[@]}))
-            [ "$each" != 0 ] || each=1
-            ready=("${ready[@]:1}")
-            free=$((free - each))
-            number=$((number + 1))
-            printf '%s: proving %s, crate %s of %s\n' "$program" "$name" "$number" "${#below[@]}"
-            # in a group of its own, which can be stopped with all that it starts
-            set -m
-            # shellcheck disable=SC2086 # a word for each crate
-            prove_library "$name" "$each" ${below[$name]} &
-            set +m
-            running[$!]=$name
-            taken[$!]=$each
-        done
-        if ! wait -n -p pid; then
-            cat -- "$rooms/${running[$pid]}/said" 2>/dev/null
-            return 1
-        fi
-        free=$((free + taken[$pid]))
-        unset "running[$pid]" "taken[$pid]"
-    done
-    printf '%s: proving %s, crate %s of %s\n' "$program" "$program" "${#below[@]}" "${#below[@]}"
+# Keeps a program that was built from these sources, and sets `program`.
+keep() {
+    local kit
+    kit=$(rt version) && make_place "$built" && cp -- "$1" "$place/dss" &&
+        printf '%s\n' "kit $kit" "processor $(uname -m)" "sources $sources" "program $(sum_of "$1")" 'by build' >"$place/made-of" &&
+        put_in_place
 }
 
-# Proves and builds the program, if another run has not done so meanwhile. All that it says goes to
+# Proves and builds the program, if another run has not done so meanwhile, and sets `program`. All that it says goes to
 # standard error.
 build() {
-    if ! command -v rt >/dev/null; then
-        printf '%s: the command rt is not on PATH; it proves and builds the program\n' "$program" >&2
-        return 1
-    fi
-    mkdir -p "$built" && exec 9<"$built" || return 1
+    local made_here
+    mkdir -p -- "$built" 2>/dev/null && exec 9<"$built" ||
+        { printf 'dss: %s cannot be written, so nothing can be built\n' "$built" && return 1; }
     if ! flock -n 9; then
-        printf '%s: waiting for another run, which proves and builds the program\n' "$program" >&2
+        printf 'dss: waiting for another run, which proves and builds the program\n'
         flock 9 || return 1
     fi
-    rooms=$built/rooms
-    trap forget EXIT
-    # a build that was killed could not do so itself
-    forget
-    begin || return 1
-    is_current ||
-        { printf '%s: proving and building the program\n' "$program" && prove_libraries &&
-            (unset CDPATH && cd -- "$top/crates/$program" &&
-                rt run --jobs "$(proofs_at_once)" -- --help </dev/null >/dev/null) &&
-            keep; } >&2 || return 1
-    forget
-    trap - EXIT
-    exec 9<&-
-}
-
-# Runs the program on the words given, in place of this script. Where it is not current, it is proved
-# and built first. Nothing unproved is ever run.
-run_program() {
-    find_identity
-    if ! is_current && ! build; then
-        printf '%s: the program was not proved and built, so nothing was run\n' "$program" >&2
-        exit 1
+    if is_current "$built"; then
+        program=$built/dss
+        exec 9<&-
+        return
     fi
-    exec "$built/$program" "$@"
+    # over what was kept of an earlier check less is proved
+    if [ -d "$top/crates/dss/out/incremental" ]; then
+        build_in_place
+    else
+        build_in_copy
+    fi || return 1
+    [ "$(sum_of_sources)" = "$sources" ] ||
+        { printf 'dss: a source was changed while the program was built\n' && return 1; }
+    keep "$made_here" || return 1
+    forget
+    exec 9<&-
+} >&2
+
+# Sets `program` to the program of these sources: the one that stands built here, else that of the release, else one that is
+# proved and built now. Standard error says in a line which of them it is not, and why.
+find_program() {
+    local seen other why first
+    # the two sums are taken side by side
+    exec 8< <(sum_of "$built/dss")
+    sources=$(sum_of_sources) || { printf 'dss: the sources cannot be read\n' >&2 && return 1; }
+    read -r seen <&8
+    exec 8<&-
+    program=$built/dss
+    is_current "$built" "$seen" && return
+    first=$other
+    cache=${XDG_CACHE_HOME:-${HOME-}/.cache}/dss/$sources
+    program=$cache/dss
+    is_current "$cache" && return
+    if [ "${DSS_BUILD-}" = source ]; then
+        why='DSS_BUILD asks for a build'
+    elif take_release; then
+        [ -z "$first" ] || printf 'dss: %s: the release is run\n' "$first" >&2
+        return
+    fi
+    if ! command -v rt >/dev/null; then
+        printf 'dss: %s, and the command rt is not on PATH, which proves and builds: nothing is run\n' "$why" >&2
+        return 1
+    fi
+    printf 'dss: %s: the program is proved and built\n' "$why" >&2
+    build || { printf 'dss: the program was not proved and built, so nothing is run\n' >&2 && return 1; }
 }

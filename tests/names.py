@@ -32,7 +32,7 @@ OUTSIDE = ("tests/cases/", "tests/names.py")
 # Names of other programs, libraries and formats.
 OTHERS = set(
     """String Vec Option ghost unfolding tactic auto plant wrote
-    rattle-kit-13b logic dac8208d650f15bf Intel Xeon Processor
+    rattle-kit-13b rattle-kit-13f logic dac8208d650f15bf Intel Xeon Processor
     89c25907 89c25909 89c2590b Host Date oauth2 libs2-dev s2geometry S2RegionCoverer RegionCoverer S2CellId CellID
     set_fixed_level set_max_cells min_level max_level max_cells GetCovering getCovering get_covering Covering region
     ToToken toToken to_token s2sphere s2-geometry-library-java github.com/golang/geo/s2 outline_polygon outline_circle

@@ -9,7 +9,8 @@ import wire
 TOP = pathlib.Path(__file__).resolve().parent.parent
 CASES = TOP / "tests" / "cases"
 DSS = str(TOP / "dss")
-BUILT = str(TOP / ".dss" / "dss")
+# what ./check says that ./dss runs, which is elsewhere where the repository cannot be written
+BUILT = os.environ.get("DSS_PROGRAM") or str(TOP / ".dss" / "dss")
 SECONDS = 60
 
 

@@ -1,0 +1,123 @@
+"""Prints of a program its manual page or its completions for bash, from what its --help says and docs/OPERATE.md.
+
+  manual.py page|completions PROGRAM VERSION"""
+import pathlib
+import re
+import subprocess
+import sys
+
+TOP = pathlib.Path(__file__).resolve().parent.parent
+ABOUT = "discovery and synchronization service for drone traffic suppliers"
+
+
+def help_of(program, *words):
+    return subprocess.run([program, *words, "--help"], capture_output=True, text=True, check=True).stdout
+
+
+def section(text, name):
+    """The lines of a section of a help text."""
+    found = re.search(rf"^{name}:\n((?:[ \t].*\n|\n(?=[ \t]))*)", text + "\n", re.M)
+    return found[1].splitlines() if found else []
+
+
+def commands(program):
+    """The program's commands, but for that which prints help."""
+    names = [it.split()[0] for it in section(help_of(program), "Commands") if re.match(r"  \w", it)]
+    return [it for it in names if it != "help"]
+
+
+def options(text):
+    """The options of a help text, each with whether it takes a file."""
+    return {it[1]: it[2] == "FILE" for line in section(text, "Options") if (it := re.search(r"(--[\w-]+)(?: <(\w+)>)?", line))}
+
+
+def plain(text):
+    """Text of a document, in which no sign is one of the page's."""
+    text = text.replace("\\", "\\e").replace("-", "\\-")
+    return "\\&" + text if text.startswith((".", "'")) else text
+
+
+def words_of(text):
+    """A line of Markdown: code is bold, and of a link stands the text."""
+    text = re.sub(r"\[([^\]]*)\]\([^)]*\)", r"\1", text)
+    parts = text.split("`")
+    return "".join(rf"\fB{plain(it)}\fR" if at % 2 else plain(it) for at, it in enumerate(parts))
+
+
+def as_it_is(lines):
+    return [".PP", ".RS 4", ".nf", *map(plain, lines), ".fi", ".RE"]
+
+
+def page_of(document):
+    """A document in Markdown as sections of a manual page, without its title and what stands above its first heading."""
+    page, block = [], []
+    for line in [*document.partition("\n## ")[1:][1].splitlines(), ""]:
+        if block and line.startswith("    "):
+            block.append(line[4:])
+            continue
+        if block and not line.strip():
+            block.append("")
+            continue
+        if block:
+            while block and not block[-1]:
+                block.pop()
+            page += as_it_is(block)
+            block = []
+            page.append(".PP")
+        if line.startswith("    "):
+            block = [line[4:]]
+        elif line.startswith("## ") or not page:
+            page.append(f'.SH "{plain(line.removeprefix("## ").replace("`", "").upper())}"')
+        elif line.startswith("|"):
+            cells = [it.strip() for it in line.strip("|").split(" | ")]
+            if not set(line) <= set("|- :"):
+                page += [".TP", words_of(cells[0].strip("| ")), words_of(" ".join(cells[1:]).strip("| ")) or "\\&"]
+        elif line.startswith("- "):
+            page += [".IP \\(bu 2", words_of(line[2:])]
+        else:
+            page.append(words_of(line.strip()) if line.strip() else ".PP")
+    return page + (as_it_is(block) if block else [])
+
+
+def page(program, version):
+    lines = [f'.TH DSS 1 "" "dss {version}" "User Commands"', ".SH NAME", f"dss \\- {ABOUT}", ".SH SYNOPSIS"]
+    texts = {it: help_of(program, it) for it in commands(program)}
+    for text in texts.values():
+        usage = re.search(r"^Usage: (.*)$", text, re.M)
+        lines += [plain(usage[1]), ".br"] if usage else []
+    lines += [".SH COMMANDS"]
+    for name, text in texts.items():
+        lines += [f".SS {name}", *as_it_is(text.rstrip("\n").splitlines())]
+    lines += page_of((TOP / "docs" / "OPERATE.md").read_text().replace("./dss", "dss"))
+    lines += [".SH SEE ALSO", plain("The documents in /usr/share/doc/dss.")]
+    return "\n".join(lines) + "\n"
+
+
+def completions(program, version):
+    texts = {it: options(help_of(program, it)) for it in commands(program)}
+    files = sorted({option for it in texts.values() for option, takes_file in it.items() if takes_file})
+    cases = "\n".join(f"        {name}) words='{' '.join(it)}' ;;" for name, it in texts.items())
+    return f"""# completions for bash of dss {version}, made from what its --help says
+_dss() {{
+    local words='{' '.join(texts)} --help' now=${{COMP_WORDS[COMP_CWORD]}}
+    case ${{COMP_WORDS[COMP_CWORD-1]}} in
+    {'|'.join(files) or '--none'})
+        mapfile -t COMPREPLY < <(compgen -f -- "$now")
+        return
+        ;;
+    esac
+    if [ "$COMP_CWORD" != 1 ]; then
+        words=--help
+        case ${{COMP_WORDS[1]}} in
+{cases}
+        esac
+    fi
+    mapfile -t COMPREPLY < <(compgen -W "$words" -- "$now")
+    [ "${{#COMPREPLY[@]}}" != 0 ] || mapfile -t COMPREPLY < <(compgen -f -- "$now")
+}}
+complete -o filenames -F _dss dss
+"""
+
+
+if __name__ == "__main__":
+    sys.stdout.write({"page": page, "completions": completions}[sys.argv[1]](*sys.argv[2:]))
