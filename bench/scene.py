@@ -10,7 +10,7 @@ import tempfile
 
 TOP = pathlib.Path(__file__).resolve().parent.parent
 NAME = "bench_service"
-USES = "entity_core policy_core space_core space_sql service_core wire_json"
+USES = "entity_core policy_core space_core space_list space_sql service_core wire_body wire_reply"
 CALLS = 2_000
 # others may use the machine meanwhile, so the fastest round counts
 ROUNDS = 5

@@ -3,7 +3,7 @@ use crate::fault::Fault;
 use crate::run::serve_at;
 use crate::tokens::{salt_of, token_table, unread};
 use service_core::service::Service;
-use space_core::list::ListSpace;
+use space_list::list::ListSpace;
 use std::fs::File;
 use std::io;
 use std::io::{Read, Write};

@@ -1,8 +1,9 @@
 -- The report of an airspace, as a text.
 use Rattle.std.specs.Prelude.{ℕ, ◌-◌, List, ◌++◌, codes, decimal, length, map}
 use Rattle.std.specs.List.{concat, repeat}
+use Rattle.grid_core.specs.Volumes.{span_of}
 use Rattle.entity_core.specs.Airspace.{Airspace}
-use Rattle.entity_core.specs.Entity.{kind_of, span_of, state_name}
+use Rattle.entity_core.specs.Entity.{kind_of, state_name}
 use Rattle.entity_core.specs.EntityId.{printed}
 use Rattle.entity_core.specs.Search.{all_in}
 use Rattle.entity_core.specs.declared.entity.Entity.{Entity}

@@ -1,6 +1,6 @@
 //! Entities: what is kept of operational intents and constraints.
 ghost use Rattle.std.specs.Prelude.{◌≡◌, IfOk};
-ghost use Rattle.entity_core.specs.Entity.{IsSpan, span_of};
+ghost use Rattle.grid_core.specs.Volumes.{IsSpan, span_of};
 ghost use Rattle.entity_core.specs.Airspace.{key_cmp, key_of};
 
 use crate::base_url::BaseUrl;
@@ -10,7 +10,7 @@ use crate::ovn::Ovn;
 use crate::serial::Serial;
 use crate::uss_id::UssId;
 use crate::version::Version;
-use crate::volumes::Volumes;
+use grid_core::volumes::Volumes;
 use std::alloc::{AllocError, Global};
 use std::cmp::Ordering;
 

@@ -19,4 +19,3 @@ pub mod text;
 pub mod uss_id;
 pub mod version;
 mod visible;
-pub mod volumes;

@@ -6,3 +6,4 @@ pub mod Named
 pub mod Meets
 pub mod Covers
 pub mod IndexLaws
+pub mod Spans

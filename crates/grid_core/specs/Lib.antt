@@ -4,4 +4,5 @@ pub mod CellNumberLaw
 pub mod Token
 pub mod VolumeFault
 pub mod Extent
+pub mod Volumes
 pub mod Laws

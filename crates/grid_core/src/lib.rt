@@ -7,3 +7,4 @@ pub mod range;
 pub mod token;
 pub mod volume;
 pub mod volume_fault;
+pub mod volumes;

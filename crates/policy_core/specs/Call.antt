@@ -1,6 +1,7 @@
 -- What a call asks for.
 use Rattle.std.specs.Prelude.{ℕ, Bool, true, false, Option, Some, None}
 use Rattle.grid_core.specs.Extent.{covered_by}
+use Rattle.grid_core.specs.Volumes.{covered_sum}
 use Rattle.entity_core.specs.Entity as entities
 use Rattle.policy_core.specs.declared.call.OpKind.{OpKind}
 use Rattle.policy_core.specs.declared.call.OpKind.TheVariants as kinds
@@ -39,8 +40,8 @@ is_change op = false
 -- how many cells of level 13 the areas of an operation count for
 abbrev pub covered_of : Operation → ℕ
 covered_of (Query kind area) = covered_by area.cells
-covered_of (Create id put) = entities.covered_sum put.volumes
-covered_of (Update id ovn put) = entities.covered_sum put.volumes
+covered_of (Create id put) = covered_sum put.volumes
+covered_of (Update id ovn put) = covered_sum put.volumes
 covered_of (QuerySub area) = covered_by area.cells
 covered_of (CreateSub id put) = covered_by put.volume.cells
 covered_of (UpdateSub id version put) = covered_by put.volume.cells

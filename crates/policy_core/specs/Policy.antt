@@ -1,8 +1,9 @@
 -- The written policy: which rules a call breaks, and which of them is the first.
 use Rattle.std.specs.Prelude.{ℕ, ◌&&◌, ◌||◌, not, nat_eq, nat_le, nat_lt, Bool, true, false, List, [], ◌∷◌, ◌++◌, Option, Some, None, is_none, is_some, find, unwrap_or}
 use Rattle.std.specs.List.{list_any}
+use Rattle.grid_core.specs.Volumes.{span_of}
 use Rattle.entity_core.specs.IdTexts.{same_text}
-use Rattle.entity_core.specs.Entity.{greatest_version, span_of, subscription_of}
+use Rattle.entity_core.specs.Entity.{greatest_version, subscription_of}
 use Rattle.entity_core.specs.Airspace.{Airspace, Stated}
 use Rattle.entity_core.specs.Serial.{greatest_serial}
 use Rattle.entity_core.specs.declared.availability.Availability.TheVariants.{Unknown}

@@ -1,7 +1,7 @@
 -- What a supplier sees of an entity.
 use Rattle.std.specs.Prelude.{ℕ, List, Option, Some, None, if◌then◌else◌}
+use Rattle.grid_core.specs.Volumes.{span_of}
 use Rattle.entity_core.specs.IdTexts.{same_text}
-use Rattle.entity_core.specs.Entity.{span_of}
 use Rattle.entity_core.specs.Airspace.{Airspace, availability_of}
 use Rattle.entity_core.specs.declared.availability.Availability.{Availability}
 use Rattle.entity_core.specs.declared.entity.Entity.{Entity}

@@ -9,8 +9,8 @@ use entity_core::nature::{Kind, Nature};
 use entity_core::ovn::Ovn;
 use entity_core::text::Text;
 use entity_core::uss_id::UssId;
-use entity_core::volumes::Volumes;
 use grid_core::volume::{Area, Volume};
+use grid_core::volumes::Volumes;
 
 /// A kind of operation, to which scopes are given.
 #[derive(Clone, Copy, Debug, PartialEq, Eq)]

@@ -38,11 +38,11 @@ use Rattle.policy_core.proofs.Filters.{both_at_once}
 use Rattle.policy_core.proofs.Finds.{or_else, find-append, none_passes}
 use Rattle.policy_core.proofs.Veils.{one_uss, get_like, get_sub_like, under_like, dependents_like, found_like, rules_like}
 use Rattle.entity_core.proofs.Keys.{key_total, key_exact}
-use Rattle.space_core.proofs.Maps.{entries-remove}
-use Rattle.service_core.specs.declared.reply.Answer.TheVariants.{Created, Changed, Listed, Avail}
-use Rattle.service_core.specs.declared.reply.Answer.TheVariants as answers
-use Rattle.service_core.specs.declared.reply.Reply.TheVariants.{Done, Denied}
-use Rattle.service_core.specs.Step.{step, step_by, effect, effect_by, told_missing, created, updated, update_effect, delete_effect, read_effect, sub_kept_as, seen_of, seen_sub, stored_reply, put_sub_effect, update_sub_effect, delete_sub_effect, read_sub_effect}
+use Rattle.entity_core.proofs.Entries.{entries-remove}
+use Rattle.service_step.specs.declared.reply.Answer.TheVariants.{Created, Changed, Listed, Avail}
+use Rattle.service_step.specs.declared.reply.Answer.TheVariants as answers
+use Rattle.service_step.specs.declared.reply.Reply.TheVariants.{Done, Denied}
+use Rattle.service_step.specs.Step.{step, step_by, effect, effect_by, told_missing, created, updated, update_effect, delete_effect, read_effect, sub_kept_as, seen_of, seen_sub, stored_reply, put_sub_effect, update_sub_effect, delete_sub_effect, read_sub_effect}
 
 -- ---- entries
 

@@ -24,16 +24,16 @@ use Rattle.policy_core.specs.Missing.{is_spared, key_shown}
 use Rattle.policy_core.specs.Policy.{first_broken}
 use Rattle.policy_core.proofs.Puts.{puts_know}
 use Rattle.entity_core.proofs.Keys.{key_total, key_exact, one_key}
-use Rattle.space_core.proofs.Maps.{entries-remove}
+use Rattle.entity_core.proofs.Entries.{entries-remove}
 use Rattle.space_core.specs.declared.space.Space.{Ghosts}
-use Rattle.service_core.specs.declared.reply.Reply.{Reply}
-use Rattle.service_core.specs.declared.reply.Reply.TheVariants.{Done, Denied, Fault, Stopped}
+use Rattle.service_step.specs.declared.reply.Reply.{Reply}
+use Rattle.service_step.specs.declared.reply.Reply.TheVariants.{Done, Denied, Fault, Stopped}
 use Rattle.service_core.specs.Aware.{MadeCall, is_done, is_owed, left_by, put_in, last_writer, later_or, Knew, KnewOthers, SerialsDiffer, Aware}
 use Rattle.service_core.specs.Run.{Timed, Runs, replies_of, airspace_after, answered_calls, told_replies, has_stopped}
 use Rattle.service_core.specs.Stale.{IsNumbered, AllNumbered}
-use Rattle.service_core.specs.Step.{step, step_by, effect, created, updated, update_effect, delete_effect, read_effect, sub_kept_as, read_sub_effect, update_sub_effect, delete_sub_effect}
+use Rattle.service_step.specs.Step.{step, step_by, effect, created, updated, update_effect, delete_effect, read_effect, sub_kept_as, read_sub_effect, update_sub_effect, delete_sub_effect}
 use Rattle.entity_core.proofs.Changes.{got, stayed, proper_with, proper_without, proper_stated, proper_sub, proper_without_sub, proper_empty}
-use Rattle.service_core.proofs.Keeps.{told_within}
+use Rattle.service_step.proofs.Keeps.{told_within}
 use Rattle.service_core.proofs.Kept.{all_found, all_put, all_where, all_turned}
 
 -- ---- what holds all along

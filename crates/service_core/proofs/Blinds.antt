@@ -24,7 +24,7 @@ use Rattle.policy_core.proofs.Finds.{or_else, find-append}
 use Rattle.policy_core.proofs.Veils.{found_like, under_like, depended_like}
 use Rattle.service_core.specs.Blind.{AllMadeAlike, replies_to}
 use Rattle.service_core.specs.Run.{Timed, replies_of, airspace_after}
-use Rattle.service_core.specs.Step.{step}
+use Rattle.service_step.specs.Step.{step}
 use Rattle.service_core.proofs.Alike.{last_like, stays_like, own_call}
 
 -- ---- the version that a path names

@@ -23,9 +23,10 @@ use Rattle.policy_core.specs.Policy.{breaks, breaks_given, early_rules, standing
 use Rattle.policy_core.specs.Standing.{Facts, sub_of, sub_under}
 use Rattle.policy_core.specs.View.{view_of}
 use Rattle.policy_core.proofs.Finds.{find_has, find_rest}
-use Rattle.service_core.specs.declared.look.Grounds.{Grounds}
-use Rattle.service_core.specs.Step.{told_missing}
-use Rattle.service_core.specs.Looks.{facts_in, IsGround, IsFirst}
+use Rattle.service_step.specs.declared.look.Grounds.{Grounds}
+use Rattle.service_step.specs.Step.{told_missing}
+use Rattle.service_step.specs.Looks.{facts_in, IsGround}
+use Rattle.service_core.specs.Verdict.{IsFirst}
 
 find_front : {X : Type 0} (p : X → Bool) (xs ys : List X) (x : X) → find p xs ≡ Some x → find p (xs ++ ys) ≡ Some x
 find_front p [] ys x h = cc

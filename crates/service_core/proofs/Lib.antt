@@ -1,13 +1,9 @@
-pub mod Looked
 pub mod Outcome
 pub mod Runs
 pub mod Judged
-pub mod Steps
 pub mod Alike
 pub mod Blinds
-pub mod Keeps
 pub mod Kept
 pub mod Awares
 pub mod Stales
 pub mod Meetings
-pub mod Seen

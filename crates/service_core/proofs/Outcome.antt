@@ -11,18 +11,20 @@ use Rattle.space_core.specs.Space.{greatest_count, IsContent, Changes, Tells, ch
 use Rattle.policy_core.specs.declared.call.Call.{Call}
 use Rattle.policy_core.specs.declared.rule.Rule.{Rule}
 use Rattle.policy_core.specs.declared.reference.Missing.{Missing}
-use Rattle.service_core.specs.declared.halt.Halt.{Halt}
-use Rattle.service_core.specs.declared.halt.Halt.TheVariants.{NoMemory, Space}
-use Rattle.service_core.specs.declared.look.Grounds.{Grounds}
+use Rattle.service_step.specs.declared.halt.Halt.{Halt}
+use Rattle.service_step.specs.declared.halt.Halt.TheVariants.{NoMemory, Space}
+use Rattle.service_step.specs.declared.look.Grounds.{Grounds}
 use Rattle.service_core.specs.declared.decide.Verdict.TheVariants.{Refused, Allowed}
-use Rattle.service_core.specs.declared.made.Made.{Made}
-use Rattle.service_core.specs.declared.reply.Answer.{Answer}
-use Rattle.service_core.specs.declared.reply.Reply.{Reply}
-use Rattle.service_core.specs.declared.reply.Reply.TheVariants.{Done, Denied}
+use Rattle.service_step.specs.declared.made.Made.{Made}
+use Rattle.service_step.specs.declared.reply.Answer.{Answer}
+use Rattle.service_step.specs.declared.reply.Reply.{Reply}
+use Rattle.service_step.specs.declared.reply.Reply.TheVariants.{Done, Denied}
 use Rattle.policy_core.specs.Policy.{breaks, early_rules, standing_rules, first_broken}
-use Rattle.service_core.specs.Step.{step, step_by, effect, told_missing}
-use Rattle.service_core.specs.Looks.{Looks, Judges, Makes, Prepares, changed_by}
-use Rattle.service_core.specs.Service.{Answers, MayFail, is_stopped, reply_of}
+use Rattle.service_step.specs.Step.{step, step_by, effect, told_missing}
+use Rattle.service_step.specs.Looks.{Looks, Makes, Prepares, changed_by}
+use Rattle.service_core.specs.Verdict.{Judges}
+use Rattle.service_step.specs.Reply.{is_stopped}
+use Rattle.service_core.specs.Service.{Answers, MayFail, reply_of}
 
 pub step_denied : (salt : List ℕ) (a : Airspace) (t : ℕ) (c : Call) (p : Rule) (m : Missing) → first_broken a t c ≡ Some p → m ≡ told_missing a c p → step salt a t c ≡ (a, Denied p m)
 unfolding step

@@ -24,11 +24,11 @@ use Rattle.policy_core.specs.Missing.{in_key, is_asked, is_spared, key_shown, le
 use Rattle.policy_core.proofs.Members.{contained, no_member}
 use Rattle.policy_core.proofs.Puts.{needed_asked}
 use Rattle.space_core.specs.declared.space.Space.{Ghosts}
-use Rattle.service_core.specs.declared.reply.Reply.{Reply}
-use Rattle.service_core.specs.declared.reply.Reply.TheVariants.{Done, Denied, Fault, Stopped}
+use Rattle.service_step.specs.declared.reply.Reply.{Reply}
+use Rattle.service_step.specs.declared.reply.Reply.TheVariants.{Done, Denied, Fault, Stopped}
 use Rattle.service_core.specs.Service.{Leaves}
 use Rattle.service_core.specs.Stale.{IsNumbered, AllNumbered, DifferUpTo, IsOfAnother, IsRefusedFor, FailsOrIsRefused, IsStale}
-use Rattle.service_core.specs.Step.{step, step_by, told_missing}
+use Rattle.service_step.specs.Step.{step, step_by, told_missing}
 
 -- ---- members of lists
 

@@ -11,10 +11,10 @@ use Rattle.policy_core.specs.declared.call.Operation.{Operation}
 use Rattle.policy_core.specs.declared.call.Operation.TheVariants.{Create, Update}
 use Rattle.policy_core.specs.Known.{is_declared, is_told_of}
 use Rattle.policy_core.specs.Missing.{is_spared, key_shown}
-use Rattle.service_core.specs.declared.reply.Reply.{Reply}
-use Rattle.service_core.specs.declared.reply.Reply.TheVariants.{Done, Denied, Fault, Stopped}
+use Rattle.service_step.specs.declared.reply.Reply.{Reply}
+use Rattle.service_step.specs.declared.reply.Reply.TheVariants.{Done, Denied, Fault, Stopped}
 use Rattle.service_core.specs.Run.{Timed}
-use Rattle.service_core.specs.Step.{step}
+use Rattle.service_step.specs.Step.{step}
 
 -- ---- the last put of an entity
 

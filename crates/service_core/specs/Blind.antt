@@ -3,8 +3,8 @@ use Rattle.std.specs.Prelude.{◌≡◌, ℕ, true, false, List, [], ◌∷◌, 
 use Rattle.entity_core.specs.Airspace.{Airspace}
 use Rattle.policy_core.specs.declared.call.Call.{Call}
 use Rattle.policy_core.specs.Blind.{IsLike, KnowsTheSame, ToldTheSame, is_by}
-use Rattle.service_core.specs.declared.reply.Reply.{Reply}
-use Rattle.service_core.specs.Step.{step}
+use Rattle.service_step.specs.declared.reply.Reply.{Reply}
+use Rattle.service_step.specs.Step.{step}
 use Rattle.service_core.specs.Run.{Timed, replies_of, airspace_after}
 
 -- A call is made in two airspaces: if it is the supplier's, its key knows as much of both; if it is

@@ -1,6 +1,4 @@
-pub mod Step
-pub mod Looks
-pub mod Needed
+pub mod Verdict
 pub mod Service
 pub mod Held
 pub mod Run

@@ -6,12 +6,13 @@ use Rattle.policy_core.specs.Missing.{nothing_missing}
 use Rattle.policy_core.specs.Policy.{breaks, early_rules}
 use Rattle.service_core.specs.declared.service.Service.{Service}
 use Rattle.service_core.specs.Held.{space_of, salt_of, is_shut, Stays}
-use Rattle.service_core.specs.Service.{Answers, is_stopped}
-use Rattle.service_core.specs.declared.reply.Reply.{Reply}
-use Rattle.service_core.specs.declared.reply.Reply.TheVariants.{Done, Denied, Fault, Stopped}
+use Rattle.service_step.specs.Reply.{is_stopped}
+use Rattle.service_core.specs.Service.{Answers}
+use Rattle.service_step.specs.declared.reply.Reply.{Reply}
+use Rattle.service_step.specs.declared.reply.Reply.TheVariants.{Done, Denied, Fault, Stopped}
 use Rattle.space_core.specs.declared.space.Space.{Ghosts}
 use Rattle.space_core.specs.Space.{IsContent}
-use Rattle.service_core.specs.Step.{step}
+use Rattle.service_step.specs.Step.{step}
 
 -- a call and its moment
 abbrev pub Timed : Type 0

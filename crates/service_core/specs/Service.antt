@@ -1,26 +1,23 @@
 -- What a service may answer.
-use Rattle.std.specs.Prelude.{◌≡◌, ℕ, ◌<◌, ◌||◌, Bool, true, false, List, find, ◌⊎◌, IsSome, IsNone}
+use Rattle.std.specs.Prelude.{◌≡◌, ℕ, ◌<◌, ◌||◌, List, find, ◌⊎◌, IsSome, IsNone}
 use Rattle.entity_core.specs.Airspace.{Airspace}
 use Rattle.space_core.specs.declared.space.Space.{Ghosts}
 use Rattle.space_core.specs.Space.{greatest_count, IsContent}
 use Rattle.policy_core.specs.declared.call.Call.{Call}
-use Rattle.service_core.specs.declared.reply.Reply.{Reply}
-use Rattle.service_core.specs.declared.reply.Reply.TheVariants.{Done, Denied, Fault, Stopped}
+use Rattle.service_step.specs.declared.reply.Reply.{Reply}
+use Rattle.service_step.specs.declared.reply.Reply.TheVariants.{Done, Denied, Fault, Stopped}
 use Rattle.policy_core.specs.Policy.{breaks, early_rules, standing_rules}
 use Rattle.space_core.specs.declared.space.SpaceFault.TheVariants.{Unchanged, Broken}
-use Rattle.service_core.specs.declared.halt.Halt.{Halt}
-use Rattle.service_core.specs.declared.halt.Halt.TheVariants.{NoMemory, Space}
-use Rattle.service_core.specs.Step.{step}
+use Rattle.service_step.specs.declared.halt.Halt.{Halt}
+use Rattle.service_step.specs.declared.halt.Halt.TheVariants.{NoMemory, Space}
+use Rattle.service_step.specs.Reply.{is_stopped}
+use Rattle.service_step.specs.Step.{step}
 
 -- the reply where a call was given up
 abbrev pub reply_of : Halt → Reply
 reply_of NoMemory = Fault
 reply_of (Space Unchanged) = Fault
 reply_of (Space Broken) = Stopped
-
-abbrev pub is_stopped : Reply → Bool
-is_stopped Stopped = true
-is_stopped r = false
 
 -- What a call leaves of a space whose content was the airspace `a`: after an answer the policy's
 -- airspace, after a denial or a fault `a` itself, and after `Stopped` nothing is held but `a` or

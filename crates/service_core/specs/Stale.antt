@@ -10,9 +10,9 @@ use Rattle.policy_core.specs.declared.call.Call.{Call}
 use Rattle.policy_core.specs.declared.rule.Rule.TheVariants.{Key}
 use Rattle.policy_core.specs.Known.{IsListed, MayAsk}
 use Rattle.policy_core.specs.Missing.{key_shown, needed}
-use Rattle.service_core.specs.declared.reply.Reply.{Reply}
-use Rattle.service_core.specs.declared.reply.Reply.TheVariants.{Done, Denied, Fault, Stopped}
-use Rattle.service_core.specs.Step.{step}
+use Rattle.service_step.specs.declared.reply.Reply.{Reply}
+use Rattle.service_step.specs.declared.reply.Reply.TheVariants.{Done, Denied, Fault, Stopped}
+use Rattle.service_step.specs.Step.{step}
 
 -- ---- the airspace
 

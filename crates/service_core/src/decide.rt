@@ -6,11 +6,9 @@ ghost use Rattle.policy_core.specs.Missing.{is_nothing, missing_by, missing_from
 ghost use Rattle.policy_core.specs.Standing.{sub_of};
 ghost use Rattle.policy_core.specs.View.{view_of};
 ghost use Rattle.policy_core.specs.Policy.{breaks, breaks_given, early_rules, standing_rules};
-ghost use Rattle.service_core.specs.Looks.{Looks, facts_in, IsGround, IsFirst, IsReady, IsReadyIfAllowed, Judges, verdict_of};
+ghost use Rattle.service_step.specs.Looks.{Looks, facts_in, IsGround, IsReady};
+ghost use Rattle.service_core.specs.Verdict.{IsFirst, IsReadyIfAllowed, Judges, verdict_of};
 
-use crate::halt::Halt;
-use crate::look::{Grounds, look};
-use crate::needed::{missing_from, needed_with};
 use entity_core::entity_id::EntityId;
 use entity_core::nature::Kind;
 use entity_core::subscription::Sub;
@@ -21,6 +19,9 @@ use policy_core::reference::{Missing, References};
 use policy_core::rule::Rule;
 use policy_core::scope::Caller;
 use policy_core::standing::standing;
+use service_step::halt::Halt;
+use service_step::look::{Grounds, look};
+use service_step::needed::{missing_from, needed_with};
 use space_core::space::Space;
 use std::alloc::Global;
 

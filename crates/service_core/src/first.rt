@@ -2,14 +2,15 @@
 ghost use Rattle.std.specs.Prelude.{◌≡◌, false};
 ghost use Rattle.entity_core.specs.Airspace.{empty_at};
 ghost use Rattle.service_core.specs.Held.{space_of};
-ghost use Rattle.service_core.specs.Service.{Leaves, is_stopped};
+ghost use Rattle.service_step.specs.Reply.{is_stopped};
+ghost use Rattle.service_core.specs.Service.{Leaves};
 
-use crate::reply::Reply;
 use crate::service::Service;
 use entity_core::salt::Salt;
 use policy_core::call::Call;
-use space_core::list::ListSpace;
+use service_step::reply::Reply;
 use space_core::space::Space;
+use space_list::list::ListSpace;
 use std::alloc::Global;
 
 /// Answers a call over a new, empty airspace, and gives the service that did so.

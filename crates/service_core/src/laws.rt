@@ -2,7 +2,7 @@
 ghost use Rattle.service_core.specs.Aware.{MeetingIsMutual};
 ghost use Rattle.service_core.specs.Blind.{CallIsBlind, RunIsBlind};
 ghost use Rattle.service_core.specs.Stale.{StaleIsRefused};
-ghost use Rattle.service_core.specs.Step.{StepsKeep};
+ghost use Rattle.service_step.specs.Step.{StepsKeep};
 
 /// After each call, an entity stands under its own kind and id, a subscription under its own id, and
 /// no index is over the serial, where it was so before.

@@ -7,8 +7,10 @@ ghost use Rattle.entity_core.specs.declared.nature.Kind.{Kind};
 ghost use Rattle.policy_core.specs.Policy.{breaks, early_rules, first_broken};
 ghost use Rattle.space_core.specs.Space.{IsContent};
 ghost use Rattle.service_core.specs.contracts.service.Service.{the_row};
-ghost use Rattle.service_core.specs.Looks.{IsReady, Judges, Makes};
-ghost use Rattle.service_core.specs.Service.{Answers, reply_of, is_stopped};
+ghost use Rattle.service_step.specs.Looks.{IsReady, Makes};
+ghost use Rattle.service_core.specs.Verdict.{Judges};
+ghost use Rattle.service_step.specs.Reply.{is_stopped};
+ghost use Rattle.service_core.specs.Service.{Answers, reply_of};
 ghost use Rattle.policy_core.specs.Missing.{nothing_missing};
 ghost use Rattle.service_core.specs.Run.{Answered, IsReplyTo, has_stopped};
 ghost use Rattle.service_core.specs.Aware.{Aware};
@@ -16,16 +18,16 @@ ghost use Rattle.service_core.specs.Stale.{AllNumbered, IsStale, FailsOrIsRefuse
 ghost use Rattle.service_core.specs.Held.{space_of, salt_of, is_shut, with_space};
 
 use crate::decide::{Verdict, decide};
-use crate::effects::prepared;
-use crate::halt::Halt;
-use crate::look::Grounds;
-use crate::made::Made;
-use crate::reply::{Answer, Reply};
 use entity_core::salt::Salt;
 use policy_core::call::Call;
 use policy_core::early::early;
 use policy_core::reference::Missing;
 use policy_core::scope::Caller;
+use service_step::effects::prepared;
+use service_step::halt::Halt;
+use service_step::look::Grounds;
+use service_step::made::Made;
+use service_step::reply::{Answer, Reply};
 use space_core::space::{Change, Space, SpaceFault};
 use std::alloc::{AllocError, Global};
 

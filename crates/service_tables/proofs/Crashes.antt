@@ -5,10 +5,10 @@ use Rattle.sqlite_trees.specs.Tree.{Trees}
 use Rattle.entity_core.specs.Airspace.{Airspace}
 use Rattle.policy_core.specs.declared.call.Call.{Call}
 use Rattle.space_core.specs.declared.space.Space.{Ghosts}
-use Rattle.service_core.specs.declared.reply.Reply.{Reply}
-use Rattle.service_core.specs.declared.reply.Reply.TheVariants.{Done, Denied, Fault, Stopped}
+use Rattle.service_step.specs.declared.reply.Reply.{Reply}
+use Rattle.service_step.specs.declared.reply.Reply.TheVariants.{Done, Denied, Fault, Stopped}
 use Rattle.service_core.specs.Service.{Leaves}
-use Rattle.service_core.specs.Step.{step}
+use Rattle.service_step.specs.Step.{step}
 use Rattle.space_sql.specs.Holding.{Keeps}
 use Rattle.service_tables.specs.Crash.{KeepsAfter}
 

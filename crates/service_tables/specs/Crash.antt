@@ -5,11 +5,11 @@ use Rattle.sqlite_trees.specs.declared.store.Store.{Ghosts}
 use Rattle.entity_core.specs.Airspace.{Airspace}
 use Rattle.policy_core.specs.declared.call.Call.{Call}
 use Rattle.space_core.specs.Space.{IsContent}
-use Rattle.service_core.specs.declared.reply.Reply.{Reply}
-use Rattle.service_core.specs.declared.reply.Reply.TheVariants.{Done, Denied, Fault, Stopped}
+use Rattle.service_step.specs.declared.reply.Reply.{Reply}
+use Rattle.service_step.specs.declared.reply.Reply.TheVariants.{Done, Denied, Fault, Stopped}
 use Rattle.service_core.specs.declared.service.Service.{Service}
 use Rattle.service_core.specs.Held.{is_shut, space_of}
-use Rattle.service_core.specs.Step.{step}
+use Rattle.service_step.specs.Step.{step}
 use Rattle.space_sql.specs.Crash.{may_leave_of}
 use Rattle.space_sql.specs.Holding.{Keeps, Kept, holds_of, is_sound_of, is_whole_of}
 

@@ -4,8 +4,8 @@ ghost use Rattle.service_core.specs.Held.{salt_of};
 ghost use Rattle.service_tables.specs.Crash.{CrashLeaves};
 
 use policy_core::call::Call;
-use service_core::reply::Reply;
 use service_core::service::Service;
+use service_step::reply::Reply;
 use space_sql::space::SqlSpace;
 use sqlite::Alter;
 use std::alloc::Global;

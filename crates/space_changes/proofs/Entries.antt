@@ -9,7 +9,7 @@ use Rattle.std.specs.FinMap.Entries.{put, by_order}
 use Rattle.std.proofs.lemmas.List.Sorted.{IsPermutation-refl, IsPermutation-trans, IsPermutation-cons, IsPermutation-middle}
 use Rattle.sqlite_keyed.proofs.ListLemmas.{filter_none}
 use Rattle.sqlite_trees.specs.Tree.{IsAscending}
-use Rattle.space_core.proofs.Maps.{entries-remove}
+use Rattle.entity_core.proofs.Entries.{entries-remove}
 use Rattle.space_tables.proofs.OneAirspace.{EntryLess, entries_rise}
 
 module _ {K X : Type 0} (R : K → K → Ordering) (o : IsTotalOrder R) (exact : IsAntisymmetric R) where

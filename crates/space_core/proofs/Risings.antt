@@ -22,7 +22,7 @@ use Rattle.entity_core.specs.declared.nature.Kind.{Kind}
 use Rattle.entity_core.specs.declared.nature.Kind.TheVariants.{Intent, Constraint}
 use Rattle.entity_core.specs.Search.{FoundInOrder, all_in, dependents_in, has_kind, is_id, is_naming, is_not, is_own_near, is_sought, meeting_in, subscriptions_in}
 use Rattle.entity_core.proofs.Keys.{key_total, one_key}
-use Rattle.space_core.proofs.Maps.{first, second, less, sorted_kept}
+use Rattle.entity_core.proofs.Entries.{first, second, less, sorted_kept}
 
 -- an entry bears its own key
 abbrev Own : EntityKey × Entity → Type 0

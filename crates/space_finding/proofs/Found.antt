@@ -11,7 +11,7 @@ use Rattle.sqlite.specs.Effect.{Database}
 use Rattle.entity_core.specs.declared.entity.Entity.{Entity}
 use Rattle.entity_core.specs.Airspace.{Airspace, Entities, EntityKey, key_cmp, key_of}
 use Rattle.entity_core.proofs.Keys.{key_total, one_key}
-use Rattle.space_core.specs.Entities.{entity_map}
+use Rattle.entity_lists.specs.Entities.{entity_map}
 use Rattle.space_tables.specs.Spelling.{Group, Spells, pair_of}
 use Rattle.space_tables.proofs.OneAirspace.{EntryLess, entries_rise}
 use Rattle.space_reading.specs.Numbered.{IsNumbered}

@@ -1,13 +1,13 @@
 //! The entities with the numbers that the index finds.
 ghost use Rattle.std.specs.Prelude.{◌≡◌};
 ghost use Rattle.sqlite.specs.Held.{state};
-ghost use Rattle.space_core.specs.Entities.{entity_map};
+ghost use Rattle.entity_lists.specs.Entities.{entity_map};
 ghost use Rattle.space_reading.specs.Reading.{Reads};
 ghost use Rattle.space_finding.specs.Candidates.{AddsNumbered, ReadsNumbered, HoldsCandidates};
 
 use crate::interval::Interval;
 use crate::numbers::find_numbers;
-use space_core::entities::Entities;
+use entity_lists::entities::Entities;
 use space_reading::numbered::read_numbered;
 use sqlite::{Alter, Error, Transaction};
 use std::alloc::Global;

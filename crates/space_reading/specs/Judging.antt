@@ -4,7 +4,7 @@ use Rattle.sqlite_value.specs.declared.value.Value.{Value}
 use Rattle.sqlite_value.specs.declared.value.Value.TheVariants.{Int}
 use Rattle.sqlite.specs.Effect.{Database}
 use Rattle.entity_core.specs.Airspace.{Airspace}
-use Rattle.space_core.specs.List.{airspace_of}
+use Rattle.entity_lists.specs.Lists.{airspace_of}
 use Rattle.space_tables.specs.Spelling.{Spells, meta_columns}
 use Rattle.space_reading.specs.declared.verdict.Listed.{Listed}
 use Rattle.space_reading.specs.declared.verdict.Verdict.{Verdict}

@@ -3,7 +3,7 @@ ghost use Rattle.std.specs.Prelude.{◌≡◌, ◌↔◌, ◌≤◌, pos, None, 
 ghost use Rattle.std.specs.List.{AllByRecursion};
 ghost use Rattle.std.specs.FinMap.{get, empty};
 ghost use Rattle.entity_core.specs.Airspace.{Entities as Map};
-ghost use Rattle.space_core.specs.Entities.{entity_map};
+ghost use Rattle.entity_lists.specs.Entities.{entity_map};
 ghost use Rattle.space_rows.specs.declared.rows.VolumeRow.{VolumeRow};
 ghost use Rattle.space_rows.specs.declared.rows.CellRow.{CellRow};
 ghost use Rattle.space_rows.specs.Finds.{Finds};
@@ -15,7 +15,7 @@ use crate::tables::EntityTables;
 use entity_core::entity::Entity;
 use entity_core::entity_id::EntityId;
 use entity_core::nature::Kind;
-use space_core::entities::Entities;
+use entity_lists::entities::Entities;
 use space_rows::entity::entity_of;
 use space_rows::rows::{CellRow, EntityRow, VolumeRow};
 use sqlite::Error;

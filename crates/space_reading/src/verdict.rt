@@ -1,7 +1,7 @@
 //! What a database is found to be.
 
-use space_core::availabilities::Availabilities;
-use space_core::entities::Entities;
+use entity_lists::availabilities::Availabilities;
+use entity_lists::entities::Entities;
 
 /// An airspace, as it was read.
 #[derive(Debug, Drop)]

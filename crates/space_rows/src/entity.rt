@@ -9,8 +9,8 @@ use crate::head::{Head, entity_row, head_of};
 use crate::rows::{CellRow, EntityRow, VolumeRow};
 use crate::volumes::{volume_rows, volumes_of};
 use entity_core::entity::Entity;
-use entity_core::volumes::Volumes;
 use grid_core::volume::Volume;
+use grid_core::volumes::Volumes;
 use std::alloc::{AllocError, Global};
 
 fn joined(head: Head, list: Vec<Volume>) -> Option<Entity>

@@ -6,7 +6,7 @@ use Rattle.entity_core.specs.declared.entity.Entity.{Entity}
 use Rattle.entity_core.specs.declared.nature.Kind.{Kind}
 use Rattle.policy_core.specs.declared.call.Call.{Call}
 use Rattle.policy_core.specs.Missing.{key_shown, needed}
-use Rattle.service_core.specs.declared.reply.Reply.{Reply}
+use Rattle.service_step.specs.declared.reply.Reply.{Reply}
 use Rattle.service_core.specs.Aware.{Aware}
 use Rattle.service_core.specs.Run.{Timed, airspace_after, answered_calls}
 use Rattle.service_core.specs.Stale.{DifferUpTo, FailsOrIsRefused, IsOfAnother}

@@ -2,8 +2,8 @@
 use entity_core::nature::Kind;
 use policy_core::call::OpKind;
 use std::alloc::Global;
-use wire_json::body::{PathWords, read_body};
-use wire_json::body_fault::BodyFault;
+use wire_body::body::{PathWords, read_body};
+use wire_body::body_fault::BodyFault;
 
 fn is_malformed(alloc: Global, kind: OpKind, words: &PathWords<'_>, body: &str) -> bool {
     matches!(

@@ -10,12 +10,12 @@ use policy_core::call::{Call, OpKind, Operation};
 use policy_core::rule::Rule;
 use policy_core::scope::{Caller, Scope, ScopeSet};
 use policy_core::standing::{Facts, Findings, standing};
-use service_core::reply::{Answer, Reply};
 use service_core::service::Service;
-use space_core::list::ListSpace;
+use service_step::reply::{Answer, Reply};
 use space_core::space::Space;
+use space_list::list::ListSpace;
 use std::alloc::Global;
-use wire_json::body::{PathWords, read_body};
+use wire_body::body::{PathWords, read_body};
 
 const PUT: &str =
     r#"{"extents":[{"cells":["89c25904"],"altitude_lower":0,"altitude_upper":1200,"time_start":900,"time_end":2000}],"state":"Accepted","uss_base_url":"https://a.example"}"#;

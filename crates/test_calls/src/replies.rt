@@ -11,9 +11,9 @@ use entity_core::uss_id::UssId;
 use entity_core::version::Version;
 use policy_core::reference::Reference;
 use policy_core::sub_view::{Ids, SubView};
-use service_core::reply::{Answer, Reply};
+use service_step::reply::{Answer, Reply};
 use std::alloc::Global;
-use wire_json::answer::{reply_text, status};
+use wire_reply::answer::{reply_text, status};
 
 // What others see of an intent that ends at the greatest number.
 fn endless(alloc: Global) -> Option<Reply> {

@@ -4,9 +4,9 @@ ghost use Rattle.test_calls.specs.Told.{ToldAfter};
 
 use entity_core::salt::Salt;
 use policy_core::call::Call;
-use service_core::reply::Reply;
 use service_core::service::Service;
-use space_core::list::ListSpace;
+use service_step::reply::Reply;
+use space_list::list::ListSpace;
 use std::alloc::{AllocError, Global};
 
 /// The replies to a list of calls from an empty airspace on, each with its moment, and to one more

@@ -7,9 +7,9 @@ use entity_core::ovn::Ovn;
 use entity_core::serial::Serial;
 use entity_core::uss_id::UssId;
 use entity_core::version::Version;
-use entity_core::volumes::Volumes;
 use grid_core::token::parse_token;
 use grid_core::volume::Volume;
+use grid_core::volumes::Volumes;
 use policy_core::missing::missing;
 use std::alloc::Global;
 

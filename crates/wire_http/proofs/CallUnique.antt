@@ -5,8 +5,8 @@ use Rattle.policy_core.specs.declared.call.Call.{Call}
 use Rattle.policy_core.specs.declared.call.OpKind.{OpKind}
 use Rattle.policy_core.specs.declared.call.Operation.{Operation}
 use Rattle.token_conf.specs.TokenFile.{Callers}
-use Rattle.wire_json.specs.Body.{Words}
-use Rattle.wire_json.proofs.OneBody.{asks_for_one_lem}
+use Rattle.wire_body.specs.Body.{Words}
+use Rattle.wire_body.proofs.OneBody.{asks_for_one_lem}
 use Rattle.wire_route.specs.declared.place.Place.{Place}
 use Rattle.wire_route.specs.Place.{kind_at}
 use Rattle.wire_route.proofs.Paths.{one_route}

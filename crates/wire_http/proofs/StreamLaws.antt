@@ -8,7 +8,7 @@ use Rattle.std.proofs.lemmas.List.Folds.{concat-append}
 use Rattle.std.proofs.Math.Seq.{take-append-add, take-append_seam}
 use Rattle.space_core.specs.declared.space.Space.{Ghosts}
 use Rattle.service_core.specs.declared.service.Service.{Service}
-use Rattle.service_core.specs.declared.reply.Reply.{Reply}
+use Rattle.service_step.specs.declared.reply.Reply.{Reply}
 use Rattle.service_core.specs.Run.{AskedInOrder, IsReplyTo, Timed}
 use Rattle.service_core.proofs.Runs.{answered, asked_more}
 use Rattle.token_conf.specs.TokenFile.{Callers}

@@ -9,7 +9,7 @@ use Rattle.policy_core.specs.declared.call.Operation.{Operation}
 use Rattle.policy_core.specs.declared.call.Operation.TheVariants.{NoRoute, NoMethod, Malformed}
 use Rattle.policy_core.specs.declared.call.Call.{Call}
 use Rattle.token_conf.specs.TokenFile.{Callers}
-use Rattle.wire_json.specs.Body.{IsBody, Words}
+use Rattle.wire_body.specs.Body.{IsBody, Words}
 use Rattle.wire_route.specs.declared.place.Place.{Place}
 use Rattle.wire_route.specs.Place.{kind_at}
 use Rattle.wire_route.specs.Route.{IsRoute, HasNoRoute}

@@ -4,7 +4,7 @@ use Rattle.std.specs.List.{concat}
 use Rattle.std.specs.Io.KnownBytes.{Appends}
 use Rattle.space_core.specs.declared.space.Space.{Ghosts}
 use Rattle.service_core.specs.declared.service.Service.{Service}
-use Rattle.service_core.specs.declared.reply.Reply.{Reply}
+use Rattle.service_step.specs.declared.reply.Reply.{Reply}
 use Rattle.service_core.specs.Run.{IsReplyTo}
 use Rattle.token_conf.specs.TokenFile.{Callers}
 use Rattle.wire_http.specs.declared.fault.StreamFault.{StreamFault}

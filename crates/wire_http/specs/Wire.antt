@@ -6,7 +6,7 @@ use Rattle.httparse.specs.Grammar.{RequestHead}
 use Rattle.policy_core.specs.declared.call.Call.{Call}
 use Rattle.space_core.specs.declared.space.Space.{Ghosts}
 use Rattle.service_core.specs.declared.service.Service.{Service}
-use Rattle.service_core.specs.declared.reply.Reply.{Reply}
+use Rattle.service_step.specs.declared.reply.Reply.{Reply}
 use Rattle.service_core.specs.Run.{Answered, Timed}
 use Rattle.wire_http.specs.declared.fault.StreamFault.{StreamFault}
 use Rattle.wire_http.specs.declared.fault.StreamFault.TheVariants as faults

@@ -5,9 +5,9 @@ ghost use Rattle.wire_http.specs.Text.{answer_text, reason_of, rule_field, reply
 
 use crate::rule::WireRule;
 use policy_core::rule::Rule;
-use service_core::reply::Reply;
+use service_step::reply::Reply;
 use std::alloc::{AllocError, Global};
-use wire_json::answer::{reply_text, status};
+use wire_reply::answer::{reply_text, status};
 use wire_route::place::Place;
 
 // The reason phrase of a status.

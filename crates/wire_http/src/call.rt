@@ -2,7 +2,7 @@
 ghost use Rattle.std.specs.Prelude.{◌≡◌, ℕ, length, map, take, if◌then◌else◌, All, Err, IfOk, IfErr, OnOk};
 ghost use Rattle.httparse.specs.Spans.{IsHeaderWithin, header_bytes};
 ghost use Rattle.token_conf.specs.TokenFile.{callers_of};
-ghost use Rattle.wire_json.specs.Body.{words_of};
+ghost use Rattle.wire_body.specs.Body.{words_of};
 ghost use Rattle.wire_http.specs.Fault.{GaveUpAsking};
 ghost use Rattle.wire_http.specs.Received.{IsReceived, IsMadeBy};
 ghost use Rattle.wire_http.specs.Close.{closes_by};
@@ -18,8 +18,8 @@ use policy_core::call::{Call, OpKind, Operation};
 use policy_core::scope::Caller;
 use std::alloc::{AllocError, Global};
 use token_conf::token_table::TokenTable;
-use wire_json::body::{PathWords, read_body};
-use wire_json::body_fault::BodyFault;
+use wire_body::body::{PathWords, read_body};
+use wire_body::body_fault::BodyFault;
 use wire_route::place::Place;
 use wire_route::routes::{Route, Routes};
 

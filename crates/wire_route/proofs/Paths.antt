@@ -14,7 +14,7 @@ use Rattle.matchit.specs.Seek.{first}
 use Rattle.matchit.specs.Seek as seek
 use Rattle.entity_core.specs.declared.nature.Kind.{Kind}
 use Rattle.entity_core.specs.declared.nature.Kind.TheVariants.{Intent, Constraint}
-use Rattle.wire_json.specs.Body.{Words}
+use Rattle.wire_body.specs.Body.{Words}
 use Rattle.wire_route.specs.declared.place.Place.{Place}
 use Rattle.wire_route.specs.declared.place.Place.TheVariants.{Query, Entity, EntityAtOvn, Availability, SubscriptionQuery, Subscription, SubscriptionAtVersion}
 use Rattle.wire_route.specs.Place.{references_of, subscriptions, front_of}

@@ -3,7 +3,7 @@
 use Rattle.std.specs.Prelude.{◌≡◌, ◌==◌, ◌&&◌, ◌++◌, ℕ, Bool, true, not, nat_lt, List, length, codes, Some, None}
 use Rattle.std.specs.Str.{bytes_eq}
 use Rattle.std.specs.List.{list_any}
-use Rattle.wire_json.specs.Body.{Words}
+use Rattle.wire_body.specs.Body.{Words}
 use Rattle.wire_route.specs.declared.place.Place.{Place}
 use Rattle.wire_route.specs.declared.place.Place.TheVariants.{Query, Entity, EntityAtOvn, Availability, SubscriptionQuery, Subscription, SubscriptionAtVersion}
 use Rattle.wire_route.specs.Place.{front_of}

@@ -1,7 +1,7 @@
 //! Laws of routes, each named by a function that does nothing.
 ghost use Rattle.std.specs.Prelude.{◌≡◌, ℕ, List, codes};
 ghost use Rattle.entity_core.specs.declared.nature.Kind.TheVariants.{Intent, Constraint};
-ghost use Rattle.wire_json.specs.Body.{Words};
+ghost use Rattle.wire_body.specs.Body.{Words};
 ghost use Rattle.wire_route.specs.declared.place.Place.{Place};
 ghost use Rattle.wire_route.specs.declared.place.Place.TheVariants.{Query, Entity, EntityAtOvn, Availability, SubscriptionQuery, Subscription, SubscriptionAtVersion};
 ghost use Rattle.wire_route.specs.Place.{allow_of};

@@ -1,6 +1,6 @@
 //! The routes of the service, and the way from a path to its place.
 ghost use Rattle.std.specs.Prelude.{◌≡◌, ◌++◌, List, ℕ, false, codes, IfOk, OnOk, MatchOption, option_map, if◌then◌else◌, Some, None};
-ghost use Rattle.wire_json.specs.Body.{Words, words_of};
+ghost use Rattle.wire_body.specs.Body.{Words, words_of};
 ghost use Rattle.wire_route.specs.Route.{has_slash, is_part, may_be_id, one_word, AreTwoWords, AreWordsOf, IsRoute, HasNoRoute};
 ghost use Rattle.wire_route.specs.Place.{front_of};
 ghost use Rattle.wire_route.specs.Table.{Fits, table, with_route, named_place};
@@ -10,7 +10,7 @@ use entity_core::nature::Kind;
 use matchit::{InsertError, Router};
 use std::alloc::{AllocError, Global};
 use std::marker::Model;
-use wire_json::body::PathWords;
+use wire_body::body::PathWords;
 
 /// The routes of the service, ready to look paths up.
 #[derive(Drop)]

@@ -1,6 +1,6 @@
 use Rattle.std.proofs.Common.{◌∙◌, ap, Bool, cond, Some, None}
 use Rattle.policy_core.specs.declared.rule.Rule.TheVariants.{Limit}
-use Rattle.service_core.proofs.Looked.{looks_none, looks_as}
+use Rattle.service_step.proofs.Looked.{looks_none, looks_as}
 use Rattle.service_core.proofs.Judged.{ground_sub, judged_standing, judged_key, last_limit, lent_first, lent_limit, lacks_some, lacks_none}
 use Rattle.service_core.proofs.decide.judge.Goals as goal
 

@@ -1,4 +1,4 @@
-use Rattle.service_core.proofs.Looked.{looks_map}
+use Rattle.service_step.proofs.Looked.{looks_map}
 use Rattle.service_core.proofs.Judged.{create_missing, update_missing}
 use Rattle.service_core.proofs.decide.missing_by.Goals as goal
 

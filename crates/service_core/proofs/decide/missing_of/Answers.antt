@@ -1,5 +1,5 @@
 use Rattle.std.proofs.Common.{sym}
-use Rattle.service_core.proofs.Looked.{looks_none}
+use Rattle.service_step.proofs.Looked.{looks_none}
 use Rattle.service_core.proofs.Judged.{needs_nothing}
 use Rattle.service_core.proofs.decide.missing_of.Goals as goal
 

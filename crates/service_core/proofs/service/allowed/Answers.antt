@@ -1,6 +1,6 @@
 use Rattle.std.proofs.Common.{subst, sym}
 use Rattle.service_core.specs.Service.{Answers}
-use Rattle.service_core.specs.declared.reply.Reply.{Reply}
+use Rattle.service_step.specs.declared.reply.Reply.{Reply}
 use Rattle.service_core.proofs.Outcome.{read_answers, halted_answers}
 use Rattle.service_core.proofs.Judged.{standing_none}
 use Rattle.service_core.proofs.service.allowed.Goals as goal

@@ -1,7 +1,7 @@
 use Rattle.std.proofs.Common.{◌≡◌, ◌∙◌, ◌+◌, [], List, ℤ, arith, refl, subst, sym, take, get_or, pos, to_z, of_z, w64, rules}
 use Rattle.std.proofs.lemmas.List.{take_all, take_more}
 use Rattle.sqlite.specs.Held.{state}
-use Rattle.space_core.specs.Entities.{entity_map}
+use Rattle.entity_lists.specs.Entities.{entity_map}
 use Rattle.space_reading.proofs.Readings.{reads_then, reads_as}
 use Rattle.space_finding.specs.Candidates.{ReadsNumbered}
 use Rattle.space_finding.proofs.Counted.{reads_still}

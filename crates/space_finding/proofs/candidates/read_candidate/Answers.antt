@@ -1,6 +1,6 @@
 use Rattle.std.proofs.Common.{Some, None, to_z-of_z}
 use Rattle.sqlite.specs.Held.{state}
-use Rattle.space_core.specs.Entities.{entity_map}
+use Rattle.entity_lists.specs.Entities.{entity_map}
 use Rattle.space_reading.specs.Numbered.{FindsNumbered}
 use Rattle.space_reading.proofs.Readings.{reads_as}
 use Rattle.space_finding.specs.Candidates.{AddsNumbered}

@@ -1,6 +1,6 @@
 use Rattle.std.proofs.Common.{subst, List, ℤ}
 use Rattle.sqlite.specs.Held.{state}
-use Rattle.space_core.specs.Entities.{entity_map}
+use Rattle.entity_lists.specs.Entities.{entity_map}
 use Rattle.space_reading.proofs.Readings.{reads_then}
 use Rattle.space_finding.specs.Numbers.{FindsNumbers}
 use Rattle.space_finding.specs.Candidates.{ReadsNumbered, HoldsCandidates}

@@ -1,7 +1,7 @@
 use Rattle.std.proofs.Common.{List, map, ap, ◌∙◌}
 use Rattle.sqlite.specs.Held.{state}
 use Rattle.entity_core.specs.declared.entity.Entity.{Entity}
-use Rattle.space_core.specs.Entities.{entity_map}
+use Rattle.entity_lists.specs.Entities.{entity_map}
 use Rattle.space_core.specs.Met.{met_of}
 use Rattle.space_reading.proofs.Readings.{reads_then}
 use Rattle.space_finding.specs.Candidates.{HoldsCandidates}

@@ -1,8 +1,8 @@
 use Rattle.std.proofs.Common.{◌≡◌, ◌∙◌, ◌+◌, sym, ap, subst, ℤ, drop, to_z, of_z, w64, rules}
 use Rattle.entity_core.specs.declared.entity.Entity.{Entity}
 use Rattle.entity_core.specs.Airspace.{key_cmp}
-use Rattle.space_core.specs.Entities.{entity_map, pair_of}
-use Rattle.space_core.proofs.Maps.{map_of_none}
+use Rattle.entity_lists.specs.Entities.{entity_map, pair_of}
+use Rattle.entity_lists.proofs.Maps.{map_of_none}
 use Rattle.space_rows.specs.declared.rows.VolumeRow.{VolumeRow}
 use Rattle.space_rows.specs.declared.rows.CellRow.{CellRow}
 use Rattle.space_reading.specs.Gathering.{IsNext}

@@ -1,5 +1,5 @@
 use Rattle.std.proofs.Common.{drop}
-use Rattle.space_core.specs.Entities.{entity_map}
+use Rattle.entity_lists.specs.Entities.{entity_map}
 use Rattle.space_reading.proofs.Gatherings.{GathersOn}
 use Rattle.space_reading.proofs.entities.gathered.Given as goal
 

@@ -3,7 +3,7 @@ use Rattle.std.specs.FinMap.{get}
 use Rattle.entity_core.specs.declared.nature.Kind.{Kind}
 use Rattle.entity_core.specs.declared.entity.Entity.{Entity}
 use Rattle.entity_core.specs.Airspace.{key_of}
-use Rattle.space_core.specs.Entities.{entity_map}
+use Rattle.entity_lists.specs.Entities.{entity_map}
 use Rattle.space_rows.proofs.OneEntity.{one_entity}
 use Rattle.space_rows.proofs.ReadSoFar.{not_so}
 use Rattle.space_reading.proofs.entities.next_entity.Goals as goal

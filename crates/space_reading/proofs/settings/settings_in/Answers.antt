@@ -1,8 +1,8 @@
 use Rattle.std.proofs.Common.{◌∙◌, ◌+◌, ap, drop}
 use Rattle.space_rows.proofs.ReadSoFar.{front}
 use Rattle.entity_core.specs.Airspace.{text_cmp}
-use Rattle.space_core.specs.Availabilities.{availability_map, pair_of}
-use Rattle.space_core.proofs.Maps.{map_of_none}
+use Rattle.entity_lists.specs.Availabilities.{availability_map, pair_of}
+use Rattle.entity_lists.proofs.Maps.{map_of_none}
 use Rattle.space_reading.specs.Gathering.{stated_by}
 use Rattle.space_reading.proofs.Settlings.{settles_start, settles_more, settles_none}
 use Rattle.space_reading.proofs.settings.settings_in.Goals as goal

@@ -1,5 +1,5 @@
 use Rattle.std.proofs.Common.{drop}
-use Rattle.space_core.specs.Availabilities.{availability_map}
+use Rattle.entity_lists.specs.Availabilities.{availability_map}
 use Rattle.space_reading.proofs.Settlings.{SettlesOn}
 use Rattle.space_reading.proofs.settings.settings_in.Given as goal
 

@@ -1,8 +1,8 @@
 use Rattle.std.proofs.Common.{◌≡◌, ◌∙◌, ◌||◌, ℕ, Bool, true, false, List, sym, subst, refl}
 use Rattle.entity_core.specs.Airspace.{Airspace, empty_at}
-use Rattle.space_core.specs.List.{content_of}
+use Rattle.space_list.specs.List.{content_of}
 use Rattle.space_core.specs.Space.{IsContent}
-use Rattle.space_core.specs.declared.list.ListSpace.{ListSpace}
+use Rattle.space_list.specs.declared.list.ListSpace.{ListSpace}
 use Rattle.service_core.specs.Run.{has_stopped}
 use Rattle.service_core.specs.Stale.{IsStale}
 use Rattle.test_calls.specs.Told.{ToldAfter, airspace_told}

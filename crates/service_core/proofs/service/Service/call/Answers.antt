@@ -2,13 +2,13 @@ use Rattle.std.proofs.Common.{◌≡◌, ◌∙◌, sym, ap, find, Option, refl,
 use Rattle.policy_core.specs.Policy.{breaks, early_rules}
 use Rattle.entity_core.specs.Airspace.{empty_at}
 use Rattle.policy_core.specs.Missing.{nothing_missing}
-use Rattle.service_core.specs.declared.reply.Reply.TheVariants.{Denied}
+use Rattle.service_step.specs.declared.reply.Reply.TheVariants.{Denied}
 use Rattle.policy_core.specs.declared.rule.Rule.{Rule}
 use Rattle.service_core.proofs.Outcome.{early_answers}
 use Rattle.service_core.proofs.Judged.{first_early, told_early, some_of_none}
 use Rattle.service_core.proofs.Runs.{stays_same}
 use Rattle.service_core.proofs.Stales.{stale_reply}
-use Rattle.service_core.proofs.Steps.{has_caller}
+use Rattle.service_step.proofs.Steps.{has_caller}
 use Rattle.service_core.proofs.service.Service.call.Goals as goal
 
 pub returns-then-self-clause-reply : goal.returns-then-self-clause-reply

@@ -1,0 +1,5 @@
+pub mod Keys
+pub mod Maps
+pub mod Places
+pub mod EntityLists
+pub mod Searches

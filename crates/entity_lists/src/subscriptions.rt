@@ -1,0 +1,147 @@
+//! Subscriptions in the order of their ids.
+ghost use Rattle.std.specs.Prelude.{◌≡◌, not, [], OnOk, OnErr, IfOk, IfErr, filter, length};
+ghost use Rattle.std.specs.List.Sorted.{IsBinarySearchResult, IsSearchInRange};
+ghost use Rattle.std.specs.Ordering.{eq_by_cmp, nat_cmp};
+ghost use Rattle.std.specs.FinMap.{find, get, insert, remove};
+ghost use Rattle.std.specs.FinMap.Entries.{put};
+ghost use Rattle.entity_core.specs.Search.{is_own_near, subscriptions_in};
+ghost use Rattle.entity_lists.specs.Sorted.{keyed, Hit, Gap};
+ghost use Rattle.entity_lists.specs.Subscriptions.{pair_of, subscription_map, InOrder};
+
+use entity_core::entity_id::EntityId;
+use entity_core::subscription::Sub;
+use entity_core::uss_id::UssId;
+use grid_core::volume::Area;
+use std::alloc::{AllocError, Global};
+use std::marker::Model;
+
+/// Subscriptions in the order of their ids, each once. Contracts see their list.
+#[derive(Debug, Drop)]
+pub struct Subscriptions {
+    items: Vec<Sub>,
+}
+
+impl Model for Subscriptions {
+    ghost use Rattle.std.specs.Prelude.{List};
+    ghost use Rattle.entity_core.specs.declared.subscription.Sub.{Sub};
+    ghost use Rattle.entity_lists.specs.Subscriptions.{InOrder};
+
+    ghost Value = { List Sub };
+
+    ghost view = { λ a. a.items.items };
+
+    ghost invariant = { λ a. InOrder a.items.items };
+}
+
+fn searched(items: &[Sub], id: EntityId) -> Result<usize, usize>
+    ensures bound { IsSearchInRange result (length items.now) }
+    ensures position { IsBinarySearchResult (λ s. nat_cmp s.id id) items.now result }
+{
+    items.binary_search_by(|sub| sub.id.number().cmp(&id.number()))
+}
+
+// Where a subscription stands, or would stand.
+fn place_of(items: &[Sub], id: EntityId) -> Result<usize, usize>
+    ensures hit { InOrder items.now → IfOk result (Hit nat_cmp pair_of items.now id) }
+    ensures gap { InOrder items.now → IfErr result (Gap nat_cmp pair_of items.now id) }
+{
+    searched(items, id)
+}
+
+fn found(items: &[Sub], id: EntityId) -> Result<Option<Sub>, AllocError>
+    requires { InOrder items.now }
+    ensures { IfOk result (λ found. found ≡ find nat_cmp id (keyed pair_of items.now)) }
+{
+    match place_of(items, id) {
+        Ok(i) => Ok(Some(items[i].clone()?)),
+        Err(_) => Ok(None),
+    }
+}
+
+fn is_own_near(sub: &Sub, uss: &UssId, area: &Area) -> bool
+    ensures { result ≡ is_own_near uss.now area.now (pair_of sub.now) }
+{
+    sub.manager.text() == uss.text() && sub.volume.meets(area)
+}
+
+fn all_own(alloc: Global, items: &[Sub], uss: &UssId, area: &Area) -> Result<Vec<Sub>, AllocError>
+    ensures { IfOk result (λ found. found.items ≡ filter
+        (λ s. is_own_near uss.now area.now (pair_of s)) items.now) }
+{
+    let mut own = Vec::new(alloc);
+    for sub in items {
+        if is_own_near(sub, uss, area) {
+            own.push(sub.clone()?)?;
+        }
+    }
+    Ok(own)
+}
+
+fn put_in_place(items: &mut Vec<Sub>, sub: Sub) -> Result<(), AllocError>
+    requires { InOrder items.old.items }
+    ensures ok { OnOk result (keyed pair_of items.new.items
+        ≡ put nat_cmp sub.id sub (keyed pair_of items.old.items)) }
+    ensures err { OnErr result (items.new.items ≡ items.old.items) }
+{
+    match place_of(items, sub.id) {
+        Ok(i) => {
+            items[i] = sub;
+            Ok(())
+        }
+        Err(i) => Ok(items.insert(i, sub)?),
+    }
+}
+
+// Gives what stood there.
+fn remove_from(items: &mut Vec<Sub>, id: EntityId) -> Option<Sub>
+    requires { InOrder items.old.items }
+    ensures { filter (λ s. not (eq_by_cmp nat_cmp id s.id)) items.old.items ≡ items.new.items }
+{
+    match place_of(items, id) {
+        Ok(i) => Some(items.remove(i)),
+        Err(_) => None,
+    }
+}
+
+impl Subscriptions {
+    /// No subscriptions. It takes no memory.
+    pub fn new(alloc: Global) -> Subscriptions
+        ensures { result ≡ [] }
+    {
+        Subscriptions {
+            items: Vec::new(alloc),
+        }
+    }
+
+    /// A copy of the subscription of an id, if there is one.
+    pub fn subscription(&self, id: EntityId) -> Result<Option<Sub>, AllocError>
+        ensures { IfOk result (λ found. found ≡ get (subscription_map self.now) id) }
+    {
+        found(&self.items, id)
+    }
+
+    /// Copies of the subscriptions of a supplier whose volumes meet an area, by rising ids.
+    pub fn own(&self, alloc: Global, uss: &UssId, area: &Area) -> Result<Vec<Sub>, AllocError>
+        ensures { IfOk result (λ found. found.items
+            ≡ subscriptions_in (subscription_map self.now) uss.now area.now) }
+    {
+        all_own(alloc, &self.items, uss, area)
+    }
+
+    /// Puts a subscription in the place of the one that has its id, or among the others where its
+    /// place is. On an error nothing is changed.
+    pub fn put(&mut self, sub: Sub) -> Result<(), AllocError>
+        ensures ok { OnOk result (subscription_map self.new
+            ≡ insert (subscription_map self.old) sub.id sub) }
+        ensures err { OnErr result (self.new ≡ self.old) }
+    {
+        put_in_place(&mut self.items, sub)
+    }
+
+    /// Removes the subscription of an id; where there is none, nothing is changed.
+    pub fn remove(&mut self, id: EntityId)
+        ensures { subscription_map self.new ≡ remove (subscription_map self.old) id }
+    {
+        let _gone = remove_from(&mut self.items, id);
+    }
+}

@@ -1,0 +1,178 @@
+//! The volumes of an entity.
+ghost use Rattle.std.specs.Prelude.{◌≡◌, ◌≤◌, ◌↔◌, length, map, IsTrue, IfOk, IfSome, IfNone};
+ghost use Rattle.std.specs.List.{fold, list_any};
+ghost use Rattle.grid_core.specs.Extent.{AnyMeet, any_meet, meets, region_of};
+ghost use Rattle.grid_core.specs.Volumes.{IsSpan, covered_sum, span_of, wider};
+
+use crate::volume::{Area, Volume};
+use std::alloc::{AllocError, Global};
+use std::marker::Model;
+
+/// The volumes of an entity, from 1 to 32 (this project's profile). Contracts see their list.
+#[derive(Debug, Drop)]
+pub struct Volumes {
+    items: Vec<Volume>,
+}
+
+impl Model for Volumes {
+    ghost use Rattle.std.specs.Prelude.{List, ◌≤◌, length};
+    ghost use Rattle.grid_core.specs.Extent.{Extent};
+
+    ghost Value = { List Extent };
+
+    ghost view = { λ a. a.items.items };
+
+    ghost invariant = { λ a. (1 ≤ length a.items.items) × (length a.items.items ≤ 32) };
+}
+
+fn meets_one_of(volume: &Volume, areas: &[Area]) -> bool
+    ensures { result ≡ list_any (λ r. meets (region_of volume.now) r) areas.now }
+{
+    areas.iter().any(|area| volume.meets(area))
+}
+
+fn any_meet(volumes: &[Volume], areas: &[Area]) -> bool
+    ensures { result ≡ any_meet volumes.now areas.now }
+{
+    volumes.iter().any(|volume| meets_one_of(volume, areas))
+}
+
+fn clone_all(alloc: Global, volumes: &[Volume]) -> Result<Vec<Volume>, AllocError>
+    ensures { IfOk result (λ v. v.items ≡ volumes.now) }
+{
+    let mut items = Vec::new(alloc);
+    for volume in volumes {
+        items.push(volume.clone()?)?;
+    }
+    Ok(items)
+}
+
+// The times from the one's first to the last of both.
+fn wider(span: (u64, u64), time: (u64, u64)) -> (u64, u64)
+    ensures { result ≡ wider span time }
+{
+    let first = if span.0 <= time.0 { span.0 } else { time.0 };
+    let last = if span.1 <= time.1 { time.1 } else { span.1 };
+    (first, last)
+}
+
+fn widened(span: (u64, u64), volume: &Volume) -> (u64, u64)
+    ensures { result ≡ wider span volume.now.time }
+{
+    wider(span, volume.time())
+}
+
+fn span_from(first: (u64, u64), rest: &[Volume]) -> (u64, u64)
+    ensures { result ≡ fold (λ span v. wider span v.time) first rest.now }
+{
+    rest.iter()
+        .fold(first, |span, volume| widened(span, volume))
+}
+
+fn span_of(volumes: &[Volume]) -> (u64, u64)
+    ensures { result ≡ span_of volumes.now }
+{
+    match volumes.split_first() {
+        Some((first, rest)) => span_from(first.time(), rest),
+        None => (0, 0),
+    }
+}
+
+fn areas_of(alloc: Global, volumes: &[Volume]) -> Result<Vec<Area>, AllocError>
+    ensures { IfOk result (λ areas. areas.items ≡ map region_of volumes.now) }
+{
+    let mut areas = Vec::new(alloc);
+    for shown in volumes {
+        areas.push(shown.as_area()?)?;
+    }
+    Ok(areas)
+}
+
+fn covered_sum(volumes: &[Volume]) -> u64
+    requires { length volumes.now ≤ 32 }
+    ensures { result ≡ covered_sum volumes.now }
+{
+    let mut total = 0u64;
+    for counted in volumes {
+        total += counted.covered();
+    }
+    total
+}
+
+impl Volumes {
+    /// These volumes; none where there are none or over 32, and they are dropped then. It takes no
+    /// memory.
+    pub fn from_vec(items: Vec<Volume>) -> Option<Volumes>
+        ensures some { IfSome result (λ v. v ≡ items.items) }
+        ensures none { IfNone result ((1 ≤ length items.items) → (length items.items ≤ 32) → ⊥) }
+    {
+        if items.is_empty() || items.len() > 32 {
+            None
+        } else {
+            Some(Volumes { items })
+        }
+    }
+
+    /// The volumes, as they were given.
+    pub fn items(&self) -> &[Volume]
+        ensures same { result.now ≡ self.now }
+        ensures least { 1 ≤ length self.now }
+        ensures most { length self.now ≤ 32 }
+    {
+        self.items.as_slice()
+    }
+
+    /// Whether some volume meets some area. Each is tested alone, and none are merged.
+    pub fn meet(&self, areas: &[Area]) -> bool
+        ensures test { result ≡ any_meet self.now areas.now }
+        ensures relation { IsTrue result ↔ AnyMeet self.now areas.now }
+    {
+        any_meet(&self.items, areas)
+    }
+
+    /// The least first time and the greatest last time, in seconds since 1970.
+    pub fn times(&self) -> (u64, u64)
+        ensures value { result ≡ span_of self.now }
+        ensures relation { IsSpan self.now result }
+    {
+        self.span()
+    }
+
+    fn span(&self) -> (u64, u64)
+        ensures value { result ≡ span_of self.now }
+        ensures some { 1 ≤ length self.now }
+    {
+        span_of(&self.items)
+    }
+
+    /// How many cells of level 13 they count for, volume by volume and cell by cell (this project's
+    /// profile).
+    pub fn covered(&self) -> u64
+        ensures { result ≡ covered_sum self.now }
+    {
+        covered_sum(&self.items)
+    }
+
+    /// The volumes as areas, all of whose bounds are there.
+    pub fn areas(&self, alloc: Global) -> Result<Vec<Area>, AllocError>
+        ensures { IfOk result (λ areas. areas.items ≡ map region_of self.now) }
+    {
+        areas_of(alloc, &self.items)
+    }
+
+    /// The volumes themselves. It takes no memory.
+    pub fn into_vec(self) -> Vec<Volume>
+        ensures { result.items ≡ self }
+    {
+        let Volumes { items } = self;
+        items
+    }
+
+    /// Equal volumes.
+    pub fn clone(&self, alloc: Global) -> Result<Volumes, AllocError>
+        ensures { IfOk result (λ v. v ≡ self.now) }
+    {
+        let items = clone_all(alloc, &self.items)?;
+        Ok(Volumes { items })
+    }
+}

@@ -1,0 +1,4 @@
+pub mod Looked
+pub mod Steps
+pub mod Keeps
+pub mod Seen

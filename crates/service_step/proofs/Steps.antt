@@ -1,0 +1,276 @@
+-- Which effect follows where no rule is broken.
+use Rattle.std.specs.Prelude.{◌≡◌, ℕ, ◌+◌, ◌<◌, ◌&&◌, ◌||◌, Bool, true, false, List, [], ◌∷◌, ◌++◌, Option, Some, None, find, cond, refl, is_none, is_some, nat_le, IfSome, not}
+use Rattle.std.proofs.Common.{arith, inl, inr, sym, ap, ◌∙◌, subst}
+use Rattle.std.proofs.lemmas.Bool.{cases_lt, false≢true, le-leb}
+use Rattle.std.specs.FinMap.{get}
+use Rattle.grid_core.specs.Extent.{Region}
+use Rattle.entity_core.specs.Serial.{greatest_serial}
+use Rattle.entity_core.specs.Entity.{greatest_version, kind_of, subscription_of}
+use Rattle.entity_core.specs.Airspace.{Airspace, with_availability, with_entity, with_subscription}
+use Rattle.entity_core.specs.Search.{dependents_in}
+use Rattle.entity_core.specs.declared.subscription.Sub.{Sub}
+use Rattle.entity_core.specs.declared.nature.Kind.TheVariants as kinds
+use Rattle.entity_core.specs.Ovn.{ovn_text}
+use Rattle.entity_core.specs.declared.entity.Entity.{Entity}
+use Rattle.entity_core.specs.declared.nature.Kind.{Kind}
+use Rattle.entity_core.specs.declared.availability.Availability.{Availability}
+use Rattle.policy_core.specs.declared.call.Call.{Call}
+use Rattle.policy_core.specs.declared.call.Put.{Put}
+use Rattle.policy_core.specs.declared.call.SubPut.{SubPut}
+use Rattle.policy_core.specs.declared.scope.Caller.{Caller}
+use Rattle.policy_core.specs.declared.call.Operation.{Operation}
+use Rattle.policy_core.specs.declared.call.Operation.TheVariants.{NoRoute, NoMethod, Malformed, Query, Read, Create, Update, Delete, ReadAvail, SetAvail, QuerySub, ReadSub, CreateSub, UpdateSub, DeleteSub}
+use Rattle.policy_core.specs.declared.rule.Rule.TheVariants.{Route, Method, Token, Scope, Form, Area, Found, Fresh, Manager, Version, Role, Change, Ended, Subscription, Depended, Key, Limit}
+use Rattle.policy_core.specs.Scope.{is_open}
+use Rattle.policy_core.specs.Call.{is_about_sub, is_change}
+use Rattle.policy_core.specs.Policy.{breaks, breaks_depended, breaks_subscription, early_rules, standing_rules, last_rules, first_broken, has_last_version, is_spent, is_sub_of_another, names_wrongly}
+use Rattle.policy_core.specs.Standing.{Facts, depended_of, found_of, is_some_of, sub_of, sub_under}
+use Rattle.policy_core.specs.View.{view_of}
+use Rattle.policy_core.specs.declared.reference.Reference.{Reference}
+use Rattle.space_core.specs.Space.{Fits, HasNamed}
+use Rattle.space_core.specs.declared.space.Change as space_change
+use Rattle.space_core.specs.declared.space.Change.TheVariants as changes
+use Rattle.service_step.specs.declared.made.Made.{Made}
+use Rattle.service_step.specs.declared.reply.Answer.{Answer}
+use Rattle.service_step.specs.declared.reply.Answer.TheVariants as answers
+use Rattle.service_step.specs.declared.reply.Reply.{Reply}
+use Rattle.service_step.specs.declared.reply.Reply.TheVariants.{Done}
+use Rattle.service_step.specs.declared.look.Grounds.{Grounds}
+use Rattle.service_step.specs.Step.{effect, effect_by, kept_as, create_effect, put_effect, update_effect, delete_effect, sub_kept_as, seen_of, seen_sub, stored_reply, put_sub_effect, update_sub_effect, delete_sub_effect}
+use Rattle.service_step.specs.Looks.{IsGround, Makes, Prepares, PutsSub, changed_by}
+use Rattle.policy_core.proofs.Finds.{find_rest, none_passes}
+use Rattle.service_step.proofs.Keeps.{told_within}
+
+no_limit : (k l : Bool) → cond k (Some Key) (cond l (Some Limit) None) ≡ None → l ≡ false
+no_limit true l h = cc
+no_limit false true h = cc
+no_limit false false h = refl
+
+neither : (x y : Bool) → (x || y) ≡ false → (x ≡ false) × (y ≡ false)
+neither true y h = cc
+neither false y h = (refl, h)
+
+below : (n most : ℕ) → nat_le most n ≡ false → n < most
+below n most h = elim (cases_lt n most) [
+  | inl lt ↦ lt
+  | inr ge ↦ absurd (false≢true (sym h ∙ le-leb most n ge))
+]
+
+-- what breaks no rule is at no limit
+limits : (a : Airspace) (t : ℕ) (c : Call) → first_broken a t c ≡ None → ((is_change c.op && nat_le greatest_serial a.serial) ≡ false) × (is_spent c.op (found_of a c.op) ≡ false)
+unfolding first_broken
+limits a t c h =
+    let last : find (breaks a t c) last_rules ≡ None = find_rest (breaks a t c) standing_rules last_rules (find_rest (breaks a t c) early_rules (standing_rules ++ last_rules) h) in
+    neither (is_change c.op && nat_le greatest_serial a.serial) (is_spent c.op (found_of a c.op)) (no_limit (breaks a t c Key) (breaks a t c Limit) last)
+
+-- a change that breaks no rule has room
+pub room_of : (a : Airspace) (t : ℕ) (c : Call) → first_broken a t c ≡ None → is_change c.op ≡ true → a.serial < greatest_serial
+room_of a t c h is = below a.serial greatest_serial (ap (λ (b : Bool). b && nat_le greatest_serial a.serial) (sym is) ∙ (limits a t c h).0)
+
+-- what an update that breaks no rule has found has not the greatest version
+pub unspent : (a : Airspace) (t : ℕ) (c : Call) (id : ℕ) (ovn : List ℕ) (put : Put) (e : Entity) → first_broken a t c ≡ None → c.op ≡ Update id ovn put → get a.entities (kind_of put.nature, id) ≡ Some e → e.version < greatest_version
+unspent a t c id ovn put e h op there =
+    below e.version greatest_version (
+    ap has_last_version (sym there) ∙ (ap (λ (o : Operation). is_spent o (found_of a o)) (sym op) ∙ (limits a t c h).1))
+
+-- a call that breaks no early rule has an effect
+pub well_formed : (a : Airspace) (t : ℕ) (caller : Option Caller) (op : Operation) → find (breaks a t (record { caller = caller; op = op })) early_rules ≡ None
+    → ((kind : Kind) (area : Region) → op ≡ Query kind area → ⊥) → ((kind : Kind) (id : ℕ) → op ≡ Read kind id → ⊥) → ((id : ℕ) (put : Put) → op ≡ Create id put → ⊥)
+    → ((id : ℕ) (ovn : List ℕ) (put : Put) → op ≡ Update id ovn put → ⊥) → ((kind : Kind) (id : ℕ) (ovn : List ℕ) → op ≡ Delete kind id ovn → ⊥)
+    → ((uss : List ℕ) → op ≡ ReadAvail uss → ⊥) → ((uss old : List ℕ) (availability : Availability) → op ≡ SetAvail uss old availability → ⊥) → is_about_sub op ≡ false → ⊥
+well_formed a t caller NoRoute h l r p u d q s n = cc
+well_formed a t caller NoMethod h l r p u d q s n = cc
+well_formed a t None (Malformed kind) h l r p u d q s n = cc
+well_formed a t (Some x) (Malformed kind) h l r p u d q s n = elim (is_open kind x.scopes) as (λ b. cond (not b) (Some Scope) (Some Form) ≡ None → ⊥) [ true ↦ λ e. cc | false ↦ λ e. cc ] h
+well_formed a t caller (Query kind area) h l r p u d q s n = l kind area refl
+well_formed a t caller (Read kind id) h l r p u d q s n = r kind id refl
+well_formed a t caller (Create id put) h l r p u d q s n = p id put refl
+well_formed a t caller (Update id ovn put) h l r p u d q s n = u id ovn put refl
+well_formed a t caller (Delete kind id ovn) h l r p u d q s n = d kind id ovn refl
+well_formed a t caller (ReadAvail uss) h l r p u d q s n = q uss refl
+well_formed a t caller (SetAvail uss old availability) h l r p u d q s n = s uss old availability refl
+well_formed a t caller (QuerySub area) h l r p u d q s n = cc
+well_formed a t caller (ReadSub id) h l r p u d q s n = cc
+well_formed a t caller (CreateSub id put) h l r p u d q s n = cc
+well_formed a t caller (UpdateSub id version put) h l r p u d q s n = cc
+well_formed a t caller (DeleteSub id version) h l r p u d q s n = cc
+
+-- what is about subscriptions asks for one of these
+pub about_subs : (op : Operation) → is_about_sub op ≡ true → ((area : Region) → op ≡ QuerySub area → ⊥) → ((id : ℕ) → op ≡ ReadSub id → ⊥) → ((id : ℕ) (put : SubPut) → op ≡ CreateSub id put → ⊥)
+    → ((id : ℕ) (version : List ℕ) (put : SubPut) → op ≡ UpdateSub id version put → ⊥) → ((id : ℕ) (version : List ℕ) → op ≡ DeleteSub id version → ⊥) → ⊥
+about_subs NoRoute h q r p u d = cc
+about_subs NoMethod h q r p u d = cc
+about_subs (Malformed kind) h q r p u d = cc
+about_subs (Query kind area) h q r p u d = cc
+about_subs (Read kind id) h q r p u d = cc
+about_subs (Create id put) h q r p u d = cc
+about_subs (Update id ovn put) h q r p u d = cc
+about_subs (Delete kind id ovn) h q r p u d = cc
+about_subs (ReadAvail uss) h q r p u d = cc
+about_subs (SetAvail uss old availability) h q r p u d = cc
+about_subs (QuerySub area) h q r p u d = q area refl
+about_subs (ReadSub id) h q r p u d = r id refl
+about_subs (CreateSub id put) h q r p u d = p id put refl
+about_subs (UpdateSub id version put) h q r p u d = u id version put refl
+about_subs (DeleteSub id version) h q r p u d = d id version refl
+
+-- and a caller
+pub has_caller : (a : Airspace) (t : ℕ) (caller : Option Caller) (op : Operation) → caller ≡ None → find (breaks a t (record { caller = caller; op = op })) early_rules ≡ None → ⊥
+has_caller a t (Some x) op e h = cc
+has_caller a t None NoRoute e h = cc
+has_caller a t None NoMethod e h = cc
+has_caller a t None (Malformed kind) e h = cc
+has_caller a t None (Query kind area) e h = cc
+has_caller a t None (Read kind id) e h = cc
+has_caller a t None (Create id put) e h = cc
+has_caller a t None (Update id ovn put) e h = cc
+has_caller a t None (Delete kind id ovn) e h = cc
+has_caller a t None (ReadAvail uss) e h = cc
+has_caller a t None (SetAvail uss old availability) e h = cc
+has_caller a t None (QuerySub area) e h = cc
+has_caller a t None (ReadSub id) e h = cc
+has_caller a t None (CreateSub id put) e h = cc
+has_caller a t None (UpdateSub id version put) e h = cc
+has_caller a t None (DeleteSub id version) e h = cc
+
+-- ---- what is named is there, and what is deleted is named by none
+
+is_there : {X : Type 0} (o : Option X) (b : Bool) → (is_none o || b) ≡ false → is_some o ≡ true
+is_there None b h = cc
+is_there (Some x) b h = refl
+
+named_there : (a : Airspace) (caller : Caller) (named : Option ℕ) → names_wrongly (Some caller) named (sub_under a named) ≡ false → HasNamed a named
+named_there a caller None h = tt
+named_there a caller (Some id) h = is_there (get a.subscriptions id) (is_sub_of_another (Some caller) (get a.subscriptions id)) h
+
+unwrong : (a : Airspace) (t : ℕ) (c : Call) → first_broken a t c ≡ None → breaks a t c Subscription ≡ false
+unfolding first_broken
+unwrong a t c h = none_passes (breaks a t c) (Route ∷ Method ∷ Token ∷ Scope ∷ Form ∷ Area ∷ Found ∷ Fresh ∷ Manager ∷ Version ∷ Role ∷ Change ∷ Ended ∷ []) (Depended ∷ Key ∷ Limit ∷ []) Subscription h
+
+undepended : (a : Airspace) (t : ℕ) (c : Call) → first_broken a t c ≡ None → breaks a t c Depended ≡ false
+unfolding first_broken
+undepended a t c h = none_passes (breaks a t c) (Route ∷ Method ∷ Token ∷ Scope ∷ Form ∷ Area ∷ Found ∷ Fresh ∷ Manager ∷ Version ∷ Role ∷ Change ∷ Ended ∷ Subscription ∷ []) (Key ∷ Limit ∷ []) Depended h
+
+create_named : (a : Airspace) (t : ℕ) (c : Call) (caller : Caller) (id : ℕ) (put : Put) → first_broken a t c ≡ None → c.caller ≡ Some caller → c.op ≡ Create id put → HasNamed a (subscription_of put.nature)
+create_named a t c caller id put h who op =
+    named_there a caller (subscription_of put.nature) (
+    ap (λ (o : Option Caller). breaks_subscription o (Create id put) (sub_of a (Create id put))) (sym who)
+    ∙ (ap (λ (o : Operation). breaks_subscription c.caller o (sub_of a o)) (sym op) ∙ unwrong a t c h))
+
+update_named : (a : Airspace) (t : ℕ) (c : Call) (caller : Caller) (id : ℕ) (ovn : List ℕ) (put : Put) → first_broken a t c ≡ None → c.caller ≡ Some caller → c.op ≡ Update id ovn put → HasNamed a (subscription_of put.nature)
+update_named a t c caller id ovn put h who op =
+    named_there a caller (subscription_of put.nature) (
+    ap (λ (o : Option Caller). breaks_subscription o (Update id ovn put) (sub_of a (Update id ovn put))) (sym who)
+    ∙ (ap (λ (o : Operation). breaks_subscription c.caller o (sub_of a o)) (sym op) ∙ unwrong a t c h))
+
+none_of : (ids : List ℕ) → is_some_of ids ≡ false → ids ≡ []
+none_of [] h = refl
+none_of (id ∷ ids) h = cc
+
+named_by_none : (a : Airspace) (t : ℕ) (c : Call) (id : ℕ) (version : List ℕ) → first_broken a t c ≡ None → c.op ≡ DeleteSub id version → dependents_in a.entities id ≡ []
+named_by_none a t c id version h op =
+    none_of (dependents_in a.entities id) (ap (λ (o : Operation). breaks_depended o (depended_of a o)) (sym op) ∙ undepended a t c h)
+
+-- ---- the effects
+
+makes_from : (salt : List ℕ) (t : ℕ) (c : Call) (g : Grounds) (a : Airspace) (made : Made) (change : Option space_change.Change) (answer : Answer)
+    → effect salt a c.caller c.op ≡ (changed_by change a, Done answer) → made.change ≡ change → made.answer ≡ answer → IfSome change (λ x. Fits x a) → Makes salt t c g a made.change made.answer
+makes_from salt t c g a made change answer e one two fits = record {
+  effect = e ∙ (ap (λ (x : Answer). (changed_by change a, Done x)) (sym two) ∙ ap (λ (x : Option space_change.Change). (changed_by x a, Done made.answer)) (sym one));
+  fits = subst (λ (x : Option space_change.Change). IfSome x (λ y. Fits y a)) (sym one) fits;
+}
+
+effect_is : (salt : List ℕ) (a : Airspace) (c : Call) (caller : Caller) (op : Operation) → c.caller ≡ Some caller → c.op ≡ op → effect salt a c.caller c.op ≡ effect_by salt a caller op
+effect_is salt a c caller op who is = ap (λ (o : Option Caller). effect salt a o c.op) who ∙ ap (effect_by salt a caller) is
+
+next_is : (a : Airspace) (t : ℕ) (c : Call) (g : Grounds) (next : ℕ) → first_broken a t c ≡ None → is_change c.op ≡ true → IsGround c.op a g → (g.serial < greatest_serial → next ≡ g.serial + 1) → next ≡ a.serial + 1
+next_is a t c g next first is ground goes =
+    goes (subst (λ (k : ℕ). k < greatest_serial) (sym (ap (λ (f : Facts). f.serial) ground)) (room_of a t c first is)) ∙ ap (λ (f : Facts). f.serial + 1) ground
+
+found_is : (a : Airspace) (c : Call) (g : Grounds) (op : Operation) (e : Entity) → c.op ≡ op → g.found ≡ Some e → IsGround c.op a g → found_of a op ≡ Some e
+found_is a c g op e is found ground = ap (found_of a) (sym is) ∙ (sym (ap (λ (f : Facts). f.found) ground) ∙ found)
+
+same_view : (a : Airspace) (uss : List ℕ) (e x : Entity) → view_of (with_entity a e) uss x ≡ view_of a uss x
+unfolding view_of
+same_view a uss e x = refl
+
+pub makes_create : (salt : List ℕ) (t : ℕ) (c : Call) (g : Grounds) (a : Airspace) (caller : Caller) (id : ℕ) (put : Put) (next : ℕ) (made : Made) → c.caller ≡ Some caller → c.op ≡ Create id put → (g.serial < greatest_serial → next ≡ g.serial + 1)
+    → made.change ≡ Some (changes.Put (kept_as salt next caller.uss 1 id put)) → made.answer ≡ answers.Created (view_of a caller.uss (kept_as salt next caller.uss 1 id put)) → Prepares salt t c g a made
+makes_create salt t c g a caller id put next made who op goes one two proper first ground =
+    let n = next_is a t c g next first (ap is_change op) ground goes in
+    let e = kept_as salt next caller.uss 1 id put in
+    makes_from salt t c g a made (Some (changes.Put e)) (answers.Created (view_of a caller.uss e))
+    (effect_is salt a c caller (Create id put) who op ∙ (ap (λ (k : ℕ). create_effect a caller.uss (kept_as salt k caller.uss 1 id put)) (sym n)
+    ∙ ap (λ (r : Reference). (with_entity a e, Done (answers.Created r))) (same_view a caller.uss e e)))
+    one two (record { room = room_of a t c first (ap is_change op); due = (n, create_named a t c caller id put first who op) })
+
+pub makes_update : (salt : List ℕ) (t : ℕ) (c : Call) (g : Grounds) (a : Airspace) (caller : Caller) (id : ℕ) (ovn : List ℕ) (put : Put) (old : Entity) (next : ℕ) (made : Made) → c.caller ≡ Some caller → c.op ≡ Update id ovn put → g.found ≡ Some old
+    → (g.serial < greatest_serial → next ≡ g.serial + 1)
+    → (old.version < greatest_version → (made.change ≡ Some (changes.Put (kept_as salt next old.manager (old.version + 1) id put))) × (made.answer ≡ answers.Changed (view_of a caller.uss (kept_as salt next old.manager (old.version + 1) id put)))) → Prepares salt t c g a made
+makes_update salt t c g a caller id ovn put old next made who op found goes makes proper first ground =
+    let n = next_is a t c g next first (ap is_change op) ground goes in
+    let there = found_is a c g (Update id ovn put) old op found ground in
+    let is = makes (unspent a t c id ovn put old first op there) in
+    let e = kept_as salt next old.manager (old.version + 1) id put in
+    makes_from salt t c g a made (Some (changes.Put e)) (answers.Changed (view_of a caller.uss e))
+    (effect_is salt a c caller (Update id ovn put) who op ∙ (ap (update_effect salt a caller.uss id put) there
+    ∙ (ap (λ (k : ℕ). put_effect a caller.uss (kept_as salt k old.manager (old.version + 1) id put)) (sym n)
+    ∙ ap (λ (r : Reference). (with_entity a e, Done (answers.Changed r))) (same_view a caller.uss e e))))
+    is.0 is.1 (record { room = room_of a t c first (ap is_change op); due = (n, update_named a t c caller id ovn put first who op) })
+
+pub makes_delete : (salt : List ℕ) (t : ℕ) (c : Call) (g : Grounds) (a : Airspace) (caller : Caller) (kind : Kind) (id : ℕ) (ovn : List ℕ) (e : Entity) (made : Made) → c.caller ≡ Some caller → c.op ≡ Delete kind id ovn → g.found ≡ Some e
+    → made.change ≡ Some (changes.Remove kind id) → made.answer ≡ answers.Changed (view_of a caller.uss e) → Prepares salt t c g a made
+makes_delete salt t c g a caller kind id ovn e made who op found one two proper first ground =
+    let there = found_is a c g (Delete kind id ovn) e op found ground in
+    makes_from salt t c g a made (Some (changes.Remove kind id)) (answers.Changed (view_of a caller.uss e))
+    (effect_is salt a c caller (Delete kind id ovn) who op ∙ ap (delete_effect a caller.uss (kind, id)) there)
+    one two (record { room = room_of a t c first (ap is_change op); due = ap is_some there })
+
+pub makes_set : (salt : List ℕ) (t : ℕ) (c : Call) (g : Grounds) (a : Airspace) (caller : Caller) (uss old : List ℕ) (availability : Availability) (next : ℕ) (made : Made) → c.caller ≡ Some caller → c.op ≡ SetAvail uss old availability
+    → (g.serial < greatest_serial → next ≡ g.serial + 1) → made.change ≡ Some (changes.Avail uss availability (ovn_text salt next)) → made.answer ≡ answers.Avail uss availability (ovn_text salt next) → Prepares salt t c g a made
+makes_set salt t c g a caller uss old availability next made who op goes one two proper first ground =
+    let n = next_is a t c g next first (ap is_change op) ground goes in
+    makes_from salt t c g a made (Some (changes.Avail uss availability (ovn_text salt next))) (answers.Avail uss availability (ovn_text salt next))
+    (effect_is salt a c caller (SetAvail uss old availability) who op
+    ∙ ap (λ (k : ℕ). (with_availability a uss (availability, ovn_text salt k), Done (answers.Avail uss availability (ovn_text salt k)))) (sym n))
+    one two (record { room = room_of a t c first (ap is_change op); due = tt })
+
+-- ---- the effects on subscriptions
+
+sub_is : (a : Airspace) (c : Call) (g : Grounds) (op : Operation) (s : Sub) → c.op ≡ op → g.sub ≡ Some s → IsGround c.op a g → sub_of a op ≡ Some s
+sub_is a c g op s is found ground = ap (sub_of a) (sym is) ∙ (sym (ap (λ (f : Facts). f.sub) ground) ∙ found)
+
+same_seen : (a : Airspace) (uss : List ℕ) (s x : Sub) → stored_reply (with_subscription a s) uss x ≡ stored_reply a uss x
+unfolding view_of
+same_seen a uss s x = refl
+
+put_sub_made : (salt : List ℕ) (t : ℕ) (c : Call) (g : Grounds) (a : Airspace) (uss : List ℕ) (s : Sub) (made : Made) → effect salt a c.caller c.op ≡ put_sub_effect a uss s → PutsSub s a uss made → Fits (changes.PutSub s) a → Makes salt t c g a made.change made.answer
+put_sub_made salt t c g a uss s made e puts fits =
+    makes_from salt t c g a made (Some (changes.PutSub s)) (answers.SubStored (seen_sub a s) (seen_of kinds.Intent a uss s) (seen_of kinds.Constraint a uss s))
+    (e ∙ ap (λ (r : Reply). (with_subscription a s, r)) (same_seen a uss s s)) puts.0 puts.1 fits
+
+pub makes_create_sub : (salt : List ℕ) (t : ℕ) (c : Call) (g : Grounds) (a : Airspace) (caller : Caller) (id : ℕ) (put : SubPut) (next : ℕ) (made : Made) → c.caller ≡ Some caller → c.op ≡ CreateSub id put → (g.serial < greatest_serial → next ≡ g.serial + 1)
+    → PutsSub (sub_kept_as salt next caller.uss 0 id put) a caller.uss made → Prepares salt t c g a made
+makes_create_sub salt t c g a caller id put next made who op goes puts proper first ground =
+    let n = next_is a t c g next first (ap is_change op) ground goes in
+    put_sub_made salt t c g a caller.uss (sub_kept_as salt next caller.uss 0 id put) made
+    (effect_is salt a c caller (CreateSub id put) who op ∙ ap (λ (k : ℕ). put_sub_effect a caller.uss (sub_kept_as salt k caller.uss 0 id put)) (sym n))
+    puts (record { room = room_of a t c first (ap is_change op); due = (n, omega arith) })
+
+pub makes_update_sub : (salt : List ℕ) (t : ℕ) (c : Call) (g : Grounds) (a : Airspace) (caller : Caller) (id : ℕ) (version : List ℕ) (put : SubPut) (old : Sub) (next : ℕ) (made : Made) → c.caller ≡ Some caller → c.op ≡ UpdateSub id version put → g.sub ≡ Some old
+    → (g.serial < greatest_serial → next ≡ g.serial + 1) → PutsSub (sub_kept_as salt next old.manager old.index id put) a caller.uss made → Prepares salt t c g a made
+makes_update_sub salt t c g a caller id version put old next made who op found goes puts proper first ground =
+    let n = next_is a t c g next first (ap is_change op) ground goes in
+    let there = sub_is a c g (UpdateSub id version put) old op found ground in
+    put_sub_made salt t c g a caller.uss (sub_kept_as salt next old.manager old.index id put) made
+    (effect_is salt a c caller (UpdateSub id version put) who op ∙ (ap (update_sub_effect salt a caller.uss id put) there
+    ∙ ap (λ (k : ℕ). put_sub_effect a caller.uss (sub_kept_as salt k old.manager old.index id put)) (sym n)))
+    puts (record { room = room_of a t c first (ap is_change op); due = (n, told_within a id old proper there) })
+
+pub makes_delete_sub : (salt : List ℕ) (t : ℕ) (c : Call) (g : Grounds) (a : Airspace) (caller : Caller) (id : ℕ) (version : List ℕ) (s : Sub) (made : Made) → c.caller ≡ Some caller → c.op ≡ DeleteSub id version → g.sub ≡ Some s
+    → made.change ≡ Some (changes.RemoveSub id) → made.answer ≡ answers.SubFound (seen_sub a s) → Prepares salt t c g a made
+makes_delete_sub salt t c g a caller id version s made who op found one two proper first ground =
+    let there = sub_is a c g (DeleteSub id version) s op found ground in
+    makes_from salt t c g a made (Some (changes.RemoveSub id)) (answers.SubFound (seen_sub a s))
+    (effect_is salt a c caller (DeleteSub id version) who op ∙ ap (delete_sub_effect a id) there)
+    one two (record { room = room_of a t c first (ap is_change op); due = (ap is_some there, named_by_none a t c id version first op) })

@@ -1,0 +1,4 @@
+pub mod Reply
+pub mod Step
+pub mod Looks
+pub mod Needed

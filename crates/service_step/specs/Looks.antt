@@ -1,0 +1,94 @@
+-- What the looks at a space tell and leave, before anything is changed.
+use Rattle.std.specs.Prelude.{◌≡◌, ℕ, ◌<◌, Bool, true, List, Option, Some, None, Result, IfOk, MatchResult, ◌⊎◌, IfSome, is_some}
+use Rattle.space_core.specs.declared.space.Space.{Ghosts}
+use Rattle.space_core.specs.declared.space.SpaceFault.TheVariants.{Unchanged, Broken}
+use Rattle.space_core.specs.declared.space.Change.{Change}
+use Rattle.space_core.specs.declared.space.Change.TheVariants as changes
+use Rattle.entity_core.specs.declared.nature.Kind.TheVariants as kinds
+use Rattle.entity_core.specs.Airspace.{Airspace, IsAirspace}
+use Rattle.space_core.specs.Space.{greatest_count, changed, Fits}
+use Rattle.policy_core.specs.declared.call.Call.{Call}
+use Rattle.policy_core.specs.declared.call.Operation.{Operation}
+use Rattle.policy_core.specs.declared.call.Operation.TheVariants.{Read, Update, Delete, ReadSub, UpdateSub, DeleteSub}
+use Rattle.entity_core.specs.declared.entity.Entity.{Entity}
+use Rattle.entity_core.specs.declared.subscription.Sub.{Sub}
+use Rattle.service_step.specs.declared.halt.Halt.{Halt}
+use Rattle.service_step.specs.declared.halt.Halt.TheVariants.{NoMemory, Space}
+use Rattle.service_step.specs.declared.look.Grounds.{Grounds}
+use Rattle.service_step.specs.declared.made.Made.{Made}
+use Rattle.service_step.specs.declared.reply.Answer.{Answer}
+use Rattle.service_step.specs.declared.reply.Answer.TheVariants.{SubStored}
+use Rattle.service_step.specs.declared.reply.Reply.TheVariants.{Done}
+use Rattle.policy_core.specs.Policy.{first_broken}
+use Rattle.policy_core.specs.Standing.{Facts, Regards}
+use Rattle.service_step.specs.Step.{effect, seen_of, seen_sub}
+
+-- P, but where the space broke
+abbrev pub UnlessBroke : Halt → Type 0 → Type 0
+UnlessBroke NoMemory P = P
+UnlessBroke (Space Unchanged) P = P
+UnlessBroke (Space Broken) P = Unit {0}
+
+-- what a halt says of the space: whether it has refused, and whether it is broken
+abbrev pub ToldBy : Halt → ℕ → ℕ → Bool → Bool → Type 0
+ToldBy NoMemory refusals refusals' broken broken' = broken' ≡ broken
+ToldBy (Space Unchanged) refusals refusals' broken broken' =
+    ((refusals < refusals') ⊎ (refusals' ≡ greatest_count)) × (broken' ≡ broken)
+ToldBy (Space Broken) refusals refusals' broken broken' = broken' ≡ true
+
+-- A look leaves what the space holds; what it finds has P of each airspace that was held.
+pub record Looks {S T : Type 0} (g : Ghosts S) (old new : S) (result : Result T Halt)
+    (P : Airspace → T → Type 0) : Type 0 where
+  pub sound : g.is_sound new → g.is_sound old
+  pub whole : g.is_sound new → g.is_whole old → g.is_whole new
+  pub stays : g.is_sound new
+      → MatchResult result (λ _. (a : Airspace) → g.holds old a → g.holds new a)
+      (λ h. UnlessBroke h ((a : Airspace) → g.holds old a → g.holds new a))
+  pub no_other : g.is_sound new → (a : Airspace) → g.holds new a → g.holds old a
+  pub found : g.is_sound new → IfOk result (λ x. (a : Airspace) → g.holds old a → P a x)
+  pub told : MatchResult result
+      (λ _. (g.refusals new ≡ g.refusals old) × (g.is_broken new ≡ g.is_broken old))
+      (λ h. ToldBy h (g.refusals old) (g.refusals new) (g.is_broken old) (g.is_broken new))
+
+abbrev pub facts_in : Grounds → Facts
+facts_in g = record {
+  found = g.found;
+  kept = g.kept;
+  serial = g.serial;
+  sub = g.sub;
+  depended = g.depended;
+}
+
+-- what was looked up is what the airspace has for the operation
+abbrev pub IsGround : Operation → Airspace → Grounds → Type 0
+IsGround op a g = Regards a op (facts_in g)
+
+-- what is to be read, updated or deleted was found
+abbrev pub IsReady : Operation → Option Entity → Option Sub → Type 0
+IsReady (Read kind id) found sub = is_some found ≡ true
+IsReady (Update id ovn put) found sub = is_some found ≡ true
+IsReady (Delete kind id ovn) found sub = is_some found ≡ true
+IsReady (ReadSub id) found sub = is_some sub ≡ true
+IsReady (UpdateSub id version put) found sub = is_some sub ≡ true
+IsReady (DeleteSub id version) found sub = is_some sub ≡ true
+IsReady op found sub = Unit {0}
+
+abbrev pub changed_by : Option Change → Airspace → Airspace
+changed_by None a = a
+changed_by (Some change) a = changed change a
+
+-- A change and an answer are the effect of a call that breaks no rule, and the change can be made.
+pub record Makes (salt : List ℕ) (now : ℕ) (c : Call) (g : Grounds) (a : Airspace)
+    (change : Option Change) (answer : Answer) : Type 0 where
+  pub effect : effect salt a c.caller c.op ≡ (changed_by change a, Done answer)
+  pub fits : IfSome change (λ change. Fits change a)
+
+-- for each airspace that may be kept in which the call breaks no rule
+abbrev pub Prepares : List ℕ → ℕ → Call → Grounds → Airspace → Made → Type 0
+Prepares salt now c g a made = IsAirspace a → first_broken a now c ≡ None → IsGround c.op a g
+    → Makes salt now c g a made.change made.answer
+
+-- A change puts a subscription, and its answer is what a supplier sees of it and of what it is for.
+abbrev pub PutsSub : Sub → Airspace → List ℕ → Made → Type 0
+PutsSub s a uss made = (made.change ≡ Some (changes.PutSub s))
+    × (made.answer ≡ SubStored (seen_sub a s) (seen_of kinds.Intent a uss s) (seen_of kinds.Constraint a uss s))

@@ -1,0 +1,18 @@
+-- What a put needs to know, beside the availabilities of those who manage it.
+use Rattle.std.specs.Prelude.{◌≡◌, length, map}
+use Rattle.entity_core.specs.Airspace.{Airspace, availability_of}
+use Rattle.entity_core.specs.declared.availability.Availability.{Availability}
+use Rattle.entity_core.specs.declared.entity.Entity.{Entity}
+use Rattle.service_step.specs.declared.needed.Needed.{Needed}
+
+-- the availability that the manager of an entity has in an airspace
+abbrev pub manager_has : Airspace → Entity → Availability
+manager_has a e = (availability_of a e.manager).0
+
+-- each entity has an availability at its place
+abbrev pub IsPaired : Needed → Type 0
+IsPaired needed = length needed.availabilities.items ≡ length needed.entities.items
+
+-- the availabilities are those of the managers in an airspace
+abbrev pub ArePresent : Airspace → Needed → Type 0
+ArePresent a needed = needed.availabilities.items ≡ map (manager_has a) needed.entities.items

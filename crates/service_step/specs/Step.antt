@@ -1,0 +1,185 @@
+-- What the policy answers, and what it leaves.
+use Rattle.std.specs.Prelude.{ℕ, ◌+◌, List, [], ◌∷◌, map, Option, Some, None, if◌then◌else◌}
+use Rattle.std.specs.FinMap.{get}
+use Rattle.grid_core.specs.Extent.{Region, region_of}
+use Rattle.entity_core.specs.declared.nature.Kind.{Kind}
+use Rattle.entity_core.specs.declared.nature.Kind.TheVariants as kinds
+use Rattle.entity_core.specs.declared.entity.Entity.{Entity}
+use Rattle.entity_core.specs.declared.subscription.Sub.{Sub}
+use Rattle.entity_core.specs.Subscription.{wants}
+use Rattle.entity_core.specs.Entity.{kind_of}
+use Rattle.entity_core.specs.Airspace.{Airspace, IsAirspace, EntityKey, availability_of, with_availability, with_entity, with_subscription, without_entity, without_subscription}
+use Rattle.entity_core.specs.Search.{dependents_in, meeting_in, subscriptions_in}
+use Rattle.entity_core.specs.Ovn.{ovn_text}
+use Rattle.policy_core.specs.declared.scope.Caller.{Caller}
+use Rattle.policy_core.specs.declared.call.Put.{Put}
+use Rattle.policy_core.specs.declared.call.SubPut.{SubPut}
+use Rattle.policy_core.specs.declared.call.Operation.{Operation}
+use Rattle.policy_core.specs.declared.call.Operation.TheVariants.{NoRoute, NoMethod, Malformed, Query, Read, Create, Update, Delete, ReadAvail, SetAvail, QuerySub, ReadSub, CreateSub, UpdateSub, DeleteSub}
+use Rattle.policy_core.specs.declared.call.Call.{Call}
+use Rattle.policy_core.specs.declared.rule.Rule.{Rule}
+use Rattle.policy_core.specs.declared.rule.Rule.TheVariants.{Key}
+use Rattle.policy_core.specs.declared.reference.Missing.{Missing}
+use Rattle.policy_core.specs.Missing.{missing_for, nothing_missing}
+use Rattle.policy_core.specs.Policy.{first_broken}
+use Rattle.policy_core.specs.View.{view_of}
+use Rattle.policy_core.specs.SubView.{sub_view_of}
+use Rattle.policy_core.specs.declared.reference.Reference.{Reference}
+use Rattle.policy_core.specs.declared.sub_view.SubView.{SubView}
+use Rattle.service_step.specs.declared.reply.Answer.TheVariants.{Created, Changed, Found, Listed, Avail, SubStored, SubFound, SubListed}
+use Rattle.service_step.specs.declared.reply.Reply.{Reply}
+use Rattle.service_step.specs.declared.reply.Reply.TheVariants.{Done, Denied, Fault}
+
+-- ---- what is put
+
+-- what is kept of a put
+abbrev pub kept_as : List ℕ → ℕ → List ℕ → ℕ → ℕ → Put → Entity
+kept_as salt serial manager version id put = record {
+  nature = put.nature;
+  id = id;
+  manager = manager;
+  version = version;
+  serial = serial;
+  ovn = ovn_text salt serial;
+  volumes = put.volumes;
+  url = put.url;
+}
+
+-- the entity that a creation by a supplier keeps
+abbrev pub created : List ℕ → ℕ → List ℕ → ℕ → Put → Entity
+created salt serial uss id put = kept_as salt serial uss 1 id put
+
+-- the entity that an update keeps in the place of another
+abbrev pub updated : List ℕ → ℕ → ℕ → Put → Entity → Entity
+updated salt serial id put e = kept_as salt serial e.manager (e.version + 1) id put
+
+-- what is kept of a subscription's put
+abbrev pub sub_kept_as : List ℕ → ℕ → List ℕ → ℕ → ℕ → SubPut → Sub
+sub_kept_as salt serial manager index id put = record {
+  id = id;
+  manager = manager;
+  version = ovn_text salt serial;
+  serial = serial;
+  index = index;
+  volume = put.volume;
+  url = put.url;
+  interest = put.interest;
+}
+
+-- ---- the effects: the airspace after them, and the reply. What is not there breaks a rule.
+
+abbrev pub query_effect : Airspace → List ℕ → Kind → Region → Airspace × Reply
+query_effect a uss kind area =
+    (a, Done (Listed kind (map (view_of a uss) (meeting_in a.entities kind (area ∷ []) None))))
+
+abbrev pub read_effect : Airspace → List ℕ → Option Entity → Airspace × Reply
+read_effect a uss (Some e) = (a, Done (Found (view_of a uss e)))
+read_effect a uss None = (a, Fault)
+
+-- the airspace with an entity, and its reference there
+abbrev pub create_effect : Airspace → List ℕ → Entity → Airspace × Reply
+create_effect a uss e = (with_entity a e, Done (Created (view_of (with_entity a e) uss e)))
+
+abbrev pub put_effect : Airspace → List ℕ → Entity → Airspace × Reply
+put_effect a uss e = (with_entity a e, Done (Changed (view_of (with_entity a e) uss e)))
+
+abbrev pub update_effect : List ℕ → Airspace → List ℕ → ℕ → Put → Option Entity → Airspace × Reply
+update_effect salt a uss id put (Some e) = put_effect a uss (updated salt (a.serial + 1) id put e)
+update_effect salt a uss id put None = (a, Fault)
+
+-- the airspace without an entity, and its reference as it was
+abbrev pub delete_effect : Airspace → List ℕ → EntityKey → Option Entity → Airspace × Reply
+delete_effect a uss key (Some e) = (without_entity a key, Done (Changed (view_of a uss e)))
+delete_effect a uss key None = (a, Fault)
+
+-- a subscription, with the intents that name it
+abbrev pub seen_sub : Airspace → Sub → SubView
+seen_sub a s = sub_view_of s (dependents_in a.entities s.id)
+
+-- the references of what meets the volume of a subscription, where it is for that kind
+abbrev pub seen_of : Kind → Airspace → List ℕ → Sub → List Reference
+seen_of kind a uss s =
+    if wants s.interest kind
+    then map (view_of a uss) (meeting_in a.entities kind (region_of s.volume ∷ []) None) else []
+
+abbrev pub stored_reply : Airspace → List ℕ → Sub → Reply
+stored_reply a uss s =
+    Done (SubStored (seen_sub a s) (seen_of kinds.Intent a uss s) (seen_of kinds.Constraint a uss s))
+
+-- the airspace with a subscription, and what is seen of it and of what it is for there
+abbrev pub put_sub_effect : Airspace → List ℕ → Sub → Airspace × Reply
+put_sub_effect a uss s = (with_subscription a s, stored_reply (with_subscription a s) uss s)
+
+abbrev pub update_sub_effect : List ℕ → Airspace → List ℕ → ℕ → SubPut → Option Sub
+    → Airspace × Reply
+update_sub_effect salt a uss id put (Some s) =
+    put_sub_effect a uss (sub_kept_as salt (a.serial + 1) s.manager s.index id put)
+update_sub_effect salt a uss id put None = (a, Fault)
+
+abbrev pub read_sub_effect : Airspace → Option Sub → Airspace × Reply
+read_sub_effect a (Some s) = (a, Done (SubFound (seen_sub a s)))
+read_sub_effect a None = (a, Fault)
+
+-- the airspace without a subscription, and what was seen of it
+abbrev pub delete_sub_effect : Airspace → ℕ → Option Sub → Airspace × Reply
+delete_sub_effect a id (Some s) = (without_subscription a id, Done (SubFound (seen_sub a s)))
+delete_sub_effect a id None = (a, Fault)
+
+abbrev pub query_sub_effect : Airspace → List ℕ → Region → Airspace × Reply
+query_sub_effect a uss area =
+    (a, Done (SubListed (map (seen_sub a) (subscriptions_in a.subscriptions uss area))))
+
+abbrev pub effect_by : List ℕ → Airspace → Caller → Operation → Airspace × Reply
+effect_by salt a caller (Query kind area) = query_effect a caller.uss kind area
+effect_by salt a caller (Read kind id) = read_effect a caller.uss (get a.entities (kind, id))
+effect_by salt a caller (Create id put) =
+    create_effect a caller.uss (created salt (a.serial + 1) caller.uss id put)
+effect_by salt a caller (Update id ovn put) =
+    update_effect salt a caller.uss id put (get a.entities (kind_of put.nature, id))
+effect_by salt a caller (Delete kind id ovn) =
+    delete_effect a caller.uss (kind, id) (get a.entities (kind, id))
+effect_by salt a caller (ReadAvail uss) =
+    (a, Done (Avail uss (availability_of a uss).0 (availability_of a uss).1))
+effect_by salt a caller (SetAvail uss old availability) = (
+  with_availability a uss (availability, ovn_text salt (a.serial + 1)),
+  Done (Avail uss availability (ovn_text salt (a.serial + 1))),
+)
+effect_by salt a caller (QuerySub area) = query_sub_effect a caller.uss area
+effect_by salt a caller (ReadSub id) = read_sub_effect a (get a.subscriptions id)
+effect_by salt a caller (CreateSub id put) =
+    put_sub_effect a caller.uss (sub_kept_as salt (a.serial + 1) caller.uss 0 id put)
+effect_by salt a caller (UpdateSub id version put) =
+    update_sub_effect salt a caller.uss id put (get a.subscriptions id)
+effect_by salt a caller (DeleteSub id version) = delete_sub_effect a id (get a.subscriptions id)
+-- these always break a rule
+effect_by salt a caller NoRoute = (a, Fault)
+effect_by salt a caller NoMethod = (a, Fault)
+effect_by salt a caller (Malformed kind) = (a, Fault)
+
+-- The effect of a call that breaks no rule; one without a caller breaks a rule.
+abbrev pub effect : List ℕ → Airspace → Option Caller → Operation → Airspace × Reply
+effect salt a (Some caller) op = effect_by salt a caller op
+effect salt a None op = (a, Fault)
+
+-- ---- the step
+
+-- what is missing for a call that breaks this rule first
+abbrev pub told_missing : Airspace → Call → Rule → Missing
+told_missing a c Key = missing_for a c.caller c.op
+told_missing a c p = nothing_missing
+
+abbrev pub step_by : List ℕ → Airspace → Call → Option Rule → Airspace × Reply
+step_by salt a c (Some p) = (a, Denied p (told_missing a c p))
+step_by salt a c None = effect salt a c.caller c.op
+
+-- One call at a moment: where it breaks a rule, the airspace stays and the first such rule is told;
+-- else it has its effect.
+unfoldable pub step : List ℕ → Airspace → ℕ → Call → Airspace × Reply
+step salt a now c = step_by salt a c (first_broken a now c)
+
+-- ---- a law
+
+-- Each step of an airspace that may be kept leaves one.
+abbrev pub StepsKeep : Type 0
+StepsKeep = (salt : List ℕ) (a : Airspace) (now : ℕ) (c : Call) → IsAirspace a
+    → IsAirspace (step salt a now c).0

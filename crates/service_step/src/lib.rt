@@ -1,0 +1,13 @@
+//! The policy's step as a definition, and its parts: replies, what is looked up for a call, what a
+//! put needs to know, and what is made for a call before anything is changed.
+#![tactic(auto)]
+
+mod availability_effects;
+pub mod effects;
+mod entity_effects;
+pub mod halt;
+pub mod look;
+pub mod made;
+pub mod needed;
+pub mod reply;
+mod sub_effects;

@@ -1,0 +1,187 @@
+//! What a put needs to know, and what of it its key lacks.
+ghost use Rattle.std.specs.Prelude.{◌≡◌, ◌<◌, [], IfOk, List, Some, length, map};
+ghost use Rattle.std.specs.List.{All, filter_map, slice_get};
+ghost use Rattle.grid_core.specs.Extent.{region_of};
+ghost use Rattle.entity_core.specs.Airspace.{Airspace};
+ghost use Rattle.entity_core.specs.Entity.{subscription_of};
+ghost use Rattle.entity_core.specs.declared.entity.Entity.{Entity};
+ghost use Rattle.policy_core.specs.Missing.{is_asked, is_for_constraints, left_out, minds_constraints, missing_from, needed_with, unspared};
+ghost use Rattle.policy_core.specs.View.{view_of};
+ghost use Rattle.space_core.specs.Met.{met_of};
+ghost use Rattle.service_step.specs.Looks.{Looks};
+ghost use Rattle.service_step.specs.Needed.{ArePresent, IsPaired, manager_has};
+
+use crate::halt::Halt;
+use crate::look::look_meeting;
+use entity_core::availability::Availability;
+use entity_core::entity::Entity;
+use entity_core::entity_id::EntityId;
+use entity_core::nature::Kind;
+use entity_core::ovn::Ovn;
+use entity_core::subscription::Sub;
+use entity_core::uss_id::UssId;
+use grid_core::volume::Area;
+use policy_core::call::Put;
+use policy_core::missing::{missing, needs_key, spared};
+use policy_core::reference::{References, view};
+use policy_core::scope::{Caller, Scope};
+use space_core::met::Met;
+use space_core::space::Space;
+use std::alloc::{AllocError, Global};
+
+/// Entities that a put needs to know, in their order, and the present availability of the manager of
+/// each, at its place.
+#[derive(Debug, Drop)]
+pub struct Needed {
+    pub entities: Vec<Entity>,
+    pub availabilities: Vec<Availability>,
+}
+
+impl Needed {
+    fn nothing(alloc: Global) -> Needed
+        ensures entities { result.entities.items ≡ [] }
+        ensures availabilities { result.availabilities.items ≡ [] }
+    {
+        Needed {
+            entities: Vec::new(alloc),
+            availabilities: Vec::new(alloc),
+        }
+    }
+}
+
+fn is_for_constraints(sub: &Option<Sub>) -> bool
+    ensures { result ≡ is_for_constraints sub.now }
+{
+    match sub {
+        Some(sub) => sub.interest.wants(Kind::Constraint),
+        None => false,
+    }
+}
+
+// Whether a put is to know of constraints: as the subscription says that it names, or as its caller
+// does where it names none.
+fn minds_constraints(caller: &Caller, put: &Put, sub: &Option<Sub>) -> bool
+    ensures { result ≡ minds_constraints (Some caller.now) (subscription_of put.now.nature)
+        sub.now }
+{
+    match put.nature.subscription() {
+        Some(_) => is_for_constraints(sub),
+        None => caller.scopes.has(Scope::ConstraintProcessing),
+    }
+}
+
+// Whether entities of a kind are needed.
+fn is_asked(kind: Kind, caller: &Caller, put: &Put, sub: &Option<Sub>) -> bool
+    ensures { result ≡ is_asked kind (Some caller.now) put.now sub.now }
+{
+    match kind {
+        Kind::Intent => needs_key(put.nature),
+        Kind::Constraint => needs_key(put.nature) && minds_constraints(caller, put, sub),
+    }
+}
+
+// The id that is left out of a kind.
+fn left_out(kind: Kind, id: EntityId) -> Option<EntityId>
+    ensures { result ≡ left_out kind id }
+{
+    match kind {
+        Kind::Intent => Some(id),
+        Kind::Constraint => None,
+    }
+}
+
+// What was met and is not spared, in its order.
+fn unspared(alloc: Global, met: Vec<Met>) -> Result<Needed, AllocError>
+    ensures paired { IfOk result IsPaired }
+    ensures needed { IfOk result (λ needed. (a : Airspace) (es : List Entity)
+        → met.items ≡ map (met_of a) es
+        → (needed.entities.items ≡ unspared a es) × ArePresent a needed) }
+{
+    let mut entities = Vec::new(alloc);
+    let mut availabilities = Vec::new(alloc);
+    for found in met {
+        let Met {
+            entity,
+            availability,
+        } = found;
+        if !spared(&entity, availability) {
+            entities.push(entity)?;
+            availabilities.push(availability)?;
+        }
+    }
+    Ok(Needed {
+        entities,
+        availabilities,
+    })
+}
+
+/// What a put under an id needs to know of a kind, by rising ids, where this is the subscription
+/// that it names. The areas are its volumes'.
+pub fn needed_with<S: Space>(
+    space: &mut S,
+    alloc: Global,
+    kind: Kind,
+    caller: &Caller,
+    id: EntityId,
+    put: &Put,
+    sub: &Option<Sub>,
+    areas: &[Area],
+) -> Result<Needed, Halt>
+    requires areas { areas.now ≡ map region_of put.now.volumes }
+    ensures looks { Looks S.Space space.old space.new result (λ a needed.
+        (needed.entities.items ≡ needed_with kind a (Some caller.now) sub.now id put.now)
+        × ArePresent a needed) }
+    ensures paired { IfOk result IsPaired }
+{
+    if !is_asked(kind, caller, put, sub) {
+        return Ok(Needed::nothing(alloc));
+    }
+    let met = look_meeting(space, kind, areas, left_out(kind, id))?;
+    Ok(unspared(alloc, met)?)
+}
+
+// The references of the entities at some places, whose managers have these availabilities.
+fn references_at(
+    alloc: Global,
+    uss: &UssId,
+    entities: &[Entity],
+    availabilities: &[Availability],
+    places: &[usize],
+) -> Result<References, AllocError>
+    requires places { All (λ i. i < length entities.now) places.now }
+    requires paired { length availabilities.now ≡ length entities.now }
+    ensures { IfOk result (λ references. (a : Airspace)
+        → availabilities.now ≡ map (manager_has a) entities.now
+        → references ≡ map (view_of a uss.now)
+        (filter_map (slice_get entities.now) places.now)) }
+{
+    let mut items = Vec::new(alloc);
+    for place in places {
+        let availability = availabilities[*place];
+        items.push(view(uss, &entities[*place], availability)?)?;
+    }
+    Ok(References::from_vec(items))
+}
+
+/// The references of what is needed and whose OVN is not in a key, in its order, as a supplier sees
+/// it in an airspace in which the managers have these availabilities.
+pub fn missing_from(
+    alloc: Global,
+    uss: &UssId,
+    key: &[Ovn],
+    needed: &Needed,
+) -> Result<References, AllocError>
+    requires { IsPaired needed.now }
+    ensures { IfOk result (λ references. (a : Airspace) → ArePresent a needed.now
+        → references ≡ map (view_of a uss.now)
+        (missing_from key.now needed.now.entities.items)) }
+{
+    let places = missing(alloc, key, &needed.entities)?;
+    references_at(
+        alloc,
+        uss,
+        &needed.entities,
+        &needed.availabilities,
+        &places,
+    )
+}

@@ -1,0 +1,229 @@
+//! The effects of the operations on subscriptions.
+ghost use Rattle.std.specs.Prelude.{◌≡◌, IfOk, Some, None, map, [], ◌∷◌};
+ghost use Rattle.entity_core.specs.declared.nature.Kind.TheVariants as kinds;
+ghost use Rattle.entity_core.specs.Search.{dependents_in, meeting_in, subscriptions_in};
+ghost use Rattle.grid_core.specs.Extent.{region_of};
+ghost use Rattle.policy_core.specs.View.{view_of};
+ghost use Rattle.service_step.specs.Looks.{Looks, PutsSub};
+ghost use Rattle.service_step.specs.Step.{seen_of, seen_sub, sub_kept_as};
+
+use crate::halt::Halt;
+use crate::look::{look_meeting, references};
+use crate::made::Made;
+use crate::reply::Answer;
+use entity_core::entity_id::EntityId;
+use entity_core::nature::Kind;
+use entity_core::notification_index::NotificationIndex;
+use entity_core::ovn::ovn_of;
+use entity_core::salt::Salt;
+use entity_core::serial::Serial;
+use entity_core::subscription::Sub;
+use entity_core::uss_id::UssId;
+use grid_core::volume::Area;
+use policy_core::call::SubPut;
+use policy_core::reference::References;
+use policy_core::sub_view::{SubView, SubViews, sub_view};
+use space_core::space::{Change, Space};
+use std::alloc::{AllocError, Global};
+use std::slice::from_ref;
+
+// The subscription that is kept of a put.
+fn sub_of(
+    alloc: Global,
+    salt: &Salt,
+    serial: Serial,
+    manager: &UssId,
+    index: NotificationIndex,
+    id: EntityId,
+    put: &SubPut,
+) -> Result<Sub, AllocError>
+    ensures { IfOk result (λ sub. sub ≡ sub_kept_as salt.now serial manager.now index id put.now) }
+{
+    Ok(Sub {
+        id,
+        manager: manager.clone()?,
+        version: ovn_of(alloc, salt, serial.number())?,
+        serial,
+        index,
+        volume: put.volume.clone()?,
+        url: put.url.clone()?,
+        interest: put.interest,
+    })
+}
+
+fn look_dependents<S: Space>(space: &mut S, id: EntityId) -> Result<Vec<EntityId>, Halt>
+    ensures { Looks S.Space space.old space.new result
+        (λ a found. found.items ≡ dependents_in a.entities id) }
+{
+    Ok(space.dependents(id)?)
+}
+
+// A subscription as it is seen now.
+fn seen_sub<S: Space>(space: &mut S, alloc: Global, sub: &Sub) -> Result<SubView, Halt>
+    ensures { Looks S.Space space.old space.new result (λ a view. view ≡ seen_sub a sub.now) }
+{
+    let dependents = look_dependents(space, sub.id)?;
+    Ok(sub_view(alloc, sub, &dependents)?)
+}
+
+fn seen_subs<S: Space>(space: &mut S, alloc: Global, subs: &[Sub]) -> Result<SubViews, Halt>
+    ensures { Looks S.Space space.old space.new result
+        (λ a views. views ≡ map (seen_sub a) subs.now) }
+{
+    let mut items = Vec::new(alloc);
+    for sub in subs {
+        items.push(seen_sub(space, alloc, sub)?)?;
+    }
+    Ok(SubViews::from_vec(items))
+}
+
+// The references of what meets the volume of a subscription.
+fn near<S: Space>(
+    space: &mut S,
+    alloc: Global,
+    kind: Kind,
+    uss: &UssId,
+    sub: &Sub,
+) -> Result<References, Halt>
+    ensures { Looks S.Space space.old space.new result (λ a references. references
+        ≡ map (view_of a uss.now)
+        (meeting_in a.entities kind (region_of sub.now.volume ∷ []) None)) }
+{
+    let area = sub.volume.as_area()?;
+    let met = look_meeting(space, kind, from_ref(&area), None)?;
+    Ok(references(alloc, uss, &met)?)
+}
+
+// The references of what a subscription is for, of a kind.
+fn seen_of<S: Space>(
+    space: &mut S,
+    alloc: Global,
+    kind: Kind,
+    uss: &UssId,
+    sub: &Sub,
+) -> Result<References, Halt>
+    ensures { Looks S.Space space.old space.new result
+        (λ a references. references ≡ seen_of kind a uss.now sub.now) }
+{
+    if !sub.interest.wants(kind) {
+        return Ok(References::new(alloc));
+    }
+    near(space, alloc, kind, uss, sub)
+}
+
+// What is answered of a subscription that is put, and of what it is for.
+fn stored<S: Space>(space: &mut S, alloc: Global, uss: &UssId, sub: &Sub) -> Result<Answer, Halt>
+    ensures { Looks S.Space space.old space.new result (λ a answer. answer
+        ≡ Answer.SubStored (seen_sub a sub.now)
+        (seen_of kinds.Intent a uss.now sub.now) (seen_of kinds.Constraint a uss.now sub.now)) }
+{
+    let view = seen_sub(space, alloc, sub)?;
+    let intents = seen_of(space, alloc, Kind::Intent, uss, sub)?;
+    let constraints = seen_of(space, alloc, Kind::Constraint, uss, sub)?;
+    Ok(Answer::SubStored(view, intents, constraints))
+}
+
+fn look_own<S: Space>(space: &mut S, uss: &UssId, area: &Area) -> Result<Vec<Sub>, Halt>
+    ensures { Looks S.Space space.old space.new result
+        (λ a found. found.items ≡ subscriptions_in a.subscriptions uss.now area.now) }
+{
+    Ok(space.subscriptions_of(uss, area)?)
+}
+
+/// A supplier's subscriptions that meet an area.
+pub fn sub_listing<S: Space>(
+    space: &mut S,
+    alloc: Global,
+    uss: &UssId,
+    area: &Area,
+) -> Result<Made, Halt>
+    ensures { Looks S.Space space.old space.new result
+        (λ a made. (made.change ≡ None) ×
+        (made.answer ≡ Answer.SubListed
+        (map (seen_sub a) (subscriptions_in a.subscriptions uss.now area.now)))) }
+{
+    let own = look_own(space, uss, area)?;
+    let shown = seen_subs(space, alloc, &own)?;
+    Ok(Made {
+        change: None,
+        answer: Answer::SubListed(shown),
+    })
+}
+
+/// The subscription that is read.
+pub fn sub_reading<S: Space>(space: &mut S, alloc: Global, sub: &Sub) -> Result<Made, Halt>
+    ensures { Looks S.Space space.old space.new result
+        (λ a made. (made.change ≡ None) × (made.answer ≡ Answer.SubFound (seen_sub a sub.now))) }
+{
+    let shown = seen_sub(space, alloc, sub)?;
+    Ok(Made {
+        change: None,
+        answer: Answer::SubFound(shown),
+    })
+}
+
+// The change that puts a subscription, and its answer.
+fn sub_put<S: Space>(space: &mut S, alloc: Global, uss: &UssId, sub: Sub) -> Result<Made, Halt>
+    ensures { Looks S.Space space.old space.new result (λ a made. PutsSub sub a uss.now made) }
+{
+    let answer = stored(space, alloc, uss, &sub)?;
+    Ok(Made {
+        change: Some(Change::PutSub(sub)),
+        answer,
+    })
+}
+
+/// The subscription that a creation puts, and what is seen of it.
+pub fn sub_creation<S: Space>(
+    space: &mut S,
+    alloc: Global,
+    salt: &Salt,
+    serial: Serial,
+    uss: &UssId,
+    id: EntityId,
+    put: &SubPut,
+) -> Result<Made, Halt>
+    ensures { Looks S.Space space.old space.new result
+        (λ a made. PutsSub (sub_kept_as salt.now serial uss.now 0 id put.now) a uss.now made) }
+{
+    let sub = sub_of(alloc, salt, serial, uss, NotificationIndex::zero(), id, put)?;
+    sub_put(space, alloc, uss, sub)
+}
+
+/// The subscription that an update puts in the place of another of the supplier's, and what is seen
+/// of it.
+pub fn sub_update<S: Space>(
+    space: &mut S,
+    alloc: Global,
+    salt: &Salt,
+    serial: Serial,
+    uss: &UssId,
+    id: EntityId,
+    put: &SubPut,
+    old: &Sub,
+) -> Result<Made, Halt>
+    ensures { Looks S.Space space.old space.new result
+        (λ a made. PutsSub (sub_kept_as salt.now serial old.now.manager old.now.index id put.now)
+        a uss.now made) }
+{
+    let sub = sub_of(alloc, salt, serial, &old.manager, old.index, id, put)?;
+    sub_put(space, alloc, uss, sub)
+}
+
+/// The removal of a subscription, and what was seen of it.
+pub fn sub_removal<S: Space>(
+    space: &mut S,
+    alloc: Global,
+    id: EntityId,
+    sub: &Sub,
+) -> Result<Made, Halt>
+    ensures { Looks S.Space space.old space.new result
+        (λ a made. (made.change ≡ Some (Change.RemoveSub id))
+        × (made.answer ≡ Answer.SubFound (seen_sub a sub.now))) }
+{
+    let shown = seen_sub(space, alloc, sub)?;
+    Ok(Made {
+        change: Some(Change::RemoveSub(id)),
+        answer: Answer::SubFound(shown),
+    })
+}

@@ -1,9 +1,0 @@
-use Rattle.std.proofs.Common.{subst, ◌∙◌}
-use Rattle.std.proofs.lemmas.Cmp.{nat_list_cmp_total}
-use Rattle.entity_core.specs.Airspace.{text_cmp}
-use Rattle.space_core.specs.Availabilities.{InOrder, pair_of}
-use Rattle.space_core.proofs.Places.{get_answer}
-use Rattle.space_core.proofs.availabilities.Availabilities.availability.Goals as goal
-
-pub returns : goal.returns
-returns c = get_answer text_cmp pair_of nat_list_cmp_total c.found.result c.deref.result.now c.args.self.now c.args.uss.now (c.deref.ensures.value ∙ c.self.view_is) (subst InOrder c.self.view_is c.self.invariant) c.found.ensures

@@ -1,7 +1,0 @@
-use Rattle.std.proofs.Common.{take}
-use Rattle.std.specs.List.{All}
-use Rattle.space_core.specs.CellIndex.{mark_cmp, Grows, IsMarked}
-use Rattle.space_core.proofs.cell_index.mark_cells.Given as goal
-
-abbrev pub invariant-loop-cell : goal.invariant-loop-cell
-invariant-loop-cell l = record { kept : Grows mark_cmp l.initial.marks l.marks; marked : All (IsMarked l.marks l.entity) (take l.cell-index l.cells) }

@@ -1,5 +1,0 @@
-use Rattle.space_core.specs.CellIndex.{KeepsOthers}
-use Rattle.space_core.proofs.cell_index.unmark_entity.Given as goal
-
-abbrev pub invariant-loop-volume : goal.invariant-loop-volume
-invariant-loop-volume l = KeepsOthers l.entity l.initial.marks l.marks

@@ -1,7 +1,0 @@
-use Rattle.std.proofs.Common.{subst, ◌∙◌}
-use Rattle.space_core.specs.Entities.{InOrder}
-use Rattle.space_core.proofs.EntityLists.{all_answers}
-use Rattle.space_core.proofs.entities.Entities.all.Goals as goal
-
-pub returns : goal.returns
-returns c = all_answers (λ f. f.items) c.all_of.result c.deref.result.now c.args.self.now c.args.kind (c.deref.ensures.value ∙ c.self.view_is) (subst InOrder c.self.view_is c.self.invariant) c.all_of.ensures

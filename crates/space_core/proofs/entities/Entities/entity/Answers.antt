@@ -1,9 +1,0 @@
-use Rattle.std.proofs.Common.{subst, ◌∙◌}
-use Rattle.entity_core.specs.Airspace.{key_cmp}
-use Rattle.space_core.specs.Entities.{InOrder, pair_of}
-use Rattle.space_core.proofs.Keys.{key_total}
-use Rattle.space_core.proofs.Places.{get_answer}
-use Rattle.space_core.proofs.entities.Entities.entity.Goals as goal
-
-pub returns : goal.returns
-returns c = get_answer key_cmp pair_of key_total c.found.result c.deref.result.now c.args.self.now (c.args.kind, c.args.id) (c.deref.ensures.value ∙ c.self.view_is) (subst InOrder c.self.view_is c.self.invariant) c.found.ensures

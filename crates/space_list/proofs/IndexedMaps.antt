@@ -1,0 +1,76 @@
+-- An index of the entities of a map, as entities come and go.
+use Rattle.std.specs.Prelude.{◌≡◌, ℕ, ◌+◌, ◌*◌, ◌≤◌, true, false, cond, List, [], Some, None, refl}
+use Rattle.std.proofs.Common.{arith, sym, ap, ◌∙◌, subst}
+use Rattle.std.proofs.lemmas.Option.{same_Some}
+use Rattle.std.proofs.lemmas.List.Elements.{All-weaker}
+use Rattle.std.specs.List.{All}
+use Rattle.std.specs.Ordering.{eq_by_cmp}
+use Rattle.std.specs.BTreeSet.{BTreeSet}
+use Rattle.std.specs.FinMap.{get, insert, remove, get-insert, get-remove, get-from_entries}
+use Rattle.grid_core.specs.Cell.{Cell}
+use Rattle.grid_core.specs.Extent.{Extent}
+use Rattle.entity_core.specs.declared.entity.Entity.{Entity}
+use Rattle.entity_core.specs.declared.nature.Kind.{Kind}
+use Rattle.entity_core.specs.declared.nature.Kind.TheVariants.{Intent, Constraint}
+use Rattle.entity_core.specs.Entity.{kind_index, kind_of}
+use Rattle.entity_core.specs.Airspace.{Entities, EntityKey, key_cmp, key_of}
+use Rattle.space_list.specs.CellIndex.{AllMarked, Grows, IsIndexOf, IsMarked, KeepsOthers, Mark, mark_cmp, mark_of, tag_of}
+use Rattle.entity_lists.specs.Entities.{entity_map, pair_of}
+use Rattle.space_list.specs.Proper.{own_key}
+use Rattle.entity_lists.specs.Sorted.{keyed}
+use Rattle.space_list.proofs.CellMeetings.{marked_more}
+use Rattle.entity_core.proofs.Keys.{key_total}
+
+all_marked : (marks marks' : BTreeSet Mark) (e : Entity) → ((c : Cell) → IsMarked marks e c → IsMarked marks' e c) → AllMarked marks e → AllMarked marks' e
+all_marked marks marks' e f h = All-weaker (λ (v : Extent). All (IsMarked marks e) v.cells) (λ (v : Extent). All (IsMarked marks' e) v.cells) (λ v g. All-weaker (IsMarked marks e) (IsMarked marks' e) f v.cells g) e.volumes h
+
+pub grown_index : (m : Entities) (old new : BTreeSet Mark) → Grows mark_cmp old new → IsIndexOf m old → IsIndexOf m new
+grown_index m old new g h = λ k x at. all_marked old new x (marked_more x old new g) (h k x at)
+
+pub none_there : (es : List Entity) → es ≡ [] → (k : EntityKey) (x : Entity) → get (entity_map es) k ≡ Some x → ⊥
+none_there es e k x at = let bad : None ≡ Some x = sym (ap (λ (l : List Entity). get (entity_map l) k) e ∙ get-from_entries key_total (keyed pair_of []) k) ∙ at in cc
+
+pub none_indexed : (es : List Entity) (marks : BTreeSet Mark) → es ≡ [] → IsIndexOf (entity_map es) marks
+none_indexed es marks e = λ k x at. absurd (none_there es e k x at)
+
+pub put_indexed : (m n : Entities) (e : Entity) (marks : BTreeSet Mark) → n ≡ insert m (key_of e) e → IsIndexOf m marks → AllMarked marks e → IsIndexOf n marks
+put_indexed m n e marks is h own = λ k x at.
+    let now : cond (eq_by_cmp key_cmp k (key_of e)) (Some e) (get m k) ≡ Some x = sym (ap (λ (l : Entities). get l k) is ∙ get-insert key_total m (key_of e) e k) ∙ at in
+    elim (eq_by_cmp key_cmp k (key_of e)) as (λ b. cond b (Some e) (get m k) ≡ Some x → AllMarked marks x) [
+      | true ↦ λ g. subst (AllMarked marks) (same_Some e x g) own
+      | false ↦ λ g. h k x g
+    ] now
+
+pub removed_indexed : (m n : Entities) (k : EntityKey) (marks : BTreeSet Mark) → n ≡ remove m k → IsIndexOf m marks → IsIndexOf n marks
+removed_indexed m n gone marks is h = λ k x at.
+    let now : cond (eq_by_cmp key_cmp k gone) None (get m k) ≡ Some x = sym (ap (λ (l : Entities). get l k) is ∙ get-remove key_total m gone k) ∙ at in
+    elim (eq_by_cmp key_cmp k gone) as (λ b. cond b None (get m k) ≡ Some x → AllMarked marks x) [
+      | true ↦ λ g. cc
+      | false ↦ λ g. h k x g
+    ] now
+
+small_kind : (k : Kind) → kind_index k ≤ 1
+small_kind Intent = omega arith
+small_kind Constraint = omega arith
+
+pub same_kind : (a b : Kind) → kind_index a ≡ kind_index b → a ≡ b
+same_kind Intent Intent e = refl
+same_kind Intent Constraint e = cc
+same_kind Constraint Intent e = cc
+same_kind Constraint Constraint e = refl
+
+-- the tag tells serials and kinds apart
+same_tag : (s t i j : ℕ) → i ≤ 1 → j ≤ 1 → 2 * s + i ≡ 2 * t + j → (s ≡ t) × (i ≡ j)
+same_tag s t i j a b e = (omega (arith, e), omega (arith, e))
+
+-- what is taken out is of no entity that is kept
+pub forgotten_indexed : (es : List Entity) (g : Entity) (old new : BTreeSet Mark) → KeepsOthers g old new
+    → ((x : Entity) → get (entity_map es) (key_of g) ≡ Some x → x.serial ≡ g.serial → ⊥) → IsIndexOf (entity_map es) old → IsIndexOf (entity_map es) new
+forgotten_indexed es g old new keeps gone h = λ k x at.
+    let other : tag_of x ≡ tag_of g → x.id ≡ g.id → ⊥ = λ tag id.
+    let same = same_tag x.serial g.serial (kind_index (kind_of x.nature)) (kind_index (kind_of g.nature)) (small_kind (kind_of x.nature)) (small_kind (kind_of g.nature)) tag in
+    let kind : kind_of x.nature ≡ kind_of g.nature = same_kind (kind_of x.nature) (kind_of g.nature) same.1 in
+    let keys : key_of x ≡ key_of g = λ i. (kind i, id i) in
+    let own : key_of x ≡ k = own_key es k x (sym (get-from_entries key_total (keyed pair_of es) k) ∙ at) in
+    gone x (ap (λ (q : EntityKey). get (entity_map es) q) (sym keys ∙ own) ∙ at) same.0 in
+    all_marked old new x (λ c m. record { cell = m.cell; narrow = m.narrow; mark = keeps (mark_of x c) other m.mark }) (h k x at)

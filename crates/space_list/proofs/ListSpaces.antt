@@ -1,0 +1,46 @@
+-- The empty space in memory, and what its indexes are after a change.
+use Rattle.std.specs.Prelude.{◌≡◌, ℕ, List, [], Some, None}
+use Rattle.std.specs.Ordering.{nat_cmp}
+use Rattle.std.specs.FinMap.{get, get-empty}
+use Rattle.std.proofs.Common.{sym, ap, ◌∙◌, subst}
+use Rattle.entity_core.specs.declared.entity.Entity.{Entity}
+use Rattle.entity_core.specs.declared.subscription.Sub.{Sub}
+use Rattle.entity_core.specs.Airspace.{Airspace, IsAirspace, Subscriptions, key_cmp, text_cmp, empty_at}
+use Rattle.entity_core.proofs.Changes.{proper_with, proper_without, proper_stated, proper_sub, proper_without_sub}
+use Rattle.entity_lists.specs.declared.availabilities.Entry.{Entry}
+use Rattle.entity_lists.specs.Entities.{entity_map}
+use Rattle.entity_lists.specs.Entities.{pair_of as entity_pair}
+use Rattle.entity_lists.specs.Availabilities.{availability_map}
+use Rattle.entity_lists.specs.Subscriptions.{AllTold, subscription_map}
+use Rattle.entity_lists.specs.Subscriptions.{pair_of as sub_pair}
+use Rattle.space_core.specs.Space.{Fits, changed}
+use Rattle.space_core.specs.declared.space.Change.{Change}
+use Rattle.space_core.specs.declared.space.Change.TheVariants.{Put, Remove, Avail, PutSub, RemoveSub}
+use Rattle.entity_lists.specs.Availabilities.{pair_of as entry_pair}
+use Rattle.entity_lists.specs.Lists.{airspace_of}
+use Rattle.entity_lists.proofs.Maps.{map_of_none}
+
+pub empty_content : (es : List Entity) (ss : List Sub) (entries : List Entry) (n : ℕ) → es ≡ [] → ss ≡ [] → entries ≡ [] → empty_at n ≡ airspace_of es ss entries n
+empty_content es ss entries n p r q = λ i. record {
+  entities = (sym (ap entity_map p ∙ map_of_none key_cmp entity_pair)) i;
+  subscriptions = (sym (ap subscription_map r ∙ map_of_none nat_cmp sub_pair)) i;
+  availabilities = (sym (ap availability_map q ∙ map_of_none text_cmp entry_pair)) i;
+  serial = n;
+}
+
+-- no subscription has an index over any serial
+pub none_told : (ss : List Sub) (n : ℕ) → ss ≡ [] → AllTold ss n
+none_told ss n e id s h =
+    let none : None ≡ Some s = sym (get-empty nat_cmp id) ∙ (ap (λ (m : Subscriptions). get m id) (sym (ap subscription_map e ∙ map_of_none nat_cmp sub_pair)) ∙ h) in cc
+
+-- a change that fits leaves an airspace that may be kept
+pub proper_changed : (change : Change) (a : Airspace) → Fits change a → IsAirspace a → IsAirspace (changed change a)
+proper_changed (Put e) a fits proper = proper_with a e proper
+proper_changed (Remove kind id) a fits proper = proper_without a (kind, id) proper
+proper_changed (Avail uss availability version) a fits proper = proper_stated a uss (availability, version) proper
+proper_changed (PutSub s) a fits proper = proper_sub a s fits.due.1 proper
+proper_changed (RemoveSub id) a fits proper = proper_without_sub a id proper
+
+-- and so the indexes of a space in memory stay within its serial
+pub told_after : (change : Change) (a : Airspace) (es : List Entity) (ss : List Sub) (entries : List Entry) (n : ℕ) → Fits change a → IsAirspace a → airspace_of es ss entries n ≡ changed change a → AllTold ss n
+told_after change a es ss entries n fits proper is = (subst IsAirspace (sym is) (proper_changed change a fits proper)).told

@@ -1,0 +1,3 @@
+pub mod List
+pub mod Proper
+pub mod CellIndex

@@ -1,0 +1,223 @@
+//! Entities with an index by the cells of their volumes, so that a search costs what it finds.
+ghost use Rattle.std.specs.Prelude.{◌≡◌, [], OnOk, OnErr, IfOk};
+ghost use Rattle.std.specs.FinMap.{get, insert, remove};
+ghost use Rattle.entity_core.specs.Airspace.{key_of};
+ghost use Rattle.entity_core.specs.Search.{meeting_in, all_in, dependents_in};
+ghost use Rattle.entity_lists.specs.Entities.{entity_map};
+ghost use Rattle.space_list.specs.CellIndex.{AddsSought, AllMarked, IsIndexOf, FindsSoughtAmong};
+
+use crate::cell_index::{Mark, mark_entity, near, unmark_entity};
+use entity_core::entity::Entity;
+use entity_core::entity_id::EntityId;
+use entity_core::nature::Kind;
+use entity_lists::entities::Entities;
+use grid_core::volume::Area;
+use std::alloc::{AllocError, Global};
+use std::collections::BTreeSet;
+use std::marker::Model;
+
+/// Entities in their order, each kind and id once, and where their cells are. Contracts see their
+/// list.
+#[derive(Debug, Drop)]
+pub(crate) struct IndexedEntities {
+    entities: Entities,
+    marks: BTreeSet<Mark>,
+}
+
+impl Model for IndexedEntities {
+    ghost use Rattle.std.specs.Prelude.{List};
+    ghost use Rattle.entity_core.specs.declared.entity.Entity.{Entity};
+    ghost use Rattle.entity_lists.specs.Entities.{entity_map};
+    ghost use Rattle.space_list.specs.CellIndex.{IsIndexOf};
+
+    ghost Value = { List Entity };
+
+    ghost view = { λ a. a.entities };
+
+    ghost invariant = { λ a. IsIndexOf (entity_map a.entities) a.marks };
+}
+
+// Takes the marks of an entity out, unless one of its kind, id and serial is kept.
+fn forget(marks: &mut BTreeSet<Mark>, entities: &Entities, gone: &Entity)
+    ensures { IsIndexOf (entity_map entities.now) marks.old
+        → IsIndexOf (entity_map entities.now) marks.new }
+{
+    if !entities.has_put(gone) {
+        unmark_entity(marks, gone);
+    }
+}
+
+// Marks an entity that will be put. What was marked before an error goes out again.
+fn enter(marks: &mut BTreeSet<Mark>, entities: &Entities, entity: &Entity) -> Result<(), AllocError>
+    ensures kept { IsIndexOf (entity_map entities.now) marks.old
+        → IsIndexOf (entity_map entities.now) marks.new }
+    ensures marked { OnOk result (AllMarked marks.new entity.now) }
+{
+    match mark_entity(marks, entity) {
+        Ok(()) => Ok(()),
+        Err(fault) => {
+            forget(marks, entities, entity);
+            Err(fault)
+        }
+    }
+}
+
+// Room in the list comes first, so that the marks go in for nothing in no case.
+fn put_in(
+    entities: &mut Entities,
+    marks: &mut BTreeSet<Mark>,
+    entity: Entity,
+) -> Result<(), AllocError>
+    requires { IsIndexOf (entity_map entities.old) marks.old }
+    ensures index { IsIndexOf (entity_map entities.new) marks.new }
+    ensures ok { OnOk result (entity_map entities.new
+        ≡ insert (entity_map entities.old) (key_of entity) entity) }
+    ensures err { OnErr result (entities.new ≡ entities.old) }
+{
+    entities.make_room()?;
+    enter(marks, entities, &entity)?;
+    if let Some(gone) = entities.replace(entity)? {
+        forget(marks, entities, &gone);
+    }
+    Ok(())
+}
+
+fn remove_from(entities: &mut Entities, marks: &mut BTreeSet<Mark>, kind: Kind, id: EntityId)
+    requires { IsIndexOf (entity_map entities.old) marks.old }
+    ensures index { IsIndexOf (entity_map entities.new) marks.new }
+    ensures removed { entity_map entities.new ≡ remove (entity_map entities.old) (kind, id) }
+{
+    if let Some(gone) = entities.take(kind, id) {
+        forget(marks, entities, &gone);
+    }
+}
+
+// Adds a copy of the entity of a kind and the number of an id, if it is sought.
+fn add_sought(
+    alloc: Global,
+    found: &mut Entities,
+    entities: &Entities,
+    kind: Kind,
+    number: u128,
+    areas: &[Area],
+    except: &Option<EntityId>,
+) -> Result<(), AllocError>
+    ensures { OnOk result (AddsSought (entity_map entities.now) kind areas.now except.now
+        (kind, number) (entity_map found.old) (entity_map found.new)) }
+{
+    match entities.sought(alloc, kind, number, areas, *except)? {
+        Some(entity) => found.put(entity),
+        None => Ok(()),
+    }
+}
+
+// Of the entities of these ids, those that are sought.
+fn sought_among(
+    alloc: Global,
+    entities: &Entities,
+    ids: &BTreeSet<u128>,
+    kind: Kind,
+    areas: &[Area],
+    except: &Option<EntityId>,
+) -> Result<Entities, AllocError>
+    ensures { IfOk result (λ found. FindsSoughtAmong (entity_map entities.now) ids.now
+        kind areas.now except.now (entity_map found)) }
+{
+    let mut found = Entities::new(alloc);
+    for id in ids {
+        add_sought(alloc, &mut found, entities, kind, *id, areas, except)?;
+    }
+    Ok(found)
+}
+
+// Looks at the entities that have a cell near some area, and at no other.
+fn meeting_in(
+    alloc: Global,
+    entities: &Entities,
+    marks: &BTreeSet<Mark>,
+    kind: Kind,
+    areas: &[Area],
+    except: Option<EntityId>,
+) -> Result<Vec<Entity>, AllocError>
+    requires { IsIndexOf (entity_map entities.now) marks.now }
+    ensures { IfOk result (λ found. found.items
+        ≡ meeting_in (entity_map entities.now) kind areas.now except) }
+{
+    let ids = near(alloc, marks, areas)?;
+    let found = sought_among(alloc, entities, &ids, kind, areas, &except)?;
+    Ok(found.into_vec())
+}
+
+impl IndexedEntities {
+    /// No entities. It takes no memory.
+    pub(crate) fn new(alloc: Global) -> IndexedEntities
+        ensures { result ≡ [] }
+    {
+        IndexedEntities {
+            entities: Entities::new(alloc),
+            marks: BTreeSet::new(alloc),
+        }
+    }
+
+    /// A copy of the entity of a kind and an id, if there is one.
+    pub(crate) fn entity(
+        &self,
+        alloc: Global,
+        kind: Kind,
+        id: EntityId,
+    ) -> Result<Option<Entity>, AllocError>
+        ensures { IfOk result (λ found. found ≡ get (entity_map self.now) (kind, id)) }
+    {
+        self.entities.entity(alloc, kind, id)
+    }
+
+    /// Copies of the entities of a kind, but the one of an id, of which some volume meets some
+    /// area, by rising ids.
+    pub(crate) fn meeting(
+        &self,
+        alloc: Global,
+        kind: Kind,
+        areas: &[Area],
+        except: Option<EntityId>,
+    ) -> Result<Vec<Entity>, AllocError>
+        ensures { IfOk result (λ found. found.items
+            ≡ meeting_in (entity_map self.now) kind areas.now except) }
+    {
+        meeting_in(alloc, &self.entities, &self.marks, kind, areas, except)
+    }
+
+    /// Copies of the entities of a kind, by rising ids.
+    pub(crate) fn all(&self, alloc: Global, kind: Kind) -> Result<Vec<Entity>, AllocError>
+        ensures { IfOk result (λ found. found.items ≡ all_in (entity_map self.now) kind) }
+    {
+        self.entities.all(alloc, kind)
+    }
+
+    /// The ids of the intents that name a subscription, rising.
+    pub(crate) fn dependents(
+        &self,
+        alloc: Global,
+        id: EntityId,
+    ) -> Result<Vec<EntityId>, AllocError>
+        ensures { IfOk result (λ found. found.items ≡ dependents_in (entity_map self.now) id) }
+    {
+        self.entities.dependents(alloc, id)
+    }
+
+    /// Puts an entity in the place of the one that has its kind and id, or among the others where
+    /// its place is. On an error nothing is changed.
+    pub(crate) fn put(&mut self, entity: Entity) -> Result<(), AllocError>
+        ensures ok { OnOk result (entity_map self.new
+            ≡ insert (entity_map self.old) (key_of entity) entity) }
+        ensures err { OnErr result (self.new ≡ self.old) }
+    {
+        put_in(&mut self.entities, &mut self.marks, entity)
+    }
+
+    /// Removes the entity of a kind and an id; where there is none, nothing is changed.
+    pub(crate) fn remove(&mut self, kind: Kind, id: EntityId)
+        ensures { entity_map self.new ≡ remove (entity_map self.old) (kind, id) }
+    {
+        remove_from(&mut self.entities, &mut self.marks, kind, id)
+    }
+}

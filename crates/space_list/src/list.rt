@@ -1,0 +1,187 @@
+//! A space in memory: sorted lists of the entities, of the subscriptions and of what suppliers have
+//! set.
+ghost use Rattle.std.specs.Prelude.{◌≡◌, ◌≤◌, ℕ, false, ◌+◌, Ok, OnOk, OnErr, min, IsOk};
+ghost use Rattle.entity_core.specs.Airspace.{Airspace, IsAirspace, empty_at};
+ghost use Rattle.entity_core.specs.Serial.{greatest_serial};
+ghost use Rattle.space_core.specs.Space.{Fits, IsRemoval, Tells, changed, greatest_count};
+ghost use Rattle.entity_lists.specs.Subscriptions.{AllTold};
+ghost use Rattle.space_core.specs.declared.space.SpaceFault.TheVariants.{Unchanged};
+ghost use Rattle.std.proofs.Common.{sym, ◌∙◌, refl, subst};
+
+use crate::indexed::IndexedEntities;
+use crate::lists::{make, met_among};
+use entity_core::availability::Availability;
+use entity_core::entity::Entity;
+use entity_core::entity_id::EntityId;
+use entity_core::nature::Kind;
+use entity_core::ovn::Ovn;
+use entity_core::subscription::Sub;
+use entity_core::uss_id::UssId;
+use entity_lists::availabilities::Availabilities;
+use entity_lists::subscriptions::Subscriptions;
+use grid_core::volume::Area;
+use space_core::met::Met;
+use space_core::space::{Change, Space, SpaceFault};
+use std::alloc::Global;
+
+/// An airspace in memory. It answers `Unchanged` for want of memory alone, and never `Broken`.
+#[derive(Debug, Drop)]
+pub struct ListSpace {
+    alloc: Global,
+    entities: IndexedEntities,
+    subscriptions: Subscriptions,
+    availabilities: Availabilities,
+    serial: u64,
+    refusals: u64,
+    ghost told: { AllTold subscriptions serial },
+}
+
+impl ListSpace {
+    ghost use Rattle.space_list.specs.List.{content_of};
+    ghost use Rattle.space_core.specs.Space.{IsContent};
+
+    /// An empty airspace.
+    pub fn new(alloc: Global) -> Self
+        ensures { IsContent ⟦<ListSpace as Space>⟧.holds result (empty_at 0) }
+    {
+        ListSpace::at_serial(alloc, 0)
+    }
+
+    /// An empty airspace whose serial has gone on so far.
+    pub fn at_serial(alloc: Global, serial: u64) -> Self
+        requires { serial ≤ greatest_serial }
+        ensures { IsContent ⟦<ListSpace as Space>⟧.holds result (empty_at serial) }
+    {
+        ListSpace {
+            alloc,
+            entities: IndexedEntities::new(alloc),
+            subscriptions: Subscriptions::new(alloc),
+            availabilities: Availabilities::new(alloc),
+            serial,
+            refusals: 0,
+        }
+    }
+
+    // Counts a refusal, and changes nothing else.
+    fn refuse(&mut self) -> SpaceFault
+        ensures fault { result ≡ Unchanged }
+        ensures content { content_of self.new ≡ content_of self.old }
+        ensures counted { self.new.refusals ≡ min (self.old.refusals + 1) greatest_count }
+    {
+        self.refusals = self.refusals.saturating_add(1);
+        SpaceFault::Unchanged
+    }
+}
+
+impl Space for ListSpace {
+    ghost use Rattle.space_list.specs.List.{content_of, refusals_of};
+    ghost use Rattle.space_list.specs.Proper.{content_is_proper};
+
+    ghost holds = { λ s a. a ≡ content_of s };
+
+    ghost is_sound = { λ _. Unit {0} };
+
+    ghost is_whole = { λ _. Unit {0} };
+
+    ghost refusals = { refusals_of };
+
+    ghost is_broken = { λ _. false };
+
+    ghost one = { λ s a b sound unbroken h k. h ∙ sym k };
+
+    ghost certain = { λ s a sound unbroken h. tt };
+
+    ghost some = { λ s sound whole. ∣ (content_of s, refl) ∣₁ };
+
+    ghost proper = { λ s a sound h. subst IsAirspace (sym h) (content_is_proper s) };
+
+    fn entity(&mut self, kind: Kind, id: EntityId) -> Result<Option<Entity>, SpaceFault> {
+        match self.entities.entity(self.alloc, kind, id) {
+            Ok(found) => Ok(found),
+            Err(_) => Err(self.refuse()),
+        }
+    }
+
+    fn meeting(
+        &mut self,
+        kind: Kind,
+        areas: &[Area],
+        except: Option<EntityId>,
+    ) -> Result<Vec<Met>, SpaceFault> {
+        match met_among(
+            self.alloc,
+            &self.entities,
+            &self.availabilities,
+            kind,
+            areas,
+            except,
+        ) {
+            Ok(found) => Ok(found),
+            Err(_) => Err(self.refuse()),
+        }
+    }
+
+    fn all(&mut self, kind: Kind) -> Result<Vec<Entity>, SpaceFault> {
+        match self.entities.all(self.alloc, kind) {
+            Ok(found) => Ok(found),
+            Err(_) => Err(self.refuse()),
+        }
+    }
+
+    fn availability(&mut self, uss: &UssId) -> Result<Option<(Availability, Ovn)>, SpaceFault> {
+        match self.availabilities.availability(uss) {
+            Ok(found) => Ok(found),
+            Err(_) => Err(self.refuse()),
+        }
+    }
+
+    fn subscription(&mut self, id: EntityId) -> Result<Option<Sub>, SpaceFault> {
+        match self.subscriptions.subscription(id) {
+            Ok(found) => Ok(found),
+            Err(_) => Err(self.refuse()),
+        }
+    }
+
+    fn subscriptions_of(&mut self, uss: &UssId, area: &Area) -> Result<Vec<Sub>, SpaceFault> {
+        match self.subscriptions.own(self.alloc, uss, area) {
+            Ok(found) => Ok(found),
+            Err(_) => Err(self.refuse()),
+        }
+    }
+
+    fn dependents(&mut self, id: EntityId) -> Result<Vec<EntityId>, SpaceFault> {
+        match self.entities.dependents(self.alloc, id) {
+            Ok(found) => Ok(found),
+            Err(_) => Err(self.refuse()),
+        }
+    }
+
+    fn serial(&mut self) -> Result<u64, SpaceFault>
+        ensures done { result ≡ Ok (content_of self.old).serial }
+        ensures same { self.new ≡ self.old }
+    {
+        Ok(self.serial)
+    }
+
+    fn apply(&mut self, change: Change) -> Result<(), SpaceFault>
+        requires fits { (a : Airspace) → a ≡ content_of self.old → Fits change a }
+        ensures done { OnOk result
+            (content_of self.new ≡ changed change (content_of self.old)) }
+        ensures refused { OnErr result (content_of self.new ≡ content_of self.old) }
+        ensures tells { Tells (refusals_of self.old) (refusals_of self.new) false false result }
+        ensures removed { IsRemoval change → IsOk result }
+    {
+        match make(
+            &mut self.entities,
+            &mut self.subscriptions,
+            &mut self.availabilities,
+            change,
+        ) {
+            Ok(()) => {
+                self.serial += 1;
+                Ok(())
+            }
+            Err(_) => Err(self.refuse()),
+        }
+    }
+}

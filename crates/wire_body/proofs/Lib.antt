@@ -1,0 +1,7 @@
+mod Chains
+mod Fronts
+mod Lengths
+mod Limits
+mod Named
+pub mod OneBody
+mod Zero

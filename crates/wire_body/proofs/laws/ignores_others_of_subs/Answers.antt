@@ -1,0 +1,5 @@
+use Rattle.wire_body.proofs.Named.{ignores_others_of_subs_lem}
+use Rattle.wire_body.proofs.laws.ignores_others_of_subs.Goals as goal
+
+pub returns : goal.returns
+returns c = ignores_others_of_subs_lem

@@ -1,0 +1,10 @@
+pub mod Availability
+pub mod State
+pub mod Member
+pub mod Volume
+pub mod Naming
+pub mod Put
+pub mod SubPut
+pub mod Given
+pub mod Body
+pub mod Laws

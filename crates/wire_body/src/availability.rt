@@ -1,0 +1,31 @@
+//! Availabilities by name.
+ghost use Rattle.std.specs.Prelude.{◌≡◌, MatchOption};
+ghost use Rattle.wire_body.specs.Availability.{name_of, availability_named};
+
+use entity_core::availability::Availability;
+
+/// The name of an availability.
+pub fn name_of(availability: Availability) -> &'static str
+    ensures { result.now ≡ name_of availability }
+{
+    match availability {
+        Availability::Unknown => "Unknown",
+        Availability::Normal => "Normal",
+        Availability::Down => "Down",
+    }
+}
+
+/// The availability of that name, with case. No other text is a name.
+#[tactic(auto, unfolding(crate::specs::Availability::availability_named))]
+pub fn named(name: &str) -> Option<Availability>
+    ensures value { result ≡ availability_named name.now }
+    ensures relation { MatchOption result ((a : Availability) → name_of a ≡ name.now → ⊥)
+        (λ a. name_of a ≡ name.now) }
+{
+    match name {
+        "Unknown" => Some(Availability::Unknown),
+        "Normal" => Some(Availability::Normal),
+        "Down" => Some(Availability::Down),
+        _ => None,
+    }
+}

@@ -1,5 +1,0 @@
-use Rattle.wire_json.proofs.OneBody.{asks_for_one_lem}
-use Rattle.wire_json.proofs.laws.asks_for_one.Goals as goal
-
-pub returns : goal.returns
-returns c = asks_for_one_lem

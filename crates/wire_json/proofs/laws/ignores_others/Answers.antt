@@ -1,5 +1,0 @@
-use Rattle.wire_json.proofs.Named.{ignores_others_lem}
-use Rattle.wire_json.proofs.laws.ignores_others.Goals as goal
-
-pub returns : goal.returns
-returns c = ignores_others_lem

@@ -1,5 +1,0 @@
-use Rattle.wire_json.proofs.Limits.{keeps_kind_lem}
-use Rattle.wire_json.proofs.laws.keeps_kind.Goals as goal
-
-pub returns : goal.returns
-returns c = keeps_kind_lem

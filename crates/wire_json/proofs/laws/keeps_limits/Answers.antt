@@ -1,5 +1,0 @@
-use Rattle.wire_json.proofs.Limits.{keeps_limits_lem}
-use Rattle.wire_json.proofs.laws.keeps_limits.Goals as goal
-
-pub returns : goal.returns
-returns c = keeps_limits_lem

@@ -1,0 +1,3 @@
+mod Compact
+mod Rows
+mod Texts

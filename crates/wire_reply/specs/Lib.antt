@@ -1,0 +1,5 @@
+pub mod Json
+pub mod Reference
+pub mod SubView
+pub mod Answer
+pub mod Built

@@ -1,0 +1,32 @@
+//! Which subscription an intent names, as JSON.
+ghost use Rattle.std.specs.Prelude.{◌≡◌, codes, OnOk};
+ghost use Rattle.serde_json.specs.Data.{string, put};
+ghost use Rattle.serde_json.specs.View.{members_view};
+ghost use Rattle.wire_body.specs.Naming.{naming_text};
+
+use crate::reference::put_text;
+use entity_core::entity_id::EntityId;
+use serde_json::{Map, Value};
+use std::alloc::{AllocError, Global};
+
+/// The id that stands for no subscription (this project's profile).
+const NO_SUBSCRIPTION: &str = "00000000-0000-4000-8000-000000000000";
+
+/// What an intent names, as a member of its reference.
+pub(crate) fn put_naming(
+    members: &mut Map<String, Value>,
+    alloc: Global,
+    named: Option<EntityId>,
+) -> Result<(), AllocError>
+    ensures { OnOk result (members_view members.new.entries
+        ≡ put (codes "subscription_id") (string (naming_text named))
+        (members_view members.old.entries)) }
+{
+    match named {
+        Some(id) => {
+            let text = id.text(alloc)?;
+            put_text(members, alloc, "subscription_id", text.as_str())
+        }
+        None => put_text(members, alloc, "subscription_id", NO_SUBSCRIPTION),
+    }
+}
