@@ -1,9 +1,10 @@
 -- What a service keeps.
-use Rattle.std.specs.Prelude.{◌≡◌, ℕ, ◌+◌, ◌≤◌, List, [], Some, unwrap_or}
+use Rattle.std.specs.Prelude.{◌≡◌, ℕ, ◌+◌, ◌≤◌, nat_eq, Bool, if◌then◌else◌, List, [], map, Some, unwrap_or, option_map}
+use Rattle.std.specs.List.{list_any}
 use Rattle.std.specs.Ordering.{nat_cmp, ordering_then}
 use Rattle.std.specs.declared.cmp.Ordering.{Ordering}
 use Rattle.std.specs.Cmp.Lexicographic.{slice_cmp}
-use Rattle.std.specs.FinMap.{FinMap, get, insert, remove, empty}
+use Rattle.std.specs.FinMap.{FinMap, entries, from_sorted, get, insert, remove, empty}
 use Rattle.entity_core.specs.declared.availability.Availability.{Availability}
 use Rattle.entity_core.specs.declared.availability.Availability.TheVariants.{Unknown}
 use Rattle.entity_core.specs.declared.nature.Kind.{Kind}
@@ -89,6 +90,33 @@ without_subscription a id = record a {
   subscriptions = remove a.subscriptions id;
   serial = a.serial + 1;
 }
+
+-- ---- what is told
+
+-- a subscription that was told of one more change; its version and its serial stay
+abbrev pub told_again : Sub → Sub
+told_again s = record s { index = s.index + 1 }
+
+-- the same of one that passes a test; any other stays as it was
+abbrev pub told_if : (ℕ × Sub → Bool) → ℕ × Sub → ℕ × Sub
+told_if test s = (s.0, if test s then told_again s.1 else s.1)
+
+-- subscriptions, of which each that passes a test was told of one more change
+unfoldable pub told_where : (ℕ × Sub → Bool) → Subscriptions → Subscriptions
+told_where test m = from_sorted {R = nat_cmp} (map (told_if test) (entries m))
+
+-- a subscription of one of these ids
+abbrev pub is_one_of : List ℕ → ℕ × Sub → Bool
+is_one_of ids s = list_any (λ id. nat_eq id s.0) ids
+
+-- What is found then under an id is what was, told of one more change exactly where it passes.
+abbrev pub ToldOnce : Type 0
+ToldOnce = (m : Subscriptions) (test : ℕ × Sub → Bool) (id : ℕ)
+    → get (told_where test m) id ≡ option_map (λ s. (told_if test (id, s)).1) (get m id)
+
+-- the airspace with these told; the serial stays, since it is a part of a change
+abbrev pub with_told : Airspace → (ℕ × Sub → Bool) → Airspace
+with_told a test = record a { subscriptions = told_where test a.subscriptions }
 
 -- an airspace in which nothing is kept, at a serial
 abbrev pub empty_at : ℕ → Airspace

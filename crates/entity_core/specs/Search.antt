@@ -4,12 +4,14 @@ use Rattle.std.specs.Ordering.{nat_cmp}
 use Rattle.std.specs.FinMap.{entries}
 use Rattle.std.specs.List.Sorted.{IsStrictlySortedBy}
 use Rattle.grid_core.specs.Extent.{Region, any_meet, meets, region_of}
+use Rattle.grid_core.specs.Volumes.{meets_some}
 use Rattle.entity_core.specs.declared.nature.Kind.{Kind}
 use Rattle.entity_core.specs.declared.entity.Entity.{Entity}
 use Rattle.entity_core.specs.declared.subscription.Sub.{Sub}
 use Rattle.entity_core.specs.Airspace.{Airspace, Entities, EntityKey, Subscriptions}
 use Rattle.entity_core.specs.Entity.{kind_index, subscription_of}
 use Rattle.entity_core.specs.IdTexts.{same_text}
+use Rattle.entity_core.specs.Subscription.{wants}
 
 abbrev pub has_kind : Kind → EntityKey → Bool
 has_kind kind k = nat_eq (kind_index k.0) (kind_index kind)
@@ -53,10 +55,18 @@ is_own_near uss area s = same_text s.1.manager uss && meets (region_of s.1.volum
 unfoldable pub subscriptions_in : Subscriptions → List ℕ → Region → List Sub
 subscriptions_in m uss area = map (λ s. s.1) (filter (is_own_near uss area) (entries m))
 
+-- a subscription that is for a kind, whoever manages it, and whose volume meets some area
+abbrev pub is_for_near : Kind → List Region → ℕ × Sub → Bool
+is_for_near kind areas s = wants s.1.interest kind && meets_some s.1.volume areas
+
+-- all of them, by rising ids
+unfoldable pub subscribers_in : Subscriptions → Kind → List Region → List Sub
+subscribers_in m kind areas = map (λ s. s.1) (filter (is_for_near kind areas) (entries m))
+
 -- ---- their order
 
--- Of an airspace, what is sought, all of a kind, what names a subscription, and a supplier's
--- subscriptions come by rising ids, and so each once.
+-- Of an airspace, what is sought, all of a kind, what names a subscription, a supplier's
+-- subscriptions, and those that are for a kind come by rising ids, and so each once.
 pub record FoundInOrder (a : Airspace) : Type 0 where
   pub meeting : (kind : Kind) (areas : List Region) (except : Option ℕ)
       → IsStrictlySortedBy nat_cmp (map (λ e. e.id) (meeting_in a.entities kind areas except))
@@ -64,3 +74,5 @@ pub record FoundInOrder (a : Airspace) : Type 0 where
   pub dependents : (id : ℕ) → IsStrictlySortedBy nat_cmp (dependents_in a.entities id)
   pub subscriptions : (uss : List ℕ) (area : Region)
       → IsStrictlySortedBy nat_cmp (map (λ s. s.id) (subscriptions_in a.subscriptions uss area))
+  pub subscribers : (kind : Kind) (areas : List Region)
+      → IsStrictlySortedBy nat_cmp (map (λ s. s.id) (subscribers_in a.subscriptions kind areas))

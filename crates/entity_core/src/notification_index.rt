@@ -1,5 +1,5 @@
 //! Notification indexes of subscriptions.
-ghost use Rattle.std.specs.Prelude.{◌≡◌, ◌≤◌, ◌<◌, IfSome, IfNone};
+ghost use Rattle.std.specs.Prelude.{◌≡◌, ◌≤◌, ◌<◌, ◌+◌, IfSome, IfNone};
 ghost use Rattle.entity_core.specs.Serial.{greatest_serial};
 
 use crate::serial::GREATEST_SERIAL;
@@ -42,6 +42,19 @@ impl NotificationIndex {
             Some(NotificationIndex { number })
         } else {
             None
+        }
+    }
+
+    /// That after one more change, while there is one.
+    pub fn next(self) -> NotificationIndex
+        ensures { self < greatest_serial → result ≡ self + 1 }
+    {
+        if self.number < GREATEST_SERIAL {
+            NotificationIndex {
+                number: self.number + 1,
+            }
+        } else {
+            self
         }
     }
 

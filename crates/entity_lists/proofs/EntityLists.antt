@@ -9,7 +9,7 @@ use Rattle.entity_core.specs.declared.entity.Entity.{Entity}
 use Rattle.entity_core.specs.declared.subscription.Sub.{Sub}
 use Rattle.entity_core.specs.declared.nature.Kind.{Kind}
 use Rattle.entity_core.specs.Airspace.{key_cmp, key_of}
-use Rattle.entity_core.specs.Search.{has_kind, is_naming, is_own_near, is_sought, meeting_in, all_in, dependents_in, subscriptions_in}
+use Rattle.entity_core.specs.Search.{has_kind, is_for_near, is_naming, is_own_near, is_sought, meeting_in, all_in, dependents_in, subscribers_in, subscriptions_in}
 use Rattle.entity_lists.specs.Entities.{InOrder, entity_map, pair_of}
 use Rattle.entity_lists.specs.Subscriptions as subs
 use Rattle.entity_lists.proofs.Keys.{key_total}
@@ -61,3 +61,14 @@ pub own_answers : {E V : Type 0} (items : V → List Sub) (r : Result V E) (d ss
     → IfOk r (λ f. items f ≡ filter (λ s. is_own_near uss area (subs.pair_of s)) d) → IfOk r (λ f. items f ≡ subscriptions_in (subs.subscription_map ss) uss area)
 own_answers items (Ok f) d ss uss area e s h = own_answer (items f) d ss uss area e s h
 own_answers items (Err x) d ss uss area e s h = tt
+
+wanted_answer : (xs d ss : List Sub) (kind : Kind) (areas : List Region) → d ≡ ss → subs.InOrder ss → xs ≡ filter (λ s. is_for_near kind areas (subs.pair_of s)) d → xs ≡ subscribers_in (subs.subscription_map ss) kind areas
+unfolding subscribers_in
+wanted_answer xs d ss kind areas e s h =
+    h ∙ (ap (filter (λ x. is_for_near kind areas (subs.pair_of x))) e
+    ∙ sym (values_of_kept nat_cmp subs.pair_of nat_cmp_total (is_for_near kind areas) ss s ∙ map-id (filter (λ x. is_for_near kind areas (subs.pair_of x)) ss)))
+
+pub wanted_answers : {E V : Type 0} (items : V → List Sub) (r : Result V E) (d ss : List Sub) (kind : Kind) (areas : List Region) → d ≡ ss → subs.InOrder ss
+    → IfOk r (λ f. items f ≡ filter (λ s. is_for_near kind areas (subs.pair_of s)) d) → IfOk r (λ f. items f ≡ subscribers_in (subs.subscription_map ss) kind areas)
+wanted_answers items (Ok f) d ss kind areas e s h = wanted_answer (items f) d ss kind areas e s h
+wanted_answers items (Err x) d ss kind areas e s h = tt

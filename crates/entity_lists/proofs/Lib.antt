@@ -2,4 +2,5 @@ pub mod Keys
 pub mod Maps
 pub mod Places
 pub mod EntityLists
+pub mod Tellings
 pub mod Searches

@@ -1,17 +1,22 @@
 //! Subscriptions in the order of their ids.
-ghost use Rattle.std.specs.Prelude.{◌≡◌, not, [], OnOk, OnErr, IfOk, IfErr, filter, length};
+ghost use Rattle.std.specs.Prelude.{◌≡◌, ◌<◌, not, [], OnOk, OnErr, IfOk, IfErr, filter, length, map};
+ghost use Rattle.std.specs.List.{AllByRecursion};
 ghost use Rattle.std.specs.List.Sorted.{IsBinarySearchResult, IsSearchInRange};
 ghost use Rattle.std.specs.Ordering.{eq_by_cmp, nat_cmp};
 ghost use Rattle.std.specs.FinMap.{find, get, insert, remove};
 ghost use Rattle.std.specs.FinMap.Entries.{put};
-ghost use Rattle.entity_core.specs.Search.{is_own_near, subscriptions_in};
+ghost use Rattle.entity_core.specs.Airspace.{is_one_of, told_where};
+ghost use Rattle.entity_core.specs.Search.{is_for_near, is_own_near, subscribers_in, subscriptions_in};
+ghost use Rattle.entity_core.specs.Serial.{greatest_serial};
 ghost use Rattle.entity_lists.specs.Sorted.{keyed, Hit, Gap};
-ghost use Rattle.entity_lists.specs.Subscriptions.{pair_of, subscription_map, InOrder};
+ghost use Rattle.entity_lists.specs.Subscriptions.{CanRise, pair_of, subscription_map, told_of, InOrder};
 
 use entity_core::entity_id::EntityId;
+use entity_core::nature::Kind;
 use entity_core::subscription::Sub;
 use entity_core::uss_id::UssId;
 use grid_core::volume::Area;
+use grid_core::volumes::meets_some;
 use std::alloc::{AllocError, Global};
 use std::marker::Model;
 
@@ -77,6 +82,49 @@ fn all_own(alloc: Global, items: &[Sub], uss: &UssId, area: &Area) -> Result<Vec
     Ok(own)
 }
 
+fn is_for_near(sub: &Sub, kind: Kind, areas: &[Area]) -> bool
+    ensures { result ≡ is_for_near kind areas.now (pair_of sub.now) }
+{
+    sub.interest.wants(kind) && meets_some(&sub.volume, areas)
+}
+
+fn all_for(alloc: Global, items: &[Sub], kind: Kind, areas: &[Area]) -> Result<Vec<Sub>, AllocError>
+    ensures { IfOk result (λ found. found.items ≡ filter
+        (λ s. is_for_near kind areas.now (pair_of s)) items.now) }
+{
+    let mut wanted = Vec::new(alloc);
+    for sub in items {
+        if is_for_near(sub, kind, areas) {
+            wanted.push(sub.clone()?)?;
+        }
+    }
+    Ok(wanted)
+}
+
+fn is_one_of(ids: &[EntityId], sub: &Sub) -> bool
+    ensures { result ≡ is_one_of ids.now (pair_of sub.now) }
+{
+    ids.iter().any(|id| id.is(sub.id))
+}
+
+// Tells one of a change, if its id is among these.
+fn tell(sub: &mut Sub, ids: &[EntityId])
+    ensures { sub.old.index < greatest_serial → sub.new ≡ told_of ids.now sub.old }
+{
+    if is_one_of(ids, sub) {
+        sub.tell();
+    }
+}
+
+fn tell_all(items: &mut [Sub], ids: &[EntityId])
+    requires { AllByRecursion (λ s. s.index < greatest_serial) items.old }
+    ensures { items.new ≡ map (told_of ids.now) items.old }
+{
+    for sub in items.iter_mut() {
+        tell(sub, ids);
+    }
+}
+
 fn put_in_place(items: &mut Vec<Sub>, sub: Sub) -> Result<(), AllocError>
     requires { InOrder items.old.items }
     ensures ok { OnOk result (keyed pair_of items.new.items
@@ -126,6 +174,30 @@ impl Subscriptions {
             ≡ subscriptions_in (subscription_map self.now) uss.now area.now) }
     {
         all_own(alloc, &self.items, uss, area)
+    }
+
+    /// Copies of the subscriptions that are for a kind and whose volumes meet some area, by rising
+    /// ids.
+    pub fn for_kind(
+        &self,
+        alloc: Global,
+        kind: Kind,
+        areas: &[Area],
+    ) -> Result<Vec<Sub>, AllocError>
+        ensures { IfOk result (λ found. found.items
+            ≡ subscribers_in (subscription_map self.now) kind areas.now) }
+    {
+        all_for(alloc, &self.items, kind, areas)
+    }
+
+    /// Tells each subscription whose id is among these of one more change. It takes no memory. The
+    /// index of each can rise.
+    pub fn tell(&mut self, ids: &[EntityId])
+        requires { CanRise self.old }
+        ensures { subscription_map self.new
+            ≡ told_where (is_one_of ids.now) (subscription_map self.old) }
+    {
+        tell_all(self.items.as_mut_slice(), ids);
     }
 
     /// Puts a subscription in the place of the one that has its id, or among the others where its

@@ -1,7 +1,7 @@
--- The times of volumes, and what they cover.
-use Rattle.std.specs.Prelude.{◌≡◌, ℕ, ◌≤◌, nat_le, if◌then◌else◌, List, [], ◌∷◌, sum_by}
-use Rattle.std.specs.List.{Any, AllByRecursion, fold}
-use Rattle.grid_core.specs.Extent.{Extent, covered_by}
+-- The times of volumes, what they cover and what they meet.
+use Rattle.std.specs.Prelude.{◌≡◌, ℕ, ◌≤◌, nat_le, Bool, if◌then◌else◌, List, [], ◌∷◌, sum_by}
+use Rattle.std.specs.List.{Any, AllByRecursion, fold, list_any}
+use Rattle.grid_core.specs.Extent.{Extent, Region, covered_by, meets, region_of}
 
 -- a time at which the first of some volumes begins, and one at which the last of them ends
 pub record IsSpan (es : List Extent) (span : ℕ × ℕ) : Type 0 where
@@ -31,3 +31,9 @@ span_of (e ∷ es) = fold (λ span v. wider span v.time) e.time es
 -- how many cells of level 13 some volumes count for, volume by volume and cell by cell
 abbrev pub covered_sum : List Extent → ℕ
 covered_sum es = sum_by (λ e. covered_by e.cells) es
+
+-- ---- what they meet
+
+-- a volume meets some area
+abbrev pub meets_some : Extent → List Region → Bool
+meets_some v areas = list_any (λ area. meets (region_of v) area) areas

@@ -1,8 +1,8 @@
 //! The volumes of an entity.
 ghost use Rattle.std.specs.Prelude.{◌≡◌, ◌≤◌, ◌↔◌, length, map, IsTrue, IfOk, IfSome, IfNone};
-ghost use Rattle.std.specs.List.{fold, list_any};
-ghost use Rattle.grid_core.specs.Extent.{AnyMeet, any_meet, meets, region_of};
-ghost use Rattle.grid_core.specs.Volumes.{IsSpan, covered_sum, span_of, wider};
+ghost use Rattle.std.specs.List.{fold};
+ghost use Rattle.grid_core.specs.Extent.{AnyMeet, any_meet, region_of};
+ghost use Rattle.grid_core.specs.Volumes.{IsSpan, covered_sum, meets_some, span_of, wider};
 
 use crate::volume::{Area, Volume};
 use std::alloc::{AllocError, Global};
@@ -25,8 +25,9 @@ impl Model for Volumes {
     ghost invariant = { λ a. (1 ≤ length a.items.items) × (length a.items.items ≤ 32) };
 }
 
-fn meets_one_of(volume: &Volume, areas: &[Area]) -> bool
-    ensures { result ≡ list_any (λ r. meets (region_of volume.now) r) areas.now }
+/// Whether a volume meets some area.
+pub fn meets_some(volume: &Volume, areas: &[Area]) -> bool
+    ensures { result ≡ meets_some volume.now areas.now }
 {
     areas.iter().any(|area| volume.meets(area))
 }
@@ -34,7 +35,7 @@ fn meets_one_of(volume: &Volume, areas: &[Area]) -> bool
 fn any_meet(volumes: &[Volume], areas: &[Area]) -> bool
     ensures { result ≡ any_meet volumes.now areas.now }
 {
-    volumes.iter().any(|volume| meets_one_of(volume, areas))
+    volumes.iter().any(|volume| meets_some(volume, areas))
 }
 
 fn clone_all(alloc: Global, volumes: &[Volume]) -> Result<Vec<Volume>, AllocError>

@@ -4,15 +4,15 @@ use Rattle.std.proofs.Common.{sym, ap, ◌∙◌, subst}
 use Rattle.std.specs.Ordering.{eq_by_cmp, nat_cmp}
 use Rattle.std.proofs.lemmas.Cmp.{nat_cmp_total}
 use Rattle.std.specs.declared.cmp.Ordering.TheVariants.{Less, Equal, Greater}
-use Rattle.std.specs.FinMap.{get, insert, remove, entries, entries-insert, nat_cmp-IsAntisymmetric}
+use Rattle.std.specs.FinMap.{get, insert, remove, entries, entries-insert, from_entries, nat_cmp-IsAntisymmetric}
 use Rattle.std.specs.FinMap.Entries.{put, where_key, by_order}
-use Rattle.grid_core.specs.Extent.{Region, meets, region_of}
+use Rattle.grid_core.specs.Extent.{Extent, Region, meets, region_of}
 use Rattle.entity_core.specs.IdTexts.{same_text}
-use Rattle.entity_core.specs.Airspace.{Airspace, EntityKey, Availabilities, key_cmp, key_of, availability_of, with_entity, with_subscription, without_entity, without_subscription}
+use Rattle.entity_core.specs.Airspace.{Airspace, EntityKey, Availabilities, key_cmp, key_of, availability_of, text_cmp, told_again, told_if, told_where, with_entity, with_subscription, without_entity, without_subscription}
 use Rattle.entity_core.specs.Entity.{kind_of, subscription_of}
 use Rattle.entity_core.specs.Subscription.{wants}
 use Rattle.entity_core.specs.Ovn.{ovn_text}
-use Rattle.entity_core.specs.Search.{meeting_in, is_own_near, is_sought, subscriptions_in}
+use Rattle.entity_core.specs.Search.{meeting_in, is_for_near, is_own_near, is_sought, subscribers_in, subscriptions_in}
 use Rattle.entity_core.specs.declared.availability.Availability.TheVariants.{Unknown}
 use Rattle.entity_core.specs.declared.entity.Entity.{Entity}
 use Rattle.entity_core.specs.declared.subscription.Sub.{Sub}
@@ -37,12 +37,14 @@ use Rattle.policy_core.specs.View.{view_of, view_with}
 use Rattle.policy_core.proofs.Filters.{both_at_once}
 use Rattle.policy_core.proofs.Finds.{or_else, find-append, none_passes}
 use Rattle.policy_core.proofs.Veils.{one_uss, get_like, get_sub_like, under_like, dependents_like, found_like, rules_like}
+use Rattle.entity_core.proofs.Changes.{entries-told}
 use Rattle.entity_core.proofs.Keys.{key_total, key_exact}
 use Rattle.entity_core.proofs.Entries.{entries-remove}
 use Rattle.service_step.specs.declared.reply.Answer.TheVariants.{Created, Changed, Listed, Avail}
 use Rattle.service_step.specs.declared.reply.Answer.TheVariants as answers
 use Rattle.service_step.specs.declared.reply.Reply.TheVariants.{Done, Denied}
-use Rattle.service_step.specs.Step.{step, step_by, effect, effect_by, told_missing, created, updated, update_effect, delete_effect, read_effect, sub_kept_as, seen_of, seen_sub, stored_reply, put_sub_effect, update_sub_effect, delete_sub_effect, read_sub_effect}
+use Rattle.service_step.specs.Notices.{notices_in, notices_of, notified_in, states_at, touched, urls_of, with_notified}
+use Rattle.service_step.specs.Step.{step, step_by, effect, effect_by, told_missing, created, kept_with, updated, update_effect, delete_effect, read_effect, sub_kept_as, seen_of, seen_sub, stored_reply, put_sub_effect, update_sub_effect, delete_sub_effect, read_sub_effect}
 
 -- ---- entries
 
@@ -157,6 +159,32 @@ read_sub_like m a b None (Some r) l = l
 read_sub_like m a b (Some s) None l = l
 read_sub_like m a b (Some s) (Some r) l = l
 
+-- ---- who is notified
+
+-- telling sees no version, and leaves each as it is
+one_told-veiled : (m : List ℕ) (b : Bool) (s : Sub) → veiled_sub m (cond b (told_again s) s) ≡ cond b (told_again (veiled_sub m s)) (veiled_sub m s)
+one_told-veiled m true s = refl
+one_told-veiled m false s = refl
+
+told_if-veiled : (m : List ℕ) (kind : Kind) (areas : List Region) (ss : List (ℕ × Sub)) → map (veiled_sub_entry m) (map (told_if (is_for_near kind areas)) ss) ≡ map (told_if (is_for_near kind areas)) (map (veiled_sub_entry m) ss)
+told_if-veiled m kind areas [] = refl
+told_if-veiled m kind areas (s ∷ ss) = λ i. (s.0, one_told-veiled m (is_for_near kind areas s) s.1 i) ∷ told_if-veiled m kind areas ss i
+
+notified_like : (m : List ℕ) (kind : Kind) (areas : List Region) (a b : Airspace) → IsLike m a b → IsLike m (with_notified kind areas a) (with_notified kind areas b)
+notified_like m kind areas a b l =
+    let test : ℕ × Sub → Bool = is_for_near kind areas in
+    let side : (x : Airspace) → map (veiled_sub_entry m) (entries (told_where test x.subscriptions)) ≡ map (told_if test) (map (veiled_sub_entry m) (entries x.subscriptions)) =
+    λ x. ap (map (veiled_sub_entry m)) (entries-told test x.subscriptions) ∙ told_if-veiled m kind areas (entries x.subscriptions) in
+    record {
+      entities = l.entities;
+      subscriptions = side a ∙ (ap (map (told_if test)) l.subscriptions ∙ sym (side b));
+      availabilities = l.availabilities;
+      serial = l.serial;
+    }
+
+kept_with_like : (m : List ℕ) (a b : Airspace) (old : List Extent) (e : Entity) → IsLike m a b → IsLike m (kept_with a old e) (kept_with b old e)
+kept_with_like m a b old e l = notified_like m (kind_of e.nature) (touched old e.volumes) (with_entity a e) (with_entity b e) (with_like m a b e l)
+
 -- ---- changes of entities
 
 -- entities that differ behind the veil alone are updated to one entity
@@ -170,13 +198,17 @@ update_like m salt a b uss id put None (Some f) l v = cc
 update_like m salt a b uss id put (Some e) None l v = cc
 update_like m salt a b uss id put (Some e) (Some f) l v =
     let same : veiled m e ≡ veiled m f = cc in
-    subst (λ (x : Entity). IsLike m (with_entity a (updated salt (a.serial + 1) id put e)) (with_entity b x)) (same_update m salt a.serial b.serial id put e f l.serial same) (with_like m a b (updated salt (a.serial + 1) id put e) l)
+    let x : Entity = updated salt (a.serial + 1) id put e in
+    subst (λ (y : List Extent × Entity). IsLike m (kept_with a e.volumes x) (kept_with b y.0 y.1)) (λ i. ((same i).volumes, same_update m salt a.serial b.serial id put e f l.serial same i)) (kept_with_like m a b e.volumes x l)
 
 delete_like : (m : List ℕ) (a b : Airspace) (uss : List ℕ) (k : EntityKey) (o p : Option Entity) → IsLike m a b → option_map (veiled m) o ≡ option_map (veiled m) p → IsLike m (delete_effect a uss k o).0 (delete_effect b uss k p).0
 delete_like m a b uss k None None l v = l
 delete_like m a b uss k None (Some f) l v = cc
 delete_like m a b uss k (Some e) None l v = cc
-delete_like m a b uss k (Some e) (Some f) l v = without_like m a b k l
+delete_like m a b uss k (Some e) (Some f) l v =
+    let same : veiled m e ≡ veiled m f = cc in
+    let left : Airspace → List Extent → Airspace = λ x old. with_notified k.0 (touched old []) (without_entity x k) in
+    subst (λ (old : List Extent). IsLike m (left a e.volumes) (left b old)) (ap (λ (x : Entity). x.volumes) same) (notified_like m k.0 (touched e.volumes []) (without_entity a k) (without_entity b k) (without_like m a b k l))
 
 read_like : (m : List ℕ) (a b : Airspace) (uss : List ℕ) (o p : Option Entity) → IsLike m a b → IsLike m (read_effect a uss o).0 (read_effect b uss p).0
 read_like m a b uss None None l = l
@@ -193,7 +225,8 @@ effect_like m salt a b (Some caller) (Malformed kind) l = l
 effect_like m salt a b (Some caller) (Query kind area) l = l
 effect_like m salt a b (Some caller) (Read kind id) l = read_like m a b caller.uss (get a.entities (kind, id)) (get b.entities (kind, id)) l
 effect_like m salt a b (Some caller) (Create id put) l =
-    subst (λ (n : ℕ). IsLike m (with_entity a (created salt (a.serial + 1) caller.uss id put)) (with_entity b (created salt (n + 1) caller.uss id put))) l.serial (with_like m a b (created salt (a.serial + 1) caller.uss id put) l)
+    let x : ℕ → Entity = λ n. created salt (n + 1) caller.uss id put in
+    subst (λ (n : ℕ). IsLike m (kept_with a [] (x a.serial)) (kept_with b [] (x n))) l.serial (kept_with_like m a b [] (x a.serial) l)
 effect_like m salt a b (Some caller) (Update id ovn put) l = update_like m salt a b caller.uss id put (get a.entities (kind_of put.nature, id)) (get b.entities (kind_of put.nature, id)) l (get_like m a b (kind_of put.nature, id) l)
 effect_like m salt a b (Some caller) (Delete kind id ovn) l = delete_like m a b caller.uss (kind, id) (get a.entities (kind, id)) (get b.entities (kind, id)) l (get_like m a b (kind, id) l)
 effect_like m salt a b (Some caller) (ReadAvail uss) l = l
@@ -257,6 +290,56 @@ seen_like m a b (e ∷ es) (f ∷ fs) l v =
     let rest : map (veiled m) es ≡ map (veiled m) fs = cc in
     λ i. view_like m a b e f l here i ∷ seen_like m a b es fs l rest i
 
+-- ---- what those that are notified are told
+
+-- whom a change notifies, behind the veil
+subscribers-veiled : (m : List ℕ) (kind : Kind) (areas : List Region) (ss : List (ℕ × Sub)) → map (veiled_sub m) (map (λ s. s.1) (filter (is_for_near kind areas) ss)) ≡ map (λ s. s.1) (filter (is_for_near kind areas) (map (veiled_sub_entry m) ss))
+subscribers-veiled m kind areas [] = refl
+subscribers-veiled m kind areas (s ∷ ss) =
+    let test : ℕ × Sub → Bool = is_for_near kind areas in
+    elim (is_for_near kind areas s) as (λ b. map (veiled_sub m) (map (λ x. x.1) (cond b (s ∷ filter test ss) (filter test ss))) ≡ map (λ x. x.1) (cond b (veiled_sub_entry m s ∷ filter test (map (veiled_sub_entry m) ss)) (filter test (map (veiled_sub_entry m) ss)))) [
+      | true ↦ ap (λ (xs : List Sub). veiled_sub m s.1 ∷ xs) (subscribers-veiled m kind areas ss)
+      | false ↦ subscribers-veiled m kind areas ss
+    ]
+
+subscribers_like : (m : List ℕ) (a b : Airspace) (kind : Kind) (areas : List Region) → IsLike m a b → map (veiled_sub m) (subscribers_in a.subscriptions kind areas) ≡ map (veiled_sub m) (subscribers_in b.subscriptions kind areas)
+unfolding subscribers_in
+subscribers_like m a b kind areas l =
+    subscribers-veiled m kind areas (entries a.subscriptions)
+    ∙ (ap (λ (ss : List (ℕ × Sub)). map (λ s. s.1) (filter (is_for_near kind areas) ss)) l.subscriptions
+    ∙ sym (subscribers-veiled m kind areas (entries b.subscriptions)))
+
+told_again-veiled : (m : List ℕ) (ss : List Sub) → map (veiled_sub m) (map told_again ss) ≡ map told_again (map (veiled_sub m) ss)
+told_again-veiled m [] = refl
+told_again-veiled m (s ∷ ss) = ap (λ (xs : List Sub). told_again (veiled_sub m s) ∷ xs) (told_again-veiled m ss)
+
+-- an address, an id and an index stand before the veil
+addresses-veiled : (m : List ℕ) (ss : List Sub) → map {B = List ℕ × Unit {0}} (λ s. (s.url, tt)) ss ≡ map {B = List ℕ × Unit {0}} (λ s. (s.url, tt)) (map (veiled_sub m) ss)
+addresses-veiled m [] = refl
+addresses-veiled m (s ∷ ss) = ap (λ (xs : List (List ℕ × Unit {0})). (s.url, tt) ∷ xs) (addresses-veiled m ss)
+
+urls-veiled : (m : List ℕ) (ss : List Sub) → urls_of ss ≡ urls_of (map (veiled_sub m) ss)
+unfolding urls_of
+urls-veiled m ss = ap (λ (xs : List (List ℕ × Unit {0})). map (λ e. e.0) (entries (from_entries {X = Unit {0}} {R = text_cmp} xs))) (addresses-veiled m ss)
+
+states-veiled : (m url : List ℕ) (ss : List Sub) → states_at ss url ≡ states_at (map (veiled_sub m) ss) url
+states-veiled m url [] = refl
+states-veiled m url (s ∷ ss) =
+    let test : Sub → Bool = λ x. same_text x.url url in
+    elim (same_text s.url url) as (λ b. map {B = ℕ × ℕ} (λ x. (x.id, x.index)) (cond b (s ∷ filter test ss) (filter test ss)) ≡ map {B = ℕ × ℕ} (λ x. (x.id, x.index)) (cond b (veiled_sub m s ∷ filter test (map (veiled_sub m) ss)) (filter test (map (veiled_sub m) ss)))) [
+      | true ↦ ap (λ (xs : List (ℕ × ℕ)). (s.id, s.index) ∷ xs) (states-veiled m url ss)
+      | false ↦ states-veiled m url ss
+    ]
+
+notices-veiled : (m : List ℕ) (ss : List Sub) → notices_of ss ≡ notices_of (map (veiled_sub m) ss)
+notices-veiled m ss = λ i. map (λ url. record { url = url; states = states-veiled m url ss i }) (urls-veiled m ss i)
+
+notices_like : (m : List ℕ) (a b : Airspace) (kind : Kind) (areas : List Region) → IsLike m a b → notices_in a kind areas ≡ notices_in b kind areas
+notices_like m a b kind areas l =
+    let behind : (x : Airspace) → notices_in x kind areas ≡ notices_of (map told_again (map (veiled_sub m) (subscribers_in x.subscriptions kind areas))) =
+    λ x. notices-veiled m (notified_in x kind areas) ∙ ap notices_of (told_again-veiled m (subscribers_in x.subscriptions kind areas)) in
+    behind a ∙ (ap (λ (ss : List Sub). notices_of (map told_again ss)) (subscribers_like m a b kind areas l) ∙ sym (behind b))
+
 -- ---- what the supplier is told of an effect
 
 read_told : (m : List ℕ) (a b : Airspace) (o p : Option Entity) → IsLike m a b → option_map (veiled m) o ≡ option_map (veiled m) p → (read_effect a m o).1 ≡ (read_effect b m p).1
@@ -273,7 +356,9 @@ delete_told m a b k None (Some f) l v = cc
 delete_told m a b k (Some e) None l v = cc
 delete_told m a b k (Some e) (Some f) l v =
     let same : veiled m e ≡ veiled m f = cc in
-    ap (λ (r : Reference). Done (Changed r)) (view_like m a b e f l.availabilities same)
+    let told : notices_in a k.0 (touched e.volumes []) ≡ notices_in b k.0 (touched f.volumes []) =
+    notices_like m a b k.0 (touched e.volumes []) l ∙ ap (λ (x : Entity). notices_in b k.0 (touched x.volumes [])) same in
+    λ i. Done (Changed (view_like m a b e f l.availabilities same i) (told i))
 
 update_told : (m salt : List ℕ) (a b : Airspace) (id : ℕ) (put : Put) (o p : Option Entity) → IsLike m a b → option_map (veiled m) o ≡ option_map (veiled m) p → (update_effect salt a m id put o).1 ≡ (update_effect salt b m id put p).1
 update_told m salt a b id put None None l v = refl
@@ -283,7 +368,12 @@ update_told m salt a b id put (Some e) (Some f) l v =
     let same : veiled m e ≡ veiled m f = cc in
     let x : Entity = updated salt (a.serial + 1) id put e in
     let y : Entity = updated salt (b.serial + 1) id put f in
-    ap (λ (r : Reference). Done (Changed r)) (view_like m (with_entity a x) (with_entity b y) x y l.availabilities (ap (veiled m) (same_update m salt a.serial b.serial id put e f l.serial same)))
+    let kind : Kind = kind_of put.nature in
+    let seen : view_of (kept_with a e.volumes x) m x ≡ view_of (kept_with b f.volumes y) m y =
+    view_like m (kept_with a e.volumes x) (kept_with b f.volumes y) x y l.availabilities (ap (veiled m) (same_update m salt a.serial b.serial id put e f l.serial same)) in
+    let told : notices_in a kind (touched e.volumes put.volumes) ≡ notices_in b kind (touched f.volumes put.volumes) =
+    notices_like m a b kind (touched e.volumes put.volumes) l ∙ ap (λ (z : Entity). notices_in b kind (touched z.volumes put.volumes)) same in
+    λ i. Done (Changed (seen i) (told i))
 
 -- ---- what it is told of its subscriptions
 
@@ -383,7 +473,9 @@ effect_told salt a b caller (Query kind area) l own =
 effect_told salt a b caller (Read kind id) l own = read_told caller.uss a b (get a.entities (kind, id)) (get b.entities (kind, id)) l (get_like caller.uss a b (kind, id) l)
 effect_told salt a b caller (Create id put) l own =
     let x : ℕ → Entity = λ n. created salt (n + 1) caller.uss id put in
-    ap (λ (r : Reference). Done (Created r)) (view_like caller.uss (with_entity a (x a.serial)) (with_entity b (x b.serial)) (x a.serial) (x b.serial) l.availabilities (ap (λ (n : ℕ). veiled caller.uss (x n)) l.serial))
+    let seen : view_of (kept_with a [] (x a.serial)) caller.uss (x a.serial) ≡ view_of (kept_with b [] (x b.serial)) caller.uss (x b.serial) =
+    view_like caller.uss (kept_with a [] (x a.serial)) (kept_with b [] (x b.serial)) (x a.serial) (x b.serial) l.availabilities (ap (λ (n : ℕ). veiled caller.uss (x n)) l.serial) in
+    λ i. Done (Created (seen i) (notices_like caller.uss a b (kind_of put.nature) (touched [] put.volumes) l i))
 effect_told salt a b caller (Update id ovn put) l own = update_told caller.uss salt a b id put (get a.entities (kind_of put.nature, id)) (get b.entities (kind_of put.nature, id)) l (get_like caller.uss a b (kind_of put.nature, id) l)
 effect_told salt a b caller (Delete kind id ovn) l own = delete_told caller.uss a b (kind, id) (get a.entities (kind, id)) (get b.entities (kind, id)) l (get_like caller.uss a b (kind, id) l)
 effect_told salt a b caller (ReadAvail uss) l own = λ i. Done (Avail uss (unwrap_or (get (l.availabilities i) uss) (Unknown, [])).0 (unwrap_or (get (l.availabilities i) uss) (Unknown, [])).1)

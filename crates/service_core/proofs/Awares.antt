@@ -7,8 +7,9 @@ use Rattle.std.specs.Ordering.{eq_by_cmp}
 use Rattle.std.specs.List.{AllByRecursion}
 use Rattle.std.specs.FinMap.{get, entries, empty, get-entries, get-empty, len-entries, len-empty, entries-insert}
 use Rattle.grid_core.specs.Extent.{region_of, any_meet}
-use Rattle.entity_core.specs.Airspace.{Airspace, IsAirspace, EntityKey, key_cmp, key_of, with_availability, with_entity, with_subscription, without_entity, without_subscription, empty_at, Stated}
+use Rattle.entity_core.specs.Airspace.{Airspace, IsAirspace, EntityKey, key_cmp, key_of, with_availability, with_entity, with_subscription, with_told, without_entity, without_subscription, empty_at, Stated}
 use Rattle.entity_core.specs.Entity.{kind_of}
+use Rattle.entity_core.specs.Search.{is_for_near}
 use Rattle.entity_core.specs.Ovn.{ovn_text}
 use Rattle.entity_core.specs.declared.entity.Entity.{Entity}
 use Rattle.entity_core.specs.declared.subscription.Sub.{Sub}
@@ -29,10 +30,11 @@ use Rattle.space_core.specs.declared.space.Space.{Ghosts}
 use Rattle.service_step.specs.declared.reply.Reply.{Reply}
 use Rattle.service_step.specs.declared.reply.Reply.TheVariants.{Done, Denied, Fault, Stopped}
 use Rattle.service_core.specs.Aware.{MadeCall, is_done, is_owed, left_by, put_in, last_writer, later_or, Knew, KnewOthers, SerialsDiffer, Aware}
+use Rattle.service_step.specs.Notices.{touched}
 use Rattle.service_core.specs.Run.{Timed, Runs, replies_of, airspace_after, answered_calls, told_replies, has_stopped}
 use Rattle.service_core.specs.Stale.{IsNumbered, AllNumbered}
 use Rattle.service_step.specs.Step.{step, step_by, effect, created, updated, update_effect, delete_effect, read_effect, sub_kept_as, read_sub_effect, update_sub_effect, delete_sub_effect}
-use Rattle.entity_core.proofs.Changes.{got, stayed, proper_with, proper_without, proper_stated, proper_sub, proper_without_sub, proper_empty}
+use Rattle.entity_core.proofs.Changes.{got, stayed, proper_with, proper_with_told, proper_without, proper_without_told, proper_stated, proper_sub, proper_without_sub, proper_empty}
 use Rattle.service_step.proofs.Keeps.{told_within}
 use Rattle.service_core.proofs.Kept.{all_found, all_put, all_where, all_turned}
 
@@ -140,6 +142,10 @@ kept_without_sub salt last a id s = record {
   knew = s.knew;
 }
 
+-- while some are told: the entities and the serial stay
+kept_telling : (salt : List ℕ) (last : EntityKey → Option MadeCall) (a : Airspace) (test : ℕ × Sub → Bool) → IsAirspace (with_told a test) → Kept salt last a → Kept salt last (with_told a test)
+kept_telling salt last a test proper s = record { proper = proper; numbered = s.numbered; serials = s.serials; knew = s.knew }
+
 -- ---- after a call
 
 -- the last put, after one more call with its reply
@@ -165,20 +171,28 @@ knows_owed a caller op id put y knows is needs found other meet owed =
 kept_create : (salt : List ℕ) (last : EntityKey → Option MadeCall) (a : Airspace) (caller : Caller) (id : ℕ) (put : Put) → Kept salt last a → Knows a (Some caller) (Create id put)
     → Kept salt (last_with last a (record { caller = Some caller; op = Create id put }) (effect salt a (Some caller) (Create id put)).1) (effect salt a (Some caller) (Create id put)).0
 kept_create salt last a caller id put s knows =
-    kept_with salt last a (record { caller = Some caller; op = Create id put }) (created salt (a.serial + 1) caller.uss id put) s refl refl
-    (λ y found other needs meet owed. knows_owed a (Some caller) (Create id put) id put y knows refl needs found other meet owed)
+    let e : Entity = created salt (a.serial + 1) caller.uss id put in
+    let test : ℕ × Sub → Bool = is_for_near (kind_of put.nature) (touched [] put.volumes) in
+    kept_telling salt _ (with_entity a e) test (proper_with_told a e test s.proper) (
+    kept_with salt last a (record { caller = Some caller; op = Create id put }) e s refl refl
+    (λ y found other needs meet owed. knows_owed a (Some caller) (Create id put) id put y knows refl needs found other meet owed))
 
 kept_update : (salt : List ℕ) (last : EntityKey → Option MadeCall) (a : Airspace) (caller : Caller) (id : ℕ) (ovn : List ℕ) (put : Put) (o : Option Entity) → Kept salt last a → Knows a (Some caller) (Update id ovn put)
     → Kept salt (last_with last a (record { caller = Some caller; op = Update id ovn put }) (update_effect salt a caller.uss id put o).1) (update_effect salt a caller.uss id put o).0
 kept_update salt last a caller id ovn put None s knows = s
 kept_update salt last a caller id ovn put (Some e) s knows =
-    kept_with salt last a (record { caller = Some caller; op = Update id ovn put }) (updated salt (a.serial + 1) id put e) s refl refl
-    (λ y found other needs meet owed. knows_owed a (Some caller) (Update id ovn put) id put y knows refl needs found other meet owed)
+    let new : Entity = updated salt (a.serial + 1) id put e in
+    let test : ℕ × Sub → Bool = is_for_near (kind_of put.nature) (touched e.volumes put.volumes) in
+    kept_telling salt _ (with_entity a new) test (proper_with_told a new test s.proper) (
+    kept_with salt last a (record { caller = Some caller; op = Update id ovn put }) new s refl refl
+    (λ y found other needs meet owed. knows_owed a (Some caller) (Update id ovn put) id put y knows refl needs found other meet owed))
 
 kept_delete : (salt : List ℕ) (last : EntityKey → Option MadeCall) (a : Airspace) (caller : Caller) (kind : Kind) (id : ℕ) (ovn : List ℕ) (o : Option Entity) → Kept salt last a
     → Kept salt (last_with last a (record { caller = Some caller; op = Delete kind id ovn }) (delete_effect a caller.uss (kind, id) o).1) (delete_effect a caller.uss (kind, id) o).0
 kept_delete salt last a caller kind id ovn None s = s
-kept_delete salt last a caller kind id ovn (Some e) s = kept_without salt last a (kind, id) s
+kept_delete salt last a caller kind id ovn (Some e) s =
+    let test : ℕ × Sub → Bool = is_for_near kind (touched e.volumes []) in
+    kept_telling salt last (without_entity a (kind, id)) test (proper_without_told a (kind, id) test s.proper) (kept_without salt last a (kind, id) s)
 
 kept_read : (salt : List ℕ) (last : EntityKey → Option MadeCall) (a : Airspace) (caller : Caller) (kind : Kind) (id : ℕ) (o : Option Entity) → Kept salt last a
     → Kept salt (last_with last a (record { caller = Some caller; op = Read kind id }) (read_effect a caller.uss o).1) (read_effect a caller.uss o).0
@@ -281,7 +295,7 @@ effect_left salt a (Some caller) (UpdateSub id version put) = update_sub_left sa
 effect_left salt a (Some caller) (DeleteSub id version) = delete_sub_left a id (get a.subscriptions id)
 
 -- what is left by a call that the policy answers is what the policy leaves
-step_left : (salt : List ℕ) (a : Airspace) (c : Timed) → left_by salt a c (step salt a c.0 c.1).1 ≡ (step salt a c.0 c.1).0
+pub step_left : (salt : List ℕ) (a : Airspace) (c : Timed) → left_by salt a c (step salt a c.0 c.1).1 ≡ (step salt a c.0 c.1).0
 unfolding step
 step_left salt a c =
     elim (first_broken a c.0 c.1) as (λ r. cond (is_done (step_by salt a c.1 r).1) (step_by salt a c.1 r).0 a ≡ (step_by salt a c.1 r).0) [

@@ -7,3 +7,4 @@ pub mod Kept
 pub mod Awares
 pub mod Stales
 pub mod Meetings
+pub mod Counts

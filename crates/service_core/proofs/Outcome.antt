@@ -95,7 +95,7 @@ module _ {S : Type 0} (g : Ghosts S) (salt : List ℕ) (t : ℕ) (c : Call) wher
   read_answers old new grounds made is looks proper given = record {
     step = λ s a h.
         let k = given (looks.sound s) a h.held in
-        let e : step salt a t c ≡ (a, Done made.answer) = step_done salt a t c k.0 ∙ ((looks.found s a h.held (proper (looks.sound s) a h.held) k.0 k.1).effect ∙ ap (λ (o : Option Change). (changed_by o a, Done made.answer)) is) in
+        let e : step salt a t c ≡ (a, Done made.answer) = step_done salt a t c k.0 ∙ ((looks.found s a h.held (proper (looks.sound s) a h.held) k.0 k.1).effect ∙ ap (λ (o : Option Change). (changed_by o made.notify a, Done made.answer)) is) in
         (ap (λ (x : Airspace × Reply). x.1) e, subst (IsContent g.holds new) (ap (λ (x : Airspace × Reply). x.0) (sym e)) (same_content g old new a (looks.stays s) (looks.no_other s) h));
     fails = λ s a h. tt;
     sound = looks.sound;
@@ -104,13 +104,13 @@ module _ {S : Type 0} (g : Ghosts S) (salt : List ℕ) (t : ℕ) (c : Call) wher
   }
 
   -- a change that was made
-  pub change_done : (old new : S) (grounds : Grounds) (change : Change) (answer : Answer) → Changes {T = Unit {0}} g.holds g.is_sound g.is_whole (g.is_broken old) old new (Ok tt) (changed change)
+  pub change_done : (old new : S) (grounds : Grounds) (change : Change) (told : List ℕ) (answer : Answer) → Changes {T = Unit {0}} g.holds g.is_sound g.is_whole (g.is_broken old) old new (Ok tt) (changed change told)
       → Tells {T = Unit {0}} (g.refusals old) (g.refusals new) (g.is_broken old) (g.is_broken new) (Ok tt)
-      → (g.is_sound old → (a : Airspace) → g.holds old a → (first_broken a t c ≡ None) × Makes salt t c grounds a (Some change) answer) → Answers g salt t c old new (Done answer)
-  change_done old new grounds change answer changes tells given = record {
+      → (g.is_sound old → (a : Airspace) → g.holds old a → (first_broken a t c ≡ None) × Makes salt t c grounds a (Some change) told answer) → Answers g salt t c old new (Done answer)
+  change_done old new grounds change told answer changes tells given = record {
     step = λ s a h.
         let k = given (changes.sound s) a h.held in
-        let e : step salt a t c ≡ (changed change a, Done answer) = step_done salt a t c k.0 ∙ k.1.effect in
+        let e : step salt a t c ≡ (changed change told a, Done answer) = step_done salt a t c k.0 ∙ k.1.effect in
         (ap (λ (x : Airspace × Reply). x.1) e, subst (IsContent g.holds new) (ap (λ (x : Airspace × Reply). x.0) (sym e)) (changes.done s a h.held));
     fails = λ s a h. tt;
     sound = changes.sound;
@@ -119,9 +119,9 @@ module _ {S : Type 0} (g : Ghosts S) (salt : List ℕ) (t : ℕ) (c : Call) wher
   }
 
   -- a change that was not made, or of which nothing is known
-  pub change_failed : (old new : S) (grounds : Grounds) (change : Change) (answer : Answer) (e : SpaceFault) → Changes {T = Unit {0}} g.holds g.is_sound g.is_whole (g.is_broken old) old new (Err e) (changed change) → Tells {T = Unit {0}} (g.refusals old) (g.refusals new) (g.is_broken old) (g.is_broken new) (Err e)
-      → ((a : Airspace) → find (breaks a t c) early_rules ≡ None) → (g.is_sound old → (a : Airspace) → g.holds old a → (first_broken a t c ≡ None) × Makes salt t c grounds a (Some change) answer) → Answers g salt t c old new (reply_of (Space e))
-  change_failed old new grounds change answer Unchanged changes tells early given = record {
+  pub change_failed : (old new : S) (grounds : Grounds) (change : Change) (told : List ℕ) (answer : Answer) (e : SpaceFault) → Changes {T = Unit {0}} g.holds g.is_sound g.is_whole (g.is_broken old) old new (Err e) (changed change told) → Tells {T = Unit {0}} (g.refusals old) (g.refusals new) (g.is_broken old) (g.is_broken new) (Err e)
+      → ((a : Airspace) → find (breaks a t c) early_rules ≡ None) → (g.is_sound old → (a : Airspace) → g.holds old a → (first_broken a t c ≡ None) × Makes salt t c grounds a (Some change) told answer) → Answers g salt t c old new (reply_of (Space e))
+  change_failed old new grounds change told answer Unchanged changes tells early given = record {
     step = λ s a h. same_content g old new a (λ b. (changes.refused s refl b).0) (λ b. (changes.refused s refl b).1) h;
     fails = λ s a h. (
       ap is_some (early a),
@@ -134,10 +134,10 @@ module _ {S : Type 0} (g : Ghosts S) (salt : List ℕ) (t : ℕ) (c : Call) wher
     whole = changes.whole;
     breaks = tells.breaks;
   }
-  change_failed old new grounds change answer Broken changes tells early given = record {
+  change_failed old new grounds change told answer Broken changes tells early given = record {
     step = λ s a h b k.
         let m = given (changes.sound s) a h.held in
-        let e : step salt a t c ≡ (changed change a, Done answer) = step_done salt a t c m.0 ∙ m.1.effect in
+        let e : step salt a t c ≡ (changed change told a, Done answer) = step_done salt a t c m.0 ∙ m.1.effect in
         elim (changes.broken s refl b k) [
           | inl x ↦ inl (h.only b x)
           | inr x ↦ inr (x a h.held ∙ ap (λ (y : Airspace × Reply). y.0) (sym e))

@@ -4,4 +4,5 @@ pub mod Held
 pub mod Run
 pub mod Blind
 pub mod Aware
+pub mod Count
 pub mod Stale

@@ -14,6 +14,7 @@ ghost use Rattle.service_core.specs.Service.{Answers, reply_of};
 ghost use Rattle.policy_core.specs.Missing.{nothing_missing};
 ghost use Rattle.service_core.specs.Run.{Answered, IsReplyTo, has_stopped};
 ghost use Rattle.service_core.specs.Aware.{Aware};
+ghost use Rattle.service_core.specs.Count.{Counts};
 ghost use Rattle.service_core.specs.Stale.{AllNumbered, IsStale, FailsOrIsRefused};
 ghost use Rattle.service_core.specs.Held.{space_of, salt_of, is_shut, with_space};
 
@@ -23,6 +24,7 @@ use policy_core::call::Call;
 use policy_core::early::early;
 use policy_core::reference::Missing;
 use policy_core::scope::Caller;
+use policy_core::sub_view::Ids;
 use service_step::effects::prepared;
 use service_step::halt::Halt;
 use service_step::look::Grounds;
@@ -79,12 +81,16 @@ fn allowed<S: Space>(
         → Judges now call.now a (Verdict.Allowed grounds.now) }
     ensures { Answers S.Space salt.now now call.now space.old space.new result }
 {
-    let Made { change, answer } = match prepared(space, alloc, salt, now, call, caller, grounds) {
+    let Made {
+        change,
+        notify,
+        answer,
+    } = match prepared(space, alloc, salt, now, call, caller, grounds) {
         Ok(made) => made,
         Err(halt) => return gave_up(halt),
     };
     match change {
-        Some(change) => changed(space, salt, now, call, grounds, change, answer),
+        Some(change) => changed(space, salt, now, call, grounds, change, &notify, answer),
         None => Reply::Done(answer),
     }
 }
@@ -97,16 +103,17 @@ fn changed<S: Space>(
     call: &Call,
     grounds: &Grounds,
     change: Change,
+    notify: &Ids,
     answer: Answer,
 ) -> Reply
     requires early { (a : Airspace) → find (breaks a now call.now) early_rules ≡ None }
     requires given { S.is_sound space.old → (a : Airspace) → S.holds space.old a
         → (first_broken a now call.now ≡ None)
-        × Makes salt.now now call.now grounds.now a (Some change) answer }
+        × Makes salt.now now call.now grounds.now a (Some change) notify.now answer }
     ensures { Answers S.Space salt.now now call.now space.old space.new result }
 {
     let (_salt, _now, _call, _grounds) = (salt, now, call, grounds);
-    match space.apply(change) {
+    match space.apply(change, notify.items()) {
         Ok(()) => Reply::Done(answer),
         Err(fault) => gave_up(Halt::Space(fault)),
     }
@@ -194,6 +201,8 @@ impl<S: Space + Drop> Service<S> {
     /// one had the OVN of the other in its key (that of a constraint, if it named a subscription
     /// that was for constraints, or none and its caller processes them; that of an intent that was
     /// only planned then, if its manager was not down).
+    /// And the index of each subscription is the number of calls answered `Done`, after the one
+    /// that last created it, that notified it as it stood before that call.
     pub fn run(&mut self, alloc: Global, calls: &[(u64, Call)]) -> Result<Vec<Reply>, AllocError>
         ensures none_made { OnErr result (self.new ≡ self.old) }
         ensures answered { IfOk result (λ replies.
@@ -203,6 +212,11 @@ impl<S: Space + Drop> Service<S> {
             → (n : ℕ) → IsContent S.holds (space_of self.old) (empty_at n)
             → (a : Airspace) → S.holds (space_of self.new) a
             → Aware (salt_of self.old) (empty_at n) calls.now replies.items a) }
+        ensures counted { is_shut self.old ≡ false → S.is_sound (space_of self.new)
+            → IfOk result (λ replies. has_stopped replies.items ≡ false
+            → (n : ℕ) → IsContent S.holds (space_of self.old) (empty_at n)
+            → (a : Airspace) → S.holds (space_of self.new) a
+            → Counts (salt_of self.old) (empty_at n) calls.now replies.items a) }
         ensures numbered { is_shut self.old ≡ false → S.is_sound (space_of self.new)
             → IfOk result (λ replies. has_stopped replies.items ≡ false
             → (n : ℕ) → IsContent S.holds (space_of self.old) (empty_at n)

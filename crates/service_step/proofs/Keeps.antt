@@ -6,7 +6,7 @@ use Rattle.entity_core.specs.Entity.{kind_of}
 use Rattle.entity_core.specs.Airspace.{Airspace, IsAirspace, EntityKey}
 use Rattle.entity_core.specs.Ovn.{ovn_text}
 use Rattle.entity_core.specs.declared.entity.Entity.{Entity}
-use Rattle.entity_core.proofs.Changes.{proper_with, proper_without, proper_stated, proper_sub, proper_without_sub}
+use Rattle.entity_core.proofs.Changes.{proper_with_told, proper_without_told, proper_stated, proper_sub, proper_without_sub}
 use Rattle.entity_core.specs.declared.subscription.Sub.{Sub}
 use Rattle.policy_core.specs.declared.scope.Caller.{Caller}
 use Rattle.policy_core.specs.declared.call.Put.{Put}
@@ -22,11 +22,11 @@ read_keeps a uss (Some e) proper = proper
 
 update_keeps : (salt : List ℕ) (a : Airspace) (uss : List ℕ) (id : ℕ) (put : Put) (o : Option Entity) → IsAirspace a → IsAirspace (update_effect salt a uss id put o).0
 update_keeps salt a uss id put None proper = proper
-update_keeps salt a uss id put (Some e) proper = proper_with a (updated salt (a.serial + 1) id put e) proper
+update_keeps salt a uss id put (Some e) proper = proper_with_told a (updated salt (a.serial + 1) id put e) _ proper
 
 delete_keeps : (a : Airspace) (uss : List ℕ) (k : EntityKey) (o : Option Entity) → IsAirspace a → IsAirspace (delete_effect a uss k o).0
 delete_keeps a uss k None proper = proper
-delete_keeps a uss k (Some e) proper = proper_without a k proper
+delete_keeps a uss k (Some e) proper = proper_without_told a k _ proper
 
 -- an index within the serial stays within the next one
 pub told_within : (a : Airspace) (id : ℕ) (s : Sub) → IsAirspace a → get a.subscriptions id ≡ Some s → s.index ≤ a.serial + 1
@@ -51,7 +51,7 @@ effect_keeps salt a (Some caller) NoMethod proper = proper
 effect_keeps salt a (Some caller) (Malformed kind) proper = proper
 effect_keeps salt a (Some caller) (Query kind area) proper = proper
 effect_keeps salt a (Some caller) (Read kind id) proper = read_keeps a caller.uss (get a.entities (kind, id)) proper
-effect_keeps salt a (Some caller) (Create id put) proper = proper_with a (created salt (a.serial + 1) caller.uss id put) proper
+effect_keeps salt a (Some caller) (Create id put) proper = proper_with_told a (created salt (a.serial + 1) caller.uss id put) _ proper
 effect_keeps salt a (Some caller) (Update id ovn put) proper = update_keeps salt a caller.uss id put (get a.entities (kind_of put.nature, id)) proper
 effect_keeps salt a (Some caller) (Delete kind id ovn) proper = delete_keeps a caller.uss (kind, id) (get a.entities (kind, id)) proper
 effect_keeps salt a (Some caller) (ReadAvail uss) proper = proper

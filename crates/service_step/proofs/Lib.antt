@@ -1,3 +1,5 @@
+pub mod Urls
+pub mod Notified
 pub mod Looked
 pub mod Steps
 pub mod Keeps

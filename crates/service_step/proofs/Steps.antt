@@ -1,13 +1,13 @@
 -- Which effect follows where no rule is broken.
-use Rattle.std.specs.Prelude.{◌≡◌, ℕ, ◌+◌, ◌<◌, ◌&&◌, ◌||◌, Bool, true, false, List, [], ◌∷◌, ◌++◌, Option, Some, None, find, cond, refl, is_none, is_some, nat_le, IfSome, not}
+use Rattle.std.specs.Prelude.{◌≡◌, ℕ, ◌+◌, ◌<◌, ◌&&◌, ◌||◌, Bool, true, false, List, [], ◌∷◌, ◌++◌, map, Option, Some, None, find, cond, refl, is_none, is_some, nat_le, IfSome, not}
 use Rattle.std.proofs.Common.{arith, inl, inr, sym, ap, ◌∙◌, subst}
 use Rattle.std.proofs.lemmas.Bool.{cases_lt, false≢true, le-leb}
 use Rattle.std.specs.FinMap.{get}
-use Rattle.grid_core.specs.Extent.{Region}
+use Rattle.grid_core.specs.Extent.{Extent, Region}
 use Rattle.entity_core.specs.Serial.{greatest_serial}
 use Rattle.entity_core.specs.Entity.{greatest_version, kind_of, subscription_of}
-use Rattle.entity_core.specs.Airspace.{Airspace, with_availability, with_entity, with_subscription}
-use Rattle.entity_core.specs.Search.{dependents_in}
+use Rattle.entity_core.specs.Airspace.{Airspace, IsAirspace, Subscriptions, with_availability, with_entity, with_subscription, without_entity}
+use Rattle.entity_core.specs.Search.{dependents_in, subscribers_in}
 use Rattle.entity_core.specs.declared.subscription.Sub.{Sub}
 use Rattle.entity_core.specs.declared.nature.Kind.TheVariants as kinds
 use Rattle.entity_core.specs.Ovn.{ovn_text}
@@ -36,10 +36,12 @@ use Rattle.service_step.specs.declared.reply.Answer.TheVariants as answers
 use Rattle.service_step.specs.declared.reply.Reply.{Reply}
 use Rattle.service_step.specs.declared.reply.Reply.TheVariants.{Done}
 use Rattle.service_step.specs.declared.look.Grounds.{Grounds}
-use Rattle.service_step.specs.Step.{effect, effect_by, kept_as, create_effect, put_effect, update_effect, delete_effect, sub_kept_as, seen_of, seen_sub, stored_reply, put_sub_effect, update_sub_effect, delete_sub_effect}
-use Rattle.service_step.specs.Looks.{IsGround, Makes, Prepares, PutsSub, changed_by}
+use Rattle.service_step.specs.Notices.{notices_in, touched}
+use Rattle.service_step.specs.Step.{effect, effect_by, kept_as, kept_with, create_effect, put_effect, update_effect, delete_effect, sub_kept_as, seen_of, seen_sub, stored_reply, put_sub_effect, update_sub_effect, delete_sub_effect}
+use Rattle.service_step.specs.Looks.{CanTell, IsGround, IsNotified, Makes, Prepares, PutsSub, changed_by}
 use Rattle.policy_core.proofs.Finds.{find_rest, none_passes}
 use Rattle.service_step.proofs.Keeps.{told_within}
+use Rattle.service_step.proofs.Notified.{notified_rise, notified_there, told_alike}
 
 no_limit : (k l : Bool) → cond k (Some Key) (cond l (Some Limit) None) ≡ None → l ≡ false
 no_limit true l h = cc
@@ -173,11 +175,11 @@ named_by_none a t c id version h op =
 
 -- ---- the effects
 
-makes_from : (salt : List ℕ) (t : ℕ) (c : Call) (g : Grounds) (a : Airspace) (made : Made) (change : Option space_change.Change) (answer : Answer)
-    → effect salt a c.caller c.op ≡ (changed_by change a, Done answer) → made.change ≡ change → made.answer ≡ answer → IfSome change (λ x. Fits x a) → Makes salt t c g a made.change made.answer
-makes_from salt t c g a made change answer e one two fits = record {
-  effect = e ∙ (ap (λ (x : Answer). (changed_by change a, Done x)) (sym two) ∙ ap (λ (x : Option space_change.Change). (changed_by x a, Done made.answer)) (sym one));
-  fits = subst (λ (x : Option space_change.Change). IfSome x (λ y. Fits y a)) (sym one) fits;
+makes_from : (salt : List ℕ) (t : ℕ) (c : Call) (g : Grounds) (a : Airspace) (made : Made) (change : Option space_change.Change) (told : List ℕ) (answer : Answer)
+    → effect salt a c.caller c.op ≡ (changed_by change told a, Done answer) → made.change ≡ change → made.notify ≡ told → made.answer ≡ answer → IfSome change (λ x. Fits x told a) → Makes salt t c g a made.change made.notify made.answer
+makes_from salt t c g a made change told answer e one ids two fits = record {
+  effect = e ∙ (λ i. (changed_by (sym one i) (sym ids i) a, Done (sym two i)));
+  fits = subst (λ (x : Option space_change.Change). IfSome x (λ y. Fits y made.notify a)) (sym one) (subst (λ (k : List ℕ). IfSome change (λ y. Fits y k a)) (sym ids) fits);
 }
 
 effect_is : (salt : List ℕ) (a : Airspace) (c : Call) (caller : Caller) (op : Operation) → c.caller ≡ Some caller → c.op ≡ op → effect salt a c.caller c.op ≡ effect_by salt a caller op
@@ -190,50 +192,79 @@ next_is a t c g next first is ground goes =
 found_is : (a : Airspace) (c : Call) (g : Grounds) (op : Operation) (e : Entity) → c.op ≡ op → g.found ≡ Some e → IsGround c.op a g → found_of a op ≡ Some e
 found_is a c g op e is found ground = ap (found_of a) (sym is) ∙ (sym (ap (λ (f : Facts). f.found) ground) ∙ found)
 
-same_view : (a : Airspace) (uss : List ℕ) (e x : Entity) → view_of (with_entity a e) uss x ≡ view_of a uss x
+same_view : (a : Airspace) (uss : List ℕ) (old : List Extent) (e x : Entity) → view_of (kept_with a old e) uss x ≡ view_of a uss x
 unfolding view_of
-same_view a uss e x = refl
+same_view a uss old e x = refl
+
+-- those whom a change of an entity notifies, by their ids
+abbrev ids_for : Airspace → Kind → List Region → List ℕ
+ids_for a kind areas = map (λ s. s.id) (subscribers_in a.subscriptions kind areas)
+
+-- what is put, with those told whom that notifies
+put_made : (salt : List ℕ) (t : ℕ) (c : Call) (g : Grounds) (a : Airspace) (e : Entity) (old : List Extent) (answer : Answer) (made : Made) → IsAirspace a
+    → effect salt a c.caller c.op ≡ (kept_with a old e, Done answer) → made.change ≡ Some (changes.Put e) → IsNotified a (kind_of e.nature) (touched old e.volumes) made → made.answer ≡ answer
+    → a.serial < greatest_serial → (e.serial ≡ a.serial + 1) × HasNamed a (subscription_of e.nature) → Makes salt t c g a made.change made.notify made.answer
+put_made salt t c g a e old answer made proper is one ids two room due =
+    let kind = kind_of e.nature in
+    let areas = touched old e.volumes in
+    makes_from salt t c g a made (Some (changes.Put e)) (ids_for a kind areas) answer
+    (is ∙ ap (λ (m : Subscriptions). (record (with_entity a e) { subscriptions = m }, Done answer)) (sym (told_alike a proper kind areas)))
+    one ids two (record { room = room; due = due; tells = notified_there a proper kind areas })
 
 pub makes_create : (salt : List ℕ) (t : ℕ) (c : Call) (g : Grounds) (a : Airspace) (caller : Caller) (id : ℕ) (put : Put) (next : ℕ) (made : Made) → c.caller ≡ Some caller → c.op ≡ Create id put → (g.serial < greatest_serial → next ≡ g.serial + 1)
-    → made.change ≡ Some (changes.Put (kept_as salt next caller.uss 1 id put)) → made.answer ≡ answers.Created (view_of a caller.uss (kept_as salt next caller.uss 1 id put)) → Prepares salt t c g a made
-makes_create salt t c g a caller id put next made who op goes one two proper first ground =
+    → (CanTell a (kind_of put.nature) (touched [] put.volumes) → IsNotified a (kind_of put.nature) (touched [] put.volumes) made × (made.change ≡ Some (changes.Put (kept_as salt next caller.uss 1 id put)))
+    × (made.answer ≡ answers.Created (view_of a caller.uss (kept_as salt next caller.uss 1 id put)) (notices_in a (kind_of put.nature) (touched [] put.volumes)))) → Prepares salt t c g a made
+makes_create salt t c g a caller id put next made who op goes makes proper first ground =
     let n = next_is a t c g next first (ap is_change op) ground goes in
+    let room = room_of a t c first (ap is_change op) in
+    let is = makes (notified_rise a proper room (kind_of put.nature) (touched [] put.volumes)) in
     let e = kept_as salt next caller.uss 1 id put in
-    makes_from salt t c g a made (Some (changes.Put e)) (answers.Created (view_of a caller.uss e))
+    let told = notices_in a (kind_of put.nature) (touched [] put.volumes) in
+    put_made salt t c g a e [] (answers.Created (view_of a caller.uss e) told) made proper
     (effect_is salt a c caller (Create id put) who op ∙ (ap (λ (k : ℕ). create_effect a caller.uss (kept_as salt k caller.uss 1 id put)) (sym n)
-    ∙ ap (λ (r : Reference). (with_entity a e, Done (answers.Created r))) (same_view a caller.uss e e)))
-    one two (record { room = room_of a t c first (ap is_change op); due = (n, create_named a t c caller id put first who op) })
+    ∙ ap (λ (r : Reference). (kept_with a [] e, Done (answers.Created r told))) (same_view a caller.uss [] e e)))
+    is.1 is.0 is.2 room (n, create_named a t c caller id put first who op)
 
 pub makes_update : (salt : List ℕ) (t : ℕ) (c : Call) (g : Grounds) (a : Airspace) (caller : Caller) (id : ℕ) (ovn : List ℕ) (put : Put) (old : Entity) (next : ℕ) (made : Made) → c.caller ≡ Some caller → c.op ≡ Update id ovn put → g.found ≡ Some old
     → (g.serial < greatest_serial → next ≡ g.serial + 1)
-    → (old.version < greatest_version → (made.change ≡ Some (changes.Put (kept_as salt next old.manager (old.version + 1) id put))) × (made.answer ≡ answers.Changed (view_of a caller.uss (kept_as salt next old.manager (old.version + 1) id put)))) → Prepares salt t c g a made
+    → (old.version < greatest_version → CanTell a (kind_of put.nature) (touched old.volumes put.volumes) → IsNotified a (kind_of put.nature) (touched old.volumes put.volumes) made
+    × (made.change ≡ Some (changes.Put (kept_as salt next old.manager (old.version + 1) id put)))
+    × (made.answer ≡ answers.Changed (view_of a caller.uss (kept_as salt next old.manager (old.version + 1) id put)) (notices_in a (kind_of put.nature) (touched old.volumes put.volumes)))) → Prepares salt t c g a made
 makes_update salt t c g a caller id ovn put old next made who op found goes makes proper first ground =
     let n = next_is a t c g next first (ap is_change op) ground goes in
     let there = found_is a c g (Update id ovn put) old op found ground in
-    let is = makes (unspent a t c id ovn put old first op there) in
+    let room = room_of a t c first (ap is_change op) in
+    let is = makes (unspent a t c id ovn put old first op there) (notified_rise a proper room (kind_of put.nature) (touched old.volumes put.volumes)) in
     let e = kept_as salt next old.manager (old.version + 1) id put in
-    makes_from salt t c g a made (Some (changes.Put e)) (answers.Changed (view_of a caller.uss e))
+    let told = notices_in a (kind_of put.nature) (touched old.volumes put.volumes) in
+    put_made salt t c g a e old.volumes (answers.Changed (view_of a caller.uss e) told) made proper
     (effect_is salt a c caller (Update id ovn put) who op ∙ (ap (update_effect salt a caller.uss id put) there
-    ∙ (ap (λ (k : ℕ). put_effect a caller.uss (kept_as salt k old.manager (old.version + 1) id put)) (sym n)
-    ∙ ap (λ (r : Reference). (with_entity a e, Done (answers.Changed r))) (same_view a caller.uss e e))))
-    is.0 is.1 (record { room = room_of a t c first (ap is_change op); due = (n, update_named a t c caller id ovn put first who op) })
+    ∙ (ap (λ (k : ℕ). put_effect a caller.uss old.volumes (kept_as salt k old.manager (old.version + 1) id put)) (sym n)
+    ∙ ap (λ (r : Reference). (kept_with a old.volumes e, Done (answers.Changed r told))) (same_view a caller.uss old.volumes e e))))
+    is.1 is.0 is.2 room (n, update_named a t c caller id ovn put first who op)
 
 pub makes_delete : (salt : List ℕ) (t : ℕ) (c : Call) (g : Grounds) (a : Airspace) (caller : Caller) (kind : Kind) (id : ℕ) (ovn : List ℕ) (e : Entity) (made : Made) → c.caller ≡ Some caller → c.op ≡ Delete kind id ovn → g.found ≡ Some e
-    → made.change ≡ Some (changes.Remove kind id) → made.answer ≡ answers.Changed (view_of a caller.uss e) → Prepares salt t c g a made
-makes_delete salt t c g a caller kind id ovn e made who op found one two proper first ground =
+    → (CanTell a kind (touched e.volumes []) → IsNotified a kind (touched e.volumes []) made × (made.change ≡ Some (changes.Remove kind id))
+    × (made.answer ≡ answers.Changed (view_of a caller.uss e) (notices_in a kind (touched e.volumes [])))) → Prepares salt t c g a made
+makes_delete salt t c g a caller kind id ovn e made who op found makes proper first ground =
     let there = found_is a c g (Delete kind id ovn) e op found ground in
-    makes_from salt t c g a made (Some (changes.Remove kind id)) (answers.Changed (view_of a caller.uss e))
-    (effect_is salt a c caller (Delete kind id ovn) who op ∙ ap (delete_effect a caller.uss (kind, id)) there)
-    one two (record { room = room_of a t c first (ap is_change op); due = ap is_some there })
+    let room = room_of a t c first (ap is_change op) in
+    let areas = touched e.volumes [] in
+    let is = makes (notified_rise a proper room kind areas) in
+    let answer = answers.Changed (view_of a caller.uss e) (notices_in a kind areas) in
+    makes_from salt t c g a made (Some (changes.Remove kind id)) (ids_for a kind areas) answer
+    (effect_is salt a c caller (Delete kind id ovn) who op ∙ (ap (delete_effect a caller.uss (kind, id)) there
+    ∙ ap (λ (m : Subscriptions). (record (without_entity a (kind, id)) { subscriptions = m }, Done answer)) (sym (told_alike a proper kind areas))))
+    is.1 is.0 is.2 (record { room = room; due = ap is_some there; tells = notified_there a proper kind areas })
 
 pub makes_set : (salt : List ℕ) (t : ℕ) (c : Call) (g : Grounds) (a : Airspace) (caller : Caller) (uss old : List ℕ) (availability : Availability) (next : ℕ) (made : Made) → c.caller ≡ Some caller → c.op ≡ SetAvail uss old availability
-    → (g.serial < greatest_serial → next ≡ g.serial + 1) → made.change ≡ Some (changes.Avail uss availability (ovn_text salt next)) → made.answer ≡ answers.Avail uss availability (ovn_text salt next) → Prepares salt t c g a made
-makes_set salt t c g a caller uss old availability next made who op goes one two proper first ground =
+    → (g.serial < greatest_serial → next ≡ g.serial + 1) → made.change ≡ Some (changes.Avail uss availability (ovn_text salt next)) → made.notify ≡ [] → made.answer ≡ answers.Avail uss availability (ovn_text salt next) → Prepares salt t c g a made
+makes_set salt t c g a caller uss old availability next made who op goes one ids two proper first ground =
     let n = next_is a t c g next first (ap is_change op) ground goes in
-    makes_from salt t c g a made (Some (changes.Avail uss availability (ovn_text salt next))) (answers.Avail uss availability (ovn_text salt next))
+    makes_from salt t c g a made (Some (changes.Avail uss availability (ovn_text salt next))) [] (answers.Avail uss availability (ovn_text salt next))
     (effect_is salt a c caller (SetAvail uss old availability) who op
     ∙ ap (λ (k : ℕ). (with_availability a uss (availability, ovn_text salt k), Done (answers.Avail uss availability (ovn_text salt k)))) (sym n))
-    one two (record { room = room_of a t c first (ap is_change op); due = tt })
+    one ids two (record { room = room_of a t c first (ap is_change op); due = tt; tells = refl })
 
 -- ---- the effects on subscriptions
 
@@ -244,10 +275,10 @@ same_seen : (a : Airspace) (uss : List ℕ) (s x : Sub) → stored_reply (with_s
 unfolding view_of
 same_seen a uss s x = refl
 
-put_sub_made : (salt : List ℕ) (t : ℕ) (c : Call) (g : Grounds) (a : Airspace) (uss : List ℕ) (s : Sub) (made : Made) → effect salt a c.caller c.op ≡ put_sub_effect a uss s → PutsSub s a uss made → Fits (changes.PutSub s) a → Makes salt t c g a made.change made.answer
+put_sub_made : (salt : List ℕ) (t : ℕ) (c : Call) (g : Grounds) (a : Airspace) (uss : List ℕ) (s : Sub) (made : Made) → effect salt a c.caller c.op ≡ put_sub_effect a uss s → PutsSub s a uss made → Fits (changes.PutSub s) [] a → Makes salt t c g a made.change made.notify made.answer
 put_sub_made salt t c g a uss s made e puts fits =
-    makes_from salt t c g a made (Some (changes.PutSub s)) (answers.SubStored (seen_sub a s) (seen_of kinds.Intent a uss s) (seen_of kinds.Constraint a uss s))
-    (e ∙ ap (λ (r : Reply). (with_subscription a s, r)) (same_seen a uss s s)) puts.0 puts.1 fits
+    makes_from salt t c g a made (Some (changes.PutSub s)) [] (answers.SubStored (seen_sub a s) (seen_of kinds.Intent a uss s) (seen_of kinds.Constraint a uss s))
+    (e ∙ ap (λ (r : Reply). (with_subscription a s, r)) (same_seen a uss s s)) puts.0 puts.1 puts.2 fits
 
 pub makes_create_sub : (salt : List ℕ) (t : ℕ) (c : Call) (g : Grounds) (a : Airspace) (caller : Caller) (id : ℕ) (put : SubPut) (next : ℕ) (made : Made) → c.caller ≡ Some caller → c.op ≡ CreateSub id put → (g.serial < greatest_serial → next ≡ g.serial + 1)
     → PutsSub (sub_kept_as salt next caller.uss 0 id put) a caller.uss made → Prepares salt t c g a made
@@ -255,7 +286,7 @@ makes_create_sub salt t c g a caller id put next made who op goes puts proper fi
     let n = next_is a t c g next first (ap is_change op) ground goes in
     put_sub_made salt t c g a caller.uss (sub_kept_as salt next caller.uss 0 id put) made
     (effect_is salt a c caller (CreateSub id put) who op ∙ ap (λ (k : ℕ). put_sub_effect a caller.uss (sub_kept_as salt k caller.uss 0 id put)) (sym n))
-    puts (record { room = room_of a t c first (ap is_change op); due = (n, omega arith) })
+    puts (record { room = room_of a t c first (ap is_change op); due = (n, omega arith); tells = refl })
 
 pub makes_update_sub : (salt : List ℕ) (t : ℕ) (c : Call) (g : Grounds) (a : Airspace) (caller : Caller) (id : ℕ) (version : List ℕ) (put : SubPut) (old : Sub) (next : ℕ) (made : Made) → c.caller ≡ Some caller → c.op ≡ UpdateSub id version put → g.sub ≡ Some old
     → (g.serial < greatest_serial → next ≡ g.serial + 1) → PutsSub (sub_kept_as salt next old.manager old.index id put) a caller.uss made → Prepares salt t c g a made
@@ -265,12 +296,12 @@ makes_update_sub salt t c g a caller id version put old next made who op found g
     put_sub_made salt t c g a caller.uss (sub_kept_as salt next old.manager old.index id put) made
     (effect_is salt a c caller (UpdateSub id version put) who op ∙ (ap (update_sub_effect salt a caller.uss id put) there
     ∙ ap (λ (k : ℕ). put_sub_effect a caller.uss (sub_kept_as salt k old.manager old.index id put)) (sym n)))
-    puts (record { room = room_of a t c first (ap is_change op); due = (n, told_within a id old proper there) })
+    puts (record { room = room_of a t c first (ap is_change op); due = (n, told_within a id old proper there); tells = refl })
 
 pub makes_delete_sub : (salt : List ℕ) (t : ℕ) (c : Call) (g : Grounds) (a : Airspace) (caller : Caller) (id : ℕ) (version : List ℕ) (s : Sub) (made : Made) → c.caller ≡ Some caller → c.op ≡ DeleteSub id version → g.sub ≡ Some s
-    → made.change ≡ Some (changes.RemoveSub id) → made.answer ≡ answers.SubFound (seen_sub a s) → Prepares salt t c g a made
-makes_delete_sub salt t c g a caller id version s made who op found one two proper first ground =
+    → made.change ≡ Some (changes.RemoveSub id) → made.notify ≡ [] → made.answer ≡ answers.SubFound (seen_sub a s) → Prepares salt t c g a made
+makes_delete_sub salt t c g a caller id version s made who op found one ids two proper first ground =
     let there = sub_is a c g (DeleteSub id version) s op found ground in
-    makes_from salt t c g a made (Some (changes.RemoveSub id)) (answers.SubFound (seen_sub a s))
+    makes_from salt t c g a made (Some (changes.RemoveSub id)) [] (answers.SubFound (seen_sub a s))
     (effect_is salt a c caller (DeleteSub id version) who op ∙ ap (delete_sub_effect a id) there)
-    one two (record { room = room_of a t c first (ap is_change op); due = (ap is_some there, named_by_none a t c id version first op) })
+    one ids two (record { room = room_of a t c first (ap is_change op); due = (ap is_some there, named_by_none a t c id version first op); tells = refl })

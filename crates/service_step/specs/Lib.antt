@@ -1,4 +1,5 @@
 pub mod Reply
 pub mod Step
+pub mod Notices
 pub mod Looks
 pub mod Needed

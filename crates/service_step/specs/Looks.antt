@@ -1,5 +1,10 @@
 -- What the looks at a space tell and leave, before anything is changed.
-use Rattle.std.specs.Prelude.{◌≡◌, ℕ, ◌<◌, Bool, true, List, Option, Some, None, Result, IfOk, MatchResult, ◌⊎◌, IfSome, is_some}
+use Rattle.std.specs.List.{AllByRecursion}
+use Rattle.grid_core.specs.Extent.{Region}
+use Rattle.entity_core.specs.Search.{subscribers_in}
+use Rattle.entity_core.specs.Serial.{greatest_serial}
+use Rattle.entity_core.specs.declared.nature.Kind.{Kind}
+use Rattle.std.specs.Prelude.{◌≡◌, ℕ, ◌<◌, map, Bool, true, List, [], Option, Some, None, Result, IfOk, MatchResult, ◌⊎◌, IfSome, is_some}
 use Rattle.space_core.specs.declared.space.Space.{Ghosts}
 use Rattle.space_core.specs.declared.space.SpaceFault.TheVariants.{Unchanged, Broken}
 use Rattle.space_core.specs.declared.space.Change.{Change}
@@ -73,22 +78,33 @@ IsReady (UpdateSub id version put) found sub = is_some sub ≡ true
 IsReady (DeleteSub id version) found sub = is_some sub ≡ true
 IsReady op found sub = Unit {0}
 
-abbrev pub changed_by : Option Change → Airspace → Airspace
-changed_by None a = a
-changed_by (Some change) a = changed change a
+abbrev pub changed_by : Option Change → List ℕ → Airspace → Airspace
+changed_by None told a = a
+changed_by (Some change) told a = changed change told a
 
 -- A change and an answer are the effect of a call that breaks no rule, and the change can be made.
 pub record Makes (salt : List ℕ) (now : ℕ) (c : Call) (g : Grounds) (a : Airspace)
-    (change : Option Change) (answer : Answer) : Type 0 where
-  pub effect : effect salt a c.caller c.op ≡ (changed_by change a, Done answer)
-  pub fits : IfSome change (λ change. Fits change a)
+    (change : Option Change) (told : List ℕ) (answer : Answer) : Type 0 where
+  pub effect : effect salt a c.caller c.op ≡ (changed_by change told a, Done answer)
+  pub fits : IfSome change (λ change. Fits change told a)
 
 -- for each airspace that may be kept in which the call breaks no rule
 abbrev pub Prepares : List ℕ → ℕ → Call → Grounds → Airspace → Made → Type 0
 Prepares salt now c g a made = IsAirspace a → first_broken a now c ≡ None → IsGround c.op a g
-    → Makes salt now c g a made.change made.answer
+    → Makes salt now c g a made.change made.notify made.answer
 
--- A change puts a subscription, and its answer is what a supplier sees of it and of what it is for.
+-- A change puts a subscription and notifies nobody, and its answer is what a supplier sees of it and
+-- of what it is for.
 abbrev pub PutsSub : Sub → Airspace → List ℕ → Made → Type 0
-PutsSub s a uss made = (made.change ≡ Some (changes.PutSub s))
+PutsSub s a uss made = (made.change ≡ Some (changes.PutSub s)) × (made.notify ≡ [])
     × (made.answer ≡ SubStored (seen_sub a s) (seen_of kinds.Intent a uss s) (seen_of kinds.Constraint a uss s))
+
+-- the index of each that a change notifies can rise
+abbrev pub CanTell : Airspace → Kind → List Region → Type 0
+CanTell a kind areas =
+    AllByRecursion (λ s. s.index < greatest_serial) (subscribers_in a.subscriptions kind areas)
+
+-- what is made notifies those that are for a kind and meet some area
+abbrev pub IsNotified : Airspace → Kind → List Region → Made → Type 0
+IsNotified a kind areas made =
+    made.notify ≡ map (λ s. s.id) (subscribers_in a.subscriptions kind areas)

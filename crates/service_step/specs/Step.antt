@@ -1,7 +1,7 @@
 -- What the policy answers, and what it leaves.
 use Rattle.std.specs.Prelude.{ℕ, ◌+◌, List, [], ◌∷◌, map, Option, Some, None, if◌then◌else◌}
 use Rattle.std.specs.FinMap.{get}
-use Rattle.grid_core.specs.Extent.{Region, region_of}
+use Rattle.grid_core.specs.Extent.{Extent, Region, region_of}
 use Rattle.entity_core.specs.declared.nature.Kind.{Kind}
 use Rattle.entity_core.specs.declared.nature.Kind.TheVariants as kinds
 use Rattle.entity_core.specs.declared.entity.Entity.{Entity}
@@ -26,6 +26,7 @@ use Rattle.policy_core.specs.View.{view_of}
 use Rattle.policy_core.specs.SubView.{sub_view_of}
 use Rattle.policy_core.specs.declared.reference.Reference.{Reference}
 use Rattle.policy_core.specs.declared.sub_view.SubView.{SubView}
+use Rattle.service_step.specs.Notices.{notices_in, touched, with_notified}
 use Rattle.service_step.specs.declared.reply.Answer.TheVariants.{Created, Changed, Found, Listed, Avail, SubStored, SubFound, SubListed}
 use Rattle.service_step.specs.declared.reply.Reply.{Reply}
 use Rattle.service_step.specs.declared.reply.Reply.TheVariants.{Done, Denied, Fault}
@@ -76,20 +77,38 @@ abbrev pub read_effect : Airspace → List ℕ → Option Entity → Airspace ×
 read_effect a uss (Some e) = (a, Done (Found (view_of a uss e)))
 read_effect a uss None = (a, Fault)
 
--- the airspace with an entity, and its reference there
-abbrev pub create_effect : Airspace → List ℕ → Entity → Airspace × Reply
-create_effect a uss e = (with_entity a e, Done (Created (view_of (with_entity a e) uss e)))
+-- The airspace with an entity in which those are told whom that notifies, its reference there, and
+-- what they are told. The volumes are those that the entity had before.
+abbrev pub kept_with : Airspace → List Extent → Entity → Airspace
+kept_with a old e =
+    with_notified (kind_of e.nature) (touched old e.volumes) (with_entity a e)
 
-abbrev pub put_effect : Airspace → List ℕ → Entity → Airspace × Reply
-put_effect a uss e = (with_entity a e, Done (Changed (view_of (with_entity a e) uss e)))
+abbrev pub create_effect : Airspace → List ℕ → Entity → Airspace × Reply
+create_effect a uss e = (
+  kept_with a [] e,
+  Done (Created (view_of (kept_with a [] e) uss e)
+      (notices_in a (kind_of e.nature) (touched [] e.volumes))),
+)
+
+abbrev pub put_effect : Airspace → List ℕ → List Extent → Entity → Airspace × Reply
+put_effect a uss old e = (
+  kept_with a old e,
+  Done (Changed (view_of (kept_with a old e) uss e)
+      (notices_in a (kind_of e.nature) (touched old e.volumes))),
+)
 
 abbrev pub update_effect : List ℕ → Airspace → List ℕ → ℕ → Put → Option Entity → Airspace × Reply
-update_effect salt a uss id put (Some e) = put_effect a uss (updated salt (a.serial + 1) id put e)
+update_effect salt a uss id put (Some e) =
+    put_effect a uss e.volumes (updated salt (a.serial + 1) id put e)
 update_effect salt a uss id put None = (a, Fault)
 
--- the airspace without an entity, and its reference as it was
+-- the airspace without an entity in which those are told whom that notifies, its reference as it
+-- was, and what they are told
 abbrev pub delete_effect : Airspace → List ℕ → EntityKey → Option Entity → Airspace × Reply
-delete_effect a uss key (Some e) = (without_entity a key, Done (Changed (view_of a uss e)))
+delete_effect a uss key (Some e) = (
+  with_notified key.0 (touched e.volumes []) (without_entity a key),
+  Done (Changed (view_of a uss e) (notices_in a key.0 (touched e.volumes []))),
+)
 delete_effect a uss key None = (a, Fault)
 
 -- a subscription, with the intents that name it

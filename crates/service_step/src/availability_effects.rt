@@ -23,15 +23,17 @@ pub fn setting(
 ) -> Result<Made, AllocError>
     ensures { IfOk result (λ made. (made.change
         ≡ Some (Change.Avail uss.now availability (ovn_text salt.now serial)))
+        × (made.notify ≡ [])
         × (made.answer ≡ Answer.Avail uss.now availability (ovn_text salt.now serial))) }
 {
     let version = ovn_of(alloc, salt, serial.number())?;
     let shown = version.clone()?.into_text();
     let change = Change::Avail(uss.clone()?, availability, version);
-    Ok(Made {
-        change: Some(change),
-        answer: Answer::Avail(uss.clone()?, availability, shown),
-    })
+    Ok(Made::untold(
+        alloc,
+        change,
+        Answer::Avail(uss.clone()?, availability, shown),
+    ))
 }
 
 /// What is told of a supplier.
@@ -48,14 +50,11 @@ pub fn told(
     match kept {
         Some((availability, version)) => {
             let shown = version.clone()?.into_text();
-            Ok(Made {
-                change: None,
-                answer: Answer::Avail(uss, *availability, shown),
-            })
+            Ok(Made::reading(alloc, Answer::Avail(uss, *availability, shown)))
         }
-        None => Ok(Made {
-            change: None,
-            answer: Answer::Avail(uss, Availability::Unknown, Text::empty(alloc)),
-        }),
+        None => Ok(Made::reading(
+            alloc,
+            Answer::Avail(uss, Availability::Unknown, Text::empty(alloc)),
+        )),
     }
 }

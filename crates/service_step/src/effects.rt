@@ -105,7 +105,7 @@ pub fn prepared<S: Space>(
             let Some(entity) = &grounds.found else {
                 unreachable!();
             };
-            reading(space, &caller.uss, entity)
+            reading(space, alloc, &caller.uss, entity)
         }
         Operation::Create(id, put) => {
             creation(space, alloc, salt, serial, &caller.uss, *id, put)
@@ -120,7 +120,7 @@ pub fn prepared<S: Space>(
             let Some(entity) = &grounds.found else {
                 unreachable!();
             };
-            removal(space, &caller.uss, *kind, *id, entity)
+            removal(space, alloc, &caller.uss, *kind, *id, entity)
         }
         Operation::ReadAvail(uss) => Ok(told(alloc, uss, &grounds.kept)?),
         Operation::SetAvail(uss, _, availability) => {

@@ -1,15 +1,17 @@
 //! The effects of the operations on entities.
 ghost use Rattle.std.specs.Prelude.{◌≡◌, ◌+◌, ◌<◌, IfOk, Some, None, map, [], ◌∷◌};
 ghost use Rattle.entity_core.specs.Serial.{greatest_serial};
-ghost use Rattle.entity_core.specs.Entity.{greatest_version};
-ghost use Rattle.entity_core.specs.Search.{meeting_in};
+ghost use Rattle.entity_core.specs.Entity.{greatest_version, kind_of};
+ghost use Rattle.entity_core.specs.Search.{meeting_in, subscribers_in};
 ghost use Rattle.policy_core.specs.View.{view_of};
-ghost use Rattle.service_step.specs.Looks.{Looks};
+ghost use Rattle.service_step.specs.Looks.{CanTell, IsNotified, Looks};
+ghost use Rattle.service_step.specs.Notices.{notices_in, notified_in, touched};
 ghost use Rattle.service_step.specs.Step.{kept_as};
 
 use crate::halt::Halt;
-use crate::look::{look_meeting, reference, references};
+use crate::look::{look_meeting, look_subscribers, reference, references};
 use crate::made::Made;
+use crate::notice::{Notices, ids_of, notices_of, tell_each};
 use crate::reply::Answer;
 use entity_core::entity::Entity;
 use entity_core::entity_id::EntityId;
@@ -17,10 +19,13 @@ use entity_core::nature::Kind;
 use entity_core::ovn::ovn_of;
 use entity_core::salt::Salt;
 use entity_core::serial::Serial;
+use entity_core::subscription::Sub;
 use entity_core::uss_id::UssId;
 use entity_core::version::Version;
 use grid_core::volume::Area;
+use grid_core::volumes::Volumes;
 use policy_core::call::Put;
+use policy_core::sub_view::Ids;
 use space_core::space::{Change, Space};
 use std::alloc::{AllocError, Global};
 use std::slice::from_ref;
@@ -85,26 +90,59 @@ pub fn listing<S: Space>(
 {
     let met = look_meeting(space, kind, from_ref(area), None)?;
     let shown = references(alloc, uss, &met)?;
-    Ok(Made {
-        change: None,
-        answer: Answer::Listed(kind, shown),
-    })
+    Ok(Made::reading(alloc, Answer::Listed(kind, shown)))
 }
 
 /// The reference of what is read.
-pub fn reading<S: Space>(space: &mut S, uss: &UssId, entity: &Entity) -> Result<Made, Halt>
+pub fn reading<S: Space>(
+    space: &mut S,
+    alloc: Global,
+    uss: &UssId,
+    entity: &Entity,
+) -> Result<Made, Halt>
     ensures { Looks S.Space space.old space.new result
         (λ a made. (made.change ≡ None) ×
         (made.answer ≡ Answer.Found (view_of a uss.now entity.now))) }
 {
     let shown = reference(space, uss, entity)?;
-    Ok(Made {
-        change: None,
-        answer: Answer::Found(shown),
-    })
+    Ok(Made::reading(alloc, Answer::Found(shown)))
 }
 
-/// The entity that a creation puts, and its reference.
+// Those who are notified of a change that touches some areas, with their new indexes.
+fn look_notified<S: Space>(space: &mut S, kind: Kind, areas: &[Area]) -> Result<Vec<Sub>, Halt>
+    ensures { Looks S.Space space.old space.new result (λ a found.
+        CanTell a kind areas.now → found.items ≡ notified_in a kind areas.now) }
+{
+    let mut subs = look_subscribers(space, kind, areas)?;
+    tell_each(subs.as_mut_slice());
+    Ok(subs)
+}
+
+// The ids of those, and what they are told.
+fn notified<S: Space>(
+    space: &mut S,
+    alloc: Global,
+    kind: Kind,
+    areas: &[Area],
+) -> Result<(Ids, Notices), Halt>
+    ensures { Looks S.Space space.old space.new result (λ a told. CanTell a kind areas.now
+        → (told.0 ≡ map (λ s. s.id) (subscribers_in a.subscriptions kind areas.now))
+        × (told.1 ≡ notices_in a kind areas.now)) }
+{
+    let subs = look_notified(space, kind, areas)?;
+    Ok((ids_of(alloc, &subs)?, notices_of(alloc, &subs)?))
+}
+
+// The areas of old volumes and of new ones.
+fn touched(alloc: Global, old: &Volumes, new: &Volumes) -> Result<Vec<Area>, AllocError>
+    ensures { IfOk result (λ areas. areas.items ≡ touched old.now new.now) }
+{
+    let mut areas = old.areas(alloc)?;
+    areas.append(&mut new.areas(alloc)?)?;
+    Ok(areas)
+}
+
+/// The entity that a creation puts, its reference, and whom it notifies of what.
 pub fn creation<S: Space>(
     space: &mut S,
     alloc: Global,
@@ -115,19 +153,26 @@ pub fn creation<S: Space>(
     put: &Put,
 ) -> Result<Made, Halt>
     ensures { Looks S.Space space.old space.new result
-        (λ a made. (made.change ≡ Some (Change.Put (kept_as salt.now serial uss.now 1 id put.now)))
+        (λ a made. CanTell a (kind_of put.now.nature) (touched [] put.now.volumes)
+        → IsNotified a (kind_of put.now.nature) (touched [] put.now.volumes) made
+        × (made.change ≡ Some (Change.Put (kept_as salt.now serial uss.now 1 id put.now)))
         × (made.answer ≡ Answer.Created
-        (view_of a uss.now (kept_as salt.now serial uss.now 1 id put.now)))) }
+        (view_of a uss.now (kept_as salt.now serial uss.now 1 id put.now))
+        (notices_in a (kind_of put.now.nature) (touched [] put.now.volumes)))) }
 {
     let entity = entity_of(alloc, salt, serial, uss, Version::first(), id, put)?;
     let shown = reference(space, uss, &entity)?;
+    let areas = entity.volumes.areas(alloc)?;
+    let (notify, told) = notified(space, alloc, entity.nature.kind(), &areas)?;
     Ok(Made {
         change: Some(Change::Put(entity)),
-        answer: Answer::Created(shown),
+        notify,
+        answer: Answer::Created(shown, told),
     })
 }
 
-/// The entity that an update puts in the place of another of the supplier's, and its reference.
+/// The entity that an update puts in the place of another of the supplier's, its reference, and
+/// whom it notifies of what.
 pub fn update<S: Space>(
     space: &mut S,
     alloc: Global,
@@ -140,35 +185,48 @@ pub fn update<S: Space>(
 ) -> Result<Made, Halt>
     ensures { Looks S.Space space.old space.new result
         (λ a made. old.now.version < greatest_version
-        → (made.change ≡ Some (Change.Put
+        → CanTell a (kind_of put.now.nature) (touched old.now.volumes put.now.volumes)
+        → IsNotified a (kind_of put.now.nature) (touched old.now.volumes put.now.volumes) made
+        × (made.change ≡ Some (Change.Put
         (kept_as salt.now serial old.now.manager (old.now.version + 1) id put.now)))
         × (made.answer ≡ Answer.Changed (view_of a uss.now
-        (kept_as salt.now serial old.now.manager (old.now.version + 1) id put.now)))) }
+        (kept_as salt.now serial old.now.manager (old.now.version + 1) id put.now))
+        (notices_in a (kind_of put.now.nature) (touched old.now.volumes put.now.volumes)))) }
 {
     let version = next_version(old.version);
     let entity = entity_of(alloc, salt, serial, &old.manager, version, id, put)?;
     let shown = reference(space, uss, &entity)?;
+    let areas = touched(alloc, &old.volumes, &entity.volumes)?;
+    let (notify, told) = notified(space, alloc, entity.nature.kind(), &areas)?;
     Ok(Made {
         change: Some(Change::Put(entity)),
-        answer: Answer::Changed(shown),
+        notify,
+        answer: Answer::Changed(shown, told),
     })
 }
 
-/// The removal of an entity, and its reference as it was.
+/// The removal of an entity, its reference as it was, and whom it notifies of what.
 pub fn removal<S: Space>(
     space: &mut S,
+    alloc: Global,
     uss: &UssId,
     kind: Kind,
     id: EntityId,
     entity: &Entity,
 ) -> Result<Made, Halt>
     ensures { Looks S.Space space.old space.new result
-        (λ a made. (made.change ≡ Some (Change.Remove kind id))
-        × (made.answer ≡ Answer.Changed (view_of a uss.now entity.now))) }
+        (λ a made. CanTell a kind (touched entity.now.volumes [])
+        → IsNotified a kind (touched entity.now.volumes []) made
+        × (made.change ≡ Some (Change.Remove kind id))
+        × (made.answer ≡ Answer.Changed (view_of a uss.now entity.now)
+        (notices_in a kind (touched entity.now.volumes [])))) }
 {
     let shown = reference(space, uss, entity)?;
+    let areas = entity.volumes.areas(alloc)?;
+    let (notify, told) = notified(space, alloc, kind, &areas)?;
     Ok(Made {
         change: Some(Change::Remove(kind, id)),
-        answer: Answer::Changed(shown),
+        notify,
+        answer: Answer::Changed(shown, told),
     })
 }

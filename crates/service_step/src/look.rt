@@ -2,6 +2,7 @@
 ghost use Rattle.std.specs.Prelude.{◌≡◌, ◌≢◌, Err, IfOk, List, map, unwrap_or, []};
 ghost use Rattle.std.specs.FinMap.{get};
 ghost use Rattle.entity_core.specs.Airspace.{Airspace, availability_of};
+ghost use Rattle.entity_core.specs.Search.{subscribers_in};
 ghost use Rattle.entity_core.specs.declared.entity.Entity.{Entity};
 ghost use Rattle.policy_core.specs.Call.{subject_of};
 ghost use Rattle.policy_core.specs.Standing.{depended_of, found_of, is_some_of, kept_of, lent_entity, lent_facts, lent_stated, lent_sub, sub_under};
@@ -184,6 +185,18 @@ pub fn look_meeting<S: Space>(
         (λ a found. found.items ≡ met_in a kind areas.now except) }
 {
     Ok(space.meeting(kind, areas, except)?)
+}
+
+/// The subscriptions that are for a kind and meet some area, by rising ids.
+pub fn look_subscribers<S: Space>(
+    space: &mut S,
+    kind: Kind,
+    areas: &[Area],
+) -> Result<Vec<Sub>, Halt>
+    ensures { Looks S.Space space.old space.new result
+        (λ a found. found.items ≡ subscribers_in a.subscriptions kind areas.now) }
+{
+    Ok(space.subscribers(kind, areas)?)
 }
 
 fn availability_in(kept: Option<(Availability, Ovn)>) -> Availability

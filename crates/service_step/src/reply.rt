@@ -1,6 +1,7 @@
 //! What is answered.
 ghost use Rattle.std.specs.Prelude.{◌≡◌};
 
+use crate::notice::Notices;
 use entity_core::availability::Availability;
 use entity_core::nature::Kind;
 use entity_core::text::Text;
@@ -12,10 +13,11 @@ use policy_core::sub_view::{SubView, SubViews};
 /// The answer to a call that broke no rule.
 #[derive(Debug, Drop)]
 pub enum Answer {
-    /// An entity is kept now: its reference.
-    Created(Reference),
-    /// Updated or deleted: its reference after the update, or as it was before the deletion.
-    Changed(Reference),
+    /// An entity is kept now: its reference, and what is told to those whom that notifies.
+    Created(Reference, Notices),
+    /// Updated or deleted: its reference after the update, or as it was before the deletion, and
+    /// what is told to those whom that notifies.
+    Changed(Reference, Notices),
     /// The reference of an entity.
     Found(Reference),
     /// The references of the entities of a kind that meet an area, by rising ids.

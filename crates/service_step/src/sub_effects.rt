@@ -144,10 +144,7 @@ pub fn sub_listing<S: Space>(
 {
     let own = look_own(space, uss, area)?;
     let shown = seen_subs(space, alloc, &own)?;
-    Ok(Made {
-        change: None,
-        answer: Answer::SubListed(shown),
-    })
+    Ok(Made::reading(alloc, Answer::SubListed(shown)))
 }
 
 /// The subscription that is read.
@@ -156,10 +153,7 @@ pub fn sub_reading<S: Space>(space: &mut S, alloc: Global, sub: &Sub) -> Result<
         (λ a made. (made.change ≡ None) × (made.answer ≡ Answer.SubFound (seen_sub a sub.now))) }
 {
     let shown = seen_sub(space, alloc, sub)?;
-    Ok(Made {
-        change: None,
-        answer: Answer::SubFound(shown),
-    })
+    Ok(Made::reading(alloc, Answer::SubFound(shown)))
 }
 
 // The change that puts a subscription, and its answer.
@@ -167,10 +161,7 @@ fn sub_put<S: Space>(space: &mut S, alloc: Global, uss: &UssId, sub: Sub) -> Res
     ensures { Looks S.Space space.old space.new result (λ a made. PutsSub sub a uss.now made) }
 {
     let answer = stored(space, alloc, uss, &sub)?;
-    Ok(Made {
-        change: Some(Change::PutSub(sub)),
-        answer,
-    })
+    Ok(Made::untold(alloc, Change::PutSub(sub), answer))
 }
 
 /// The subscription that a creation puts, and what is seen of it.
@@ -218,12 +209,9 @@ pub fn sub_removal<S: Space>(
     sub: &Sub,
 ) -> Result<Made, Halt>
     ensures { Looks S.Space space.old space.new result
-        (λ a made. (made.change ≡ Some (Change.RemoveSub id))
+        (λ a made. (made.change ≡ Some (Change.RemoveSub id)) × (made.notify ≡ [])
         × (made.answer ≡ Answer.SubFound (seen_sub a sub.now))) }
 {
     let shown = seen_sub(space, alloc, sub)?;
-    Ok(Made {
-        change: Some(Change::RemoveSub(id)),
-        answer: Answer::SubFound(shown),
-    })
+    Ok(Made::untold(alloc, Change::RemoveSub(id), Answer::SubFound(shown)))
 }

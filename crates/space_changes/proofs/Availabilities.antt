@@ -36,12 +36,14 @@ use Rattle.entity_core.specs.Serial.{greatest_serial}
 use Rattle.space_core.specs.declared.space.Change.TheVariants.{Avail}
 use Rattle.space_rows.proofs.Pieces.{all_turned}
 use Rattle.space_tables.specs.Tables.{dss_schema, availability}
-use Rattle.space_tables.specs.Spelling.{Spells, IsGroup, IsStated, AreApart, availability_number, availability_values, three_columns}
+use Rattle.space_tables.proofs.FirstFormat.{IsFirstGroup, spelt_first}
+use Rattle.space_tables.specs.Spelling.{Spells, IsStated, AreApart, availability_number, availability_values, three_columns}
 use Rattle.space_tables.proofs.Steps.{cast_int, cast_null, inserts}
 use Rattle.space_changes.specs.Layout.{Always, Relays, ReplacesAvailability, layout_of, with_availability_row, without_availability_row, with_next_serial}
 use Rattle.space_changes.specs.Statements.{RelaysSound, MakesChange}
 use Rattle.space_changes.proofs.Texts.{clear_availability_text, insert_availability_text}
-use Rattle.space_changes.proofs.Means.{is_first, query_of}
+use Rattle.space_tables.proofs.Selecting.{query_of}
+use Rattle.space_changes.proofs.Means.{is_first}
 use Rattle.space_changes.proofs.Selecting.{clears_table}
 use Rattle.space_changes.proofs.Clear.{apart_kept}
 use Rattle.space_changes.proofs.Relaying.{availabilities_relaid}
@@ -144,19 +146,19 @@ module _ (db : Database) (a : Airspace) (p : Spells db a) (uss : List ℕ) (stat
     serial = refl;
     most = omega (arith, room);
     rising = p.rising;
-    each = all_turned (IsGroup a.serial) (IsGroup (a.serial + 1)) (λ g h. record { spelt = h.spelt; most = let low = h.most in omega (arith, low) }) p.groups p.each;
+    each = all_turned (IsFirstGroup a.serial) (IsFirstGroup (a.serial + 1)) (λ g h. record { spelt = h.spelt; naming = h.naming; most = let low = h.most in omega (arith, low) }) p.groups (spelt_first db a p).each;
     entities = IsPermutation-refl _;
     volumes = IsPermutation-refl _;
     cells = IsPermutation-refl _;
     kept = p.kept;
-    subscriptions = p.subscriptions;
+    subscriptions = (spelt_first db a p).subscriptions;
     availabilities = IsPermutation-trans _ _ _ (IsPermutation-sym _ _ together) (IsPermutation-append_comm ((uss, stated) ∷ []) (others text_cmp nat_list_cmp_total text_exact uss (entries a.availabilities)));
     stated = recursion_from_All IsStated _ (All-permutation IsStated _ _ together (All-from_recursion IsStated ((uss, stated) ∷ others text_cmp nat_list_cmp_total text_exact uss (entries a.availabilities)) (is, all-filter IsStated _ (entries a.availabilities) p.stated)));
   }
 
 -- what a USS has set is replaced, and the serial goes on
 pub sets_availability : (old replaced new : Database) (uss : List ℕ) (availability : Availability) (version : List ℕ) → ReplacesAvailability uss (availability, version) old replaced → RelaysSound (λ l. l.serial < greatest_serial) with_next_serial replaced new
-    → MakesChange (Avail uss availability version) old new
+    → MakesChange (Avail uss availability version) [] old new
 sets_availability old replaced new uss availability version replaces raises a p fits =
     let l = layout_of old a p in
     let stated : Stated = (availability, version) in

@@ -1,5 +1,5 @@
 -- A transaction is committed, or undone.
-use Rattle.std.proofs.Common.{arith, ◌≡◌, inl, inr, true, false, Ok, Err, Result, IfErr, OnOk, OnErr, [], refl, sym, subst, ◌∙◌}
+use Rattle.std.proofs.Common.{arith, ◌≡◌, inl, inr, true, false, Ok, Err, Result, IfErr, OnOk, OnErr, ℕ, List, [], refl, sym, subst, ◌∙◌}
 use Rattle.std.specs.Prelude.{IsTrue, IsErr}
 use Rattle.sqlite_trees.specs.declared.store.Store.{Ghosts}
 use Rattle.sqlite.specs.Held.{Held, state}
@@ -23,7 +23,7 @@ fails_back old last new (Ok x) h on kept alive = tt
 fails_back old last new (Err e) (inl f) on kept alive = let back = f.3 in let same = kept.committed (back.was_open alive) in ((back.undone alive).0 ∙ same, (back.undone alive).1 ∙ same)
 fails_back old last new (Err e) (inr h) on kept alive = absurd (let both = sym on ∙ h.1 in cc)
 
-module _ {S : Type 0} (g : Ghosts S) (old : Held S) (change : Change) (last new : State) where
+module _ {S : Type 0} (g : Ghosts S) (old : Held S) (change : Change) (told : List ℕ) (last new : State) where
   abbrev begun : State
   begun = state g (record old { in_transaction = true })
 
@@ -31,27 +31,27 @@ module _ {S : Type 0} (g : Ghosts S) (old : Held S) (change : Change) (last new 
   before = state g old
 
   abbrev Changes : Unit {0} → Database → Database → Type 0
-  Changes _ = MakesChange change
+  Changes _ = MakesChange change told
 
   -- the commit has been tried
   pub committed : (r : Result (Unit {0}) Error) → Runs Changes begun last (Ok tt)
       → (HasCleanDisk new → OnOk r (IsTrue last.in_transaction × Shows last new last.now last.now false × KeepsCounts last new × (new.marks ≡ [])))
-      → (HasCleanDisk new → IfErr r (FailsToCommit last new)) → Survives last new (λ db. db ≡ last.now.trees) → Commits (Fits change) (changed change) before new r
+      → (HasCleanDisk new → IfErr r (FailsToCommit last new)) → Survives last new (λ db. db ≡ last.now.trees) → Commits (Fits change told) (changed change told) before new r
   committed r ran ok err survives = record {
     done = λ clean.
         let it = (ran.done (omega (arith, survives.clean)) refl).0 in
-        ok_map r _ _ (ok clean) (λ shown. ((λ a p fits. subst (λ d. Spells d (changed change a)) (sym shown.1.now_is) (it a p fits).0), (shown.1.is_open, shown.1.committed_is ∙ sym shown.1.now_is)));
+        ok_map r _ _ (ok clean) (λ shown. ((λ a p fits. subst (λ d. Spells d (changed change told a)) (sym shown.1.now_is) (it a p fits).0), (shown.1.is_open, shown.1.committed_is ∙ sym shown.1.now_is)));
     err = λ clean alive.
         let mid : HasCleanDisk last = omega (arith, survives.clean) in
         let kept = ran.kept mid refl in
         fails_back before last new r (err clean) (ran.done mid refl).1.mode (record { was_open = kept.was_open; committed = kept.committed }) alive;
-    crash = survives_then before last new _ _ (MayBeChanged (Fits change) (changed change) before) (λ _ db none. absurd none)
+    crash = survives_then before last new _ _ (MayBeChanged (Fits change told) (changed change told) before) (λ _ db none. absurd none)
         (λ clean db is a p fits. let it = (ran.done (omega (arith, survives.clean)) refl).0 a p fits in (last.now, is, it.1, it.0))
         (survives_begin g old last _ ran.survives) survives;
   }
 
   -- it has been rolled back
-  pub undone : (r : Result (Unit {0}) Error) (e : Error) → IsErr r → Runs Changes begun last (Err e) → (HasCleanDisk new → IsRolledBack last new) → Survives last new (λ _. ⊥) → Commits (Fits change) (changed change) before new r
+  pub undone : (r : Result (Unit {0}) Error) (e : Error) → IsErr r → Runs Changes begun last (Err e) → (HasCleanDisk new → IsRolledBack last new) → Survives last new (λ _. ⊥) → Commits (Fits change told) (changed change told) before new r
   undone (Ok x) e failed ran back survives = absurd (let none = failed in cc)
   undone (Err f) e failed ran back survives = record {
     done = λ clean. tt;
@@ -59,5 +59,5 @@ module _ {S : Type 0} (g : Ghosts S) (old : Held S) (change : Change) (last new 
         let kept = (ran.kept (omega (arith, survives.clean)) refl).committed ((back clean).was_open alive) in
         let it = (back clean).undone alive in
         (it.0 ∙ kept, it.1 ∙ kept);
-    crash = survives_then before last new _ _ (MayBeChanged (Fits change) (changed change) before) (λ _ db none. absurd none) (λ _ db none. absurd none) (survives_begin g old last _ ran.survives) survives;
+    crash = survives_then before last new _ _ (MayBeChanged (Fits change told) (changed change told) before) (λ _ db none. absurd none) (λ _ db none. absurd none) (survives_begin g old last _ ran.survives) survives;
   }

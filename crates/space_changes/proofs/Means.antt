@@ -1,25 +1,16 @@
 -- What the statements mean.
-use Rattle.std.proofs.Common.{◌≡◌, ℕ, List, refl, [], ◌∷◌, pos, negsuc, None, false, codes}
+use Rattle.std.proofs.Common.{◌≡◌, ℕ, List, refl, [], ◌∷◌, pos, false, codes}
 use Rattle.sqlite.specs.declared.types.Value.TheVariants.{Null, Int}
 use Rattle.sqlite_tied.specs.Compute.{everything}
 use Rattle.sqlite.specs.Listing.{understood, reads_listing}
 use Rattle.sqlite.proofs.Callers.{IsPlain, command_of}
 use Rattle.sqlite.specs.Command.TheVariants.{Update, Delete, Select}
-use Rattle.sqlite.specs.Query.{Query, inner, end}
 use Rattle.sqlite.specs.Term.{Term, lit, col, op2}
-use Rattle.sqlite.specs.Collation.TheVariants.{Binary}
-use Rattle.sqlite_sql.specs.declared.ops.BinaryOp.TheVariants.{Compare, Arith}
-use Rattle.sqlite_sql.specs.declared.ops.CompareOp.TheVariants.{Eq}
+use Rattle.sqlite_sql.specs.declared.ops.BinaryOp.TheVariants.{Arith}
 use Rattle.sqlite_sql.specs.declared.ops.ArithOp.TheVariants.{Add}
 use Rattle.space_tables.specs.Tables.{dss_schema}
+use Rattle.space_tables.proofs.Selecting.{equals, query_of, is_one}
 use Rattle.space_changes.proofs.Texts.{clear_cells_text, clear_volumes_text, clear_row_text, raise_serial_text, number_text}
-
-abbrev pub equals : Term → Term → Term
-equals a b = op2 (Compare Eq Binary) a b
-
--- of the rows of a tree that pass the tests, these terms
-abbrev pub query_of : ℕ → List Term → List Term → Query
-query_of t tests shown = record { from = inner t end; filter = tests; group = None; project = shown; distinct = false; collations = []; order = []; limit = lit (Int (negsuc 0)); offset = lit (Int (pos 0)) }
 
 -- a column is the first parameter
 abbrev pub is_first : ℕ → List Term
@@ -48,9 +39,6 @@ clear_row_is = refl
 pub clear_row_plain : IsPlain (understood dss_schema clear_row_text)
 unfolding understood everything
 clear_row_plain = (refl, refl)
-
-abbrev pub is_one : List Term
-is_one = equals (col 1 0) (lit (Int (pos 1))) ∷ []
 
 abbrev pub raised_row : List Term
 raised_row = col 1 0 ∷ col 1 0 ∷ lit Null ∷ col 1 2 ∷ op2 (Arith Add) (col 1 3) (lit (Int (pos 1))) ∷ []

@@ -35,13 +35,14 @@ use Rattle.space_rows.specs.declared.rows.EntityRow.{EntityRow}
 use Rattle.space_rows.specs.Rows.{kind_number}
 use Rattle.space_rows.proofs.OneEntity.{one_id}
 use Rattle.space_tables.specs.Tables.{dss_schema}
-use Rattle.space_tables.specs.Spelling.{Group, IsGroup, entity_values, entity_columns}
+use Rattle.space_tables.proofs.FirstFormat.{IsFirstGroup, spelt_first}
+use Rattle.space_tables.specs.Spelling.{Group, entity_values, entity_columns}
 use Rattle.space_changes.specs.Layout.{Layout, LaysOut, IsNumberOf, layout_of}
 use Rattle.space_changes.specs.Statements.{FindsNumber, ShowsNumbers, is_of}
 use Rattle.space_changes.proofs.Texts.{number_text}
 use Rattle.space_changes.proofs.Means.{is_kind_and_id, number_is, number_plain, number_unlisted}
 use Rattle.space_changes.proofs.Running.{shown_same}
-use Rattle.space_changes.proofs.Selecting.{shows}
+use Rattle.space_tables.proofs.Selecting.{shows}
 use Rattle.space_changes.proofs.Lists.{all_there, equal_of, first_of_two, has_filtered, last_of_two}
 use Rattle.space_changes.proofs.Rows.{rows_passing}
 use Rattle.space_changes.proofs.Spelt.{lay_out}
@@ -90,14 +91,14 @@ module _ (serial : ℕ) (k : EntityKey) where
   is_its = is_of (kind_number k.0) (printed k.1)
 
   -- the row of an entity of the key passes
-  passes_own : (g : Group) → IsGroup serial g → key_of g.entity ≡ k → is_its g.row ≡ true
+  passes_own : (g : Group) → IsFirstGroup serial g → key_of g.entity ≡ k → is_its g.row ≡ true
   passes_own g is e =
       let kind : g.row.kind ≡ kind_number k.0 = is.spelt.entity.kind ∙ ap (λ (q : EntityKey). kind_number q.0) e in
       let id : g.row.id ≡ printed k.1 = is.spelt.entity.id ∙ ap (λ (q : EntityKey). printed q.1) e in
       rw (kind, id, (Decides-int_eq (kind_number k.0) (kind_number k.0)).1 refl, tied_itself nat_list_cmp_total (printed k.1))
 
   -- and no other
-  key_from : (g : Group) → k.1 < 2 ^ 128 → IsGroup serial g → is_its g.row ≡ true → key_of g.entity ≡ k
+  key_from : (g : Group) → k.1 < 2 ^ 128 → IsFirstGroup serial g → is_its g.row ≡ true → key_of g.entity ≡ k
   key_from g low is e =
       let kind = one_kind (kind_of g.entity.nature) k.0 (sym is.spelt.entity.kind ∙ same_int g.row.kind (kind_number k.0) (first_of_two _ _ e)) in
       let id = one_id g.row.id g.entity.id k.1 is.spelt.kept.id low is.spelt.entity.id (same_text g.row.id (printed k.1) (last_of_two _ _ e)) in
@@ -115,13 +116,13 @@ module _ (serial : ℕ) (k : EntityKey) where
       go true e more = ((h, sub h (inl refl), e, refl), more)
       go false e more = more
 
-  module _ (gs : List Group) (each : AllByRecursion (IsGroup serial) gs) (rows : List Row) (same : IsPermutation (map (λ (e : EntityRow). Int e.num ∷ []) (filter is_its (map (λ (g : Group). g.row) gs))) rows) where
+  module _ (gs : List Group) (each : AllByRecursion (IsFirstGroup serial) gs) (rows : List Row) (same : IsPermutation (map (λ (e : EntityRow). Int e.num ∷ []) (filter is_its (map (λ (g : Group). g.row) gs))) rows) where
     -- each row that is shown has the number of the entity
     pub shown_number : k.1 < 2 ^ 128 → (row : Row) (num : ℤ) → Has rows row → column row 0 ≡ Int num → IsNumberOf num k gs
     shown_number low row num there is =
         let all = recursion_from_All (IsShownOf gs) rows (All-permutation (IsShownOf gs) _ rows same (All-from_recursion (IsShownOf gs) _ (each_shown gs gs (λ g m. m)))) in
         let it = all_there (IsShownOf gs) rows all row there in
-        record { group = it.0; there = it.1; number = number_of_int it.0.row.num num (sym (ap (λ c. column c 0) it.3) ∙ is); key = key_from it.0 low (all_there (IsGroup serial) gs each it.0 it.1) it.2 }
+        record { group = it.0; there = it.1; number = number_of_int it.0.row.num num (sym (ap (λ c. column c 0) it.3) ∙ is); key = key_from it.0 low (all_there (IsFirstGroup serial) gs each it.0 it.1) it.2 }
       where
         number_of_int : (m n : ℤ) → ◌≡◌ {A = Value} (Int m) (Int n) → m ≡ n
         number_of_int m n e = cc
@@ -140,7 +141,7 @@ module _ (serial : ℕ) (k : EntityKey) where
     none_shown none num it =
         let moved = length_permutation _ rows same in
         let short = length-map (filter is_its (map (λ (g : Group). g.row) gs)) (λ (e : EntityRow). Int e.num ∷ []) in
-        none_there (filter is_its (map (λ (g : Group). g.row) gs)) it.group.row (has_filtered is_its (map (λ (g : Group). g.row) gs) it.group.row (has_row gs it.group it.there) (passes_own it.group (all_there (IsGroup serial) gs each it.group it.there) it.key))
+        none_there (filter is_its (map (λ (g : Group). g.row) gs)) it.group.row (has_filtered is_its (map (λ (g : Group). g.row) gs) it.group.row (has_row gs it.group it.there) (passes_own it.group (all_there (IsFirstGroup serial) gs each it.group it.there) it.key))
         (omega (arith, none, moved, short))
 
 pub first_there : {X : Type 0} (xs : List X) (x : X) → 0 < length xs → x ≡ get_or xs 0 x → Has xs x
@@ -151,9 +152,9 @@ first_there (y ∷ xs) x low e = inl e
 pub finds_none : (k : EntityKey) (rows : List Row) (old new : Database) → length rows ≡ 0 → ShowsNumbers (kind_number k.0) (printed k.1) rows old new → FindsNumber k None old new
 finds_none k rows old new none shown = λ a p.
     let it = shown (layout_of old a p) (lay_out old a p) in
-    (it.0, none_shown a.serial k p.groups p.each rows it.1 none)
+    (it.0, none_shown a.serial k p.groups (spelt_first old a p).each rows it.1 none)
 
 pub finds_number : (k : EntityKey) (rows : List Row) (row : Row) (num : ℤ) (old new : Database) → k.1 < 2 ^ 128 → Has rows row → column row 0 ≡ Int num → ShowsNumbers (kind_number k.0) (printed k.1) rows old new → FindsNumber k (Some num) old new
 finds_number k rows row num old new low there is shown = λ a p.
     let it = shown (layout_of old a p) (lay_out old a p) in
-    (it.0, shown_number a.serial k p.groups p.each rows it.1 low row num there is)
+    (it.0, shown_number a.serial k p.groups (spelt_first old a p).each rows it.1 low row num there is)

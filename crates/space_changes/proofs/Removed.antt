@@ -13,7 +13,7 @@ use Rattle.sqlite_rules.specs.Lists.{Has}
 use Rattle.sqlite_trees.specs.Tree.{IsAscending}
 use Rattle.sqlite.specs.Effect.{Database}
 use Rattle.entity_core.specs.declared.nature.Kind.{Kind}
-use Rattle.entity_core.specs.Airspace.{Airspace, EntityKey, key_cmp, key_of, without_entity}
+use Rattle.entity_core.specs.Airspace.{Airspace, EntityKey, is_one_of, key_cmp, key_of, without_entity}
 use Rattle.entity_core.specs.Serial.{greatest_serial}
 use Rattle.entity_core.proofs.Keys.{key_total, key_exact}
 use Rattle.space_core.specs.declared.space.Change.TheVariants.{Remove}
@@ -21,13 +21,14 @@ use Rattle.space_rows.specs.declared.rows.EntityRow.{EntityRow}
 use Rattle.space_rows.specs.declared.rows.VolumeRow.{VolumeRow}
 use Rattle.space_rows.specs.declared.rows.CellRow.{CellRow}
 use Rattle.space_rows.proofs.Pieces.{Borne, all_turned}
-use Rattle.space_tables.specs.Spelling.{Spells, Group, IsGroup, IsBefore, pair_of}
+use Rattle.space_tables.proofs.FirstFormat.{IsFirstGroup, spelt_first}
+use Rattle.space_tables.specs.Spelling.{Spells, Group, IsBefore, pair_of}
 use Rattle.space_tables.proofs.OneAirspace.{volumes_borne, cells_borne}
 use Rattle.space_changes.specs.Layout.{LaysOut, IsNumberOf, layout_of, without_rows, with_next_serial}
 use Rattle.space_changes.specs.Statements.{FindsNumber, RelaysSound, MakesChange}
 use Rattle.space_changes.proofs.Lists.{alone, filter_joined, filter_on, has_filtered}
 use Rattle.space_changes.proofs.Entries.{hits, few_hits, removed}
-use Rattle.space_changes.proofs.Spelt.{AreRowsOf, lay_out, spell_out}
+use Rattle.space_changes.proofs.Spelt.{AreRowsOf, lay_out, spell_out, spelt_told}
 
 -- ---- the groups of other numbers
 
@@ -110,21 +111,22 @@ module _ (db : Database) (a : Airspace) (p : Spells db a) (num : ℤ) (k : Entit
     serial = refl;
     most = omega (arith, room);
     rising = ascending-filter IsBefore _ p.groups p.rising;
-    each = all-filter (IsGroup (a.serial + 1)) _ p.groups (all_turned (IsGroup a.serial) (IsGroup (a.serial + 1)) (λ g h. record { spelt = h.spelt; most = let low = h.most in omega (arith, low) }) p.groups p.each);
+    each = all-filter (IsFirstGroup (a.serial + 1)) _ p.groups (all_turned (IsFirstGroup a.serial) (IsFirstGroup (a.serial + 1)) (λ g h. record { spelt = h.spelt; naming = h.naming; most = let low = h.most in omega (arith, low) }) p.groups (spelt_first db a p).each);
     entities = subst (IsPermutation (map (λ (g : Group). g.row) (filter (is_other num) p.groups))) (sym (filter-map (λ (e : EntityRow). not (int_eq e.num num)) (λ (g : Group). g.row) p.groups)) (IsPermutation-refl _);
-    volumes = subst (IsPermutation (flat_map (λ (g : Group). g.volumes) (filter (is_other num) p.groups))) (rows_of_others (λ (v : VolumeRow). v.entity) (λ g. g.volumes) num p.groups (volumes_borne a.serial p.groups p.each)) (IsPermutation-refl _);
-    cells = subst (IsPermutation (flat_map (λ (g : Group). g.cells) (filter (is_other num) p.groups))) (rows_of_others (λ (c : CellRow). c.entity) (λ g. g.cells) num p.groups (cells_borne a.serial p.groups p.each)) (IsPermutation-refl _);
+    volumes = subst (IsPermutation (flat_map (λ (g : Group). g.volumes) (filter (is_other num) p.groups))) (rows_of_others (λ (v : VolumeRow). v.entity) (λ g. g.volumes) num p.groups (volumes_borne a.serial p.subs p.groups p.each)) (IsPermutation-refl _);
+    cells = subst (IsPermutation (flat_map (λ (g : Group). g.cells) (filter (is_other num) p.groups))) (rows_of_others (λ (c : CellRow). c.entity) (λ g. g.cells) num p.groups (cells_borne a.serial p.subs p.groups p.each)) (IsPermutation-refl _);
     kept = subst₂ (λ x y. IsPermutation x y) (sym others_kept) (sym (removed key_cmp key_total key_exact a.entities k)) (IsPermutation-filter (λ e. not (hits key_cmp key_total key_exact k e)) _ _ p.kept);
     availabilities = IsPermutation-refl _;
-    subscriptions = p.subscriptions;
+    subscriptions = (spelt_first db a p).subscriptions;
     stated = p.stated;
   }
 
 -- the number is found, its rows are removed, and the serial goes on
 pub removes_entity : (old found new : Database) (kind : Kind) (id : ℕ) (num : ℤ) → FindsNumber (kind, id) (Some num) old found → RelaysSound (λ l. l.serial < greatest_serial) (λ l. with_next_serial (without_rows num l)) found new
-    → MakesChange (Remove kind id) old new
+    → MakesChange (Remove kind id) [] old new
 removes_entity old found new kind id num finds removes a p fits =
     let it = finds a p in
     let l = layout_of old a p in
     let has = subst (λ db. LaysOut db l) (sym it.0) (lay_out old a p) in
-    (spell_out new (with_next_serial (without_rows num l)) (filter (is_other num) p.groups) (without_entity a (kind, id)) (removes.0 l fits.room has) (rows_left old a p num (kind, id) it.1 fits.room), removes.1 l fits.room has)
+    let left = without_entity a (kind, id) in
+    (spelt_told new left (is_one_of []) (spell_out new (with_next_serial (without_rows num l)) (filter (is_other num) p.groups) left (removes.0 l fits.room has) (rows_left old a p num (kind, id) it.1 fits.room)), removes.1 l fits.room has)

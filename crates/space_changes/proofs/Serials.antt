@@ -1,17 +1,14 @@
 -- The serial goes on by one.
-use Rattle.std.proofs.Common.{◌≡◌, ℕ, ◌+◌, ◌<◌, ◌^◌, ℤ, pos, List, [], ◌∷◌, map, filter, false, cond, Some, None, Ok, Err, Result, OnOk, refl, ap, subst, ◌∙◌, arith}
+use Rattle.std.proofs.Common.{◌≡◌, ℕ, ◌+◌, ◌<◌, ◌^◌, ℤ, pos, [], ◌∷◌, map, filter, cond, Some, None, Ok, Err, Result, OnOk, refl, ap, subst, ◌∙◌, arith}
 use Rattle.std.specs.Prelude.{IsPermutation}
-use Rattle.std.specs.List.{list_all}
 use Rattle.std.proofs.lemmas.Bool.{lt-ltb}
 use Rattle.sqlite.specs.declared.types.Value.TheVariants.{Null, Int}
 use Rattle.sqlite.specs.Order.{Row, column}
-use Rattle.sqlite.specs.Term.{eval_all, holds}
+use Rattle.sqlite.specs.Term.{eval_all}
 use Rattle.sqlite_sql.specs.Ops.{binary, int_or, real_arith, from_int}
 use Rattle.sqlite_sql.specs.declared.ops.BinaryOp.TheVariants.{Arith}
 use Rattle.sqlite_sql.specs.declared.ops.ArithOp.TheVariants.{Add}
-use Rattle.sqlite_sql.specs.declared.ops.CompareOp.TheVariants.{Eq}
 use Rattle.sqlite_value.proofs.OrderLemmas.{value_cmp-Int}
-use Rattle.sqlite_typed.proofs.TestLemmas.{at_ints}
 use Rattle.sqlite.specs.Tree.{Trees}
 use Rattle.sqlite.specs.Edit.{Edit, edit_of, edited}
 use Rattle.sqlite_rules.specs.Edit.{taken_by}
@@ -31,8 +28,9 @@ use Rattle.space_tables.proofs.Steps.{cast_int, cast_null}
 use Rattle.space_changes.specs.Layout.{Layout, LaysOut, with_next_serial}
 use Rattle.space_changes.specs.Statements.{RelaysSound}
 use Rattle.space_changes.proofs.Texts.{raise_serial_text}
-use Rattle.space_changes.proofs.Means.{is_one, raised_row, raise_serial_is, raise_serial_plain}
-use Rattle.space_changes.proofs.Selecting.{shows, updates}
+use Rattle.space_tables.proofs.Formats.{one_row, passes_one}
+use Rattle.space_tables.proofs.Selecting.{is_one, shows, updates}
+use Rattle.space_changes.proofs.Means.{raised_row, raise_serial_is, raise_serial_plain}
 use Rattle.space_changes.proofs.Relaying.{meta_relaid}
 
 added : (n : ℕ) → n < greatest_serial → binary (Arith Add) (Int (pos n)) (Int (pos 1)) ≡ Int (pos (n + 1))
@@ -54,14 +52,6 @@ edits db n r is one = rw (is, one, value_cmp-Int (pos 1) (pos 1), cast_int (pos 
 acts_on_none : (db : Trees) (n : ℤ) → works dss_schema Enforced 0 0 (taken_by db (raised_edit db n)) (raised_edit db n).news ≡ []
 acts_on_none db n = refl
 
-one_row : (rows : List Row) (c : Row) → map meta_columns rows ≡ c ∷ [] → (r : Row) × (rows ≡ r ∷ []) × (meta_columns r ≡ c)
-one_row [] c e = absurd cc
-one_row (r ∷ []) c e = (r, refl, cc)
-one_row (r ∷ s ∷ rows) c e = absurd cc
-
-passes : (r : Row) → column r 0 ≡ Int (pos 1) → filter (λ r. list_all (holds ([] ∷ r ∷ [])) is_one) (r ∷ []) ≡ r ∷ []
-passes r e = rw (e, at_ints false Eq (pos 1) (pos 1))
-
 shown_row : (n : ℕ) (r : Row) → n < greatest_serial → column r 0 ≡ Int (pos 1) → column r 2 ≡ Int (pos 1) → column r 3 ≡ Int (pos n) → eval_all raised_row ([] ∷ r ∷ []) ≡ raised (pos (n + 1))
 shown_row n r low a b c =
     let sum : binary (Arith Add) (column r 3) (Int (pos 1)) ≡ Int (pos (n + 1)) = ap (λ v. binary (Arith Add) v (Int (pos 1))) c ∙ added n low in
@@ -82,7 +72,7 @@ raises_serial old new (Ok count) h = (relays, λ l low has. (runs_as raise_seria
         let w = runs_as raise_serial_text [] old new dss_schema has.schema _ raise_serial_is raise_serial_plain count h in
         let u = updates dss_schema old new [] (meta 0) 0 _ (statement_of raise_serial_text (understood dss_schema raise_serial_text)) count has.schema refl w in
         let found = shows 0 is_one raised_row db [] u.rows refl (u.answer.answer Null) in
-        let shown = subst (λ k. IsPermutation (map (λ r. eval_all raised_row ([] ∷ r ∷ [])) k) u.rows) (ap (filter _) it.1 ∙ passes it.0 first) found in
+        let shown = subst (λ k. IsPermutation (map (λ r. eval_all raised_row ([] ∷ r ∷ [])) k) u.rows) (ap (filter _) it.1 ∙ passes_one it.0 first) found in
         let rows : u.rows ≡ raised (pos n) ∷ [] = one_permutation (raised (pos n)) u.rows (subst (λ k. IsPermutation (k ∷ []) u.rows) (shown_row l.serial it.0 low first second third) shown) in
         let wrote = subst (λ rs. Acts dss_schema Enforced db (edit_of db (meta 0) (ids_of rs) Given 1 rs) (Ok u.next)) rows u.wrote in
         let step = one_step dss_schema Enforced db u.next (raised_edit db (pos n)) (acts_on_none db (pos n)) wrote in

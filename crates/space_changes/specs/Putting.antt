@@ -1,5 +1,5 @@
 -- How the rows of an entity come into the tables.
-use Rattle.std.specs.Prelude.{◌≡◌, ◌⊎◌, ℤ, pos, List}
+use Rattle.std.specs.Prelude.{◌≡◌, ◌⊎◌, ℤ, pos, List, None}
 use Rattle.sqlite.specs.Effect.{Database}
 use Rattle.entity_core.specs.declared.entity.Entity.{Entity}
 use Rattle.entity_core.specs.Airspace.{Airspace, key_of}
@@ -20,11 +20,11 @@ MakesRoom e num old new =
     ⊎ (((n : ℤ) → ¬ IsNumberOf n (key_of e) p.groups)
     × (num ≡ pos e.serial) × LaysOut new (layout_of old a p))
 
--- Rows that spell the entity under the number join the others.
+-- Rows that spell the entity under the number join the others; it names no subscription.
 pub record InsertsEntity (e : Entity) (num : ℤ) (old new : Database) : Type 0 where
   pub row : EntityRow
   pub volumes : List VolumeRow
   pub cells : List CellRow
   pub number : row.num ≡ num
-  pub spelt : SpellsEntity row volumes cells e
+  pub spelt : SpellsEntity row volumes cells None e
   pub relays : Relays Always (with_rows row volumes cells) old new

@@ -51,8 +51,9 @@ abbrev pub RelaysSound : (P : Layout → Type 0) (change : Layout → Layout)
 RelaysSound P change old new =
     Relays P change old new × ((l : Layout) → P l → LaysOut old l → IsDatabase new)
 
--- whatever airspace was spelt, if the change fits, what comes of it is spelt, and the rows obey the
--- schema
-abbrev pub MakesChange : Change → Database → Database → Type 0
-MakesChange change old new =
-    (a : Airspace) → Spells old a → Fits change a → Spells new (changed change a) × IsDatabase new
+-- whatever airspace was spelt, if the change fits and may tell these, what comes of it is spelt, and
+-- the rows obey the schema
+abbrev pub MakesChange : Change → List ℕ → Database → Database → Type 0
+MakesChange change told old new =
+    (a : Airspace) → Spells old a → Fits change told a
+    → Spells new (changed change told a) × IsDatabase new

@@ -1,5 +1,5 @@
 //! What a USS has set is replaced.
-ghost use Rattle.std.specs.Prelude.{◌≡◌};
+ghost use Rattle.std.specs.Prelude.{◌≡◌, []};
 ghost use Rattle.sqlite.specs.Held.{state};
 ghost use Rattle.space_core.specs.declared.space.Change.TheVariants.{Avail};
 ghost use Rattle.space_tables.specs.Spelling.{IsStated, availability_number};
@@ -84,7 +84,7 @@ pub(crate) fn set_availability<S: Alter>(
     ensures changes { let old = state S.Store tx.old.conn.now in
         let new = state S.Store tx.new.conn.now in
         let change = Avail uss.now availability version.now in
-        Runs (λ _. MakesChange change) old new result }
+        Runs (λ _. MakesChange change []) old new result }
 {
     replace_availability(tx, uss, availability, version)?;
     raise_serial(tx)?;

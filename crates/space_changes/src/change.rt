@@ -8,6 +8,7 @@ ghost use Rattle.space_changes.specs.Statements.{Runs, MakesChange};
 use crate::availability::set_availability;
 use crate::put::put_entity;
 use crate::remove::remove_entity;
+use entity_core::entity_id::EntityId;
 use space_core::space::Change;
 use sqlite::{Alter, Connection, Error, Transaction};
 use std::alloc::Global;
@@ -16,43 +17,49 @@ fn write_change<S: Alter>(
     alloc: Global,
     tx: &mut Transaction<'_, S>,
     change: &Change,
+    notify: &[EntityId],
 ) -> Result<(), Error>
     ensures same_reference { tx.new.conn.ghost_name ≡ tx.old.conn.ghost_name }
     ensures changes { let old = state S.Store tx.old.conn.now in
         let new = state S.Store tx.new.conn.now in
-        Runs (λ _. MakesChange change.now) old new result }
+        Runs (λ _. MakesChange change.now notify.now) old new result }
 {
+    // No table keeps subscriptions: there is none to be told, kept or removed.
+    if !notify.is_empty() {
+        return Err(Error::QueryReturnedNoRows);
+    }
     match change {
         Change::Put(entity) => put_entity(alloc, tx, entity),
         Change::Remove(kind, id) => remove_entity(alloc, tx, *kind, *id),
         Change::Avail(uss, availability, version) => {
             set_availability(tx, uss, *availability, version)
         }
-        // No table keeps subscriptions.
         Change::PutSub(_) | Change::RemoveSub(_) => Err(Error::QueryReturnedNoRows),
     }
 }
 
 /// Makes a change in one transaction, and the serial goes on by one. It is for tables that spell an
-/// airspace in which the change fits: of others it is told that what an Ok leaves is committed, and
-/// no more.
+/// airspace in which the change fits and may tell these: of others it is told that what an Ok leaves
+/// is committed, and no more.
 ///
 /// # Errors
 ///
-/// An error of the database, or want of memory. Of a change that keeps or removes a subscription, or
-/// keeps an intent that names one, it is always an error: no table keeps subscriptions. While the
-/// connection stays open, it shows what was committed before.
+/// An error of the database, or want of memory. Of a change that keeps, removes or tells a
+/// subscription, or keeps an intent that names one, it is always an error: no table keeps
+/// subscriptions. While the connection stays open, it shows what was committed before.
 pub fn make_change<S: Alter>(
     alloc: Global,
     conn: &mut Connection<S>,
     change: &Change,
+    notify: &[EntityId],
 ) -> Result<(), Error>
     requires { conn.old.in_transaction ≡ false }
     ensures ended { conn.new.in_transaction ≡ false }
     ensures commits { let old = state S.Store conn.old in
-        Commits (Fits change.now) (changed change.now) old (state S.Store conn.new) result }
+        Commits (Fits change.now notify.now) (changed change.now notify.now)
+        old (state S.Store conn.new) result }
 {
     let mut tx = conn.transaction();
-    write_change(alloc, &mut tx, change)?;
+    write_change(alloc, &mut tx, change, notify)?;
     tx.commit()
 }

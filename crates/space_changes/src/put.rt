@@ -1,5 +1,5 @@
 //! An entity is put in the place of the one that has its kind and id.
-ghost use Rattle.std.specs.Prelude.{◌≡◌, ◌≤ℤ◌, pos, IfOk, None};
+ghost use Rattle.std.specs.Prelude.{◌≡◌, ◌≤ℤ◌, pos, IfOk, None, []};
 ghost use Rattle.sqlite.specs.Held.{state};
 ghost use Rattle.entity_core.specs.Entity.{subscription_of};
 ghost use Rattle.space_core.specs.declared.space.Change.TheVariants.{Put};
@@ -69,7 +69,7 @@ pub(crate) fn put_entity<S: Alter>(
     ensures same_reference { tx.new.conn.ghost_name ≡ tx.old.conn.ghost_name }
     ensures changes { let old = state S.Store tx.old.conn.now in
         let new = state S.Store tx.new.conn.now in
-        Runs (λ _. MakesChange (Put entity.now)) old new result }
+        Runs (λ _. MakesChange (Put entity.now) []) old new result }
 {
     if entity.nature.subscription().is_some() {
         return Err(Error::QueryReturnedNoRows);

@@ -1,5 +1,5 @@
 //! The rows of an entity are removed, cells first.
-ghost use Rattle.std.specs.Prelude.{◌≡◌, ◌<◌};
+ghost use Rattle.std.specs.Prelude.{◌≡◌, ◌<◌, []};
 ghost use Rattle.sqlite.specs.Held.{state};
 ghost use Rattle.entity_core.specs.Serial.{greatest_serial};
 ghost use Rattle.space_core.specs.declared.space.Change.TheVariants.{Remove};
@@ -87,7 +87,7 @@ pub(crate) fn remove_entity<S: Alter>(
     ensures same_reference { tx.new.conn.ghost_name ≡ tx.old.conn.ghost_name }
     ensures changes { let old = state S.Store tx.old.conn.now in
         let new = state S.Store tx.new.conn.now in
-        Runs (λ _. MakesChange (Remove kind id)) old new result }
+        Runs (λ _. MakesChange (Remove kind id) []) old new result }
 {
     let Some(num) = number_of(alloc, tx, kind, id)? else {
         return Err(Error::QueryReturnedNoRows);

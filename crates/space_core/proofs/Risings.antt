@@ -17,10 +17,10 @@ use Rattle.entity_core.specs.declared.subscription.Sub.{Sub}
 use Rattle.entity_core.specs.declared.nature.Nature.{Nature}
 use Rattle.entity_core.specs.declared.nature.Nature.TheVariants as natures
 use Rattle.entity_core.specs.Entity.{kind_index, kind_of, subscription_of}
-use Rattle.entity_core.proofs.Changes.{one_id}
+use Rattle.entity_core.proofs.Changes.{no_sub_below, one_id}
 use Rattle.entity_core.specs.declared.nature.Kind.{Kind}
 use Rattle.entity_core.specs.declared.nature.Kind.TheVariants.{Intent, Constraint}
-use Rattle.entity_core.specs.Search.{FoundInOrder, all_in, dependents_in, has_kind, is_id, is_naming, is_not, is_own_near, is_sought, meeting_in, subscriptions_in}
+use Rattle.entity_core.specs.Search.{FoundInOrder, all_in, dependents_in, has_kind, is_for_near, is_id, is_naming, is_not, is_own_near, is_sought, meeting_in, subscribers_in, subscriptions_in}
 use Rattle.entity_core.proofs.Keys.{key_total, one_key}
 use Rattle.entity_core.proofs.Entries.{first, second, less, sorted_kept}
 
@@ -106,25 +106,20 @@ naming_intent id k natures.Constraint is h = cc
 -- ---- subscriptions
 
 -- an entry bears its own id
-abbrev OwnId : ℕ × Sub → Type 0
+abbrev pub OwnId : ℕ × Sub → Type 0
 OwnId s = s.1.id ≡ s.0
 
-no_sub_below : (q : ℕ) (ss : List (ℕ × Sub)) → T (below_all nat_cmp q ss) → maps.find nat_cmp q ss ≡ None
-no_sub_below q [] h = refl
-no_sub_below q (s ∷ ss) h =
-    ap (λ (r : Ordering). cond (is_eq r) (Some s.1) (maps.find nat_cmp q ss)) (less (nat_cmp q s.0) (first _ _ h))
-    ∙ no_sub_below q ss (second (is_lt (nat_cmp q s.0)) _ h)
-
-own_subs : (ss : List (ℕ × Sub)) → T (is_sorted nat_cmp ss) → ((k : ℕ) (x : Sub) → maps.find nat_cmp k ss ≡ Some x → x.id ≡ k) → AllByRecursion OwnId ss
-own_subs [] s own = tt
-own_subs (e ∷ ss) s own =
-    let later : (k : ℕ) (x : Sub) → maps.find nat_cmp k ss ≡ Some x → eq_by_cmp nat_cmp k e.0 ≡ false = λ k x h.
+-- what holds of each that is found holds of each entry
+pub each_sub : (P : ℕ × Sub → Type 0) (ss : List (ℕ × Sub)) → T (is_sorted nat_cmp ss) → ((k : ℕ) (x : Sub) → maps.find nat_cmp k ss ≡ Some x → P (k, x)) → AllByRecursion P ss
+each_sub P [] s h = tt
+each_sub P (e ∷ ss) s h =
+    let later : (k : ℕ) (x : Sub) → maps.find nat_cmp k ss ≡ Some x → eq_by_cmp nat_cmp k e.0 ≡ false = λ k x f.
     elim (eq_by_cmp nat_cmp k e.0) as (λ b. eq_by_cmp nat_cmp k e.0 ≡ b → b ≡ false) [
-      | true ↦ λ t. let n : None ≡ Some x = sym (no_sub_below e.0 ss (first _ _ s)) ∙ (ap (λ (q : ℕ). maps.find nat_cmp q ss) (sym (one_id k e.0 t)) ∙ h) in cc
+      | true ↦ λ t. let n : None ≡ Some x = sym (no_sub_below e.0 ss (first _ _ s)) ∙ (ap (λ (q : ℕ). maps.find nat_cmp q ss) (sym (one_id k e.0 t)) ∙ f) in cc
       | false ↦ λ t. refl
     ] refl in (
-      own e.0 e.1 (ap (λ (b : Bool). cond b (Some e.1) (maps.find nat_cmp e.0 ss)) ((eq_by_cmp_equiv nat_cmp_total).refl e.0)),
-      own_subs ss (second (below_all nat_cmp e.0 ss) _ s) (λ k x h. own k x (ap (λ (b : Bool). cond b (Some e.1) (maps.find nat_cmp k ss)) (later k x h) ∙ h)),
+      h e.0 e.1 (ap (λ (b : Bool). cond b (Some e.1) (maps.find nat_cmp e.0 ss)) ((eq_by_cmp_equiv nat_cmp_total).refl e.0)),
+      each_sub P ss (second (below_all nat_cmp e.0 ss) _ s) (λ k x f. h k x (ap (λ (b : Bool). cond b (Some e.1) (maps.find nat_cmp k ss)) (later k x f) ∙ f)),
     )
 
 sub_ids_below : (e : ℕ × Sub) (ss : List (ℕ × Sub)) → T (below_all nat_cmp e.0 ss) → OwnId e → AllByRecursion OwnId ss → AllByRecursion (λ n. nat_cmp e.1.id n ≡ Less) (map (λ f. f.id) (map (λ f. f.1) ss))
@@ -149,13 +144,14 @@ filtered_subs test a proper =
     let ss = entries a.subscriptions in
     let sorted = entries_sorted a.subscriptions in
     rising_subs (filter test ss) (sorted_kept nat_cmp test ss sorted)
-    (subs_kept test ss (own_subs ss sorted (λ k x h. proper.own k x (get-entries a.subscriptions k ∙ h))))
+    (subs_kept test ss (each_sub OwnId ss sorted (λ k x h. proper.own k x (get-entries a.subscriptions k ∙ h))))
 
 pub found_in_order : (a : Airspace) → IsAirspace a → FoundInOrder a
-unfolding meeting_in all_in dependents_in subscriptions_in
+unfolding meeting_in all_in dependents_in subscriptions_in subscribers_in
 found_in_order a proper = record {
   meeting = λ kind areas except. filtered kind (is_sought kind areas except) (λ e own t. first_true (has_kind kind e.0) (is_not except e.0 && any_meet e.1.volumes areas) t) a proper;
   all = λ kind. filtered kind (λ e. has_kind kind e.0) (λ e own t. t) a proper;
   dependents = λ id. filtered Intent (is_naming id) (λ e own t. naming_intent id e.0 e.1.nature (ap (λ (q : EntityKey). q.0) own) t) a proper;
   subscriptions = λ uss area. filtered_subs (is_own_near uss area) a proper;
+  subscribers = λ kind areas. filtered_subs (is_for_near kind areas) a proper;
 }

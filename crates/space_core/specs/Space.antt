@@ -1,7 +1,9 @@
 -- What the calls of a space tell and leave.
-use Rattle.std.specs.Prelude.{◌≡◌, ℕ, ◌+◌, ◌<◌, ◌≤◌, Bool, true, [], Option, Some, None, IsSome, Result, Ok, Err, IfOk, OnOk, IsErrOf, min, MatchResult, ◌⊎◌, ◌↔◌}
+use Rattle.std.specs.Prelude.{◌≡◌, ℕ, ◌+◌, ◌<◌, ◌≤◌, Bool, true, List, [], Option, Some, None, IsSome, Result, Ok, Err, IfOk, OnOk, IsErrOf, All, min, MatchResult, ◌⊎◌, ◌↔◌}
+use Rattle.std.specs.List.Sorted.{IsStrictlySortedBy}
+use Rattle.std.specs.Ordering.{nat_cmp}
 use Rattle.std.specs.FinMap.{get}
-use Rattle.entity_core.specs.Airspace.{Airspace, with_availability, with_entity, with_subscription, without_entity, without_subscription}
+use Rattle.entity_core.specs.Airspace.{Airspace, is_one_of, with_availability, with_entity, with_subscription, with_told, without_entity, without_subscription}
 use Rattle.entity_core.specs.Entity.{subscription_of}
 use Rattle.entity_core.specs.Search.{dependents_in}
 use Rattle.entity_core.specs.Serial.{greatest_serial}
@@ -26,13 +28,14 @@ is_broken_after b (Ok x) = b
 is_broken_after b (Err Unchanged) = b
 is_broken_after b (Err Broken) = true
 
--- the airspace with a change
-abbrev pub changed : Change → Airspace → Airspace
-changed (Put e) a = with_entity a e
-changed (Remove kind id) a = without_entity a (kind, id)
-changed (Avail uss availability version) a = with_availability a uss (availability, version)
-changed (PutSub s) a = with_subscription a s
-changed (RemoveSub id) a = without_subscription a id
+-- The airspace with a change, of which the subscriptions of some ids are told. No other change than
+-- that of an entity tells any.
+abbrev pub changed : Change → List ℕ → Airspace → Airspace
+changed (Put e) told a = with_told (with_entity a e) (is_one_of told)
+changed (Remove kind id) told a = with_told (without_entity a (kind, id)) (is_one_of told)
+changed (Avail uss availability version) told a = with_availability a uss (availability, version)
+changed (PutSub s) told a = with_subscription a s
+changed (RemoveSub id) told a = without_subscription a id
 
 -- the subscription that is named is there
 abbrev pub HasNamed : Airspace → Option ℕ → Type 0
@@ -49,10 +52,24 @@ IsDue (Avail uss availability version) a = Unit {0}
 IsDue (PutSub s) a = (s.serial ≡ a.serial + 1) × (s.index ≤ a.serial + 1)
 IsDue (RemoveSub id) a = IsSome (get a.subscriptions id) × (dependents_in a.entities id ≡ [])
 
--- The change can be made in the airspace, and its serial can go on.
-pub record Fits (change : Change) (a : Airspace) : Type 0 where
+-- ids that rise, of subscriptions that are there
+pub record AreThere (a : Airspace) (ids : List ℕ) : Type 0 where
+  pub rising : IsStrictlySortedBy nat_cmp ids
+  pub there : All (λ id. IsSome (get a.subscriptions id)) ids
+
+-- whom a change may tell: of an entity, any that are there; of anything else, none
+abbrev pub MayTell : Change → List ℕ → Airspace → Type 0
+MayTell (Put e) told a = AreThere a told
+MayTell (Remove kind id) told a = AreThere a told
+MayTell (Avail uss availability version) told a = told ≡ []
+MayTell (PutSub s) told a = told ≡ []
+MayTell (RemoveSub id) told a = told ≡ []
+
+-- The change can be made in the airspace and may tell these, and its serial can go on.
+pub record Fits (change : Change) (told : List ℕ) (a : Airspace) : Type 0 where
   pub room : a.serial < greatest_serial
   pub due : IsDue change a
+  pub tells : MayTell change told a
 
 -- a change that removes
 abbrev pub IsRemoval : Change → Type 0

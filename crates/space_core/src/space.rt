@@ -1,7 +1,7 @@
 //! The trait of spaces: what its calls tell, read and change.
 ghost use Rattle.std.specs.Prelude.{◌≡◌, ℕ, Bool, false};
 ghost use Rattle.entity_core.specs.Airspace.{Airspace, IsAirspace};
-ghost use Rattle.entity_core.specs.Search.{all_in, dependents_in, subscriptions_in};
+ghost use Rattle.entity_core.specs.Search.{all_in, dependents_in, subscribers_in, subscriptions_in};
 ghost use Rattle.std.specs.FinMap.{get};
 ghost use Rattle.space_core.specs.Met.{met_in};
 ghost use Rattle.space_core.specs.Space.{Tells, Reads, Changes, Fits, changed};
@@ -112,6 +112,14 @@ pub trait Space {
         ensures reads { Reads holds is_sound is_whole self.old self.new result
             (λ a found. found.items ≡ subscriptions_in a.subscriptions uss.now area.now) };
 
+    /// The subscriptions that are for a kind and whose volumes meet some area, whoever manages
+    /// them: each once, by rising ids.
+    fn subscribers(&mut self, kind: Kind, areas: &[Area]) -> Result<Vec<Sub>, SpaceFault>
+        ensures tells { Tells (refusals self.old) (refusals self.new)
+            (is_broken self.old) (is_broken self.new) result }
+        ensures reads { Reads holds is_sound is_whole self.old self.new result
+            (λ a found. found.items ≡ subscribers_in a.subscriptions kind areas.now) };
+
     /// The ids of the intents that name a subscription, rising.
     fn dependents(&mut self, id: EntityId) -> Result<Vec<EntityId>, SpaceFault>
         ensures tells { Tells (refusals self.old) (refusals self.new)
@@ -126,14 +134,17 @@ pub trait Space {
         ensures reads { Reads holds is_sound is_whole self.old self.new result
             (λ a serial. serial ≡ a.serial) };
 
-    /// Makes a change that fits, and the serial goes on by one.
-    fn apply(&mut self, change: Change) -> Result<(), SpaceFault>
-        requires fits { is_sound self.old → (a : Airspace) → holds self.old a → Fits change a }
+    /// Makes a change that fits, and the serial goes on by one. In the same change the index of
+    /// each subscription that is to be told rises by one: their ids rise and are there, and there
+    /// are none but for a change of an entity.
+    fn apply(&mut self, change: Change, notify: &[EntityId]) -> Result<(), SpaceFault>
+        requires fits { is_sound self.old → (a : Airspace) → holds self.old a
+            → Fits change notify.now a }
         ensures tells { Tells (refusals self.old) (refusals self.new)
             (is_broken self.old) (is_broken self.new) result }
         ensures changes { Changes holds is_sound is_whole
             (is_broken self.old) self.old self.new result
-            (changed change) };
+            (changed change notify.now) };
 
     /// A sound space that is not broken holds no two airspaces.
     ghost one: { (s : Self) (a b : Airspace) → is_sound s → is_broken s ≡ false → holds s a

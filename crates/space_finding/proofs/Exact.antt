@@ -17,11 +17,12 @@ use Rattle.grid_core.proofs.Meets.{any_meet_test}
 use Rattle.entity_core.specs.declared.entity.Entity.{Entity}
 use Rattle.entity_core.specs.declared.nature.Kind.{Kind}
 use Rattle.entity_core.specs.Airspace.{Airspace, Entities, EntityKey, key_cmp, key_of}
+use Rattle.entity_core.specs.Entity.{subscription_of}
 use Rattle.entity_core.specs.Search.{has_kind, is_not, is_sought, meeting_in}
 use Rattle.entity_core.proofs.Keys.{key_total}
 use Rattle.space_rows.specs.declared.rows.CellRow.{CellRow}
 use Rattle.space_rows.specs.Rows.{PlacedCell, IsCellRow, SpellsEntity, placed, placed_cells, all_cells}
-use Rattle.space_tables.specs.Spelling.{Group, Spells, cell_values, six_columns}
+use Rattle.space_tables.specs.Spelling.{Group, IsGroup, Spells, cell_values, six_columns}
 use Rattle.space_tables.proofs.OneAirspace.{EntryLess, entries_rise}
 use Rattle.space_reading.proofs.OwnRows.{alone}
 use Rattle.space_finding.specs.declared.interval.Interval.{Interval}
@@ -57,8 +58,8 @@ cell_placed vs v c there here =
     )
 
 module _ (db : Database) (a : Airspace) (s : Spells db a) (g : Group) (there : Has s.groups g) where
-  own : SpellsEntity g.row g.volumes g.cells g.entity
-  own = (alone a.serial g s.groups s.each there).spelt
+  own : SpellsEntity g.row g.volumes g.cells (subscription_of g.entity.nature) g.entity
+  own = (alone (IsGroup a.serial s.subs) g s.groups s.each there).spelt
 
   -- a cell of an entity has a row with its interval
   cell_stored : (v : Extent) (c : Cell) → Has g.entity.volumes v → Has v.cells c → (r : CellRow) × IsCellIn db r × (r.entity ≡ g.row.num) × (r.lo ≡ pos (lo_of c)) × (r.hi ≡ pos (hi_of c))

@@ -1,17 +1,18 @@
 -- The empty space in memory, and what its indexes are after a change.
-use Rattle.std.specs.Prelude.{◌≡◌, ℕ, List, [], Some, None}
+use Rattle.std.specs.Prelude.{◌≡◌, ℕ, ◌<◌, ◌≤◌, List, [], Some, None}
 use Rattle.std.specs.Ordering.{nat_cmp}
 use Rattle.std.specs.FinMap.{get, get-empty}
-use Rattle.std.proofs.Common.{sym, ap, ◌∙◌, subst}
+use Rattle.std.proofs.Common.{arith, sym, ap, ◌∙◌, subst}
 use Rattle.entity_core.specs.declared.entity.Entity.{Entity}
 use Rattle.entity_core.specs.declared.subscription.Sub.{Sub}
-use Rattle.entity_core.specs.Airspace.{Airspace, IsAirspace, Subscriptions, key_cmp, text_cmp, empty_at}
-use Rattle.entity_core.proofs.Changes.{proper_with, proper_without, proper_stated, proper_sub, proper_without_sub}
+use Rattle.entity_core.specs.Airspace.{Airspace, empty_at, is_one_of, IsAirspace, key_cmp, Subscriptions, text_cmp}
+use Rattle.entity_core.proofs.Changes.{proper_with_told, proper_without_told, proper_stated, proper_sub, proper_without_sub}
+use Rattle.entity_core.specs.Serial.{greatest_serial}
 use Rattle.entity_lists.specs.declared.availabilities.Entry.{Entry}
 use Rattle.entity_lists.specs.Entities.{entity_map}
 use Rattle.entity_lists.specs.Entities.{pair_of as entity_pair}
 use Rattle.entity_lists.specs.Availabilities.{availability_map}
-use Rattle.entity_lists.specs.Subscriptions.{AllTold, subscription_map}
+use Rattle.entity_lists.specs.Subscriptions.{AllTold, CanRise, subscription_map}
 use Rattle.entity_lists.specs.Subscriptions.{pair_of as sub_pair}
 use Rattle.space_core.specs.Space.{Fits, changed}
 use Rattle.space_core.specs.declared.space.Change.{Change}
@@ -34,13 +35,17 @@ none_told ss n e id s h =
     let none : None ≡ Some s = sym (get-empty nat_cmp id) ∙ (ap (λ (m : Subscriptions). get m id) (sym (ap subscription_map e ∙ map_of_none nat_cmp sub_pair)) ∙ h) in cc
 
 -- a change that fits leaves an airspace that may be kept
-pub proper_changed : (change : Change) (a : Airspace) → Fits change a → IsAirspace a → IsAirspace (changed change a)
-proper_changed (Put e) a fits proper = proper_with a e proper
-proper_changed (Remove kind id) a fits proper = proper_without a (kind, id) proper
-proper_changed (Avail uss availability version) a fits proper = proper_stated a uss (availability, version) proper
-proper_changed (PutSub s) a fits proper = proper_sub a s fits.due.1 proper
-proper_changed (RemoveSub id) a fits proper = proper_without_sub a id proper
+pub proper_changed : (change : Change) (told : List ℕ) (a : Airspace) → Fits change told a → IsAirspace a → IsAirspace (changed change told a)
+proper_changed (Put e) told a fits proper = proper_with_told a e (is_one_of told) proper
+proper_changed (Remove kind id) told a fits proper = proper_without_told a (kind, id) (is_one_of told) proper
+proper_changed (Avail uss availability version) told a fits proper = proper_stated a uss (availability, version) proper
+proper_changed (PutSub s) told a fits proper = proper_sub a s fits.due.1 proper
+proper_changed (RemoveSub id) told a fits proper = proper_without_sub a id proper
 
 -- and so the indexes of a space in memory stay within its serial
-pub told_after : (change : Change) (a : Airspace) (es : List Entity) (ss : List Sub) (entries : List Entry) (n : ℕ) → Fits change a → IsAirspace a → airspace_of es ss entries n ≡ changed change a → AllTold ss n
-told_after change a es ss entries n fits proper is = (subst IsAirspace (sym is) (proper_changed change a fits proper)).told
+pub told_after : (change : Change) (told : List ℕ) (a : Airspace) (es : List Entity) (ss : List Sub) (entries : List Entry) (n : ℕ) → Fits change told a → IsAirspace a → airspace_of es ss entries n ≡ changed change told a → AllTold ss n
+told_after change told a es ss entries n fits proper is = (subst IsAirspace (sym is) (proper_changed change told a fits proper)).told
+
+-- below the greatest serial each index can rise
+pub can_rise : (ss : List Sub) (n : ℕ) → AllTold ss n → n < greatest_serial → CanRise ss
+can_rise ss n told room id s there = let within : s.index ≤ n = told id s there in omega (arith, within, room)

@@ -149,6 +149,13 @@ impl Space for ListSpace {
         }
     }
 
+    fn subscribers(&mut self, kind: Kind, areas: &[Area]) -> Result<Vec<Sub>, SpaceFault> {
+        match self.subscriptions.for_kind(self.alloc, kind, areas) {
+            Ok(found) => Ok(found),
+            Err(_) => Err(self.refuse()),
+        }
+    }
+
     fn dependents(&mut self, id: EntityId) -> Result<Vec<EntityId>, SpaceFault> {
         match self.entities.dependents(self.alloc, id) {
             Ok(found) => Ok(found),
@@ -163,10 +170,10 @@ impl Space for ListSpace {
         Ok(self.serial)
     }
 
-    fn apply(&mut self, change: Change) -> Result<(), SpaceFault>
-        requires fits { (a : Airspace) → a ≡ content_of self.old → Fits change a }
+    fn apply(&mut self, change: Change, notify: &[EntityId]) -> Result<(), SpaceFault>
+        requires fits { (a : Airspace) → a ≡ content_of self.old → Fits change notify.now a }
         ensures done { OnOk result
-            (content_of self.new ≡ changed change (content_of self.old)) }
+            (content_of self.new ≡ changed change notify.now (content_of self.old)) }
         ensures refused { OnErr result (content_of self.new ≡ content_of self.old) }
         ensures tells { Tells (refusals_of self.old) (refusals_of self.new) false false result }
         ensures removed { IsRemoval change → IsOk result }
@@ -176,6 +183,7 @@ impl Space for ListSpace {
             &mut self.subscriptions,
             &mut self.availabilities,
             change,
+            notify,
         ) {
             Ok(()) => {
                 self.serial += 1;

@@ -6,6 +6,7 @@ ghost use Rattle.entity_lists.specs.Availabilities.{availability_map};
 ghost use Rattle.entity_lists.specs.Lists.{airspace_of};
 ghost use Rattle.space_core.specs.Met.{met_in, met_of};
 ghost use Rattle.space_core.specs.Space.{IsRemoval, changed};
+ghost use Rattle.entity_lists.specs.Subscriptions.{CanRise};
 
 use crate::indexed::IndexedEntities;
 use entity_core::entity::Entity;
@@ -56,25 +57,33 @@ pub(crate) fn met_among(
     with_availabilities(alloc, availabilities, found)
 }
 
-/// Makes the change, but for the serial.
+/// Makes the change, but for the serial. What may fail comes before any is told.
 pub(crate) fn make(
     entities: &mut IndexedEntities,
     subscriptions: &mut Subscriptions,
     availabilities: &mut Availabilities,
     change: Change,
+    notify: &[EntityId],
 ) -> Result<(), AllocError>
+    requires { CanRise subscriptions.old }
     ensures ok { OnOk result ((serial : ℕ)
         → airspace_of entities.new subscriptions.new availabilities.new (serial + 1)
-        ≡ changed change (airspace_of entities.old subscriptions.old availabilities.old serial)) }
+        ≡ changed change notify.now
+        (airspace_of entities.old subscriptions.old availabilities.old serial)) }
     ensures same_entities { OnErr result (entities.new ≡ entities.old) }
     ensures same_subscriptions { OnErr result (subscriptions.new ≡ subscriptions.old) }
     ensures same_availabilities { OnErr result (availabilities.new ≡ availabilities.old) }
     ensures removed { IsRemoval change → IsOk result }
 {
     match change {
-        Change::Put(entity) => entities.put(entity),
+        Change::Put(entity) => {
+            entities.put(entity)?;
+            subscriptions.tell(notify);
+            Ok(())
+        }
         Change::Remove(kind, id) => {
             entities.remove(kind, id);
+            subscriptions.tell(notify);
             Ok(())
         }
         Change::Avail(uss, availability, version) => availabilities.put(uss, availability, version),

@@ -10,6 +10,7 @@ use Rattle.space_rows.specs.declared.rows.VolumeRow.{VolumeRow}
 use Rattle.space_rows.specs.declared.rows.CellRow.{CellRow}
 use Rattle.space_rows.specs.Rows.{SpellsEntity}
 use Rattle.space_tables.specs.Spelling.{Spells, entity_values, volume_values, cell_values}
+use Rattle.space_tables.proofs.FirstFormat.{IsFirstGroup, spelt_first}
 use Rattle.space_reading.specs.Named.{FindsNamed}
 use Rattle.space_reading.specs.Selecting.{AnswersHead, AnswersVolumes, AnswersCells}
 use Rattle.space_reading.proofs.Heads.{ShowsHead, head_shown}
@@ -25,7 +26,7 @@ module _ (db : Database) (k : EntityKey) (fits : k.1 < 2 ^ 128) (rows sliced : L
       go (inr (g, there, p, found)) = absurd (let same = sym is ∙ one g.row (e ∙ p) in cc)
 
   pub entity_told : (none : sliced ≡ [] → o ≡ None) (head : EntityRow) (volumes cells : List Row) (x : Entity) → o ≡ Some head → AnswersVolumes head.num db volumes → AnswersCells head.num db cells
-      → ((vs : List VolumeRow) (cs : List CellRow) (y : Entity) → volumes ≡ map volume_values vs → cells ≡ map cell_values cs → SpellsEntity head vs cs y → x ≡ y) → FindsNamed k db (Some x)
+      → ((vs : List VolumeRow) (cs : List CellRow) (y : Entity) → volumes ≡ map volume_values vs → cells ≡ map cell_values cs → SpellsEntity head vs cs None y → x ≡ y) → FindsNamed k db (Some x)
   entity_told none head volumes cells x is own_volumes own_cells spelt = λ a s. go a s (head_shown db a s k fits rows h)
     where
       go : (a : Airspace) (s : Spells db a) → ShowsHead db a s k rows → Some x ≡ get a.entities k
@@ -34,6 +35,6 @@ module _ (db : Database) (k : EntityKey) (fits : k.1 < 2 ^ 128) (rows sliced : L
           let row : g.row ≡ head = let both = sym (one g.row (e ∙ p)) ∙ is in cc in
           let volumes_of = subst (λ (r : EntityRow). AnswersVolumes r.num db volumes) (sym row) own_volumes in
           let cells_of = subst (λ (r : EntityRow). AnswersCells r.num db cells) (sym row) own_cells in
-          let spells = subst (λ (r : EntityRow). SpellsEntity r g.volumes g.cells g.entity) row (alone a.serial g s.groups s.each there).spelt in
+          let spells = subst (λ (r : EntityRow). SpellsEntity r g.volumes g.cells None g.entity) row (alone (IsFirstGroup a.serial) g s.groups (spelt_first db a s).each there).spelt in
           let whole = spelt g.volumes g.cells g.entity (own_volumes_shown db a s g there volumes volumes_of) (own_cells_shown db a s g there cells cells_of) spells in
           ap (λ (y : Entity). Some y) whole ∙ sym found

@@ -1,5 +1,5 @@
 -- The rows are gathered one after the other: what is left is gathered exactly where the whole is.
-use Rattle.std.specs.Prelude.{◌≡◌, ℕ, ℤ, pos, ◌<ℤ◌, ◌↔◌, List, [], ◌∷◌, ◌++◌, take, drop, refl}
+use Rattle.std.specs.Prelude.{◌≡◌, ℕ, ℤ, pos, ◌<ℤ◌, ◌↔◌, List, [], ◌∷◌, ◌++◌, None, take, drop, refl}
 use Rattle.std.specs.List.{AllByRecursion, AllZip}
 use Rattle.std.specs.Ordering.{int_cmp, MatchOrdering}
 use Rattle.std.specs.Cmp.{int_ranks}
@@ -110,7 +110,7 @@ gathers_first serial last r rows vs ov mv cs oc mc m m' f h g =
       s.entity,
       record {
         rising = s.next.rising;
-        spelt = subst (λ (l : List VolumeRow). SpellsEntity r l oc s.entity) v.0 (subst (λ (l : List CellRow). SpellsEntity r s.own_volumes l s.entity) c.0 s.next.spelt);
+        spelt = subst (λ (l : List VolumeRow). SpellsEntity r l oc None s.entity) v.0 (subst (λ (l : List CellRow). SpellsEntity r s.own_volumes l None s.entity) c.0 s.next.spelt);
         most = s.next.most;
         new = s.next.new;
       },
@@ -144,7 +144,7 @@ pub gathers_more : (serial : ℕ) (rows : List EntityRow) (vs : List VolumeRow) 
 gathers_more serial rows vs cs last r rest more vl ov mv cl oc mc m n e is f h t put g m' = (
   (λ w.
       let a = gathers_first serial last r more vl ov mv cl oc mc m m' f h (subst (λ (l : List EntityRow). Gathers serial last l vl cl m m') is ((g m').0 w)) in
-      let same : a.0 ≡ e = one_entity r ov oc a.0 e a.1.spelt t.spelt in
+      let same : a.0 ≡ e = one_entity r ov oc None a.0 e a.1.spelt t.spelt in
       subst (λ (k : Entities). Gathers serial r.num more mv mc k m') (ap (λ (x : Entity). insert m (key_of x) x) same ∙ sym put) a.2),
   (λ w.
       (g m').1 (subst (λ (l : List EntityRow). Gathers serial last l vl cl m m') (sym is)

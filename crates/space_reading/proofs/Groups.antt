@@ -1,5 +1,5 @@
 -- The rows that are gathered are those of groups.
-use Rattle.std.proofs.Common.{◌≡◌, ℕ, ℤ, List, [], ◌∷◌, ◌++◌, map, flat_map, refl, sym, ap, ◌∙◌, Less}
+use Rattle.std.proofs.Common.{◌≡◌, ℕ, ℤ, List, [], ◌∷◌, ◌++◌, map, flat_map, None, refl, sym, ap, ◌∙◌, Less}
 use Rattle.std.specs.Prelude.{IsPermutation}
 use Rattle.std.specs.List.{AllByRecursion}
 use Rattle.std.specs.Ordering.{int_cmp}
@@ -14,7 +14,8 @@ use Rattle.space_rows.specs.declared.rows.EntityRow.{EntityRow}
 use Rattle.space_rows.specs.declared.rows.VolumeRow.{VolumeRow}
 use Rattle.space_rows.specs.declared.rows.CellRow.{CellRow}
 use Rattle.space_rows.proofs.Pieces.{all_turned}
-use Rattle.space_tables.specs.Spelling.{Group, IsGroup, IsBefore, pair_of}
+use Rattle.space_tables.specs.Spelling.{Group, IsBefore, pair_of}
+use Rattle.space_tables.proofs.FirstFormat.{IsFirstGroup}
 use Rattle.space_tables.proofs.OneAirspace.{one_map}
 use Rattle.space_reading.specs.Gathering.{Gathers}
 use Rattle.space_reading.proofs.MapEntries.{new_key, moves_in}
@@ -24,7 +25,7 @@ pub record AreGroups (serial : ℕ) (last : ℤ) (rows : List EntityRow) (vs : L
   pub rows_are : map (λ (g : Group). g.row) groups ≡ rows
   pub volumes_are : flat_map (λ (g : Group). g.volumes) groups ≡ vs
   pub cells_are : flat_map (λ (g : Group). g.cells) groups ≡ cs
-  pub each : AllByRecursion (IsGroup serial) groups
+  pub each : AllByRecursion (IsFirstGroup serial) groups
   pub rising : IsAscending IsBefore groups
   pub above : AllByRecursion (λ (g : Group). int_cmp last g.row.num ≡ Less) groups
   pub is : IsPermutation (map pair_of groups ++ entries m) (entries m')
@@ -33,20 +34,20 @@ pub groups_from : (serial : ℕ) (last : ℤ) (rows : List EntityRow) (vs : List
 groups_from serial last [] vs cs m m' h = record { groups = []; rows_are = refl; volumes_are = sym h.0; cells_are = sym h.1; each = tt; rising = tt; above = tt; is = IsPermutation-same _ _ (ap entries h.2) }
 groups_from serial last (r ∷ rows) vs cs m m' h =
     let s = h.0 in
-    let g : Group = record { row = r; volumes = s.own_volumes; cells = s.own_cells; entity = s.entity } in
+    let g : Group = record { row = r; volumes = s.own_volumes; cells = s.own_cells; naming = None; entity = s.entity } in
     let more = groups_from serial r.num rows s.more_volumes s.more_cells (insert m (key_of s.entity) s.entity) m' h.1 in
     record {
       groups = g ∷ more.groups;
       rows_are = ap (λ l. r ∷ l) more.rows_are;
       volumes_are = ap (λ l. s.own_volumes ++ l) more.volumes_are ∙ sym s.volumes_are;
       cells_are = ap (λ l. s.own_cells ++ l) more.cells_are ∙ sym s.cells_are;
-      each = (record { spelt = s.next.spelt; most = s.next.most }, more.each);
+      each = (record { spelt = s.next.spelt; naming = refl; most = s.next.most }, more.each);
       rising = (more.above, more.rising);
       above = (s.next.rising, all_turned (λ (h : Group). int_cmp r.num h.row.num ≡ Less) (λ h. int_cmp last h.row.num ≡ Less) (λ h e. int_cmp_total.trans last r.num h.row.num s.next.rising e) more.groups more.above);
       is = IsPermutation-trans _ _ _ (IsPermutation-sym _ _ (moves_in key_cmp key_total m (pair_of g) (map pair_of more.groups) s.next.new)) more.is;
     }
 
-pub gathers_from : (serial : ℕ) (last : ℤ) (gs : List Group) (m m' : Entities) → AllByRecursion (IsGroup serial) gs → IsAscending IsBefore gs → AllByRecursion (λ (g : Group). int_cmp last g.row.num ≡ Less) gs
+pub gathers_from : (serial : ℕ) (last : ℤ) (gs : List Group) (m m' : Entities) → AllByRecursion (IsFirstGroup serial) gs → IsAscending IsBefore gs → AllByRecursion (λ (g : Group). int_cmp last g.row.num ≡ Less) gs
     → IsPermutation (map pair_of gs ++ entries m) (entries m') → Gathers serial last (map (λ (g : Group). g.row) gs) (flat_map (λ (g : Group). g.volumes) gs) (flat_map (λ (g : Group). g.cells) gs) m m'
 gathers_from serial last [] m m' each up above is = (refl, refl, one_map key_cmp key_total m m' is)
 gathers_from serial last (g ∷ gs) m m' each up above is =

@@ -30,7 +30,8 @@ use Rattle.entity_core.proofs.Keys.{key_total, key_exact}
 use Rattle.space_rows.specs.Rows.{kind_number}
 use Rattle.space_rows.proofs.OneEntity.{one_id}
 use Rattle.space_rows.proofs.Digits.{both}
-use Rattle.space_tables.specs.Spelling.{Spells, Group, IsGroup, pair_of, entity_values, entity_columns}
+use Rattle.space_tables.specs.Spelling.{Spells, Group, pair_of, entity_values, entity_columns}
+use Rattle.space_tables.proofs.FirstFormat.{IsFirstGroup, spelt_first}
 use Rattle.space_reading.specs.Selecting.{IsSelect, Answers, command_of}
 use Rattle.space_reading.proofs.Texts.{head_read}
 use Rattle.space_reading.proofs.Means.{listing}
@@ -82,7 +83,7 @@ module _ (k : EntityKey) (fits : k.1 < 2 ^ 128) (serial : ℕ) where
   test_is : (g : Group) → is_key k (entity_values g.row) ≡ (int_eq g.row.kind (kind_number k.0) && is_eq (bytes_cmp g.row.id (printed k.1)))
   test_is g = then_term (at_ints false Eq g.row.kind (kind_number k.0)) (last_term (at_texts false Eq g.row.id (printed k.1)))
 
-  key_test : (g : Group) → IsGroup serial g → is_key k (entity_values g.row) ≡ hits key_cmp key_total k (pair_of g)
+  key_test : (g : Group) → IsFirstGroup serial g → is_key k (entity_values g.row) ≡ hits key_cmp key_total k (pair_of g)
   key_test g p =
       let e = g.entity in
       test_is g ∙ either_way _ _
@@ -98,7 +99,7 @@ module _ (k : EntityKey) (fits : k.1 < 2 ^ 128) (serial : ℕ) where
       let id : g.row.id ≡ printed k.1 = p.spelt.entity.id ∙ ap (λ (j : EntityKey). printed j.1) (sym key) in
       ap₂ ◌&&◌ (equal_numbers g.row.kind (kind_number k.0) kind) (subst (λ (l : List ℕ). is_eq (bytes_cmp l (printed k.1)) ≡ true) (sym id) (bytes_eq_refl (printed k.1))))
 
-  same_filter : (gs : List Group) → AllByRecursion (IsGroup serial) gs → filter (λ (g : Group). is_key k (entity_values g.row)) gs ≡ filter (λ g. hits key_cmp key_total k (pair_of g)) gs
+  same_filter : (gs : List Group) → AllByRecursion (IsFirstGroup serial) gs → filter (λ (g : Group). is_key k (entity_values g.row)) gs ≡ filter (λ g. hits key_cmp key_total k (pair_of g)) gs
   same_filter [] each = refl
   same_filter (g ∷ gs) each = λ i. cond (key_test g each.0 i) (g ∷ same_filter gs each.1 i) (same_filter gs each.1 i)
 
@@ -136,7 +137,7 @@ head_shown db a s k fits rows h =
     let mine = sym (filter-map (is_key k) entity_columns (db.trees 1)) in
     let stored = IsPermutation-filter (is_key k) _ _ s.entities in
     let fs = filter (λ g. hits key_cmp key_total k (pair_of g)) s.groups in
-    let theirs = filter-map (is_key k) (λ (g : Group). entity_values g.row) s.groups ∙ ap (map (λ (g : Group). entity_values g.row)) (same_filter k fits a.serial s.groups s.each) in
+    let theirs = filter-map (is_key k) (λ (g : Group). entity_values g.row) s.groups ∙ ap (map (λ (g : Group). entity_values g.row)) (same_filter k fits a.serial s.groups (spelt_first db a s).each) in
     let rows_are = IsPermutation-trans _ _ _ (subst (λ l. IsPermutation l (filter (is_key k) (map entity_columns (db.trees 1)))) theirs stored) (subst (λ l. IsPermutation l rows) mine all) in
     let kept = IsPermutation-filter (hits key_cmp key_total k) _ _ s.kept in
     let keys = subst (λ l. IsPermutation (map pair_of fs) l) (found_in key_cmp key_total key_exact a.entities k) (subst (λ l. IsPermutation l (filter (hits key_cmp key_total k) (entries a.entities))) (filter-map (hits key_cmp key_total k) pair_of s.groups) kept) in

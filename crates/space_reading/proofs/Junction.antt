@@ -18,7 +18,8 @@ use Rattle.sqlite.proofs.Callers.{one_permutation}
 use Rattle.entity_core.specs.Airspace.{Airspace, Availabilities, Stated, key_cmp, text_cmp}
 use Rattle.space_rows.proofs.Pieces.{all_turned}
 use Rattle.space_tables.specs.Tables.{dss_schema}
-use Rattle.space_tables.specs.Spelling.{Spells, Group, IsGroup, IsStated, AreApart, pair_of, availability_values, meta_values, entity_values, volume_values, cell_values, meta_columns, entity_columns, six_columns, three_columns}
+use Rattle.space_tables.specs.Spelling.{Spells, Group, IsStated, AreApart, pair_of, availability_values, meta_values, entity_values, volume_values, cell_values, meta_columns, entity_columns, six_columns, three_columns}
+use Rattle.space_tables.proofs.FirstFormat.{IsFirstGroup, spelt_first, first_spells}
 use Rattle.space_tables.proofs.Rising.{all_volumes_rise, all_cells_rise}
 use Rattle.space_tables.proofs.OneAirspace.{stated_of_values, stated_back, one_map}
 use Rattle.space_tables.proofs.Making.{no_entries}
@@ -93,11 +94,10 @@ module _ (db : Database) (t : Tables) (a : Airspace) (has : db.schema ≡ dss_sc
       let es = subst (λ m. IsPermutation (map pair_of g.groups ++ m) (entries a.entities)) (no_entries key_cmp) g.is in
       let ss = subst (λ m. IsPermutation (s.0 ++ m) (entries a.availabilities)) (no_entries text_cmp) s.3 in
       let stated : IsPermutation s.0 (entries a.availabilities) = subst (λ k. IsPermutation k (entries a.availabilities)) (append-nil s.0) ss in
-      record {
+      first_spells db a g.groups (record {
         schema = has;
         meta = one_permutation (meta_values 1 a.serial) (map meta_columns (db.trees 0)) (IsPermutation-sym _ _ (subst (IsPermutation (map meta_columns (db.trees 0))) l.meta r.metas));
         most = l.most;
-        groups = g.groups;
         rising = g.rising;
         each = g.each;
         entities = IsPermutation-sym _ _ (subst (IsPermutation (map entity_columns (db.trees 1))) (l.entities.rows_are ∙ (ap (map entity_values) (sym g.rows_are) ∙ map-map entity_values (λ (x : Group). x.row) g.groups)) r.entities.entities.all);
@@ -108,21 +108,22 @@ module _ (db : Database) (t : Tables) (a : Airspace) (has : db.schema ≡ dss_sc
         availabilities = IsPermutation-sym _ _ (IsPermutation-trans _ _ _ (subst (IsPermutation (map three_columns (db.trees 8))) s.1 r.settings) (IsPermutation-map availability_values _ _ stated));
         stated = all_stated s.0 (entries a.availabilities) stated s.2;
         apart = (apart_from 3 db t.rowids.volumes.items r.rowids.volumes l.rising.0, apart_from 5 db t.rowids.cells.items r.rowids.cells l.rising.1, apart_from 8 db t.rowids.settings.items r.rowids.settings l.rising.2);
-      }
+      })
 
-  above_zero : (gs : List Group) → AllByRecursion (IsGroup a.serial) gs → AllByRecursion (λ (g : Group). int_cmp (pos 0) g.row.num ≡ Less) gs
-  above_zero gs each = all_turned (IsGroup a.serial) (λ g. int_cmp (pos 0) g.row.num ≡ Less) (λ g p. Less-from_lt (pos 0) g.row.num (let low = p.spelt.entity.least in omega (arith, ints, low))) gs each
+  above_zero : (gs : List Group) → AllByRecursion (IsFirstGroup a.serial) gs → AllByRecursion (λ (g : Group). int_cmp (pos 0) g.row.num ≡ Less) gs
+  above_zero gs each = all_turned (IsFirstGroup a.serial) (λ g. int_cmp (pos 0) g.row.num ≡ Less) (λ g p. Less-from_lt (pos 0) g.row.num (let low = p.spelt.entity.least in omega (arith, ints, low))) gs each
 
   pub listed_if_spelt : Spells db a → IsListed t a
   listed_if_spelt p =
+      let first = spelt_first db a p in
       let rows = map (λ (g : Group). g.row) p.groups in
       let entities : t.entities.entities.items ≡ map entity_values rows = r.entities.entities.rising rows (ascending-map (λ x y. entity_order x y ≡ Less) (λ (g : Group). g.row) p.groups p.rising)
       (subst (λ l. IsPermutation l (map entity_columns (db.trees 1))) (sym (map-map entity_values (λ (g : Group). g.row) p.groups)) p.entities) in
-      let volumes = r.entities.volumes.rising (flat_map (λ (g : Group). g.volumes) p.groups) (all_volumes_rise a.serial p.groups p.each p.rising)
+      let volumes = r.entities.volumes.rising (flat_map (λ (g : Group). g.volumes) p.groups) (all_volumes_rise a.serial p.subs p.groups p.each p.rising)
       (subst (λ l. IsPermutation l (map six_columns (db.trees 3))) (sym (map-flat_map volume_values (λ (g : Group). g.volumes) p.groups)) p.volumes) in
-      let cells = r.entities.cells.rising (flat_map (λ (g : Group). g.cells) p.groups) (all_cells_rise a.serial p.groups p.each p.rising)
+      let cells = r.entities.cells.rising (flat_map (λ (g : Group). g.cells) p.groups) (all_cells_rise a.serial p.subs p.groups p.each p.rising)
       (subst (λ l. IsPermutation l (map six_columns (db.trees 5))) (sym (map-flat_map cell_values (λ (g : Group). g.cells) p.groups)) p.cells) in
-      let gathered = gathers_from a.serial (pos 0) p.groups empty a.entities p.each p.rising (above_zero p.groups p.each)
+      let gathered = gathers_from a.serial (pos 0) p.groups empty a.entities first.each p.rising (above_zero p.groups first.each)
       (subst (λ m. IsPermutation (map pair_of p.groups ++ m) (entries a.entities)) (sym (no_entries key_cmp)) (subst (λ k. IsPermutation k (entries a.entities)) (sym (append-nil (map pair_of p.groups))) p.kept)) in
       let back = swapped_back availability_values stated_of_values stated_back (entries a.availabilities) t.settings.items (IsPermutation-trans _ _ _ p.availabilities r.settings) in
       let settled = settles_from (map stated_of_values t.settings.items) empty a.availabilities (all_stated (entries a.availabilities) (map stated_of_values t.settings.items) back.1 p.stated)
@@ -139,7 +140,7 @@ module _ (db : Database) (t : Tables) (a : Airspace) (has : db.schema ≡ dss_sc
           cells_are = cells;
           gathered = gathered;
         };
-        subscriptions = p.subscriptions;
+        subscriptions = first.subscriptions;
         availabilities = subst (λ rs. Settles rs empty a.availabilities) (sym back.0) settled;
         rising = (rising_from 3 db t.rowids.volumes.items r.rowids.volumes p.apart.0, rising_from 5 db t.rowids.cells.items r.rowids.cells p.apart.1, rising_from 8 db t.rowids.settings.items r.rowids.settings p.apart.2);
       }

@@ -28,6 +28,7 @@ use Rattle.space_rows.specs.declared.rows.CellRow.{CellRow}
 use Rattle.space_rows.specs.Rows.{SpellsEntity}
 use Rattle.space_rows.proofs.Pieces.{Borne}
 use Rattle.space_tables.specs.Spelling.{Spells, Group, entity_values, volume_values, cell_values, entity_columns}
+use Rattle.space_tables.proofs.FirstFormat.{IsFirstGroup, spelt_first}
 use Rattle.space_tables.proofs.OneAirspace.{numbers_differ}
 use Rattle.space_reading.specs.declared.numbered.OwnRows.{OwnRows}
 use Rattle.space_reading.specs.Reading.{Reads}
@@ -120,7 +121,7 @@ has_or_not num (g ∷ gs) = go (int_eq g.row.num num) refl (has_or_not num gs)
 -- ---- the entity
 
 pub numbered_told : (num : ℤ) (rows : OwnRows) (r : Result (Option Entity) Error) → IfOk r (λ o. rows.heads.items ≡ [] → o ≡ None)
-    → IfOk r (λ o. (x : EntityRow) (vs : List VolumeRow) (cs : List CellRow) (e : Entity) → rows.heads.items ≡ entity_values x ∷ [] → rows.volumes.items ≡ map volume_values vs → rows.cells.items ≡ map cell_values cs → SpellsEntity x vs cs e → o ≡ Some e)
+    → IfOk r (λ o. (x : EntityRow) (vs : List VolumeRow) (cs : List CellRow) (e : Entity) → rows.heads.items ≡ entity_values x ∷ [] → rows.volumes.items ≡ map volume_values vs → rows.cells.items ≡ map cell_values cs → SpellsEntity x vs cs None e → o ≡ Some e)
     → (db : Database) → AnswersOwn num db rows → IfOk r (FindsNumbered num db)
 numbered_told num rows (Err e) none one db h = tt
 numbered_told num rows (Ok o) none one db h = λ a s. record { own = own a s; kept = go a s (has_or_not num s.groups) }
@@ -128,7 +129,7 @@ numbered_told num rows (Ok o) none one db h = λ a s. record { own = own a s; ke
     own : (a : Airspace) (s : Spells db a) (g : Group) → Has s.groups g → g.row.num ≡ num → o ≡ Some g.entity
     own a s g there is =
         one g.row g.volumes g.cells g.entity (numbered_shown db a s num rows.heads.items h.heads g there is)
-        (own_volumes_shown db a s g there rows.volumes.items (rw (sym is) at h.volumes)) (own_cells_shown db a s g there rows.cells.items (rw (sym is) at h.cells)) (alone a.serial g s.groups s.each there).spelt
+        (own_volumes_shown db a s g there rows.volumes.items (rw (sym is) at h.volumes)) (own_cells_shown db a s g there rows.cells.items (rw (sym is) at h.cells)) (alone (IsFirstGroup a.serial) g s.groups (spelt_first db a s).each there).spelt
 
     go : (a : Airspace) (s : Spells db a) → ((g : Group) → Has s.groups g → g.row.num ≢ num) ⊎ ((g : Group) × Has s.groups g × (g.row.num ≡ num)) → IfSome o (λ e. (g : Group) × Has s.groups g × (g.row.num ≡ num) × (g.entity ≡ e))
     go a s (inl absent) = subst (λ (p : Option Entity). IfSome p (λ e. (g : Group) × Has s.groups g × (g.row.num ≡ num) × (g.entity ≡ e))) (sym (none (none_shown db a s num rows.heads.items h.heads absent))) tt

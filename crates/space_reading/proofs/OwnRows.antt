@@ -1,5 +1,5 @@
 -- The rows of one entity among those of all.
-use Rattle.std.proofs.Common.{◌≡◌, ◌≢◌, inl, inr, ℕ, ℤ, List, [], ◌∷◌, ◌++◌, map, filter, flat_map, Bool, true, false, cond, codes, refl, sym, ap, ap₂, subst, ◌∙◌, Less, int_eq, append-nil}
+use Rattle.std.proofs.Common.{◌≡◌, ◌≢◌, inl, inr, ℤ, List, [], ◌∷◌, ◌++◌, map, filter, flat_map, Bool, true, false, cond, codes, refl, sym, ap, ap₂, subst, ◌∙◌, Less, int_eq, append-nil}
 use Rattle.std.specs.Prelude.{IsPermutation}
 use Rattle.std.specs.List.{AllByRecursion, list_all}
 use Rattle.sqlite_keyed.proofs.ListLemmas.{map-flat_map, filter-map, filter_none, filter_same, IsPermutation-filter}
@@ -102,24 +102,24 @@ is_own num c = list_all (holds ((Int num ∷ []) ∷ (Null ∷ c) ∷ [])) (same
 abbrev tests : List Term
 tests = same (col 1 1) (col 0 0) ∷ []
 
-pub alone : (serial : ℕ) (g : Group) (gs : List Group) → AllByRecursion (IsGroup serial) gs → Has gs g → IsGroup serial g
-alone serial g [] each has = absurd has
-alone serial g (h ∷ gs) each (inl e) = subst (IsGroup serial) (sym e) each.0
-alone serial g (h ∷ gs) each (inr has) = alone serial g gs each.1 has
+pub alone : (P : Group → Type 0) (g : Group) (gs : List Group) → AllByRecursion P gs → Has gs g → P g
+alone P g [] each has = absurd has
+alone P g (h ∷ gs) each (inl e) = subst P (sym e) each.0
+alone P g (h ∷ gs) each (inr has) = alone P g gs each.1 has
 
 module _ (db : Database) (a : Airspace) (s : Spells db a) (g : Group) (there : Has s.groups g) (rows : List Row) where
-  own : IsGroup a.serial g
-  own = alone a.serial g s.groups s.each there
+  own : IsGroup a.serial s.subs g
+  own = alone (IsGroup a.serial s.subs) g s.groups s.each there
 
   pub own_volumes_shown : Answers own_volumes_read (Int g.row.num ∷ []) db rows → rows ≡ map volume_values g.volumes
   own_volumes_shown h =
       let read = subst (λ k. Reads k db (Int g.row.num ∷ []) rows) own_volumes_is h in
-      let rises = subst (IsAscending (λ x y. volume_order x y ≡ Less)) (append-nil g.volumes) (all_volumes_rise a.serial (g ∷ []) (own, tt) (tt, tt)) in
+      let rises = subst (IsAscending (λ x y. volume_order x y ≡ Less)) (append-nil g.volumes) (all_volumes_rise a.serial s.subs (g ∷ []) (own, tt) (tt, tt)) in
       let stored = IsPermutation-filter (is_own g.row.num) _ _ s.volumes in
       let mine = filter-map (is_own g.row.num) six_columns (db.trees 3) in
       let theirs = ap (filter (is_own g.row.num)) (sym (map-flat_map volume_values (λ (g : Group). g.volumes) s.groups)) ∙ (filter-map (is_own g.row.num) volume_values (flat_map (λ (g : Group). g.volumes) s.groups)
       ∙ ap (map volume_values) (filter_same (λ v. is_own g.row.num (volume_values v)) (λ (v : VolumeRow). int_eq v.entity g.row.num) (λ v. last_term (at_ints false Eq v.entity g.row.num)) (flat_map (λ (g : Group). g.volumes) s.groups)
-      ∙ own_of (λ (v : VolumeRow). v.entity) (λ (g : Group). g.row.num) (λ (g : Group). g.volumes) s.groups g (volumes_borne a.serial s.groups s.each) (numbers_differ s.groups s.rising) there)) in
+      ∙ own_of (λ (v : VolumeRow). v.entity) (λ (g : Group). g.row.num) (λ (g : Group). g.volumes) s.groups g (volumes_borne a.serial s.subs s.groups s.each) (numbers_differ s.groups s.rising) there)) in
       selects_one 3 tests (1 ∷ 2 ∷ 3 ∷ 4 ∷ 5 ∷ 6 ∷ []) (1 ∷ 2 ∷ []) db.trees (Int g.row.num ∷ []) rows refl (read.answer Null) volume_values six_columns (λ c. (column c 0 ∷ column c 1 ∷ [], c)) volume_order (λ r. refl) (λ c. refl)
       (λ x y e. rw (value_cmp-Int x.entity y.entity, value_cmp-Int x.place y.place, then_equal (int_cmp x.place y.place)) e) g.volumes rises
       (subst (λ l. IsPermutation (map volume_values g.volumes) l) mine (subst (λ l. IsPermutation l (filter (is_own g.row.num) (map six_columns (db.trees 3)))) theirs stored))
@@ -127,12 +127,12 @@ module _ (db : Database) (a : Airspace) (s : Spells db a) (g : Group) (there : H
   pub own_cells_shown : Answers own_cells_read (Int g.row.num ∷ []) db rows → rows ≡ map cell_values g.cells
   own_cells_shown h =
       let read = subst (λ k. Reads k db (Int g.row.num ∷ []) rows) own_cells_is h in
-      let rises = subst (IsAscending (λ x y. cell_order x y ≡ Less)) (append-nil g.cells) (all_cells_rise a.serial (g ∷ []) (own, tt) (tt, tt)) in
+      let rises = subst (IsAscending (λ x y. cell_order x y ≡ Less)) (append-nil g.cells) (all_cells_rise a.serial s.subs (g ∷ []) (own, tt) (tt, tt)) in
       let stored = IsPermutation-filter (is_own g.row.num) _ _ s.cells in
       let mine = filter-map (is_own g.row.num) six_columns (db.trees 5) in
       let theirs = ap (filter (is_own g.row.num)) (sym (map-flat_map cell_values (λ (g : Group). g.cells) s.groups)) ∙ (filter-map (is_own g.row.num) cell_values (flat_map (λ (g : Group). g.cells) s.groups)
       ∙ ap (map cell_values) (filter_same (λ v. is_own g.row.num (cell_values v)) (λ (v : CellRow). int_eq v.entity g.row.num) (λ v. last_term (at_ints false Eq v.entity g.row.num)) (flat_map (λ (g : Group). g.cells) s.groups)
-      ∙ own_of (λ (v : CellRow). v.entity) (λ (g : Group). g.row.num) (λ (g : Group). g.cells) s.groups g (cells_borne a.serial s.groups s.each) (numbers_differ s.groups s.rising) there)) in
+      ∙ own_of (λ (v : CellRow). v.entity) (λ (g : Group). g.row.num) (λ (g : Group). g.cells) s.groups g (cells_borne a.serial s.subs s.groups s.each) (numbers_differ s.groups s.rising) there)) in
       selects_one 5 tests (1 ∷ 2 ∷ 3 ∷ 4 ∷ 5 ∷ 6 ∷ []) (1 ∷ 2 ∷ 3 ∷ []) db.trees (Int g.row.num ∷ []) rows refl (read.answer Null) cell_values six_columns (λ c. (column c 0 ∷ column c 1 ∷ column c 2 ∷ [], c)) cell_order (λ r. refl) (λ c. refl)
       (λ x y e. rw (value_cmp-Int x.entity y.entity, value_cmp-Int x.volume y.volume, value_cmp-Int x.place y.place, then_equal (int_cmp x.place y.place)) e) g.cells rises
       (subst (λ l. IsPermutation (map cell_values g.cells) l) mine (subst (λ l. IsPermutation l (filter (is_own g.row.num) (map six_columns (db.trees 5)))) theirs stored))

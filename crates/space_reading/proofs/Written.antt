@@ -62,7 +62,7 @@ id_utf8 id = IsUtf8-from_ascii _ (hyphenated_ascii lower (to_be_bytes w128 id) (
 
 -- ---- rows
 
-pub entity_written : (row : EntityRow) (volumes : List VolumeRow) (cells : List CellRow) (e : Entity) → SpellsEntity row volumes cells e → IsWrittenEntity row
+pub entity_written : (row : EntityRow) (volumes : List VolumeRow) (cells : List CellRow) (e : Entity) → SpellsEntity row volumes cells None e → IsWrittenEntity row
 entity_written row volumes cells e s = record {
   id = subst IsUtf8 (sym s.entity.id) (id_utf8 e.id);
   manager = subst IsUtf8 (sym s.entity.manager) (name_utf8 e.manager s.kept.manager);

@@ -37,7 +37,7 @@ StartsElse P (x ∷ xs) = ¬ P x
 pub record IsNext (serial : ℕ) (last : ℤ) (row : EntityRow) (volumes : List VolumeRow)
     (cells : List CellRow) (before : Entities) (e : Entity) : Type 0 where
   pub rising : int_cmp last row.num ≡ Less
-  pub spelt : SpellsEntity row volumes cells e
+  pub spelt : SpellsEntity row volumes cells None e
   pub most : e.serial ≤ serial
   pub new : get before (key_of e) ≡ None
 

@@ -73,7 +73,7 @@ fn next_entity(
     if !is_before(last, row.num) {
         return Ok(None);
     }
-    let Some(entity) = entity_of(alloc, row, volumes, cells)? else {
+    let Some(entity) = entity_of(alloc, row, volumes, cells, None)? else {
         return Ok(None);
     };
     if entity.serial.number() > serial {

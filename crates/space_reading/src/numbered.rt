@@ -58,7 +58,7 @@ fn entity_among(alloc: Global, rows: &OwnRows) -> Result<Option<Entity>, Error>
         → rows.now.heads.items ≡ entity_values x ∷ []
         → rows.now.volumes.items ≡ map volume_values vs
         → rows.now.cells.items ≡ map cell_values cs
-        → SpellsEntity x vs cs e → o ≡ Some e) }
+        → SpellsEntity x vs cs None e → o ≡ Some e) }
 {
     let Some(head) = head_of(rows.heads.as_slice())? else {
         return Ok(None);

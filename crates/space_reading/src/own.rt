@@ -78,7 +78,7 @@ pub(crate) fn entity_in(
 ) -> Result<Entity, Error>
     ensures { IfOk result (λ e. (vs : List VolumeRow) (cs : List CellRow) (x : AnEntity)
         → volumes.now ≡ map volume_values vs → cells.now ≡ map cell_values cs
-        → SpellsEntity head.now vs cs x → e ≡ x) }
+        → SpellsEntity head.now vs cs None x → e ≡ x) }
 {
     let Some(volumes) = volume_rows(alloc, volumes)? else {
         return Err(Error::QueryReturnedNoRows);
@@ -86,7 +86,7 @@ pub(crate) fn entity_in(
     let Some(cells) = cell_rows(alloc, cells)? else {
         return Err(Error::QueryReturnedNoRows);
     };
-    match entity_of(alloc, head, volumes.as_slice(), cells.as_slice())? {
+    match entity_of(alloc, head, volumes.as_slice(), cells.as_slice(), None)? {
         Some(entity) => Ok(entity),
         None => Err(Error::QueryReturnedNoRows),
     }

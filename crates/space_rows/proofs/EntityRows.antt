@@ -1,5 +1,5 @@
 -- An entity of its row, its volumes and their count.
-use Rattle.std.specs.Prelude.{◌≡◌, ◌≤◌, List, length, Option, Some, None, refl}
+use Rattle.std.specs.Prelude.{◌≡◌, ℕ, ◌≤◌, List, length, Option, Some, None, refl}
 use Rattle.std.proofs.Common.{sym, subst}
 use Rattle.grid_core.specs.Extent.{Extent}
 use Rattle.entity_core.specs.declared.entity.Entity.{Entity}
@@ -13,11 +13,11 @@ use Rattle.space_rows.specs.Finds.{Finds}
 use Rattle.space_rows.specs.Head.{HasVolumes, SpellsHead, with_volumes, head_part}
 use Rattle.space_rows.specs.Volumes.{SpellsVolumes}
 
-pub has_head : (row : EntityRow) (volumes : List VolumeRow) (cells : List CellRow) (e : Entity) → SpellsEntity row volumes cells e → SpellsHead row (head_part e)
-has_head row volumes cells e s = record {
+pub has_head : (row : EntityRow) (volumes : List VolumeRow) (cells : List CellRow) (named : Option ℕ) (e : Entity) → SpellsEntity row volumes cells named e → SpellsHead row named (head_part e)
+has_head row volumes cells named e s = record {
   least = s.entity.least;
   most = s.entity.most;
-  nature = record { kind_is = s.entity.kind; state_is = s.entity.state; named = s.named };
+  nature = record { kind_is = s.entity.kind; state_is = s.entity.state; named_is = s.named_is };
   id = record { text_is = s.entity.id; fits = s.kept.id };
   manager = record { same = s.entity.manager; right = s.kept.manager };
   version = record { number = s.entity.version; least = s.kept.version.0; most = s.kept.version.1 };
@@ -26,8 +26,8 @@ has_head row volumes cells e s = record {
   url = record { same = s.entity.url; right = s.kept.url };
 }
 
-whole : (row : EntityRow) (volumes : List VolumeRow) (cells : List CellRow) (h : Head) (es : List Extent) → SpellsHead row h → SpellsVolumes row.num 0 volumes cells es → (1 ≤ length es) × (length es ≤ 32) → SpellsEntity row volumes cells (with_volumes h es)
-whole row volumes cells h es p v n = record {
+whole : (row : EntityRow) (volumes : List VolumeRow) (cells : List CellRow) (named : Option ℕ) (h : Head) (es : List Extent) → SpellsHead row named h → SpellsVolumes row.num 0 volumes cells es → (1 ≤ length es) × (length es ≤ 32) → SpellsEntity row volumes cells named (with_volumes h es)
+whole row volumes cells named h es p v n = record {
   entity = record {
     least = p.least;
     most = p.most;
@@ -42,7 +42,7 @@ whole row volumes cells h es p v n = record {
   };
   volumes_are = v.volumes_are;
   cells_are = v.cells_are;
-  named = p.nature.named;
+  named_is = p.nature.named_is;
   kept = record {
     id = p.id.fits;
     manager = p.manager.right;
@@ -55,12 +55,12 @@ whole row volumes cells h es p v n = record {
   };
 }
 
-pub found_entity : (row : EntityRow) (volumes : List VolumeRow) (cells : List CellRow) (h : Head) (es : List Extent) (o : Option Entity) → SpellsHead row h → SpellsVolumes row.num 0 volumes cells es
-    → Finds (HasVolumes h es) o → Finds (SpellsEntity row volumes cells) o
-found_entity row volumes cells h es None p v f = λ e s.
+pub found_entity : (row : EntityRow) (volumes : List VolumeRow) (cells : List CellRow) (named : Option ℕ) (h : Head) (es : List Extent) (o : Option Entity) → SpellsHead row named h → SpellsVolumes row.num 0 volumes cells es
+    → Finds (HasVolumes h es) o → Finds (SpellsEntity row volumes cells named) o
+found_entity row volumes cells named h es None p v f = λ e s.
     let same : e.volumes ≡ es = one_volumes row.num volumes cells e.volumes es s.kept.volumes v.kept s.volumes_are v.volumes_are s.cells_are v.cells_are in
     f (with_volumes h es) (record { whole = refl; count = subst (λ (l : List Extent). (1 ≤ length l) × (length l ≤ 32)) same s.kept.count })
-found_entity row volumes cells h es (Some e) p v f = subst (SpellsEntity row volumes cells) (sym f.whole) (whole row volumes cells h es p v f.count)
+found_entity row volumes cells named h es (Some e) p v f = subst (SpellsEntity row volumes cells named) (sym f.whole) (whole row volumes cells named h es p v f.count)
 
-pub no_volumes : (row : EntityRow) (volumes : List VolumeRow) (cells : List CellRow) → ((es : List Extent) → ¬ SpellsVolumes row.num 0 volumes cells es) → (e : Entity) → ¬ SpellsEntity row volumes cells e
-no_volumes row volumes cells none e s = none e.volumes (record { volumes_are = s.volumes_are; cells_are = s.cells_are; kept = s.kept.volumes })
+pub no_volumes : (row : EntityRow) (volumes : List VolumeRow) (cells : List CellRow) (named : Option ℕ) → ((es : List Extent) → ¬ SpellsVolumes row.num 0 volumes cells es) → (e : Entity) → ¬ SpellsEntity row volumes cells named e
+no_volumes row volumes cells named none e s = none e.volumes (record { volumes_are = s.volumes_are; cells_are = s.cells_are; kept = s.kept.volumes })

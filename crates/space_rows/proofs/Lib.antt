@@ -6,3 +6,5 @@ pub mod CellRows
 pub mod VolumeRows
 pub mod HeadRows
 pub mod EntityRows
+pub mod SubCellRows
+pub mod SubRows

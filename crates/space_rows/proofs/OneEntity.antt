@@ -1,5 +1,5 @@
 -- Rows spell one entity at most.
-use Rattle.std.specs.Prelude.{◌≡◌, ◌≢◌, ℕ, zero, suc, ℤ, pos, ◌<◌, List, [], ◌∷◌, ◌^◌, map, None, refl}
+use Rattle.std.specs.Prelude.{◌≡◌, ◌≢◌, ℕ, zero, suc, ℤ, pos, ◌<◌, List, [], ◌∷◌, ◌^◌, map, Option, refl}
 use Rattle.std.specs.List.{AllByRecursion, AllZip, flat_map}
 use Rattle.std.proofs.Common.{sym, ap, ap₂, ◌∙◌, arith}
 use Rattle.grid_core.specs.Cell.{Cell, IsCell}
@@ -17,24 +17,24 @@ use Rattle.space_rows.specs.Rows.{state_number, placed, PlacedCell, cells_at, pl
 use Rattle.space_rows.specs.Laws.{OneEntity}
 use Rattle.space_rows.proofs.Pieces.{Borne, Differ, all_joined, all_turned, one_flat}
 
--- the nature that a state's number is of, where no subscription is named
-nature_at : ℤ → Nature
-nature_at (pos zero) = Intent Accepted None
-nature_at (pos (suc zero)) = Intent Activated None
-nature_at (pos (suc (suc zero))) = Intent Nonconforming None
-nature_at (pos (suc (suc (suc zero)))) = Intent Contingent None
-nature_at _ = Constraint
+-- the nature that a state's number is of
+nature_at : ℤ → Option ℕ → Nature
+nature_at (pos zero) named = Intent Accepted named
+nature_at (pos (suc zero)) named = Intent Activated named
+nature_at (pos (suc (suc zero))) named = Intent Nonconforming named
+nature_at (pos (suc (suc (suc zero)))) named = Intent Contingent named
+nature_at _ named = Constraint
 
-nature_again : (n : Nature) → subscription_of n ≡ None → nature_at (state_number n) ≡ n
+nature_again : (n : Nature) → nature_at (state_number n) (subscription_of n) ≡ n
 unfolding nature_at
-nature_again (Intent Accepted named) none = ap (Intent Accepted) (sym none)
-nature_again (Intent Activated named) none = ap (Intent Activated) (sym none)
-nature_again (Intent Nonconforming named) none = ap (Intent Nonconforming) (sym none)
-nature_again (Intent Contingent named) none = ap (Intent Contingent) (sym none)
-nature_again Constraint none = refl
+nature_again (Intent Accepted named) = refl
+nature_again (Intent Activated named) = refl
+nature_again (Intent Nonconforming named) = refl
+nature_again (Intent Contingent named) = refl
+nature_again Constraint = refl
 
-pub one_state : (a b : Nature) → subscription_of a ≡ None → subscription_of b ≡ None → state_number a ≡ state_number b → a ≡ b
-one_state a b none no_other e = sym (nature_again a none) ∙ (ap nature_at e ∙ nature_again b no_other)
+pub one_state : (a b : Nature) → state_number a ≡ state_number b → subscription_of a ≡ subscription_of b → a ≡ b
+one_state a b e f = sym (nature_again a) ∙ (ap₂ nature_at e f ∙ nature_again b)
 
 pub one_pos : (m n : ℕ) (x : ℤ) → x ≡ pos m → x ≡ pos n → m ≡ n
 one_pos m n x p q = let e = sym p ∙ q in cc
@@ -136,8 +136,8 @@ one_id text m n a b p q = let e = sym (printed_spells m text p a) ∙ printed_sp
 
 -- rows spell one entity
 pub one_entity : OneEntity
-one_entity row volumes cells e f p q =
-    let nature = one_state e.nature f.nature p.named q.named (sym p.entity.state ∙ q.entity.state) in
+one_entity row volumes cells named e f p q =
+    let nature = one_state e.nature f.nature (sym p.entity.state ∙ q.entity.state) (sym p.named_is ∙ q.named_is) in
     let id = one_id row.id e.id f.id p.kept.id q.kept.id p.entity.id q.entity.id in
     let manager = sym p.entity.manager ∙ q.entity.manager in
     let version = one_pos e.version f.version row.version p.entity.version q.entity.version in

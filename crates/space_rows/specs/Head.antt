@@ -42,11 +42,11 @@ pub record HasVolumes (h : Head) (vs : List Extent) (e : Entity) : Type 0 where
   pub whole : e ≡ with_volumes h vs
   pub count : (1 ≤ length vs) × (length vs ≤ 32)
 
--- the numbers of a kind and a state; no subscription is named
-pub record SpellsNature (kind state : ℤ) (n : Nature) : Type 0 where
+-- the numbers of a kind and a state, and the subscription that is named
+pub record SpellsNature (kind state : ℤ) (named : Option ℕ) (n : Nature) : Type 0 where
   pub kind_is : kind ≡ kind_number (kind_of n)
   pub state_is : state ≡ state_number n
-  pub named : subscription_of n ≡ None
+  pub named_is : named ≡ subscription_of n
 
 -- the text that is printed of an id
 pub record SpellsId (text : List ℕ) (id : ℕ) : Type 0 where
@@ -64,10 +64,10 @@ pub record SpellsText (fault : List ℕ → Option IdFault) (text read : List �
   pub same : text ≡ read
   pub right : fault read ≡ None
 
-pub record SpellsHead (row : EntityRow) (h : Head) : Type 0 where
+pub record SpellsHead (row : EntityRow) (named : Option ℕ) (h : Head) : Type 0 where
   pub least : pos 1 ≤ℤ row.num
   pub most : row.num ≤ℤ pos h.serial
-  pub nature : SpellsNature row.kind row.state h.nature
+  pub nature : SpellsNature row.kind row.state named h.nature
   pub id : SpellsId row.id h.id
   pub manager : SpellsText name_fault row.manager h.manager
   pub version : SpellsCount greatest_version row.version h.version

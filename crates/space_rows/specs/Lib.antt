@@ -3,4 +3,7 @@ pub mod Finds
 pub mod Cells
 pub mod Volumes
 pub mod Head
+pub mod Subs
+pub mod SubCells
+pub mod SubHead
 pub mod Laws

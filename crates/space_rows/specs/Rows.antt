@@ -1,5 +1,5 @@
 -- Which rows of the tables spell an entity.
-use Rattle.std.specs.Prelude.{◌≡◌, ℕ, suc, ℤ, pos, ◌≤◌, ◌<◌, ◌≤ℤ◌, ◌^◌, List, [], ◌∷◌, map, length, None}
+use Rattle.std.specs.Prelude.{◌≡◌, ℕ, suc, ℤ, pos, ◌≤◌, ◌<◌, ◌≤ℤ◌, ◌^◌, List, [], ◌∷◌, map, length, Option, None}
 use Rattle.std.specs.List.{AllByRecursion, AllZip, flat_map}
 use Rattle.grid_core.specs.Cell.{Cell, IsCell, lo_of, hi_of}
 use Rattle.grid_core.specs.Extent.{Extent, region_of, region_fault}
@@ -107,12 +107,13 @@ pub record IsCellRow (num : ℤ) (row : CellRow) (c : PlacedCell) : Type 0 where
 
 -- A row of `entity`, the rows of `volume` by rising places, and those of `cell` by rising volumes
 -- and places, spell an entity: each reads by its types, and places count from 0 without gaps. There
--- is a volume, and each volume has a cell, as `IsEntity` and `region_fault` say. No row tells of a
--- subscription, and so the entity names none.
+-- is a volume, and each volume has a cell, as `IsEntity` and `region_fault` say. `named` is the id
+-- of the subscription that the entity names by its row of `naming`, if it has one; a constraint has
+-- none.
 pub record SpellsEntity (row : EntityRow) (volumes : List VolumeRow) (cells : List CellRow)
-    (e : Entity) : Type 0 where
+    (named : Option ℕ) (e : Entity) : Type 0 where
   pub entity : IsEntityRow row e
   pub volumes_are : AllZip (IsVolumeRow row.num) volumes (placed 0 e.volumes)
   pub cells_are : AllZip (IsCellRow row.num) cells (all_cells e.volumes)
-  pub named : subscription_of e.nature ≡ None
+  pub named_is : named ≡ subscription_of e.nature
   pub kept : IsEntity e

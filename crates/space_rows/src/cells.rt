@@ -40,7 +40,8 @@ fn as_printed(alloc: Global, cell: CellId, text: &str) -> Result<Option<CellId>,
     }
 }
 
-fn cell_of_token(alloc: Global, text: &str) -> Result<Option<CellId>, AllocError>
+/// The cell of a token that is as it is printed.
+pub(crate) fn cell_of_token(alloc: Global, text: &str) -> Result<Option<CellId>, AllocError>
     ensures { IfOk result (λ o. Finds (SpellsToken text.now) o) }
 {
     match parse_token(text) {

@@ -1,5 +1,5 @@
 //! The entity that rows spell, and the rows of an entity.
-ghost use Rattle.std.specs.Prelude.{◌≡◌, ◌≤ℤ◌, pos, IfOk, None};
+ghost use Rattle.std.specs.Prelude.{◌≡◌, ◌≤ℤ◌, pos, IfOk};
 ghost use Rattle.entity_core.specs.Entity.{subscription_of};
 ghost use Rattle.space_rows.specs.Rows.{SpellsEntity};
 ghost use Rattle.space_rows.specs.Finds.{Finds};
@@ -9,6 +9,7 @@ use crate::head::{Head, entity_row, head_of};
 use crate::rows::{CellRow, EntityRow, VolumeRow};
 use crate::volumes::{volume_rows, volumes_of};
 use entity_core::entity::Entity;
+use entity_core::entity_id::EntityId;
 use grid_core::volume::Volume;
 use grid_core::volumes::Volumes;
 use std::alloc::{AllocError, Global};
@@ -32,16 +33,19 @@ fn joined(head: Head, list: Vec<Volume>) -> Option<Entity>
 }
 
 /// The entity that the rows spell, if they spell one. The rows of `volume` come by rising places,
-/// and those of `cell` by rising volumes and then places; in another order they spell none.
+/// and those of `cell` by rising volumes and then places; in another order they spell none. `named`
+/// is the id of the subscription to which the entity's row of `naming` refers, if it has one; a
+/// constraint with one is spelt by no rows.
 pub fn entity_of(
     alloc: Global,
     row: &EntityRow,
     volumes: &[VolumeRow],
     cells: &[CellRow],
+    named: Option<EntityId>,
 ) -> Result<Option<Entity>, AllocError>
-    ensures { IfOk result (λ o. Finds (SpellsEntity row.now volumes.now cells.now) o) }
+    ensures { IfOk result (λ o. Finds (SpellsEntity row.now volumes.now cells.now named) o) }
 {
-    let Some(head) = head_of(alloc, row)? else {
+    let Some(head) = head_of(alloc, row, named)? else {
         return Ok(None);
     };
     match volumes_of(alloc, row.num, volumes, cells)? {
@@ -51,8 +55,8 @@ pub fn entity_of(
 }
 
 /// The rows of an entity under a number: that of `entity`, those of `volume` by rising places, and
-/// those of `cell` by rising volumes and then places. They spell it, unless it names a subscription:
-/// no row tells that.
+/// those of `cell` by rising volumes and then places. They spell it with the subscription that it
+/// names; its row of `naming` is not among them.
 pub fn rows_of(
     alloc: Global,
     entity: &Entity,
@@ -61,8 +65,8 @@ pub fn rows_of(
     requires least { pos 1 ≤ℤ num }
     requires most { num ≤ℤ pos entity.now.serial }
     ensures num { IfOk result (λ r. r.0.num ≡ num) }
-    ensures spells { subscription_of entity.now.nature ≡ None
-        → IfOk result (λ r. SpellsEntity r.0 r.1.items r.2.items entity.now) }
+    ensures spells { IfOk result (λ r. SpellsEntity r.0 r.1.items r.2.items
+        (subscription_of entity.now.nature) entity.now) }
 {
     let row = entity_row(alloc, entity, num)?;
     let (volumes, cells) = volume_rows(alloc, num, entity.volumes.items())?;

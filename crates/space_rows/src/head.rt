@@ -47,23 +47,33 @@ fn state_of(number: i64) -> Option<State>
     }
 }
 
-fn intent_of(state: i64) -> Option<Nature>
-    ensures { Finds (SpellsNature (pos 0) state) result }
+fn intent_of(state: i64, named: Option<EntityId>) -> Option<Nature>
+    ensures { Finds (SpellsNature (pos 0) state named) result }
 {
     match state_of(state) {
-        Some(state) => Some(Nature::Intent(state, None)),
+        Some(state) => Some(Nature::Intent(state, named)),
         None => None,
     }
 }
 
-fn nature_of(kind: i64, state: i64) -> Option<Nature>
-    ensures { Finds (SpellsNature kind state) result }
+fn constraint_of(state: i64, named: Option<EntityId>) -> Option<Nature>
+    ensures { Finds (SpellsNature (pos 1) state named) result }
+{
+    match (state, named) {
+        (4, None) => Some(Nature::Constraint),
+        _ => None,
+    }
+}
+
+// What an entity is, by the numbers of its row and the subscription that it names.
+fn nature_of(kind: i64, state: i64, named: Option<EntityId>) -> Option<Nature>
+    ensures { Finds (SpellsNature kind state named) result }
 {
     if kind == 0 {
-        return intent_of(state);
+        return intent_of(state, named);
     }
-    if kind == 1 && state == 4 {
-        return Some(Nature::Constraint);
+    if kind == 1 {
+        return constraint_of(state, named);
     }
     None
 }
@@ -81,7 +91,8 @@ fn id_as_printed(alloc: Global, id: EntityId, text: &str) -> Result<Option<Entit
     }
 }
 
-fn id_of(alloc: Global, text: &str) -> Result<Option<EntityId>, AllocError>
+/// The id of which a text is what is printed.
+pub(crate) fn id_of(alloc: Global, text: &str) -> Result<Option<EntityId>, AllocError>
     ensures { IfOk result (λ o. Finds (SpellsId text.now) o) }
 {
     match EntityId::read(text) {
@@ -99,7 +110,8 @@ fn version_of(number: i64) -> Option<Version>
     Version::from_number(number as u32)
 }
 
-fn serial_of(number: i64) -> Option<Serial>
+/// The serial of a number.
+pub(crate) fn serial_of(number: i64) -> Option<Serial>
     ensures { Finds (SpellsCount greatest_serial number) result }
 {
     if number < 1 {
@@ -108,18 +120,22 @@ fn serial_of(number: i64) -> Option<Serial>
     Serial::after(number as u64 - 1)
 }
 
-// Whether the number of an entity is from 1 to its serial.
-fn is_numbered(num: i64, serial: Serial) -> bool
+/// Whether the number of an entity or a subscription is from 1 to its serial.
+pub(crate) fn is_numbered(num: i64, serial: Serial) -> bool
     ensures { IsTrue result ↔ ((pos 1 ≤ℤ num) × (num ≤ℤ pos serial)) }
 {
     num >= 1 && num as u64 <= serial.number()
 }
 
 /// What a row of the table `entity` spells.
-pub(crate) fn head_of(alloc: Global, row: &EntityRow) -> Result<Option<Head>, AllocError>
-    ensures { IfOk result (λ o. Finds (SpellsHead row.now) o) }
+pub(crate) fn head_of(
+    alloc: Global,
+    row: &EntityRow,
+    named: Option<EntityId>,
+) -> Result<Option<Head>, AllocError>
+    ensures { IfOk result (λ o. Finds (SpellsHead row.now named) o) }
 {
-    let Some(nature) = nature_of(row.kind, row.state) else {
+    let Some(nature) = nature_of(row.kind, row.state, named) else {
         return Ok(None);
     };
     let Some(version) = version_of(row.version) else {
@@ -154,13 +170,13 @@ pub(crate) fn head_of(alloc: Global, row: &EntityRow) -> Result<Option<Head>, Al
     }))
 }
 
-/// The row of an entity under a number; of one that names a subscription, that is not told by it.
+/// The row of an entity under a number. It does not tell which subscription the entity names.
 pub(crate) fn entity_row(alloc: Global, entity: &Entity, num: i64) -> Result<EntityRow, AllocError>
     requires least { pos 1 ≤ℤ num }
     requires most { num ≤ℤ pos entity.now.serial }
     ensures num { IfOk result (λ row. row.num ≡ num) }
-    ensures row { subscription_of entity.now.nature ≡ None
-        → IfOk result (λ row. SpellsHead row (head_part entity.now)) }
+    ensures row { IfOk result (λ row.
+        SpellsHead row (subscription_of entity.now.nature) (head_part entity.now)) }
 {
     let _number = entity.id.number();
     Ok(EntityRow {

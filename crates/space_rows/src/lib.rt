@@ -1,4 +1,4 @@
-//! Entities as rows of tables: the entity that rows spell, and the rows of an entity.
+//! Entities and subscriptions as rows of tables: what rows spell, and the rows of either.
 #![tactic(auto)]
 
 mod cells;
@@ -7,5 +7,8 @@ mod head;
 pub mod laws;
 pub mod numbers;
 pub mod rows;
+pub mod sub;
+mod sub_cells;
+mod sub_head;
 pub mod texts;
 mod volumes;

@@ -23,7 +23,8 @@ fn with_times(cells: Vec<CellId>, row: &VolumeRow, first: u64, last: u64) -> Opt
     }
 }
 
-fn bounded(cells: Vec<CellId>, row: &VolumeRow) -> Option<Volume>
+/// The volume of these cells with the bounds of a row.
+pub(crate) fn bounded(cells: Vec<CellId>, row: &VolumeRow) -> Option<Volume>
     ensures { Finds (HasBounds row.now cells.items) result }
 {
     if row.time_start < 0 || row.time_end < 0 {
@@ -82,7 +83,8 @@ pub(crate) fn volumes_of(
     }
 }
 
-fn volume_row(num: i64, place: usize, volume: &Volume) -> VolumeRow
+/// The row of a volume at a place.
+pub(crate) fn volume_row(num: i64, place: usize, volume: &Volume) -> VolumeRow
     requires { place < 32 }
     ensures row { IsVolumeRow num result (place, volume.now) }
     ensures limits { region_fault (region_of volume.now) ≡ None }

@@ -4,6 +4,7 @@ use Rattle.sqlite.specs.State.{State, Survives}
 use Rattle.sqlite.proofs.StateLemmas.{survives_weaker}
 use Rattle.space_tables.specs.Making.{MayBeMade}
 use Rattle.space_tables.specs.Tables.{dss_schema}
+use Rattle.space_tables.specs.declared.format.Format.{Format}
 use Rattle.space_tables.specs.declared.standing.Standing.TheVariants.{Missing, Whole}
 use Rattle.space_sql.specs.Opening.{MayBeOpened}
 use Rattle.space_sql.specs.declared.open_fault.OpenFault.{OpenFault}
@@ -12,8 +13,8 @@ use Rattle.space_sql.specs.declared.open_fault.OpenFault.TheVariants.{Store}
 pub ok_is_no_fault : (x : Unit {0}) (fault : OpenFault) → ◌≢◌ {A = Result (Unit {0}) OpenFault} (Ok x) (Err fault)
 ok_is_no_fault x fault = λ e. cc
 
-pub missing_is_not_whole : Missing ≡ Whole → ⊥
-missing_is_not_whole e = cc
+pub missing_is_not_whole : (format : Format) → Missing ≡ Whole format → ⊥
+missing_is_not_whole format e = cc
 
 -- a call that committed nothing leaves no more than an opening may
 pub nothing_left : (old new : State) (fault : OpenFault) → Survives old new (λ _. ⊥) → Survives old new (MayBeOpened old fault)

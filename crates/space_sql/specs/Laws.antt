@@ -15,6 +15,7 @@ use Rattle.entity_core.specs.declared.entity.Entity.{Entity}
 use Rattle.entity_core.proofs.Keys.{one_key}
 use Rattle.space_tables.specs.Spelling.{Group, Spells, pair_of}
 use Rattle.space_tables.proofs.OneAirspace.{one_airspace}
+use Rattle.space_tables.proofs.FirstFormat.{spelt_first}
 use Rattle.space_sql.specs.Holding.{Keeps, with_tables}
 
 -- outcomes that are one keep one airspace
@@ -52,8 +53,8 @@ no_subscription a none id = ap (λ (m : Subscriptions). get m id) none ∙ get-e
 pub spelt_is_proper : (db : Trees) (a : Airspace) → Spells (with_tables db) a → IsAirspace a
 spelt_is_proper db a p = record {
   keyed = λ k x h. own_key (entries a.entities) k x (all-permutation IsUnderItsKey _ _ p.kept (own_keys p.groups)) (sym (get-entries a.entities k) ∙ h);
-  own = λ id s h. let none = no_subscription a p.subscriptions id in cc;
-  told = λ id s h. let none = no_subscription a p.subscriptions id in cc;
+  own = λ id s h. let none = no_subscription a (spelt_first (with_tables db) a p).subscriptions id in cc;
+  told = λ id s h. let none = no_subscription a (spelt_first (with_tables db) a p).subscriptions id in cc;
 }
 
 -- what an outcome keeps is an airspace that may be kept

@@ -18,6 +18,7 @@ use space_core::space::{Space, SpaceFault};
 use space_reading::reading::{known, read_airspace};
 use space_reading::single::has_other_format;
 use space_reading::verdict::Verdict;
+use space_tables::format::Format;
 use space_tables::make::make_tables;
 use space_tables::standing::{Standing, has_meta, standing_of};
 use sqlite::{Alter, Connection, File, FileStore, MemStore};
@@ -184,8 +185,8 @@ impl<S: Alter> SqlSpace<S> {
     {
         match standing_of(conn.schema()) {
             Standing::Missing => make_new(alloc, conn),
-            Standing::Whole => take_old(alloc, conn),
-            Standing::Partial => Err(refused(conn)),
+            Standing::Whole(Format::One) => take_old(alloc, conn),
+            Standing::Whole(Format::Two) | Standing::Partial => Err(refused(conn)),
         }
     }
 

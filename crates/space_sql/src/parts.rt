@@ -143,21 +143,23 @@ pub(crate) fn apply<S: Alter>(
     refusals: &mut u64,
     broken: &mut bool,
     change: &Change,
+    notify: &[EntityId],
 ) -> Result<(), SpaceFault>
     requires keeping { IsKeeping (state S.Store conn.old) broken.old }
     requires fits { IsSound (state S.Store conn.old) broken.old → (a : Airspace)
-        → holds_in (state S.Store conn.old) a → Fits change.now a }
+        → holds_in (state S.Store conn.old) a → Fits change.now notify.now a }
     ensures keeping { IsKeeping (state S.Store conn.new) broken.new }
     ensures tells { Tells refusals.old refusals.new broken.old broken.new result }
     ensures changes { Changes (holds_of S.Store) (is_sound_of S.Store) (is_whole_of S.Store)
         broken.old (kept conn.old refusals.old broken.old)
-        (kept conn.new refusals.new broken.new) result (changed change.now) }
+        (kept conn.new refusals.new broken.new) result
+        (changed change.now notify.now) }
 {
     if *broken {
         return Err(SpaceFault::Broken);
     }
     known(conn);
-    let made = make_change(alloc, conn, change);
+    let made = make_change(alloc, conn, change, notify);
     known(conn);
     settled(conn, refusals, broken, made)
 }

@@ -24,7 +24,7 @@ use std::marker::Model;
 /// no other, and the airspace that they spell. What is said of it stands as long as the disk has
 /// returned what was written; a store in memory has no disk. After `Broken` every call answers
 /// `Broken`, and the tables are left. No table keeps subscriptions: none is found, and a change that
-/// keeps one, or an intent that names one, is refused.
+/// keeps or tells one, or an intent that names one, is refused.
 #[derive(Drop)]
 pub struct SqlSpace<S: Alter> {
     pub(crate) conn: Connection<S>,
@@ -140,6 +140,18 @@ impl<S: Alter> Space for SqlSpace<S> {
         )
     }
 
+    fn subscribers(&mut self, kind: Kind, areas: &[Area]) -> Result<Vec<Sub>, SpaceFault> {
+        let alloc = self.alloc;
+        subscriptions::subscribers(
+            alloc,
+            &mut self.conn,
+            &mut self.refusals,
+            &mut self.broken,
+            kind,
+            areas,
+        )
+    }
+
     fn dependents(&mut self, id: EntityId) -> Result<Vec<EntityId>, SpaceFault> {
         let alloc = self.alloc;
         subscriptions::dependents(
@@ -155,7 +167,7 @@ impl<S: Alter> Space for SqlSpace<S> {
         parts::serial(&mut self.conn, &mut self.refusals, &mut self.broken)
     }
 
-    fn apply(&mut self, change: Change) -> Result<(), SpaceFault> {
+    fn apply(&mut self, change: Change, notify: &[EntityId]) -> Result<(), SpaceFault> {
         let alloc = self.alloc;
         parts::apply(
             alloc,
@@ -163,6 +175,7 @@ impl<S: Alter> Space for SqlSpace<S> {
             &mut self.refusals,
             &mut self.broken,
             &change,
+            notify,
         )
     }
 }

@@ -2,11 +2,12 @@
 ghost use Rattle.std.specs.Prelude.{◌≡◌};
 ghost use Rattle.std.specs.FinMap.{get};
 ghost use Rattle.sqlite.specs.Held.{state};
-ghost use Rattle.entity_core.specs.Search.{dependents_in, subscriptions_in};
+ghost use Rattle.entity_core.specs.Search.{dependents_in, subscribers_in, subscriptions_in};
 ghost use Rattle.space_core.specs.Space.{Reads, Tells};
 ghost use Rattle.space_sql.specs.Holding.{IsKeeping, holds_of, is_sound_of, is_whole_of, kept};
 
 use entity_core::entity_id::EntityId;
+use entity_core::nature::Kind;
 use entity_core::subscription::Sub;
 use entity_core::uss_id::UssId;
 use grid_core::volume::Area;
@@ -50,6 +51,28 @@ pub(crate) fn subscriptions_of<S: Alter>(
         (λ a found. found.items ≡ subscriptions_in a.subscriptions uss.now area.now) }
 {
     let (_conn, _refusals, _uss, _area) = (conn, refusals, uss, area);
+    if *broken {
+        return Err(SpaceFault::Broken);
+    }
+    Ok(Vec::new(alloc))
+}
+
+pub(crate) fn subscribers<S: Alter>(
+    alloc: Global,
+    conn: &mut Connection<S>,
+    refusals: &mut u64,
+    broken: &mut bool,
+    kind: Kind,
+    areas: &[Area],
+) -> Result<Vec<Sub>, SpaceFault>
+    requires { IsKeeping (state S.Store conn.old) broken.old }
+    ensures keeping { IsKeeping (state S.Store conn.new) broken.new }
+    ensures tells { Tells refusals.old refusals.new broken.old broken.new result }
+    ensures reads { Reads (holds_of S.Store) (is_sound_of S.Store) (is_whole_of S.Store)
+        (kept conn.old refusals.old broken.old) (kept conn.new refusals.new broken.new) result
+        (λ a found. found.items ≡ subscribers_in a.subscriptions kind areas.now) }
+{
+    let (_conn, _refusals, _kind, _areas) = (conn, refusals, kind, areas);
     if *broken {
         return Err(SpaceFault::Broken);
     }

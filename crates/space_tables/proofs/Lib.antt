@@ -1,7 +1,11 @@
 pub mod Texts
-pub mod Means
 pub mod Steps
+pub mod Selecting
+pub mod Means
 pub mod Making
+pub mod Formats
+pub mod Upgraded
 pub mod Rising
 pub mod OneAirspace
 pub mod Standings
+pub mod FirstFormat

@@ -29,6 +29,7 @@ use Rattle.std.proofs.Common.{subst₂, arith}
 use Rattle.std.proofs.lemmas.List.Sorted.{IsPermutation-refl}
 use Rattle.std.specs.FinMap.{entries, empty, len-entries, len-empty}
 use Rattle.std.proofs.Common.{length, Ordering}
+use Rattle.std.specs.Ordering.{nat_cmp}
 use Rattle.entity_core.specs.Airspace.{empty_at, key_cmp, text_cmp}
 use Rattle.sqlite.proofs.Callers.{one_step}
 use Rattle.space_tables.specs.Tables.{meta, dss_schema}
@@ -36,46 +37,46 @@ use Rattle.space_tables.proofs.Texts.{first_row_text}
 use Rattle.space_tables.specs.Spelling.{Spells, AreApart, IsStated, availability_values, meta_columns, entity_columns, six_columns, three_columns}
 use Rattle.space_tables.proofs.Means.{first_row_is, first_row_plain}
 use Rattle.space_tables.proofs.Steps.{cast_int, cast_null, inserts}
-use Rattle.space_tables.specs.Making.{IsBare}
+use Rattle.space_tables.specs.Making.{HasRows, IsBare}
 use Rattle.space_tables.proofs.Steps.{went, same_value}
 
--- a table is made beside empty ones
-pub makes : (before after : Schema) (table : Table) (text : List ℕ) (old new : State) (r : Result ℕ Error) → command_of (understood before text) ≡ CreateTable → IsPlain (understood before text)
+-- a table is made beside others, whose rows stay
+pub makes : (before after : Schema) (rows : Trees) (table : Table) (text : List ℕ) (old new : State) (r : Result ℕ Error) → rows (next_tree before) ≡ [] → command_of (understood before text) ≡ CreateTable → IsPlain (understood before text)
     → statement_of text (understood before text) ≡ text → table_defined_by text ≡ Ok table → created before table ≡ after → lacks_sequence after ≡ false
-    → Executes text [] old new r → IsBare before old.now → OnOk r (IsBare after new.now)
-makes before after table text old new (Err e) is plain whole defined after_is counted h bare = tt
-makes before after table text old new (Ok count) is plain whole defined after_is counted h bare =
-    let w = subst (λ t. Writes old new None CreateTable t [] count) whole (runs_as text [] old new before bare.0 CreateTable is plain count h) in
+    → Executes text [] old new r → HasRows before rows old.now → OnOk r (HasRows after rows new.now)
+makes before after rows table text old new (Err e) none is plain whole defined after_is counted h has = tt
+makes before after rows table text old new (Ok count) none is plain whole defined after_is counted h has =
+    let w = subst (λ t. Writes old new None CreateTable t [] count) whole (runs_as text [] old new before has.0 CreateTable is plain count h) in
     let all = went w.changed in
     let first = went all.1 in
     let made = first.1 in
     let both : Ok made.table ≡ Ok table = sym made.defined ∙ defined in
     let same : made.table ≡ table = cc in
-    let schema : first.0.schema ≡ after = made.is ∙ ap (λ s. created s made.table) bare.0 ∙ ap (created before) same ∙ after_is in
+    let schema : first.0.schema ≡ after = made.is ∙ ap (λ s. created s made.table) has.0 ∙ ap (created before) same ∙ after_is in
     let free : lacks_sequence first.0.schema ≡ false = ap lacks_sequence schema ∙ counted in
     let now : new.now ≡ first.0 = ap (λ (p : Tally × Database). p.1) (same_value all.2) ∙ same_value (rw free at first.2) in
-    let kept = subst (λ (s : Schema). AllByRecursion (λ t. first.0.trees t.tree ≡ old.now.trees t.tree) s.tables) bare.0 made.others in
-    let there = all_both (λ (t : Table). first.0.trees t.tree ≡ old.now.trees t.tree) (λ t. old.now.trees t.tree ≡ []) (λ t. first.0.trees t.tree ≡ []) (λ t p q. p ∙ q) before.tables kept bare.1 in
-    let empty : first.0.trees (next_tree before) ≡ [] = subst (λ s. first.0.trees (next_tree s) ≡ []) bare.0 made.empty in
-    let every = all-append (λ (t : Table). first.0.trees t.tree ≡ []) before.tables (record table { tree = next_tree before } ∷ []) there (empty, tt) in
-    subst (IsBare after) (sym now) (schema, subst (λ (s : Schema). AllByRecursion (λ t. first.0.trees t.tree ≡ []) s.tables) after_is every)
+    let kept = subst (λ (s : Schema). AllByRecursion (λ t. first.0.trees t.tree ≡ old.now.trees t.tree) s.tables) has.0 made.others in
+    let there = all_both (λ (t : Table). first.0.trees t.tree ≡ old.now.trees t.tree) (λ t. old.now.trees t.tree ≡ rows t.tree) (λ t. first.0.trees t.tree ≡ rows t.tree) (λ t p q. p ∙ q) before.tables kept has.1 in
+    let empty : first.0.trees (next_tree before) ≡ rows (next_tree before) = subst (λ s. first.0.trees (next_tree s) ≡ []) has.0 made.empty ∙ sym none in
+    let every = all-append (λ (t : Table). first.0.trees t.tree ≡ rows t.tree) before.tables (record table { tree = next_tree before } ∷ []) there (empty, tt) in
+    subst (HasRows after rows) (sym now) (schema, subst (λ (s : Schema). AllByRecursion (λ t. first.0.trees t.tree ≡ rows t.tree) s.tables) after_is every)
 
 -- so is an index
-pub makes_index : (before after : Schema) (table : Table) (at : ℕ) (index : Index) (text : List ℕ) (old new : State) (r : Result ℕ Error) → command_of (understood before text) ≡ CreateIndex at → IsPlain (understood before text)
+pub makes_index : (before after : Schema) (rows : Trees) (table : Table) (at : ℕ) (index : Index) (text : List ℕ) (old new : State) (r : Result ℕ Error) → command_of (understood before text) ≡ CreateIndex at → IsPlain (understood before text)
     → statement_of text (understood before text) ≡ text → slice_get before.tables at ≡ Some table → index_defined_by table text ≡ Ok index → indexed before table index ≡ after → after.tables ≡ before.tables
-    → Executes text [] old new r → IsBare before old.now → OnOk r (IsBare after new.now)
-makes_index before after table at index text old new (Err e) is plain whole listed defined after_is tables h bare = tt
-makes_index before after table at index text old new (Ok count) is plain whole listed defined after_is tables h bare =
-    let w = subst (λ t. Writes old new None (CreateIndex at) t [] count) whole (runs_as text [] old new before bare.0 (CreateIndex at) is plain count h) in
-    let at_schema = subst (λ s. Does old.step_limit (mode_of old) [] (record old.now { schema = s }) text None (CreateIndex at) (Ok (w.tally, new.now))) bare.0 w.changed in
+    → Executes text [] old new r → HasRows before rows old.now → OnOk r (HasRows after rows new.now)
+makes_index before after rows table at index text old new (Err e) is plain whole listed defined after_is tables h has = tt
+makes_index before after rows table at index text old new (Ok count) is plain whole listed defined after_is tables h has =
+    let w = subst (λ t. Writes old new None (CreateIndex at) t [] count) whole (runs_as text [] old new before has.0 (CreateIndex at) is plain count h) in
+    let at_schema = subst (λ s. Does old.step_limit (mode_of old) [] (record old.now { schema = s }) text None (CreateIndex at) (Ok (w.tally, new.now))) has.0 w.changed in
     let all = went (rw listed at at_schema) in
     let made = all.1 in
     let both : Ok made.index ≡ Ok index = sym made.defined ∙ defined in
     let same : made.index ≡ index = cc in
     let schema : all.0.schema ≡ after = made.is ∙ ap (indexed before table) same ∙ after_is in
     let now : new.now ≡ all.0 = ap (λ (p : Tally × Database). p.1) (same_value all.2) in
-    let there = all_both (λ (t : Table). all.0.trees t.tree ≡ old.now.trees t.tree) (λ t. old.now.trees t.tree ≡ []) (λ t. all.0.trees t.tree ≡ []) (λ t p q. p ∙ q) before.tables made.rows bare.1 in
-    subst (IsBare after) (sym now) (schema, subst (λ ts. AllByRecursion (λ (t : Table). all.0.trees t.tree ≡ []) ts) (sym tables) there)
+    let there = all_both (λ (t : Table). all.0.trees t.tree ≡ old.now.trees t.tree) (λ t. old.now.trees t.tree ≡ rows t.tree) (λ t. all.0.trees t.tree ≡ rows t.tree) (λ t p q. p ∙ q) before.tables made.rows has.1 in
+    subst (HasRows after rows) (sym now) (schema, subst (λ ts. AllByRecursion (λ (t : Table). all.0.trees t.tree ≡ rows t.tree) ts) (sym tables) there)
 
 abbrev source : Row
 source = Int (pos 1) ∷ Null ∷ Int (pos 1) ∷ Int (pos 0) ∷ []
@@ -92,7 +93,7 @@ acts_on_none db = refl
 no_permutation : {X : Type 0} {ys zs : List X} → ys ≡ [] → zs ≡ [] → IsPermutation zs ys
 no_permutation {X} a b = subst₂ (λ l m. IsPermutation {X = X} l m) (sym b) (sym a) (IsPermutation-refl [])
 
-none_apart : (rows : List Row) → rows ≡ [] → AreApart rows
+pub none_apart : (rows : List Row) → rows ≡ [] → AreApart rows
 none_apart rows is = ([], tt, subst (λ rs. IsPermutation [] (map rowid rs)) (sym is) (IsPermutation-refl []))
 
 none_of_length : {X : Type 0} (xs : List X) → length xs ≡ 0 → xs ≡ []
@@ -108,17 +109,23 @@ spells_empty db schema first one three five eight = record {
   schema = schema;
   meta = ap (map meta_columns) first;
   most = omega arith;
+  subs = [];
+  subs_rising = tt;
+  each_sub = tt;
+  sub_rows = IsPermutation-refl [];
+  sub_cells = IsPermutation-refl [];
+  subs_kept = no_permutation (no_entries nat_cmp) refl;
   groups = [];
   rising = tt;
   each = tt;
   entities = no_permutation (ap (map entity_columns) one) refl;
   volumes = no_permutation (ap (map six_columns) three) refl;
   cells = no_permutation (ap (map six_columns) five) refl;
+  namings = IsPermutation-refl [];
   kept = no_permutation (no_entries key_cmp) refl;
-  subscriptions = refl;
   availabilities = no_permutation (ap (map three_columns) eight) (ap (map availability_values) (no_entries text_cmp));
   stated = subst (AllByRecursion IsStated) (sym (no_entries text_cmp)) tt;
-  apart = (none_apart _ three, none_apart _ five, none_apart _ eight);
+  apart = (none_apart _ three, none_apart _ five, none_apart _ eight, none_apart [] refl);
 }
 
 pub starts : (old new : State) (r : Result ℕ Error) → Executes first_row_text [] old new r → IsBare dss_schema old.now → OnOk r (Spells new.now (empty_at 0))

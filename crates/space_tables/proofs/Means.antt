@@ -7,11 +7,13 @@ use Rattle.sqlite_tied.specs.Compute.{everything}
 use Rattle.sqlite.specs.Listing.{understood}
 use Rattle.sqlite_catalog.specs.Change.{created, indexed}
 use Rattle.sqlite.proofs.Callers.{IsPlain, command_of, statement_of}
-use Rattle.sqlite.specs.Command.TheVariants.{Insert, CreateTable, CreateIndex}
+use Rattle.sqlite.specs.Command.TheVariants.{Insert, Update, CreateTable, CreateIndex}
 use Rattle.sqlite.specs.Source.TheVariants.{Values}
-use Rattle.sqlite.specs.Term.{lit}
-use Rattle.space_tables.specs.Tables.{meta, entity, volume, cell, availability, cell_range, dss_schema, no_schema, schema_1, schema_2, schema_3, schema_4, schema_5}
-use Rattle.space_tables.proofs.Texts.{meta_text, entity_text, volume_text, cell_text, availability_text, range_text, first_row_text}
+use Rattle.std.proofs.Common.{List}
+use Rattle.sqlite.specs.Term.{Term, lit, col}
+use Rattle.space_tables.specs.Tables.{meta, entity, volume, cell, availability, cell_range, subscription, subscription_cell, subscription_cell_range, naming, first_schema, second_schema, dss_schema, no_schema, schema_1, schema_2, schema_3, schema_4, schema_5, schema_7, schema_8, schema_9}
+use Rattle.space_tables.proofs.Selecting.{query_of, is_one}
+use Rattle.space_tables.proofs.Texts.{meta_text, entity_text, volume_text, cell_text, availability_text, range_text, first_row_text, subscription_text, subscription_cell_text, subscription_range_text, naming_text, set_format_text}
 
 pub meta_is : table_defined_by meta_text ≡ Ok (meta 0)
 unfolding everything
@@ -71,3 +73,48 @@ first_row_is = refl
 pub first_row_plain : IsPlain (understood dss_schema first_row_text)
 unfolding understood everything
 first_row_plain = (refl, refl)
+
+-- ---- the tables of format 2
+
+pub subscription_is : table_defined_by subscription_text ≡ Ok (subscription 0)
+unfolding everything
+subscription_is = refl
+
+pub subscription_cell_is : table_defined_by subscription_cell_text ≡ Ok (subscription_cell 0)
+unfolding everything
+subscription_cell_is = refl
+
+pub naming_is : table_defined_by naming_text ≡ Ok (naming 0)
+unfolding everything
+naming_is = refl
+
+pub subscription_index_is : index_defined_by (subscription_cell 12) subscription_range_text ≡ Ok (subscription_cell_range 0 12)
+unfolding everything
+subscription_index_is = refl
+
+pub subscription_made : (command_of (understood first_schema subscription_text) ≡ CreateTable) × IsPlain (understood first_schema subscription_text) × (statement_of subscription_text (understood first_schema subscription_text) ≡ subscription_text) × (created first_schema (subscription 0) ≡ schema_7)
+unfolding understood everything
+subscription_made = (refl, (refl, refl), refl, refl)
+
+pub subscription_cell_made : (command_of (understood schema_7 subscription_cell_text) ≡ CreateTable) × IsPlain (understood schema_7 subscription_cell_text) × (statement_of subscription_cell_text (understood schema_7 subscription_cell_text) ≡ subscription_cell_text) × (created schema_7 (subscription_cell 0) ≡ schema_8)
+unfolding understood everything
+subscription_cell_made = (refl, (refl, refl), refl, refl)
+
+pub subscription_range_made : (command_of (understood schema_8 subscription_range_text) ≡ CreateIndex 6) × IsPlain (understood schema_8 subscription_range_text) × (statement_of subscription_range_text (understood schema_8 subscription_range_text) ≡ subscription_range_text) × (indexed schema_8 (subscription_cell 12) (subscription_cell_range 0 12) ≡ schema_9)
+unfolding understood everything
+subscription_range_made = (refl, (refl, refl), refl, refl)
+
+pub naming_made : (command_of (understood schema_9 naming_text) ≡ CreateTable) × IsPlain (understood schema_9 naming_text) × (statement_of naming_text (understood schema_9 naming_text) ≡ naming_text) × (created schema_9 (naming 0) ≡ second_schema)
+unfolding understood everything
+naming_made = (refl, (refl, refl), refl, refl)
+
+abbrev pub format_row : List Term
+format_row = col 1 0 ∷ col 1 0 ∷ lit Null ∷ lit (Int (pos 2)) ∷ col 1 3 ∷ []
+
+pub set_format_is : command_of (understood second_schema set_format_text) ≡ Update 0 (record { lets = []; body = query_of 0 is_one format_row })
+unfolding understood everything
+set_format_is = refl
+
+pub set_format_plain : IsPlain (understood second_schema set_format_text)
+unfolding understood everything
+set_format_plain = (refl, refl)

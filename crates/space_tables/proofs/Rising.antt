@@ -1,5 +1,5 @@
 -- The rows of the entities of an airspace, in order.
-use Rattle.std.specs.Prelude.{◌≡◌, ◌⊎◌, ℕ, suc, ℤ, pos, ◌<◌, List, [], ◌∷◌, ◌++◌, map, IsPermutation, refl, false}
+use Rattle.std.specs.Prelude.{◌≡◌, ◌⊎◌, ℕ, suc, ℤ, pos, ◌<◌, List, [], ◌∷◌, ◌++◌, map, IsPermutation, Option, Some, None, refl, false}
 use Rattle.std.specs.List.{AllByRecursion, AllZip, flat_map}
 use Rattle.std.specs.Ordering.{int_cmp, ordering_then, is_gt}
 use Rattle.std.specs.Cmp.{IsTotalOrder}
@@ -8,6 +8,8 @@ use Rattle.std.specs.declared.cmp.Ordering.TheVariants.{Less}
 use Rattle.std.proofs.Common.{ap, arith, inl, inr}
 use Rattle.std.proofs.lemmas.Int.{ints}
 use Rattle.std.proofs.lemmas.Cmp.{int_cmp_total, on_total, then_total, tied_itself}
+use Rattle.sqlite_value.specs.declared.value.Value.TheVariants.{Int}
+use Rattle.sqlite_value.specs.Order.{Row}
 use Rattle.sqlite_trees.specs.Tree.{IsAscending}
 use Rattle.sqlite_keyed.proofs.KeyedLemmas.{Less-from_lt}
 use Rattle.sqlite_keyed.proofs.ListLemmas.{ascending_weaker, ascending-append}
@@ -17,10 +19,12 @@ use Rattle.grid_core.specs.Cell.{Cell}
 use Rattle.grid_core.specs.Extent.{Extent}
 use Rattle.space_rows.specs.declared.rows.VolumeRow.{VolumeRow}
 use Rattle.space_rows.specs.declared.rows.CellRow.{CellRow}
+use Rattle.space_rows.specs.declared.rows.SubCellRow.{SubCellRow}
+use Rattle.space_rows.specs.Subs.{IsSubCellRow}
 use Rattle.space_rows.specs.Rows.{placed, PlacedCell, placed_cells, all_cells, IsVolumeRow, IsCellRow}
 use Rattle.space_rows.proofs.OneEntity.{past_places}
-use Rattle.space_rows.proofs.Pieces.{all_joined}
-use Rattle.space_tables.specs.Spelling.{Group, IsGroup, IsBefore}
+use Rattle.space_rows.proofs.Pieces.{all_joined, Borne}
+use Rattle.space_tables.specs.Spelling.{SubGroup, IsSubGroup, IsSubBefore, Group, IsGroup, IsBefore, naming_rows, naming_rows_of}
 
 -- ---- the order of the rows
 
@@ -145,7 +149,7 @@ module _ (num : ℤ) where
 
 -- ---- the rows of groups
 
-module _ (serial : ℕ) where
+module _ (serial : ℕ) (subs : List SubGroup) where
   first_volumes : (v : VolumeRow) (m n : ℤ) (ws : List VolumeRow) → v.entity ≡ m → int_cmp m n ≡ Less → AllByRecursion (λ (w : VolumeRow). w.entity ≡ n) ws → AllByRecursion (VolumeLess v) ws
   first_volumes v m n [] a h all = tt
   first_volumes v m n (w ∷ ws) a h all = (rw (a, all.0, h), first_volumes v m n ws a h all.1)
@@ -162,12 +166,93 @@ module _ (serial : ℕ) where
   cross_cells m n [] ws h p q = tt
   cross_cells m n (v ∷ vs) ws h p q = (first_cells v m n ws p.0 h q, cross_cells m n vs ws h p.1 q)
 
-  pub all_volumes_rise : (gs : List Group) → AllByRecursion (IsGroup serial) gs → IsAscending IsBefore gs → IsAscending VolumeLess (flat_map (λ (g : Group). g.volumes) gs)
-  all_volumes_rise gs each up = ascending_flat VolumeLess IsBefore (IsGroup serial) (λ g. g.volumes)
+  pub all_volumes_rise : (gs : List Group) → AllByRecursion (IsGroup serial subs) gs → IsAscending IsBefore gs → IsAscending VolumeLess (flat_map (λ (g : Group). g.volumes) gs)
+  all_volumes_rise gs each up = ascending_flat VolumeLess IsBefore (IsGroup serial subs) (λ g. g.volumes)
       (λ g h p q s. cross_volumes g.row.num h.row.num g.volumes h.volumes s (volumes_of g.row.num g.volumes _ p.spelt.volumes_are) (volumes_of h.row.num h.volumes _ q.spelt.volumes_are))
       (λ g p. volumes_rise g.row.num 0 g.volumes g.entity.volumes p.spelt.volumes_are) gs each up
 
-  pub all_cells_rise : (gs : List Group) → AllByRecursion (IsGroup serial) gs → IsAscending IsBefore gs → IsAscending CellLess (flat_map (λ (g : Group). g.cells) gs)
-  all_cells_rise gs each up = ascending_flat CellLess IsBefore (IsGroup serial) (λ g. g.cells)
+  pub all_cells_rise : (gs : List Group) → AllByRecursion (IsGroup serial subs) gs → IsAscending IsBefore gs → IsAscending CellLess (flat_map (λ (g : Group). g.cells) gs)
+  all_cells_rise gs each up = ascending_flat CellLess IsBefore (IsGroup serial subs) (λ g. g.cells)
       (λ g h p q s. cross_cells g.row.num h.row.num g.cells h.cells s (cells_of g.row.num g.cells _ p.spelt.cells_are) (cells_of h.row.num h.cells _ q.spelt.cells_are))
       (λ g p. cells_rise g.row.num g.cells (all_cells g.entity.volumes) p.spelt.cells_are (placed_rise g.entity.volumes)) gs each up
+
+-- ---- the rows of subscriptions
+
+abbrev pub sub_cell_cmp : SubCellRow → SubCellRow → Ordering
+sub_cell_cmp c d = ordering_then (int_cmp c.subscription d.subscription) (int_cmp c.place d.place)
+
+pub sub_cell_total : IsTotalOrder sub_cell_cmp
+sub_cell_total = then_total (on_total (λ (c : SubCellRow). c.subscription) int_cmp_total) (on_total (λ (c : SubCellRow). c.place) int_cmp_total)
+
+abbrev SubCellLess : SubCellRow → SubCellRow → Type 0
+SubCellLess c d = sub_cell_cmp c d ≡ Less
+
+sub_place_less : (num : ℤ) (k m : ℕ) (c d : SubCellRow) → c.subscription ≡ num → d.subscription ≡ num → c.place ≡ pos k → d.place ≡ pos m → k < m → SubCellLess c d
+sub_place_less num k m c d a b p q h = rw (a, b, p, q, tied_itself int_cmp_total num, below_pos k m h)
+
+module _ (num : ℤ) where
+  past_cell : (k : ℕ) (c : SubCellRow) (cs : List SubCellRow) (xs : List (ℕ × Cell)) → c.subscription ≡ num → c.place ≡ pos k → AllZip (IsSubCellRow num) cs xs → AllByRecursion (λ (x : ℕ × Cell). k < x.0) xs → AllByRecursion (SubCellLess c) cs
+  past_cell k c [] xs a p zip low = tt
+  past_cell k c (d ∷ cs) [] a p zip low = absurd zip
+  past_cell k c (d ∷ cs) (x ∷ xs) a p zip low = (sub_place_less num k x.0 c d a zip.0.subscription p zip.0.place low.0, past_cell k c cs xs a p zip.1 low.1)
+
+  pub sub_cells_rise : (k : ℕ) (cs : List SubCellRow) (xs : List Cell) → AllZip (IsSubCellRow num) cs (placed k xs) → IsAscending SubCellLess cs
+  sub_cells_rise k [] xs zip = tt
+  sub_cells_rise k (c ∷ cs) [] zip = absurd zip
+  sub_cells_rise k (c ∷ cs) (x ∷ xs) zip = (past_cell k c cs (placed (suc k) xs) zip.0.subscription zip.0.place zip.1 (past_places k (suc k) xs (omega arith)), sub_cells_rise (suc k) cs xs zip.1)
+
+  pub sub_cells_of : (cs : List SubCellRow) (xs : List (ℕ × Cell)) → AllZip (IsSubCellRow num) cs xs → AllByRecursion (λ (c : SubCellRow). c.subscription ≡ num) cs
+  sub_cells_of [] xs zip = tt
+  sub_cells_of (c ∷ cs) [] zip = absurd zip
+  sub_cells_of (c ∷ cs) (x ∷ xs) zip = (zip.0.subscription, sub_cells_of cs xs zip.1)
+
+first_sub_cells : (c : SubCellRow) (m n : ℤ) (ds : List SubCellRow) → c.subscription ≡ m → int_cmp m n ≡ Less → AllByRecursion (λ (d : SubCellRow). d.subscription ≡ n) ds → AllByRecursion (SubCellLess c) ds
+first_sub_cells c m n [] a h all = tt
+first_sub_cells c m n (d ∷ ds) a h all = (rw (a, all.0, h), first_sub_cells c m n ds a h all.1)
+
+cross_sub_cells : (m n : ℤ) (cs ds : List SubCellRow) → int_cmp m n ≡ Less → AllByRecursion (λ (c : SubCellRow). c.subscription ≡ m) cs → AllByRecursion (λ (d : SubCellRow). d.subscription ≡ n) ds → AllByRecursion (λ c. AllByRecursion (SubCellLess c) ds) cs
+cross_sub_cells m n [] ds h p q = tt
+cross_sub_cells m n (c ∷ cs) ds h p q = (first_sub_cells c m n ds p.0 h q, cross_sub_cells m n cs ds h p.1 q)
+
+pub all_sub_cells_rise : (serial : ℕ) (subs : List SubGroup) → AllByRecursion (IsSubGroup serial) subs → IsAscending IsSubBefore subs → IsAscending SubCellLess (flat_map (λ (s : SubGroup). s.cells) subs)
+all_sub_cells_rise serial subs each up = ascending_flat SubCellLess IsSubBefore (IsSubGroup serial) (λ s. s.cells)
+    (λ s t p q less. cross_sub_cells s.row.num t.row.num s.cells t.cells less (sub_cells_of s.row.num s.cells _ p.spelt.cells_are) (sub_cells_of t.row.num t.cells _ q.spelt.cells_are))
+    (λ s p. sub_cells_rise s.row.num 0 s.cells s.sub.volume.cells p.spelt.cells_are) subs each up
+
+-- ---- the rows of `naming`
+
+-- the number of the entity in a row of `naming`
+pub named_in : Row → ℤ
+named_in (Int n ∷ rest) = n
+named_in _ = pos 0
+
+abbrev pub naming_cmp : Row → Row → Ordering
+naming_cmp r s = int_cmp (named_in r) (named_in s)
+
+pub naming_total : IsTotalOrder naming_cmp
+naming_total = on_total named_in int_cmp_total
+
+abbrev NamingLess : Row → Row → Type 0
+NamingLess r s = naming_cmp r s ≡ Less
+
+cross_namings : (m n : ℤ) (x y : Option ℤ) → int_cmp m n ≡ Less → AllByRecursion (λ r. AllByRecursion (NamingLess r) (naming_rows n y)) (naming_rows m x)
+unfolding named_in
+cross_namings m n None y h = tt
+cross_namings m n (Some a) None h = (tt, tt)
+cross_namings m n (Some a) (Some b) h = ((h, tt), tt)
+
+own_namings : (n : ℤ) (x : Option ℤ) → IsAscending NamingLess (naming_rows n x)
+own_namings n None = tt
+own_namings n (Some a) = (tt, tt)
+
+pub all_namings_rise : (gs : List Group) → IsAscending IsBefore gs → IsAscending NamingLess (flat_map naming_rows_of gs)
+all_namings_rise gs up = ascending_flat NamingLess IsBefore (λ _. Unit {0}) naming_rows_of (λ g h _ _ less. cross_namings g.row.num h.row.num g.naming h.naming less) (λ g _. own_namings g.row.num g.naming) gs (all_unit gs) up
+
+own_number : (n : ℤ) (x : Option ℤ) → AllByRecursion (λ r. named_in r ≡ n) (naming_rows n x)
+unfolding named_in
+own_number n None = tt
+own_number n (Some a) = (refl, tt)
+
+pub namings_borne : (gs : List Group) → Borne named_in (λ (g : Group). g.row.num) naming_rows_of gs
+namings_borne [] = tt
+namings_borne (g ∷ gs) = (own_number g.row.num g.naming, namings_borne gs)

@@ -1,13 +1,18 @@
--- How the schemas of the two kinds of databases stand.
+-- How the schemas of the kinds of databases stand.
 use Rattle.std.proofs.Common.{◌≡◌, refl}
 use Rattle.sqlite_tied.specs.Compute.{everything}
-use Rattle.space_tables.specs.Tables.{no_schema, dss_schema}
+use Rattle.space_tables.specs.Tables.{no_schema, first_schema, second_schema}
 use Rattle.space_tables.specs.Standing.{standing_in}
+use Rattle.space_tables.specs.declared.format.Format.TheVariants.{One, Two}
 use Rattle.space_tables.specs.declared.standing.Standing.TheVariants.{Missing, Whole}
 
 pub none_stands : standing_in no_schema.tables ≡ Missing
 none_stands = refl
 
-pub ours_stands : standing_in dss_schema.tables ≡ Whole
+pub first_stands : standing_in first_schema.tables ≡ Whole One
 unfolding everything
-ours_stands = refl
+first_stands = refl
+
+pub second_stands : standing_in second_schema.tables ≡ Whole Two
+unfolding everything
+second_stands = refl

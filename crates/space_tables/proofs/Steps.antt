@@ -21,10 +21,11 @@ use Rattle.sqlite.specs.Rows.{Written, stamped, rowids_for, Task, Counts}
 use Rattle.sqlite.specs.declared.error.Error.{Error}
 use Rattle.sqlite.specs.Effect.{Database, value_rows}
 use Rattle.sqlite.specs.Schema.{Schema}
-use Rattle.sqlite.specs.State.{State, mode_of, Writes, IsUnchanged, IsRolledBack, Executes, ExecutesInside, KeepsCommit, HasCleanDisk, Survives}
+use Rattle.sqlite.specs.State.{State, Shows, mode_of, Writes, IsUnchanged, IsRolledBack, Executes, ExecutesInside, KeepsCommit, HasCleanDisk, Survives}
 use Rattle.std.proofs.lemmas.Bool.{cases_Bool}
 use Rattle.sqlite.proofs.StateLemmas.{survives_then}
-use Rattle.space_tables.specs.Making.{StepsOn, Leads}
+use Rattle.space_tables.specs.Making.{Leads}
+use Rattle.space_tables.specs.Making as making
 
 pub went : {B E R : Type 0} {b : B} {Stops : E → Type 0} → ((stop : E) × Stops stop × (Ok b ≡ Err stop)) ⊎ R → R
 went (inl stopped) = absurd (let e = stopped.2 in cc)
@@ -45,12 +46,12 @@ pub cast_null : cast Integer Null ≡ Null
 unfolding unary
 cast_null = either _ Null
 
-pub steps_on : (old new : State) (sql : List ℕ) (params : Row) (r : Result ℕ Error) (X : Type 0) (e : Error) (A B : Database → Type 0)
+pub steps_on : (old new : State) (sql : List ℕ) (params : Row) (r : Result ℕ Error) (X : Type 0) (e : Error) (R : Database → Database → Type 0)
     → (old.in_transaction ≡ false → (r ≡ Err e) × X) → (IsTrue old.in_transaction → ExecutesInside 0 sql params old new r)
-    → (Executes sql params old new r → A old.now → OnOk r (B new.now)) → OnOk r (StepsOn A B old new)
-steps_on old new sql params (Err e) X error A B ended runs each = tt
-steps_on old new sql params (Ok n) X error A B ended runs each = elim (cases_Bool old.in_transaction) [
-  | inl on ↦ let it = runs on in ((λ has. each it.0 has), it.1)
+    → (Executes sql params old new r → OnOk r (R old.now new.now)) → OnOk r (R old.now new.now × Shows old new new.now old.committed true)
+steps_on old new sql params (Err e) X error R ended runs each = tt
+steps_on old new sql params (Ok n) X error R ended runs each = elim (cases_Bool old.in_transaction) [
+  | inl on ↦ let it = runs on in (each it.0, it.1)
   | inr off ↦ absurd (let e = (ended off).0 in cc)
 ]
 
@@ -84,8 +85,8 @@ module _ (schema : Schema) (old new : State) (params : Row) (table : Table) (at 
       let trees = ap (λ (it : Written). it.trees) (same_value {E = Option Error} counted.2) ∙ last in
       record { rows = given.0; given = given.1.1; next = written.0; wrote = plain_ids; is = after ∙ ap (λ t. record { schema = schema; trees = t }) trees }
 
-pub steps_then : (a b d : State) (A B C : Database → Type 0) → StepsOn A B a b → StepsOn B C b d → StepsOn A C a d
-steps_then a b d A B C p q = ((λ has. q.0 (p.0 has)), record { was_open = p.1.was_open; is_open = q.1.is_open; now_is = refl; committed_is = q.1.committed_is ∙ p.1.committed_is; mode = q.1.mode })
+pub clean_first : (old new : State) (P : Trees → Type 0) → Survives old new P → HasCleanDisk new → HasCleanDisk old
+clean_first old new P went clean = omega (arith, went.clean, clean)
 
 pub keeps_then : (a b d : State) → KeepsCommit a b → KeepsCommit b d → KeepsCommit a d
 keeps_then a b d p q = record { was_open = λ o. p.was_open (q.was_open o); committed = λ o. q.committed o ∙ p.committed (q.was_open o) }
@@ -118,19 +119,39 @@ ok_map (Ok x) A B a f = f a
 ok_map (Err e) A B a f = tt
 
 -- a statement alone
-pub leads_on : (old new : State) (sql : List ℕ) (params : Row) (r : Result ℕ Error) (X : Type 0) (e : Error) (A B : Database → Type 0) → (old.in_transaction ≡ false → (r ≡ Err e) × X) → (old.in_transaction ≡ false → new ≡ old)
-    → (HasCleanDisk new → IsTrue old.in_transaction → ExecutesInside 0 sql params old new r) → Survives old new (λ _. ⊥) → (Executes sql params old new r → A old.now → OnOk r (B new.now)) → Leads A B old new r
-leads_on old new sql params r X e A B ended off runs survives each = record {
-  done = λ clean. steps_on old new sql params r X e A B ended (runs clean) each;
+pub steps_by : (old new : State) (sql : List ℕ) (params : Row) (r : Result ℕ Error) (X : Type 0) (e : Error) (R : Database → Database → Type 0) → (old.in_transaction ≡ false → (r ≡ Err e) × X) → (old.in_transaction ≡ false → new ≡ old)
+    → (HasCleanDisk new → IsTrue old.in_transaction → ExecutesInside 0 sql params old new r) → Survives old new (λ _. ⊥) → (Executes sql params old new r → OnOk r (R old.now new.now)) → making.Steps R old new r
+steps_by old new sql params r X e R ended off runs survives each = record {
+  done = λ clean. steps_on old new sql params r X e R ended (runs clean) each;
   kept = λ clean. keeps old new sql params r off (runs clean);
   survives = survives;
 }
 
+turned : {X : Type 0} (r : Result X Error) (A B : Type 0) → (A → OnOk r B) → OnOk r (A → B)
+turned (Ok x) A B f = f
+turned (Err e) A B f = tt
+
+pub leads_on : (old new : State) (sql : List ℕ) (params : Row) (r : Result ℕ Error) (X : Type 0) (e : Error) (A B : Database → Type 0) → (old.in_transaction ≡ false → (r ≡ Err e) × X) → (old.in_transaction ≡ false → new ≡ old)
+    → (HasCleanDisk new → IsTrue old.in_transaction → ExecutesInside 0 sql params old new r) → Survives old new (λ _. ⊥) → (Executes sql params old new r → A old.now → OnOk r (B new.now)) → Leads A B old new r
+leads_on old new sql params r X e A B ended off runs survives each = steps_by old new sql params r X e (λ before after. A before → B after) ended off runs survives (λ h. turned r (A old.now) (B new.now) (each h))
+
+-- the same of whatever rows there are
+pub of_all : {X T : Type 0} (r : Result X Error) (A B : T → Type 0) → ((t : T) → A t → OnOk r (B t)) → OnOk r ((t : T) → A t → B t)
+of_all (Ok x) A B f = f
+of_all (Err e) A B f = tt
+
 -- and one after the other
-module _ {X Y Z : Type 0} (A B C : Database → Type 0) (a b d : State) where
-  pub leads_then : (x : X) (y : Y) (z : Z) → Leads A B a b (Ok x) → Leads B C b d (Ok y) → Leads A C a d (Ok z)
-  leads_then x y z p q = record {
-    done = λ clean. steps_then a b d A B C (p.done (omega (arith, q.survives.clean))) (q.done clean);
+module _ {X Y Z : Type 0} (R Q T : Database → Database → Type 0) (a b d : State) where
+  pub steps_then : (x : X) (y : Y) (z : Z) → (R a.now b.now → Q b.now d.now → T a.now d.now) → making.Steps R a b (Ok x) → making.Steps Q b d (Ok y) → making.Steps T a d (Ok z)
+  steps_then x y z joins p q = record {
+    done = λ clean.
+        let first = p.done (omega (arith, q.survives.clean)) in
+        let second = q.done clean in
+        (joins first.0 second.0, record { was_open = first.1.was_open; is_open = second.1.is_open; now_is = refl; committed_is = second.1.committed_is ∙ first.1.committed_is; mode = second.1.mode });
     kept = λ clean. keeps_then a b d (p.kept (omega (arith, q.survives.clean))) (q.kept clean);
     survives = survives_then a b d _ _ (λ _. ⊥) (λ _ db none. none) (λ _ db none. none) p.survives q.survives;
   }
+
+module _ {X Y Z : Type 0} (A B C : Database → Type 0) (a b d : State) where
+  pub leads_then : (x : X) (y : Y) (z : Z) → Leads A B a b (Ok x) → Leads B C b d (Ok y) → Leads A C a d (Ok z)
+  leads_then x y z p q = steps_then (λ s t. A s → B t) (λ s t. B s → C t) (λ s t. A s → C t) a b d x y z (λ f g has. g (f has)) p q

@@ -21,3 +21,18 @@ availability_text = codes "CREATE TABLE availability (uss TEXT NOT NULL PRIMARY 
 
 abbrev pub first_row_text : List ℕ
 first_row_text = codes "INSERT INTO meta (one, format, serial) VALUES (1, 1, 0)"
+
+abbrev pub subscription_text : List ℕ
+subscription_text = codes "CREATE TABLE subscription (num INTEGER PRIMARY KEY NOT NULL, id TEXT NOT NULL UNIQUE, manager TEXT NOT NULL, serial INTEGER NOT NULL CHECK (serial >= 0), version TEXT NOT NULL, notes INTEGER NOT NULL CHECK (notes >= 0), url TEXT NOT NULL, for_intents INTEGER NOT NULL CHECK (for_intents IN (0, 1)), for_constraints INTEGER NOT NULL CHECK (for_constraints IN (0, 1)), alt_lower INTEGER NOT NULL, alt_upper INTEGER NOT NULL, time_start INTEGER NOT NULL, time_end INTEGER NOT NULL, CHECK (for_intents = 1 OR for_constraints = 1), CHECK (alt_lower <= alt_upper), CHECK (time_start <= time_end)) STRICT"
+
+abbrev pub subscription_cell_text : List ℕ
+subscription_cell_text = codes "CREATE TABLE subscription_cell (subscription INTEGER NOT NULL REFERENCES subscription (num) ON DELETE CASCADE, place INTEGER NOT NULL, token TEXT NOT NULL, lo INTEGER NOT NULL, hi INTEGER NOT NULL, PRIMARY KEY (subscription, place), CHECK (lo <= hi)) STRICT"
+
+abbrev pub subscription_range_text : List ℕ
+subscription_range_text = codes "CREATE INDEX subscription_cell_range ON subscription_cell (lo, hi)"
+
+abbrev pub naming_text : List ℕ
+naming_text = codes "CREATE TABLE naming (entity INTEGER PRIMARY KEY NOT NULL REFERENCES entity (num) ON DELETE CASCADE, subscription INTEGER NOT NULL REFERENCES subscription (num) ON DELETE RESTRICT) STRICT"
+
+abbrev pub set_format_text : List ℕ
+set_format_text = codes "UPDATE meta SET format = 2 WHERE one = 1"

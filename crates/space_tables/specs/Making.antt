@@ -1,31 +1,40 @@
 -- What a statement of a transaction leaves, and what its end leaves.
-use Rattle.std.specs.Prelude.{◌≡◌, true, [], IsTrue, Result, OnOk}
+use Rattle.std.specs.Prelude.{◌≡◌, ℕ, ℤ, pos, nat_lt, if◌then◌else◌, true, List, [], ◌∷◌, map, IsTrue, Result, OnOk}
 use Rattle.std.specs.List.{AllByRecursion}
 use Rattle.sqlite_trees.specs.Tree.{Trees}
 use Rattle.sqlite_schema.specs.declared.schema.Schema.{Schema}
-use Rattle.sqlite.specs.Effect.{Database}
+use Rattle.sqlite_value.specs.Order.{Row}
+use Rattle.sqlite_value.specs.declared.value.Value.TheVariants.{Int}
+use Rattle.sqlite.specs.Effect.{Database, IsDatabase}
 use Rattle.sqlite.specs.State.{State, Shows, HasCleanDisk, KeepsCommit, Survives}
 use Rattle.sqlite.specs.declared.error.Error.{Error}
-use Rattle.entity_core.specs.Airspace.{empty_at}
-use Rattle.space_tables.specs.Tables.{no_schema}
-use Rattle.space_tables.specs.Spelling.{Spells}
+use Rattle.entity_core.specs.Airspace.{Airspace, empty_at}
+use Rattle.space_tables.specs.declared.format.Format.TheVariants.{One, Two}
+use Rattle.space_tables.specs.Tables.{no_schema, first_schema, second_schema}
+use Rattle.space_tables.specs.Spelling.{Spells, SpellsAs, meta_columns}
+
+-- the tables of a schema are there and no other, and these are their rows
+abbrev pub HasRows : Schema → Trees → Database → Type 0
+HasRows schema rows db =
+    (db.schema ≡ schema) × AllByRecursion (λ t. db.trees t.tree ≡ rows t.tree) schema.tables
 
 -- the tables of a schema are there and no other, and they are empty
 abbrev pub IsBare : Schema → Database → Type 0
-IsBare schema db = (db.schema ≡ schema) × AllByRecursion (λ t. db.trees t.tree ≡ []) schema.tables
+IsBare schema db = HasRows schema (λ _. []) db
 
--- from a database of which A holds to one of which B does, in a transaction that goes on
-abbrev pub StepsOn : (A B : Database → Type 0) → State → State → Type 0
-StepsOn A B old new = (A old.now → B new.now) × Shows old new new.now old.committed true
-
--- What statements of a transaction do: they lead from a database of which A holds to one of which B
--- does. Whatever comes of them, the last commit stands, and a crash leaves what it would have left
--- before.
-pub record Leads {X : Type 0} (A B : Database → Type 0) (old new : State) (result : Result X Error)
-    : Type 0 where
-  pub done : HasCleanDisk new → OnOk result (StepsOn A B old new)
+-- What statements do in a transaction that goes on: R holds of the database before and that after.
+-- Whatever comes of them, the last commit stands, and a crash leaves what it would have left before.
+pub record Steps {X : Type 0} (R : Database → Database → Type 0) (old new : State)
+    (result : Result X Error) : Type 0 where
+  pub done : HasCleanDisk new
+      → OnOk result (R old.now new.now × Shows old new new.now old.committed true)
   pub kept : HasCleanDisk new → KeepsCommit old new
   pub survives : Survives old new (λ _. ⊥)
+
+-- they lead from a database of which A holds to one of which B does
+abbrev pub Leads : {X : Type 0} → (A B : Database → Type 0) → State → State → Result X Error
+    → Type 0
+Leads A B old new result = Steps (λ before after. A before → B after) old new result
 
 -- an airspace is spelt that is empty and was never changed
 abbrev pub SpellsEmpty : Database → Type 0
@@ -47,3 +56,57 @@ IsUndone old new = (new.now ≡ old.committed) × (new.committed ≡ old.committ
 abbrev pub MayBeMade : State → Trees → Type 0
 MayBeMade old trees = old.now.schema ≡ no_schema → (db : Database) × (trees ≡ db.trees)
     × SpellsEmpty db
+
+-- ---- from format 1 to format 2
+
+-- the rows of the tables of format 1, and none of those that come
+abbrev pub first_rows : Trees → Trees
+first_rows trees t = if nat_lt t 10 then trees t else []
+
+-- what statements do that make tables beside those of format 1: the rows stay, whatever they are,
+-- and the new tables are empty
+abbrev pub AddsTables : (before after : Schema) → Database → Database → Type 0
+AddsTables before after old new =
+    (trees : Trees) → HasRows before (first_rows trees) old → HasRows after (first_rows trees) new
+
+-- the one row of meta, with a format and a serial
+abbrev pub HasMeta : ℕ → ℤ → List Row → Type 0
+HasMeta format serial rows =
+    map meta_columns rows ≡ (Int (pos 1) ∷ Int (pos format) ∷ Int serial ∷ []) ∷ []
+
+-- Tables of format 2, of which those of format 1 have the rows of these trees, but that the format
+-- in meta is 2, and the others have none.
+pub record HasUpgraded (trees : Trees) (serial : ℤ) (db : Database) : Type 0 where
+  pub schema : db.schema ≡ second_schema
+  pub meta : HasMeta 2 serial (db.trees 0)
+  pub entities : db.trees 1 ≡ trees 1
+  pub volumes : db.trees 3 ≡ trees 3
+  pub cells : db.trees 5 ≡ trees 5
+  pub availabilities : db.trees 8 ≡ trees 8
+  pub bare : (db.trees 10 ≡ []) × (db.trees 12 ≡ []) × (db.trees 15 ≡ [])
+  pub sound : IsDatabase db
+
+-- they are that where meta said format 1
+abbrev pub IsUpgraded : Trees → Database → Type 0
+IsUpgraded trees db = (serial : ℤ) → HasMeta 1 serial (trees 0) → HasUpgraded trees serial db
+
+-- what a statement does that sets the format
+abbrev pub SetsFormat : Database → Database → Type 0
+SetsFormat old new =
+    (trees : Trees) → HasRows second_schema (first_rows trees) old → IsUpgraded trees new
+
+-- what statements do that bring tables of format 1 to format 2
+abbrev pub Upgrades : Database → Database → Type 0
+Upgrades old new =
+    (trees : Trees) → HasRows first_schema (first_rows trees) old → IsUpgraded trees new
+
+-- what is seen is committed, and spells the airspace in format 2 that was spelt in format 1
+abbrev pub AreUpgraded : State → State → Type 0
+AreUpgraded old new =
+    ((a : Airspace) → SpellsAs One old.now a → SpellsAs Two new.now a) × IsSettled new
+
+-- trees that a commit may have left: those of format 2 with the airspace that was spelt in format 1
+abbrev pub MayBeUpgraded : State → Trees → Type 0
+MayBeUpgraded old trees =
+    (a : Airspace) → SpellsAs One old.now a
+    → (db : Database) × (trees ≡ db.trees) × IsDatabase db × SpellsAs Two db a

@@ -2,6 +2,8 @@
 //! and which of them a database has.
 #![tactic(auto)]
 
+pub mod format;
 pub mod laws;
 pub mod make;
 pub mod standing;
+pub mod upgrade;

@@ -1,22 +1,24 @@
-//! Which of the tables of format 1 a database has.
+//! Which of the tables of the formats a database has.
 ghost use Rattle.std.specs.Prelude.{◌≡◌};
 ghost use Rattle.std.specs.List.{list_any};
 ghost use Rattle.sqlite_schema.specs.Names.{same_name};
-ghost use Rattle.space_tables.specs.Tables.{no_schema, dss_schema, meta, entity, volume, cell, availability};
+ghost use Rattle.space_tables.specs.Tables.{no_schema, first_schema, second_schema, later_tables, meta, entity, volume, cell, availability, subscription, subscription_cell, naming};
+ghost use Rattle.space_tables.specs.declared.format.Format.TheVariants.{One, Two};
 ghost use Rattle.space_tables.specs.Standing.{is_named, has_column, stands_for, has_all, has_some, standing_in};
 
+use crate::format::Format;
 use sqlite_schema::names::same_name;
 use sqlite_schema::schema::{Column, Schema, Table};
 
-/// How a database stands to the tables of format 1.
+/// How a database stands to the tables of the formats.
 #[derive(Clone, Copy, Debug, PartialEq, Eq)]
 pub enum Standing {
     /// It has none of them.
     Missing,
     /// It has some, and lacks others or some of their columns.
     Partial,
-    /// It has all of them, with their columns.
-    Whole,
+    /// It has all those of a format, with their columns; of format 1, none of those that came later.
+    Whole(Format),
 }
 
 fn is_named(table: &Table, name: &[u8]) -> bool
@@ -90,13 +92,60 @@ fn is_availability(table: &Table) -> bool
             && (has_column(table, b"state") && has_column(table, b"version")))
 }
 
+fn is_subscription(table: &Table) -> bool
+    ensures { result ≡ stands_for (subscription 10) table.now }
+{
+    is_named(table, b"subscription")
+        && (has_column(table, b"num")
+            && (has_column(table, b"id")
+                && (has_column(table, b"manager")
+                    && (has_column(table, b"serial")
+                        && (has_column(table, b"version")
+                            && (has_column(table, b"notes")
+                                && (has_column(table, b"url")
+                                    && (has_column(table, b"for_intents")
+                                        && (has_column(table, b"for_constraints")
+                                            && (has_column(table, b"alt_lower")
+                                                && (has_column(table, b"alt_upper")
+                                                    && (has_column(table, b"time_start")
+                                                        && has_column(
+                                                            table,
+                                                            b"time_end",
+                                                        )))))))))))))
+}
+
+fn is_subscription_cell(table: &Table) -> bool
+    ensures { result ≡ stands_for (subscription_cell 12) table.now }
+{
+    is_named(table, b"subscription_cell")
+        && (has_column(table, b"subscription")
+            && (has_column(table, b"place")
+                && (has_column(table, b"token")
+                    && (has_column(table, b"lo") && has_column(table, b"hi")))))
+}
+
+fn is_naming(table: &Table) -> bool
+    ensures { result ≡ stands_for (naming 15) table.now }
+{
+    is_named(table, b"naming")
+        && (has_column(table, b"entity") && has_column(table, b"subscription"))
+}
+
+fn is_later(table: &Table) -> bool
+    ensures { result ≡ list_any (λ own. is_named own.name table.now) later_tables }
+{
+    is_named(table, b"subscription")
+        || (is_named(table, b"subscription_cell") || is_named(table, b"naming"))
+}
+
 fn is_ours(table: &Table) -> bool
-    ensures { result ≡ list_any (λ ours. is_named ours.name table.now) dss_schema.tables }
+    ensures { result ≡ list_any (λ own. is_named own.name table.now) second_schema.tables }
 {
     is_named(table, b"meta")
         || (is_named(table, b"entity")
             || (is_named(table, b"volume")
-                || (is_named(table, b"cell") || is_named(table, b"availability"))))
+                || (is_named(table, b"cell")
+                    || (is_named(table, b"availability") || is_later(table)))))
 }
 
 fn any_meta(tables: &[Table]) -> bool
@@ -129,25 +178,61 @@ fn any_availability(tables: &[Table]) -> bool
     tables.iter().any(|t| is_availability(t))
 }
 
+fn any_subscription(tables: &[Table]) -> bool
+    ensures { result ≡ list_any (stands_for (subscription 10)) tables.now }
+{
+    tables.iter().any(|t| is_subscription(t))
+}
+
+fn any_subscription_cell(tables: &[Table]) -> bool
+    ensures { result ≡ list_any (stands_for (subscription_cell 12)) tables.now }
+{
+    tables.iter().any(|t| is_subscription_cell(t))
+}
+
+fn any_naming(tables: &[Table]) -> bool
+    ensures { result ≡ list_any (stands_for (naming 15)) tables.now }
+{
+    tables.iter().any(|t| is_naming(t))
+}
+
 fn has_all(tables: &[Table]) -> bool
-    ensures { result ≡ has_all tables.now }
+    ensures { result ≡ has_all first_schema.tables tables.now }
 {
     any_meta(tables)
         && (any_entity(tables)
             && (any_volume(tables) && (any_cell(tables) && any_availability(tables))))
 }
 
+fn has_all_later(tables: &[Table]) -> bool
+    ensures { result ≡ has_all later_tables tables.now }
+{
+    any_subscription(tables) && (any_subscription_cell(tables) && any_naming(tables))
+}
+
 fn has_some(tables: &[Table]) -> bool
-    ensures { result ≡ has_some tables.now }
+    ensures { result ≡ has_some second_schema.tables tables.now }
 {
     tables.iter().any(|t| is_ours(t))
+}
+
+fn has_some_later(tables: &[Table]) -> bool
+    ensures { result ≡ has_some later_tables tables.now }
+{
+    tables.iter().any(|t| is_later(t))
 }
 
 fn standing_in(tables: &[Table]) -> Standing
     ensures { result ≡ standing_in tables.now }
 {
     if has_all(tables) {
-        Standing::Whole
+        if has_all_later(tables) {
+            Standing::Whole(Format::Two)
+        } else if has_some_later(tables) {
+            Standing::Partial
+        } else {
+            Standing::Whole(Format::One)
+        }
     } else if has_some(tables) {
         Standing::Partial
     } else {
@@ -155,12 +240,13 @@ fn standing_in(tables: &[Table]) -> Standing
     }
 }
 
-/// How a schema stands to the tables of format 1. Further tables, columns and rules are not looked
-/// for. It takes no memory.
+/// How a schema stands to the tables of the formats. Further tables, columns and rules are not
+/// looked for. It takes no memory.
 pub fn standing_of(schema: &Schema) -> Standing
     ensures exact { result ≡ standing_in schema.now.tables }
     ensures missing { schema.now ≡ no_schema → result ≡ Standing.Missing }
-    ensures whole { schema.now ≡ dss_schema → result ≡ Standing.Whole }
+    ensures first { schema.now ≡ first_schema → result ≡ Standing.Whole One }
+    ensures second { schema.now ≡ second_schema → result ≡ Standing.Whole Two }
 {
     standing_in(schema.tables.as_slice())
 }

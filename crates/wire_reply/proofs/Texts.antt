@@ -12,6 +12,7 @@ use Rattle.entity_core.specs.declared.nature.Kind.{Kind}
 use Rattle.entity_core.specs.declared.nature.Kind.TheVariants as kinds
 use Rattle.entity_core.specs.declared.nature.Nature.{Nature}
 use Rattle.entity_core.specs.declared.nature.Nature.TheVariants.{Intent, Constraint}
+use Rattle.service_step.specs.declared.notice.Notify.{Notify}
 use Rattle.policy_core.specs.declared.reference.Missing.{Missing}
 use Rattle.policy_core.specs.declared.reference.Reference.{Reference}
 use Rattle.policy_core.specs.declared.rule.Rule.{Rule}
@@ -23,9 +24,10 @@ use Rattle.service_step.specs.declared.reply.Reply.{Reply}
 use Rattle.service_step.specs.declared.reply.Reply.TheVariants.{Done, Denied, Fault, Stopped}
 use Rattle.wire_reply.specs.Answer.{answer_text, availability_text, changed_text, denied_text, found_text, listed_text, message_text, missing_text, reply_text, rule_words, sub_stored_text, sub_found_text, sub_listed_text}
 use Rattle.wire_body.specs.Availability.{name_of}
-use Rattle.wire_reply.specs.Built.{answer_data, availability_data, changed_data, denied_data, found_data, listed_data, message_data, missing_data, reference_data, references_data, reply_data, id_data, ids_data, sub_data, subs_data, sub_stored_data, sub_found_data, sub_listed_data}
+use Rattle.wire_reply.specs.Built.{answer_data, availability_data, changed_data, denied_data, found_data, listed_data, message_data, missing_data, reference_data, references_data, reply_data, id_data, ids_data, sub_data, subs_data, sub_stored_data, sub_found_data, sub_listed_data, state_data, states_data, notify_data, subscribers_data}
 use Rattle.wire_reply.specs.Json.{array_text, object_text}
 use Rattle.wire_reply.specs.Reference.{reference_name, references_name, reference_text, references_text}
+use Rattle.wire_reply.specs.Subscribers.{state_text, notify_text, subscribers_text}
 use Rattle.wire_reply.specs.SubView.{flag_text, id_text, sub_text, subs_text}
 use Rattle.wire_reply.proofs.Compact.{compact_text-array, compact_text-object, item_texts}
 
@@ -78,23 +80,60 @@ compact_found r = one_member (reference_name (kind_of r.nature)) (reference_text
 no_float_found : (r : Reference) → has_float (found_data r) ≡ false
 no_float_found r = rw (no_float_reference r) refl
 
-compact_changed_parts : (r : Reference) (nature : Nature) → compact_text (changed_data (record r { nature = nature })) ≡ changed_text (record r { nature = nature })
+-- who is told
+compact_state : (s : ℕ × ℕ) → compact_text (state_data s) ≡ state_text s
 unfolding members_in
-compact_changed_parts r (Intent state named) =
+compact_state s = compact_text-object (members_in (state_data s))
+
+item_texts-states : (ss : List (ℕ × ℕ)) → item_texts (items_of (map state_data ss)) ≡ map state_text ss
+item_texts-states [] = refl
+item_texts-states (s ∷ ss) = ap₂ (λ t ts. t ∷ ts) (compact_state s) (item_texts-states ss)
+
+compact_states : (ss : List (ℕ × ℕ)) → compact_text (states_data ss) ≡ array_text (map state_text ss)
+compact_states ss = compact_text-array (items_of (map state_data ss)) ∙ ap array_text (item_texts-states ss)
+
+no_float_states : (ss : List (ℕ × ℕ)) → has_float (states_data ss) ≡ false
+no_float_states [] = refl
+no_float_states (s ∷ ss) = no_float_states ss
+
+compact_notify : (n : Notify) → compact_text (notify_data n) ≡ notify_text n
+unfolding members_in
+compact_notify n =
+    compact_text-object (members_in (notify_data n))
+    ∙ ap (λ t. object_text ((codes "subscriptions", t) ∷ (codes "uss_base_url", quoted n.url) ∷ [])) (compact_states n.states)
+
+item_texts-notices : (ns : List Notify) → item_texts (items_of (map notify_data ns)) ≡ map notify_text ns
+item_texts-notices [] = refl
+item_texts-notices (n ∷ ns) = ap₂ (λ t ts. t ∷ ts) (compact_notify n) (item_texts-notices ns)
+
+compact_subscribers : (ns : List Notify) → compact_text (subscribers_data ns) ≡ subscribers_text ns
+compact_subscribers ns = compact_text-array (items_of (map notify_data ns)) ∙ ap array_text (item_texts-notices ns)
+
+no_float_notify : (n : Notify) → has_float (notify_data n) ≡ false
+no_float_notify n = rw (no_float_states n.states) refl
+
+no_float_subscribers : (ns : List Notify) → has_float (subscribers_data ns) ≡ false
+no_float_subscribers [] = refl
+no_float_subscribers (n ∷ ns) = rw (no_float_notify n) (no_float_subscribers ns)
+
+compact_changed_parts : (r : Reference) (ns : List Notify) (nature : Nature)
+    → compact_text (changed_data (record r { nature = nature }) ns) ≡ changed_text (record r { nature = nature }) ns
+unfolding members_in
+compact_changed_parts r ns (Intent state named) =
     let changed : Reference = record r { nature = Intent state named } in
-    compact_text-object (members_in (changed_data changed))
-    ∙ ap (λ t. object_text ((reference_name (kind_of changed.nature), t) ∷ (codes "subscribers", array_text []) ∷ [])) (compact_reference changed)
-compact_changed_parts r Constraint =
+    compact_text-object (members_in (changed_data changed ns))
+    ∙ ap₂ (λ t u. object_text ((reference_name (kind_of changed.nature), t) ∷ (codes "subscribers", u) ∷ [])) (compact_reference changed) (compact_subscribers ns)
+compact_changed_parts r ns Constraint =
     let changed : Reference = record r { nature = Constraint } in
-    compact_text-object (members_in (changed_data changed))
-    ∙ ap (λ t. object_text ((reference_name (kind_of changed.nature), t) ∷ (codes "subscribers", array_text []) ∷ [])) (compact_reference changed)
+    compact_text-object (members_in (changed_data changed ns))
+    ∙ ap₂ (λ t u. object_text ((reference_name (kind_of changed.nature), t) ∷ (codes "subscribers", u) ∷ [])) (compact_reference changed) (compact_subscribers ns)
 
-compact_changed : (r : Reference) → compact_text (changed_data r) ≡ changed_text r
-compact_changed r = compact_changed_parts r r.nature
+compact_changed : (r : Reference) (ns : List Notify) → compact_text (changed_data r ns) ≡ changed_text r ns
+compact_changed r ns = compact_changed_parts r ns r.nature
 
-no_float_changed_parts : (r : Reference) (nature : Nature) → has_float (changed_data (record r { nature = nature })) ≡ false
-no_float_changed_parts r (Intent state named) = rw (no_float_reference (record r { nature = Intent state named })) refl
-no_float_changed_parts r Constraint = rw (no_float_reference (record r { nature = Constraint })) refl
+no_float_changed_parts : (r : Reference) (ns : List Notify) (nature : Nature) → has_float (changed_data (record r { nature = nature }) ns) ≡ false
+no_float_changed_parts r ns (Intent state named) = rw (no_float_reference (record r { nature = Intent state named }), no_float_subscribers ns) refl
+no_float_changed_parts r ns Constraint = rw (no_float_reference (record r { nature = Constraint }), no_float_subscribers ns) refl
 
 compact_listed : (kind : Kind) (rs : List Reference) → compact_text (listed_data kind rs) ≡ listed_text kind rs
 compact_listed kind rs = one_member (references_name kind) (references_text rs) (references_data rs) (compact_references rs)
@@ -188,8 +227,8 @@ no_float_sub_listed : (ss : List SubView) → has_float (sub_listed_data ss) ≡
 no_float_sub_listed ss = rw (no_float_subs ss) refl
 
 compact_answer : (a : Answer) → compact_text (answer_data a) ≡ answer_text a
-compact_answer (answers.Created r) = compact_changed r
-compact_answer (answers.Changed r) = compact_changed r
+compact_answer (answers.Created r ns) = compact_changed r ns
+compact_answer (answers.Changed r ns) = compact_changed r ns
 compact_answer (answers.Found r) = compact_found r
 compact_answer (answers.Listed kind rs) = compact_listed kind rs
 compact_answer (answers.Avail uss a version) = compact_availability uss a version
@@ -198,8 +237,8 @@ compact_answer (answers.SubFound s) = compact_sub_found s
 compact_answer (answers.SubListed ss) = compact_sub_listed ss
 
 no_float_answer : (a : Answer) → has_float (answer_data a) ≡ false
-no_float_answer (answers.Created r) = no_float_changed_parts r r.nature
-no_float_answer (answers.Changed r) = no_float_changed_parts r r.nature
+no_float_answer (answers.Created r ns) = no_float_changed_parts r ns r.nature
+no_float_answer (answers.Changed r ns) = no_float_changed_parts r ns r.nature
 no_float_answer (answers.Found r) = no_float_found r
 no_float_answer (answers.Listed kind rs) = no_float_listed kind rs
 no_float_answer (answers.Avail uss a version) = refl

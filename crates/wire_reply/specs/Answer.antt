@@ -12,13 +12,15 @@ use Rattle.policy_core.specs.declared.rule.Rule.{Rule}
 use Rattle.policy_core.specs.declared.rule.Rule.TheVariants.{Key}
 use Rattle.policy_core.specs.declared.sub_view.SubView.{SubView}
 use Rattle.policy_core.specs.Rule as rules
+use Rattle.service_step.specs.declared.notice.Notify.{Notify}
 use Rattle.service_step.specs.declared.reply.Answer.{Answer}
 use Rattle.service_step.specs.declared.reply.Answer.TheVariants.{Created, Changed, Found, Listed, Avail, SubStored, SubFound, SubListed}
 use Rattle.service_step.specs.declared.reply.Reply.{Reply}
 use Rattle.service_step.specs.declared.reply.Reply.TheVariants.{Done, Denied, Fault, Stopped}
 use Rattle.wire_body.specs.Availability.{name_of}
-use Rattle.wire_reply.specs.Json.{object_text, array_text}
+use Rattle.wire_reply.specs.Json.{object_text}
 use Rattle.wire_reply.specs.Reference.{reference_name, references_name, reference_text, references_text}
+use Rattle.wire_reply.specs.Subscribers.{subscribers_text}
 use Rattle.wire_reply.specs.SubView.{sub_text, subs_text}
 
 -- an availability and its version
@@ -37,10 +39,10 @@ availability_text uss a version =
 abbrev pub found_text : Reference → List ℕ
 found_text r = object_text ((reference_name (kind_of r.nature), reference_text r) ∷ [])
 
--- The reference of an entity that was put or deleted. No subscriber is to be told of it.
-abbrev pub changed_text : Reference → List ℕ
-changed_text r = object_text ((reference_name (kind_of r.nature), reference_text r)
-    ∷ (codes "subscribers", array_text []) ∷ [])
+-- the reference of an entity that was put or deleted, and who is told of it
+abbrev pub changed_text : Reference → List Notify → List ℕ
+changed_text r ns = object_text ((reference_name (kind_of r.nature), reference_text r)
+    ∷ (codes "subscribers", subscribers_text ns) ∷ [])
 
 -- the references of a query for entities of a kind
 abbrev pub listed_text : Kind → List Reference → List ℕ
@@ -63,8 +65,8 @@ sub_listed_text ss = object_text ((codes "subscriptions", subs_text ss) ∷ [])
 
 -- the body of the answer to a call that broke no rule
 abbrev pub answer_text : Answer → List ℕ
-answer_text (Created r) = changed_text r
-answer_text (Changed r) = changed_text r
+answer_text (Created r ns) = changed_text r ns
+answer_text (Changed r ns) = changed_text r ns
 answer_text (Found r) = found_text r
 answer_text (Listed kind rs) = listed_text kind rs
 answer_text (Avail uss a version) = availability_text uss a version
@@ -103,8 +105,8 @@ reply_text Stopped = message_text (codes "stopped")
 
 -- the status where no rule was broken
 abbrev pub answer_status : Answer → ℕ
-answer_status (Created r) = 201
-answer_status (Changed r) = 200
+answer_status (Created r ns) = 201
+answer_status (Changed r ns) = 200
 answer_status (Found r) = 200
 answer_status (Listed kind rs) = 200
 answer_status (Avail uss a version) = 200

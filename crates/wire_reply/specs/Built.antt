@@ -1,7 +1,7 @@
 -- The JSON values that answers are built as, for private clauses. Their texts are those of `Answer`
 -- and `Reference`.
 use Rattle.std.specs.Prelude.{ℕ, List, false, Option, Some, None, map, codes}
-use Rattle.serde_json.specs.Data.{Data, Members, boolean, string, number, unsigned, array, object, member, no_members, no_items, put}
+use Rattle.serde_json.specs.Data.{Data, Members, boolean, string, number, unsigned, array, object, member, no_members, put}
 use Rattle.serde_json.specs.View.{items_of}
 use Rattle.entity_core.specs.EntityId.{printed}
 use Rattle.entity_core.specs.Entity.{kind_of, state_name}
@@ -16,6 +16,7 @@ use Rattle.policy_core.specs.declared.reference.Reference.{Reference}
 use Rattle.policy_core.specs.declared.rule.Rule.{Rule}
 use Rattle.policy_core.specs.declared.rule.Rule.TheVariants.{Key}
 use Rattle.policy_core.specs.declared.sub_view.SubView.{SubView}
+use Rattle.service_step.specs.declared.notice.Notify.{Notify}
 use Rattle.service_step.specs.declared.reply.Answer.{Answer}
 use Rattle.service_step.specs.declared.reply.Answer.TheVariants.{Created, Changed, Found, Listed, Avail, SubStored, SubFound, SubListed}
 use Rattle.service_step.specs.declared.reply.Reply.{Reply}
@@ -54,8 +55,21 @@ availability_data uss a version =
 abbrev pub found_data : Reference → Data
 found_data r = object (member (reference_name (kind_of r.nature)) (reference_data r) no_members)
 
-abbrev pub changed_data : Reference → Data
-changed_data r = object (put (codes "subscribers") (array no_items) (member (reference_name (kind_of r.nature)) (reference_data r) no_members))
+-- a subscription that is told, and its index
+abbrev pub state_data : ℕ × ℕ → Data
+state_data s = object (member (codes "notification_index") (number (unsigned s.1)) (member (codes "subscription_id") (string (printed s.0)) no_members))
+
+abbrev pub states_data : List (ℕ × ℕ) → Data
+states_data ss = array (items_of (map state_data ss))
+
+abbrev pub notify_data : Notify → Data
+notify_data n = object (member (codes "subscriptions") (states_data n.states) (member (codes "uss_base_url") (string n.url) no_members))
+
+abbrev pub subscribers_data : List Notify → Data
+subscribers_data ns = array (items_of (map notify_data ns))
+
+abbrev pub changed_data : Reference → List Notify → Data
+changed_data r ns = object (put (codes "subscribers") (subscribers_data ns) (member (reference_name (kind_of r.nature)) (reference_data r) no_members))
 
 abbrev pub listed_data : Kind → List Reference → Data
 listed_data kind rs = object (member (references_name kind) (references_data rs) no_members)
@@ -91,8 +105,8 @@ abbrev pub sub_listed_data : List SubView → Data
 sub_listed_data ss = object (member (codes "subscriptions") (subs_data ss) no_members)
 
 abbrev pub answer_data : Answer → Data
-answer_data (Created r) = changed_data r
-answer_data (Changed r) = changed_data r
+answer_data (Created r ns) = changed_data r ns
+answer_data (Changed r ns) = changed_data r ns
 answer_data (Found r) = found_data r
 answer_data (Listed kind rs) = listed_data kind rs
 answer_data (Avail uss a version) = availability_data uss a version

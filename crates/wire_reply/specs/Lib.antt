@@ -1,5 +1,6 @@
 pub mod Json
 pub mod Reference
 pub mod SubView
+pub mod Subscribers
 pub mod Answer
 pub mod Built

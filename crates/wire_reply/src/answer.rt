@@ -6,12 +6,14 @@ ghost use Rattle.wire_reply.specs.Built.{availability_data, found_data, changed_
 
 use crate::reference::{reference_json, reference_name, references_json, references_name};
 use crate::sub_view::{sub_json, subs_json};
+use crate::subscribers::subscribers_json;
 use entity_core::availability::Availability;
 use entity_core::nature::Kind;
 use policy_core::reference::{Missing, Reference, References};
 use policy_core::rule::Rule;
 use policy_core::sub_view::{SubView, SubViews};
 use serde_json::{Value, json};
+use service_step::notice::Notices;
 use service_step::reply::{Answer, Reply};
 use std::alloc::{AllocError, Global};
 use wire_body::availability::name_of;
@@ -38,13 +40,18 @@ fn found_json(alloc: Global, reference: &Reference) -> Result<Value, AllocError>
     json!(in alloc; {name: value})
 }
 
-/// The reference of an entity that was put or deleted. Nobody is told of it.
-fn changed_json(alloc: Global, reference: &Reference) -> Result<Value, AllocError>
-    ensures { IfOk result (λ v. view v ≡ changed_data reference.now) }
+/// The reference of an entity that was put or deleted, and who is told of it.
+fn changed_json(
+    alloc: Global,
+    reference: &Reference,
+    notices: &Notices,
+) -> Result<Value, AllocError>
+    ensures { IfOk result (λ v. view v ≡ changed_data reference.now notices.now) }
 {
     let name = reference_name(reference.nature.kind());
     let value = reference_json(alloc, reference)?;
-    json!(in alloc; {name: value, "subscribers": []})
+    let subscribers = subscribers_json(alloc, notices)?;
+    json!(in alloc; {name: value, "subscribers": subscribers})
 }
 
 /// The references of a query for entities of a kind.
@@ -95,8 +102,8 @@ fn answer_json(alloc: Global, answer: &Answer) -> Result<Value, AllocError>
     ensures { IfOk result (λ v. view v ≡ answer_data answer.now) }
 {
     match answer {
-        Answer::Created(reference) => changed_json(alloc, reference),
-        Answer::Changed(reference) => changed_json(alloc, reference),
+        Answer::Created(reference, notices) => changed_json(alloc, reference, notices),
+        Answer::Changed(reference, notices) => changed_json(alloc, reference, notices),
         Answer::Found(reference) => found_json(alloc, reference),
         Answer::Listed(kind, references) => listed_json(alloc, *kind, references),
         Answer::Avail(uss, availability, version) => {
@@ -179,8 +186,8 @@ fn answer_status(answer: &Answer) -> u16
     ensures { result ≡ answer_status answer.now }
 {
     match answer {
-        Answer::Created(_) => 201,
-        Answer::Changed(_) => 200,
+        Answer::Created(_, _) => 201,
+        Answer::Changed(_, _) => 200,
         Answer::Found(_) => 200,
         Answer::Listed(_, _) => 200,
         Answer::Avail(_, _, _) => 200,

@@ -5,3 +5,4 @@ pub mod answer;
 mod naming;
 mod reference;
 mod sub_view;
+mod subscribers;

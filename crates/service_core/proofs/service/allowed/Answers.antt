@@ -11,7 +11,7 @@ returns-in-Err g c =
     (halted_answers g.S.Space c.args.salt.now c.args.now c.args.call.now c.args.space.now c.prepared.new.space
     c.in-Err.halt _ c.in-Err.ensures c.requires.early (λ e s a h. standing_none a c.args.now c.args.call.now (c.requires.given (c.in-Err.ensures.sound s) a h).0))
 
-pub returns-in-None : goal.returns-in-None
-returns-in-None g c =
+pub returns : goal.returns
+returns g c =
     read_answers g.S.Space c.args.salt.now c.args.now c.args.call.now c.args.space.now c.prepared.new.space
     c.args.grounds.now c.in-Ok.made c.in-None.is c.in-Ok.ensures (λ s a h. g.met.S.Space.proper c.args.space.now a s h) c.requires.given

@@ -19,4 +19,4 @@ returns-in-Some-sub g c =
 pub returns-in-Some-sub-2 : goal.returns-in-Some-sub-2
 returns-in-Some-sub-2 g c =
     looks_map g.S.Space c.args.space.now c.sub_removal.new.space c.sub_removal.result _ _ c.sub_removal.ensures
-    (λ a made h. makes_delete_sub c.args.salt.now c.args.now c.args.call.now c.args.grounds.now a c.args.caller.now c.in-DeleteSub.id c.in-DeleteSub.field-1 c.in-Some-sub-2.sub made c.requires.caller c.in-DeleteSub.is c.in-Some-sub-2.is h.0 h.1)
+    (λ a made h. makes_delete_sub c.args.salt.now c.args.now c.args.call.now c.args.grounds.now a c.args.caller.now c.in-DeleteSub.id c.in-DeleteSub.field-1 c.in-Some-sub-2.sub made c.requires.caller c.in-DeleteSub.is c.in-Some-sub-2.is h.0 h.1 h.2)

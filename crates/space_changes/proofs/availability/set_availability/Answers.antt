@@ -1,4 +1,4 @@
-use Rattle.std.specs.Prelude.{◌<◌}
+use Rattle.std.specs.Prelude.{◌<◌, []}
 use Rattle.sqlite.specs.Held.{state}
 use Rattle.entity_core.specs.Airspace.{Stated}
 use Rattle.entity_core.specs.Serial.{greatest_serial}
@@ -17,6 +17,6 @@ returns-clause-changes g c =
     let uss = c.args.uss.now in
     let stated : Stated = (c.args.availability, c.args.version.now) in
     let change = Avail uss c.args.availability c.args.version.now in
-    runs_then (λ _. ReplacesAvailability uss stated) (λ _. RelaysSound (λ l. l.serial < greatest_serial) with_next_serial) (λ _. MakesChange change) a b d _ _ _
+    runs_then (λ _. ReplacesAvailability uss stated) (λ _. RelaysSound (λ l. l.serial < greatest_serial) with_next_serial) (λ _. MakesChange change []) a b d _ _ _
     (λ replaces raises. sets_availability a.now b.now d.now uss c.args.availability c.args.version.now replaces raises)
     c.in_ok-replace_availability.ensures.replaces c.in_ok-raise_serial.ensures.raises

@@ -1,4 +1,4 @@
-use Rattle.std.proofs.Common.{to_z, of_z, w64, ◌≡◌, ◌<◌, ℕ, rules}
+use Rattle.std.proofs.Common.{to_z, of_z, w64, ◌≡◌, ◌<◌, ℕ, [], rules}
 use Rattle.sqlite.specs.Held.{state}
 use Rattle.sqlite.specs.Effect.{Database}
 use Rattle.entity_core.specs.Serial.{greatest_serial}
@@ -21,5 +21,5 @@ returns-clause-changes g c =
     let own : to_z w64 (of_z w64 num) ≡ num = search rules in
     let Both = λ (_ : Unit {0}) (a d : Database). (b : Database) × MakesRoom e num a b × InsertsEntity e num b d in
     let first = runs_then (MakesRoom e) (λ _. InsertsEntity e num) Both old room rows num tt tt (λ makes inserts. (room.now, makes, inserts)) c.in_ok-num.ensures.room (rw own at c.in_ok-insert_entity.ensures.inserts) in
-    runs_then Both (λ (_ : ℕ). RelaysSound (λ l. l.serial < greatest_serial) with_next_serial) (λ (_ : Unit {0}). MakesChange (Put e)) old rows new tt _ tt
+    runs_then Both (λ (_ : ℕ). RelaysSound (λ l. l.serial < greatest_serial) with_next_serial) (λ (_ : Unit {0}). MakesChange (Put e) []) old rows new tt _ tt
     (λ both raises. puts_entity e num old.now both.0 rows.now new.now both.1 both.2 raises) first c.in_ok-raise_serial.ensures.raises

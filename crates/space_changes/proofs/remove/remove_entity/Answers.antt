@@ -1,4 +1,4 @@
-use Rattle.std.proofs.Common.{to_z, of_z, w64, Some, ◌≡◌, ◌<◌, rules}
+use Rattle.std.proofs.Common.{to_z, of_z, w64, Some, ◌≡◌, ◌<◌, [], rules}
 use Rattle.sqlite.specs.Held.{state}
 use Rattle.entity_core.specs.Serial.{greatest_serial}
 use Rattle.entity_core.specs.Airspace.{EntityKey}
@@ -21,5 +21,5 @@ returns-clause-changes g c =
     let own : to_z w64 (of_z w64 num) ≡ num = search rules in
     let found = rw c.in-Some.is at c.in_ok-num.ensures.finds in
     let removed = rw own at c.remove_numbered.ensures.removes in
-    runs_last (FindsNumber k) (λ _. RelaysSound (λ l. l.serial < greatest_serial) (λ l. with_next_serial (without_rows num l))) (λ _. MakesChange (Remove kind id)) a b d (Some num) c.remove_numbered.result
+    runs_last (FindsNumber k) (λ _. RelaysSound (λ l. l.serial < greatest_serial) (λ l. with_next_serial (without_rows num l))) (λ _. MakesChange (Remove kind id) []) a b d (Some num) c.remove_numbered.result
     (λ _ finds removes. removes_entity a.now b.now d.now kind id num finds removes) found removed

@@ -1,4 +1,4 @@
-use Rattle.std.proofs.Common.{◌≡◌, ◌∙◌, Some, ap, sym, subst}
+use Rattle.std.proofs.Common.{◌≡◌, ◌∙◌, Some, None, ap, sym, subst}
 use Rattle.entity_core.specs.declared.entity.Entity.{Entity}
 use Rattle.space_rows.specs.declared.rows.EntityRow.{EntityRow}
 use Rattle.space_rows.specs.Rows.{SpellsEntity}
@@ -13,4 +13,4 @@ returns-clause-none c = λ h. absurd (let both = sym c.in-Some.is ∙ c.in_ok-he
 pub returns-clause-one : goal.returns-clause-one
 returns-clause-one c = λ x vs cs e h v l s.
     let row : x ≡ c.in-Some.head = let both = sym (c.in_ok-head.ensures.one x (c.as_slice.ensures.value ∙ h)) ∙ c.in-Some.is in cc in
-    ap (λ (y : Entity). Some y) (c.in_ok-entity.ensures vs cs e (c.as_slice-2.ensures.value ∙ v) (c.as_slice-3.ensures.value ∙ l) (subst (λ (r : EntityRow). SpellsEntity r vs cs e) row s))
+    ap (λ (y : Entity). Some y) (c.in_ok-entity.ensures vs cs e (c.as_slice-2.ensures.value ∙ v) (c.as_slice-3.ensures.value ∙ l) (subst (λ (r : EntityRow). SpellsEntity r vs cs None e) row s))

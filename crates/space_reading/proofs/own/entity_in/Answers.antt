@@ -1,4 +1,4 @@
-use Rattle.std.proofs.Common.{List, subst}
+use Rattle.std.proofs.Common.{List, None, subst}
 use Rattle.space_rows.specs.declared.rows.VolumeRow.{VolumeRow}
 use Rattle.space_rows.specs.declared.rows.CellRow.{CellRow}
 use Rattle.space_rows.specs.Rows.{SpellsEntity}
@@ -13,6 +13,6 @@ returns-in-Some-3 c = λ vs cs x p q s.
     let head = c.args.head.now in
     let volumes = one_typed volume_values volume_of_values volume_back c.args.volumes.now vs c.in-Some.volumes.items p (rw c.in-Some.is at c.in_ok-volumes.ensures).values_are in
     let cells = one_typed cell_values cell_of_values cell_back c.args.cells.now cs c.in-Some-2.cells.items q (rw c.in-Some-2.is at c.in_ok-cells.ensures).values_are in
-    one_entity head c.in-Some.volumes.items c.in-Some-2.cells.items c.in-Some-3.entity x
+    one_entity head c.in-Some.volumes.items c.in-Some-2.cells.items None c.in-Some-3.entity x
     (rw (c.as_slice.ensures.value, c.as_slice-2.ensures.value) at (rw c.in-Some-3.is at c.in_ok-entity.ensures))
-    (subst (λ (l : List VolumeRow). SpellsEntity head l c.in-Some-2.cells.items x) volumes (subst (λ (l : List CellRow). SpellsEntity head vs l x) cells s))
+    (subst (λ (l : List VolumeRow). SpellsEntity head l c.in-Some-2.cells.items None x) volumes (subst (λ (l : List CellRow). SpellsEntity head vs l None x) cells s))

@@ -23,7 +23,7 @@ returns c =
     record {
       least = subst (λ (z : ℤ). pos 1 ≤ℤ z) m n.0;
       most = subst (λ (z : ℤ). z ≤ℤ pos c.in-Some-serial_of.serial) m n.1;
-      nature = subst (λ (z : ℤ). SpellsNature z r.state c.in-Some.nature) k (subst (λ (z : ℤ). SpellsNature (to_z w64 (of_z w64 r.kind)) z c.in-Some.nature) s c.in-Some.ensures);
+      nature = subst (λ (z : ℤ). SpellsNature z r.state c.args.named c.in-Some.nature) k (subst (λ (z : ℤ). SpellsNature (to_z w64 (of_z w64 r.kind)) z c.args.named c.in-Some.nature) s c.in-Some.ensures);
       id = subst (λ (l : List ℕ). SpellsId l c.in-Some-2.id) c.text.ensures (rw c.in-Some-2.is at c.in_ok-id.ensures);
       manager = subst (λ (l : List ℕ). SpellsText name_fault l c.in-Some-3.manager) c.text-2.ensures (rw c.in-Some-3.is at c.in_ok-manager.ensures);
       version = subst (λ (z : ℤ). SpellsCount greatest_version z c.in-Some-version_of.version) v c.in-Some-version_of.ensures;

@@ -26,7 +26,7 @@ returns-clause-changes g c =
     } in
     let after : Laws new = record { settled = λ db o may. g.met.S.Store.settled _ db o may; stays = λ o. g.met.S.Store.stays _ o } in
     let live = λ (clean : HasCleanDisk old). c.requires.keeping.live clean off in
-    let whole = changes_settled g.S.Store (Fits c.args.change.now) (changed c.args.change.now) c.args.conn.now c.make_change-made.new.conn c.settled.new.conn c.args.refusals.now c.settled.new.refusals c.settled.new.broken rests rested after live
+    let whole = changes_settled g.S.Store (Fits c.args.change.now c.args.notify.now) (changed c.args.change.now c.args.notify.now) c.args.conn.now c.make_change-made.new.conn c.settled.new.conn c.args.refusals.now c.settled.new.refusals c.settled.new.broken rests rested after live
     (λ clean. c.requires.fits (record { clean = clean; live = λ is. live clean }))
     c.make_change-made.result c.settled.result c.make_change-made.ensures.commits c.settled.ensures.passes c.settled.ensures.same c.settled.ensures.survives in
-    subst (λ (b : Bool). Changes (holds_of g.S.Store) (is_sound_of g.S.Store) (is_whole_of g.S.Store) b (kept c.args.conn.now c.args.refusals.now b) (kept c.settled.new.conn c.settled.new.refusals c.settled.new.broken) c.settled.result (changed c.args.change.now)) (sym off) whole
+    subst (λ (b : Bool). Changes (holds_of g.S.Store) (is_sound_of g.S.Store) (is_whole_of g.S.Store) b (kept c.args.conn.now c.args.refusals.now b) (kept c.settled.new.conn c.settled.new.refusals c.settled.new.broken) c.settled.result (changed c.args.change.now c.args.notify.now)) (sym off) whole

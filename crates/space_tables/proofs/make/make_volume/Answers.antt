@@ -1,4 +1,4 @@
-use Rattle.std.proofs.Common.{ap, refl}
+use Rattle.std.proofs.Common.{ap, refl, []}
 use Rattle.sqlite.specs.Held.{state}
 use Rattle.space_tables.specs.Tables.{schema_2, schema_3, volume}
 use Rattle.space_tables.proofs.Texts.{volume_text}
@@ -13,4 +13,4 @@ returns-clause-leads g c =
     let old = state g.S.Store c.args.tx.now.conn.now in
     let new = state g.S.Store c.execute.new.self.conn.now in
     leads_on old new volume_text _ c.execute.result _ _ (IsBare schema_2) (IsBare schema_3) c.execute.ensures.ended (λ off. ap (state g.S.Store) (c.execute.ensures.ended off).1) c.execute.ensures.runs c.execute.ensures.survives
-    (makes schema_2 schema_3 (volume 0) volume_text old new c.execute.result volume_made.0 volume_made.1 volume_made.2 volume_is volume_made.3 refl)
+    (makes schema_2 schema_3 (λ _. []) (volume 0) volume_text old new c.execute.result refl volume_made.0 volume_made.1 volume_made.2 volume_is volume_made.3 refl)

@@ -3,6 +3,7 @@ use Rattle.std.proofs.lemmas.List.{take_more, take_all}
 use Rattle.entity_core.specs.Airspace.{empty_at}
 use Rattle.service_core.specs.Run.{AskedInOrder, Timed}
 use Rattle.service_core.proofs.Awares.{held_aware, held_numbered}
+use Rattle.service_core.proofs.Counts.{held_counts}
 use Rattle.service_core.proofs.Runs.{answered, asked_more}
 use Rattle.service_core.proofs.service.Service.run.Goals as goal
 
@@ -36,4 +37,9 @@ returns-clause-aware g c n s stops serial content a held =
 pub returns-clause-numbered : goal.returns-clause-numbered
 returns-clause-numbered g c n s stops serial content a held =
     held_numbered g.S.Space c.args.self.now.salt serial c.args.calls.now c.loop-entry.replies.items c.loop-entry.self.space
+    ((returns-clause-answered g c).runs n s (empty_at serial) content) stops a held
+
+pub returns-clause-counted : goal.returns-clause-counted
+returns-clause-counted g c n s stops serial content a held =
+    held_counts g.S.Space c.args.self.now.salt serial c.args.calls.now c.loop-entry.replies.items c.loop-entry.self.space
     ((returns-clause-answered g c).runs n s (empty_at serial) content) stops a held

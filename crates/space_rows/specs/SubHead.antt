@@ -1,0 +1,63 @@
+-- What a row of the table `subscription` spells, but for the volume.
+use Rattle.std.specs.Prelude.{◌≡◌, ℤ, ℕ, pos, ◌≤◌, ◌≤ℤ◌}
+use Rattle.grid_core.specs.Extent.{Extent}
+use Rattle.entity_core.specs.declared.subscription.Sub.{Sub}
+use Rattle.entity_core.specs.IdTexts.{name_fault, ovn_fault, url_fault}
+use Rattle.entity_core.specs.Serial.{greatest_serial}
+use Rattle.space_rows.specs.declared.rows.SubRow.{SubRow}
+use Rattle.space_rows.specs.declared.rows.VolumeRow.{VolumeRow}
+use Rattle.space_rows.specs.declared.sub_head.SubHead.{SubHead}
+use Rattle.space_rows.specs.Head.{SpellsCount, SpellsId, SpellsText}
+use Rattle.space_rows.specs.Subs.{SpellsInterest}
+
+-- a subscription without its volume
+abbrev pub sub_head_part : Sub → SubHead
+sub_head_part s = record {
+  id = s.id;
+  manager = s.manager;
+  version = s.version;
+  serial = s.serial;
+  index = s.index;
+  url = s.url;
+  interest = s.interest;
+}
+
+-- and with this volume
+abbrev pub with_volume : SubHead → Extent → Sub
+with_volume h v = record {
+  id = h.id;
+  manager = h.manager;
+  version = h.version;
+  serial = h.serial;
+  index = h.index;
+  volume = v;
+  url = h.url;
+  interest = h.interest;
+}
+
+-- a number from 0 to the greatest serial
+pub record SpellsIndex (column : ℤ) (n : ℕ) : Type 0 where
+  pub number : column ≡ pos n
+  pub most : n ≤ greatest_serial
+
+pub record SpellsSubHead (row : SubRow) (h : SubHead) : Type 0 where
+  pub least : pos 1 ≤ℤ row.num
+  pub most : row.num ≤ℤ pos h.serial
+  pub id : SpellsId row.id h.id
+  pub manager : SpellsText name_fault row.manager h.manager
+  pub serial : SpellsCount greatest_serial row.serial h.serial
+  pub version : SpellsText ovn_fault row.version h.version
+  pub notes : SpellsIndex row.notes h.index
+  pub url : SpellsText url_fault row.url h.url
+  pub interest : SpellsInterest row.for_intents row.for_constraints h.interest
+
+-- the bounds of a subscription, as a row of a volume has them
+abbrev pub bounds_of : SubRow → VolumeRow
+bounds_of row = record {
+  entity = row.num;
+  place = pos 0;
+  alt_lower = row.alt_lower;
+  alt_upper = row.alt_upper;
+  time_start = row.time_start;
+  time_end = row.time_end;
+}

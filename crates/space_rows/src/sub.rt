@@ -1,0 +1,62 @@
+//! The subscription that rows spell, and the rows of a subscription.
+ghost use Rattle.std.specs.Prelude.{◌≡◌, ◌≤ℤ◌, pos, IfOk};
+ghost use Rattle.space_rows.specs.Finds.{Finds};
+ghost use Rattle.space_rows.specs.Subs.{SpellsSub};
+ghost use Rattle.space_rows.specs.SubHead.{with_volume};
+
+use crate::rows::{SubCellRow, SubRow};
+use crate::sub_cells::{sub_cell_rows, sub_cells_of};
+use crate::sub_head::{SubHead, bounds_of, sub_head_of, sub_row};
+use crate::volumes::bounded;
+use entity_core::subscription::Sub;
+use grid_core::volume::Volume;
+use std::alloc::{AllocError, Global};
+
+fn with_volume(head: SubHead, volume: Volume) -> Sub
+    ensures { result ≡ with_volume head volume }
+{
+    Sub {
+        id: head.id,
+        manager: head.manager,
+        version: head.version,
+        serial: head.serial,
+        index: head.index,
+        volume,
+        url: head.url,
+        interest: head.interest,
+    }
+}
+
+/// The subscription that the rows spell, if they spell one. The rows of `subscription_cell` come by
+/// rising places; in another order they spell none.
+pub fn sub_of(alloc: Global, row: &SubRow, cells: &[SubCellRow]) -> Result<Option<Sub>, AllocError>
+    ensures { IfOk result (λ o. Finds (SpellsSub row.now cells.now) o) }
+{
+    let Some(head) = sub_head_of(alloc, row)? else {
+        return Ok(None);
+    };
+    let Some(list) = sub_cells_of(alloc, row.num, cells)? else {
+        return Ok(None);
+    };
+    match bounded(list, &bounds_of(row)) {
+        Some(volume) => Ok(Some(with_volume(head, volume))),
+        None => Ok(None),
+    }
+}
+
+/// The rows of a subscription under a number: that of `subscription`, and those of
+/// `subscription_cell` by rising places.
+pub fn rows_of_sub(
+    alloc: Global,
+    sub: &Sub,
+    num: i64,
+) -> Result<(SubRow, Vec<SubCellRow>), AllocError>
+    requires least { pos 1 ≤ℤ num }
+    requires most { num ≤ℤ pos sub.now.serial }
+    ensures num { IfOk result (λ r. r.0.num ≡ num) }
+    ensures spells { IfOk result (λ r. SpellsSub r.0 r.1.items sub.now) }
+{
+    let row = sub_row(alloc, sub, num)?;
+    let cells = sub_cell_rows(alloc, num, sub.volume.cells())?;
+    Ok((row, cells))
+}

@@ -1,0 +1,10 @@
+//! The formats of the tables.
+
+/// A format of the tables.
+#[derive(Clone, Copy, Debug, PartialEq, Eq)]
+pub enum Format {
+    /// Format 1: entities and availabilities.
+    One,
+    /// Format 2: subscriptions beside them, and which entity names one.
+    Two,
+}
