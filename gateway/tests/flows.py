@@ -1,0 +1,300 @@
+"""Suppliers who speak the standard, by bytes over both programs."""
+import contextlib
+import json
+import random
+import time
+
+import shapes
+from properties import translate
+from standard import check
+from world import (
+    ARBITRATION, BESIDE, CONSTRAINTS, FAR, FRONT, INTENTS, MANAGEMENT, MANHATTAN, MONITORING, PROCESSING, STRATEGIC,
+    SUBSCRIPTIONS, TOP, ZERO, Gateway, Memory, Service, circle, expect, extent, intent, new_id, stamp)
+
+URL = {"uss_base_url": "https://uss.example"}
+
+
+class Place:
+    """A gateway before a service, and what suppliers ask them."""
+
+    def __init__(self, files, gateway, service):
+        self.files, self.gateway, self.service = files, gateway, service
+
+    def ask(self, sub, scopes, method, path, body=None):
+        return check(self.gateway.ask(self.files.token(sub, *scopes.split()), method, path, body))
+
+    def a(self, method, path, body=None):
+        return self.ask("uss-a", STRATEGIC, method, path, body)
+
+    def b(self, method, path, body=None):
+        return self.ask("uss-b", STRATEGIC, method, path, body)
+
+
+@contextlib.contextmanager
+def over_tables(files, program, *options):
+    service = Service(files, database=f"{new_id()}.db")
+    gateway = Gateway(program, files, service.port, *options)
+    try:
+        yield Place(files, gateway, service)
+    finally:
+        service.end()
+        lived = gateway.end()
+    assert lived, gateway.lines()[-3000:]
+
+
+@contextlib.contextmanager
+def in_memory(files, program, *options):
+    service = Memory(files)
+    gateway = Gateway(program, files, service.port, *options)
+    try:
+        yield Place(files, gateway, service)
+    finally:
+        lived = gateway.end()
+        service.end()
+    assert lived, gateway.lines()[-3000:]
+
+
+def reference(answer):
+    return answer.json["operational_intent_reference"]
+
+
+def two_suppliers(files, program):
+    """Create, conflict, key, update, query, read, delete."""
+    with over_tables(files, program) as place:
+        first, second, other = new_id(), new_id(), new_id()
+        start = int(time.time()) + 60
+        body = extent(MANHATTAN, 0.0, 119.95, start)
+        body["time_start"] = stamp(start, "%Y-%m-%dT%H:%M:%S.25Z")
+        created = place.a("PUT", f"{INTENTS}/{first}", intent(body))
+        expect(created, 201)
+        told = reference(created)
+        assert told["time_start"] == stamp(start) and told["manager"] == "uss-a" and told["subscription_id"] == ZERO and "ovn" in told
+        assert created.json["subscribers"] == []
+        denied = place.b("PUT", f"{INTENTS}/{second}", intent(extent(BESIDE, 100.04, 200)))
+        missing = expect(denied, 409, "P14 KEY")["missing_operational_intents"]
+        assert [it["id"] for it in missing] == [first] and "ovn" not in missing[0] and missing[0]["time_start"] == stamp(start)
+        allowed = place.b("PUT", f"{INTENTS}/{second}", intent(extent(BESIDE, 100.04, 200), key=[told["ovn"]]))
+        expect(allowed, 201)
+        expect(place.b("PUT", f"{INTENTS}/{other}", intent(extent(FAR, 0, 100))), 201)
+        expect(place.b("PUT", f"{INTENTS}/{new_id()}", intent(extent(MANHATTAN, 119.96, 200))), 409, "P14 KEY")
+        expect(place.b("PUT", f"{INTENTS}/{new_id()}", intent(extent(MANHATTAN, 200.1, 300))), 201)
+        expect(place.b("PUT", f"{INTENTS}/{first.upper()}", intent(extent(MANHATTAN))), 409, "P8 FRESH")
+        changed = intent(extent(MANHATTAN), key=[reference(allowed)["ovn"]], state="Activated")
+        updated = place.a("PUT", f"{INTENTS}/{first}/{told['ovn']}", changed)
+        expect(updated, 200)
+        assert reference(updated)["version"] == 2 and reference(updated)["state"] == "Activated"
+        expect(place.a("PUT", f"{INTENTS}/{first}/{told['ovn']}", changed), 409, "P10 VERSION")
+        found = expect(place.b("POST", f"{INTENTS}/query", {"area_of_interest": extent(MANHATTAN, 0, 150)}), 200)
+        assert {it["id"] for it in found["operational_intent_references"]} == {first, second}
+        expect(place.a("GET", f"{INTENTS}/{first}"), 200)
+        expect(place.b("DELETE", f"{INTENTS}/{first}/{reference(updated)['ovn']}"), 403, "P9 MANAGER")
+        expect(place.a("DELETE", f"{INTENTS}/{first}/{reference(updated)['ovn']}"), 200)
+        expect(place.a("GET", f"{INTENTS}/{first}"), 404, "P7 FOUND")
+
+
+def constraints(files, program):
+    with over_tables(files, program) as place:
+        manager = lambda *words: place.ask("uss-c", MANAGEMENT, *words)
+        both = lambda *words: place.ask("uss-b", f"{STRATEGIC} {PROCESSING}", *words)
+        name, own = new_id(), new_id()
+        created = expect(manager("PUT", f"{CONSTRAINTS}/{name}", {"extents": [extent(BESIDE, 0, 50)], **URL}), 201)
+        assert set(created) == {"constraint_reference", "subscribers"}
+        version = created["constraint_reference"]["ovn"]
+        denied = expect(both("PUT", f"{INTENTS}/{own}", intent(extent(BESIDE, 0, 50))), 409, "P14 KEY")
+        assert [it["id"] for it in denied["missing_constraints"]] == [name]
+        expect(both("PUT", f"{INTENTS}/{own}", intent(extent(BESIDE, 0, 50), key=[version])), 201)
+        expect(place.b("PUT", f"{INTENTS}/{new_id()}", intent(extent(circle(41, -73.9, 90)))), 201)
+        found = expect(both("POST", f"{CONSTRAINTS}/query", {"area_of_interest": extent(MANHATTAN)}), 200)
+        assert [it["id"] for it in found["constraint_references"]] == [name] and "ovn" not in found["constraint_references"][0]
+        expect(place.b("POST", f"{CONSTRAINTS}/query", {"area_of_interest": extent(MANHATTAN)}), 403, "P4 SCOPE")
+        expect(both("PUT", f"{CONSTRAINTS}/{name}/{version}", {"extents": [extent(BESIDE)], **URL}), 403, "P4 SCOPE")
+        updated = expect(manager("PUT", f"{CONSTRAINTS}/{name}/{version}", {"extents": [extent(BESIDE, 0, 60)], **URL}), 200)
+        expect(manager("DELETE", f"{CONSTRAINTS}/{name}/{updated['constraint_reference']['ovn']}"), 200)
+        expect(manager("GET", f"{CONSTRAINTS}/{name}"), 404, "P7 FOUND")
+
+
+def availability(files, program):
+    with over_tables(files, program) as place:
+        arbiter = lambda *words: place.ask("uss-v", ARBITRATION, *words)
+        path = f"{FRONT}uss_availability/uss-b"
+        assert expect(place.a("GET", path), 200) == {"status": {"availability": "Unknown", "uss": "uss-b"}, "version": ""}
+        expect(place.b("PUT", path, {"availability": "Down", "old_version": ""}), 403, "P4 SCOPE")
+        told = expect(arbiter("PUT", path, {"availability": "Down", "old_version": ""}), 200)
+        assert told["status"]["availability"] == "Down" and len(told["version"]) == 64
+        expect(arbiter("PUT", path, {"availability": "Normal", "old_version": ""}), 409, "P10 VERSION")
+        expect(arbiter("PUT", path, {"availability": "Normal", "old_version": told["version"]}), 200)
+        expect(arbiter("PUT", path, {"availability": "Up", "old_version": ""}), 400, "availability must be")
+
+
+def states_and_scopes(files, program):
+    """Scopes choose the service's token: each set has its own."""
+    with over_tables(files, program) as place:
+        off_nominal = lambda *words: place.ask("uss-a", f"{STRATEGIC} {MONITORING}", *words)
+        name = new_id()
+        expect(place.a("PUT", f"{INTENTS}/{name}", intent(extent(MANHATTAN), state="Contingent")), 403, "P11 ROLE")
+        told = reference(off_nominal("PUT", f"{INTENTS}/{name}", intent(extent(MANHATTAN), state="Nonconforming")))
+        expect(off_nominal("PUT", f"{INTENTS}/{name}/{told['ovn']}", intent(extent(MANHATTAN))), 400, "P12 CHANGE")
+        expect(place.ask("uss-a", "other.scope", "GET", f"{INTENTS}/{name}"), 403, "P4 SCOPE")
+        expect(place.ask("client@example", f"{STRATEGIC} other.scope", "GET", f"{INTENTS}/{name}"), 200)
+        mine = reference(place.ask("client@example", STRATEGIC, "PUT", f"{INTENTS}/{new_id()}", intent(extent(FAR))))
+        assert mine["manager"] == "uss-d"
+        ended = intent(extent(MANHATTAN, start=1000, end=2000))
+        expect(place.a("PUT", f"{INTENTS}/{new_id()}", ended), 400, "P13 ENDED")
+
+
+def explicit_subscriptions(files, program):
+    with in_memory(files, program) as place:
+        name = new_id()
+        body = {"extents": extent(MANHATTAN), "notify_for_operational_intents": True, **URL}
+        created = expect(place.a("PUT", f"{SUBSCRIPTIONS}/{name}", body), 200)
+        version = created["subscription"]["version"]
+        assert created["operational_intent_references"] == [] and created["subscription"]["implicit_subscription"] is False
+        # no bounds but the outline: from now on, for a day
+        open_ended = expect(place.a("PUT", f"{SUBSCRIPTIONS}/{new_id()}", {**body, "extents": {"volume": BESIDE}}), 200)
+        assert open_ended["subscription"]["time_end"]["value"][:10] > open_ended["subscription"]["time_start"]["value"][:10]
+        seen = place.service.asked[-1][2]["extents"]
+        assert seen["time_end"] - seen["time_start"] == 86_400 and (seen["altitude_lower"], seen["altitude_upper"]) == (-100_000, 1_000_000)
+        found = expect(place.a("POST", f"{SUBSCRIPTIONS}/query", {"area_of_interest": extent(MANHATTAN)}), 200)
+        assert len(found["subscriptions"]) == 2
+        expect(place.b("GET", f"{SUBSCRIPTIONS}/{name}"), 403, "P9 MANAGER")
+        flight = reference(place.a("PUT", f"{INTENTS}/{new_id()}", intent(extent(MANHATTAN), subscription_id=name.upper())))
+        assert flight["subscription_id"] == name
+        told = expect(place.a("GET", f"{SUBSCRIPTIONS}/{name}"), 200)["subscription"]
+        assert told["dependent_operational_intents"] == [flight["id"]] and told["implicit_subscription"] is False
+        expect(place.a("DELETE", f"{SUBSCRIPTIONS}/{name}/{version}"), 409, "P17 DEPENDED")
+        expect(place.a("DELETE", f"{INTENTS}/{flight['id']}/{flight['ovn']}"), 200)
+        updated = expect(place.a("PUT", f"{SUBSCRIPTIONS}/{name}/{version}", {**body, "extents": extent(BESIDE)}), 200)
+        expect(place.a("DELETE", f"{SUBSCRIPTIONS}/{name}/{updated['subscription']['version']}"), 200)
+        expect(place.a("PUT", f"{INTENTS}/{new_id()}", intent(extent(MANHATTAN), subscription_id=name)), 400, "P16 SUBSCRIPTION")
+
+
+NEW = {"new_subscription": {"uss_base_url": "https://uss.example"}}
+EVERYWHERE = {"area_of_interest": {"volume": circle(40.9, -73.97, 60_000)}}
+
+
+def subscriptions_of(place):
+    found = expect(place.a("POST", f"{SUBSCRIPTIONS}/query", EVERYWHERE), 200)["subscriptions"]
+    return {it["id"]: it for it in found}
+
+
+def implicit_subscriptions(files, program):
+    """A subscription is made for an intent, moves with it, and goes with it."""
+    with in_memory(files, program) as place:
+        name = new_id()
+        first = reference(place.a("PUT", f"{INTENTS}/{name}", intent(extent(MANHATTAN), extent(BESIDE, 20, 500), **NEW)))
+        made = subscriptions_of(place)
+        assert list(made) == [first["subscription_id"]]
+        assert made[first["subscription_id"]]["implicit_subscription"] is True
+        assert made[first["subscription_id"]]["dependent_operational_intents"] == [name]
+        hull = next(body for method, path, body in place.service.asked if "subscriptions/" in path and method == "PUT")["extents"]
+        assert hull["altitude_upper"] == 5000 and hull["altitude_lower"] == 0
+        # an update that asks for one gets another, and the old one is gone
+        second = reference(place.a("PUT", f"{INTENTS}/{name}/{first['ovn']}", intent(extent(FAR), **NEW)))
+        assert second["subscription_id"] != first["subscription_id"] and list(subscriptions_of(place)) == [second["subscription_id"]]
+        # so does one that names the one that it has
+        third = reference(place.a(
+            "PUT", f"{INTENTS}/{name}/{second['ovn']}", intent(extent(MANHATTAN), subscription_id=second["subscription_id"])))
+        assert list(subscriptions_of(place)) == [third["subscription_id"]]
+        # a denied update leaves what was
+        expect(place.a("PUT", f"{INTENTS}/{name}/{second['ovn']}", intent(extent(FAR), **NEW)), 409, "P10 VERSION")
+        assert list(subscriptions_of(place)) == [third["subscription_id"]]
+        # a denied creation leaves none
+        expect(place.b("PUT", f"{INTENTS}/{new_id()}", intent(extent(MANHATTAN), **NEW)), 409, "P14 KEY")
+        assert expect(place.b("POST", f"{SUBSCRIPTIONS}/query", EVERYWHERE), 200)["subscriptions"] == []
+        # one that names none ends it
+        fourth = reference(place.a("PUT", f"{INTENTS}/{name}/{third['ovn']}", intent(extent(MANHATTAN))))
+        assert fourth["subscription_id"] == ZERO and subscriptions_of(place) == {}
+        fifth = reference(place.a("PUT", f"{INTENTS}/{name}/{fourth['ovn']}", intent(extent(MANHATTAN), **NEW)))
+        assert list(subscriptions_of(place)) == [fifth["subscription_id"]]
+        expect(place.a("DELETE", f"{INTENTS}/{name}/{fifth['ovn']}"), 200)
+        assert subscriptions_of(place) == {}
+        role = place.ask("uss-a", f"{STRATEGIC}", "PUT", f"{INTENTS}/{name}", intent(
+            extent(MANHATTAN), new_subscription={**URL, "notify_for_constraints": True}))
+        expect(role, 403, "P11 ROLE")
+
+
+def shared_implicit_subscriptions(files, program):
+    """One that another intent names stays, and is never moved."""
+    with in_memory(files, program) as place:
+        one, two = new_id(), new_id()
+        first = reference(place.a("PUT", f"{INTENTS}/{one}", intent(extent(MANHATTAN), **NEW)))
+        named = first["subscription_id"]
+        expect(place.a("PUT", f"{INTENTS}/{two}", intent(extent(FAR), subscription_id=named)), 201)
+        expect(place.a("DELETE", f"{INTENTS}/{one}/{first['ovn']}"), 200)
+        assert list(subscriptions_of(place)) == [named]
+        again = reference(place.a("PUT", f"{INTENTS}/{one}", intent(extent(BESIDE), **NEW)))
+        assert again["subscription_id"] not in (named, ZERO) and len(subscriptions_of(place)) == 2
+        assert subscriptions_of(place)[named]["dependent_operational_intents"] == [two]
+
+
+def answers_lost_on_the_way(files, program):
+    """Whichever answer of the service is lost, before or after it was done: an intent that names a subscription is within one, and
+    the same put again ends well."""
+    for is_done in (False, True):
+        for lost in range(5):
+            with in_memory(files, program) as place:
+                name, service = new_id(), place.service
+                before = reference(place.a("PUT", f"{INTENTS}/{name}", intent(extent(MANHATTAN), **NEW)))
+                service.lost, service.is_done = len(service.asked) + lost, is_done
+                path, body = f"{INTENTS}/{name}/{before['ovn']}", intent(extent(BESIDE), **NEW)
+                got = place.a("PUT", path, body)
+                assert got.status in (200, 504), got
+                now, kept = reference(place.a("GET", f"{INTENTS}/{name}")), subscriptions_of(place)
+                check_covered(service, now, kept)
+                if now["version"] == 1:
+                    now = reference(place.a("PUT", path, body))
+                    kept = subscriptions_of(place)
+                    assert list(kept) == [now["subscription_id"]], (kept, now)
+                else:
+                    expect(place.a("PUT", path, body), 409, "P10 VERSION")
+                assert now["version"] == 2
+                check_covered(service, now, subscriptions_of(place))
+
+
+def check_covered(service, now, kept):
+    """The subscription that the intent names is there, and was last put over the volumes that the intent has."""
+    assert now["subscription_id"] in kept
+    puts = [it for it in service.asked if it[0] == "PUT"]
+    volume = [body for _, path, body in puts if f"subscriptions/{now['subscription_id']}" in path][-1]["extents"]
+    flown = [body for _, path, body in puts if "intent" in path and body["subscription_id"] == now["subscription_id"]][-1]["extents"]
+    held = shapes.Held(volume["cells"])
+    assert all(held.meets(shapes.Held([cell])) for it in flown for cell in it["cells"])
+
+
+def new_subscription_over_tables(files, program):
+    """What is done with it is the operator's choice."""
+    with over_tables(files, program, "--new-subscription", "ignore") as place:
+        told = reference(place.a("PUT", f"{INTENTS}/{new_id()}", intent(extent(MANHATTAN), **NEW)))
+        assert told["subscription_id"] == ZERO
+    with over_tables(files, program, "--new-subscription", "refuse") as place:
+        expect(place.a("PUT", f"{INTENTS}/{new_id()}", intent(extent(MANHATTAN), **NEW)), 400, "new_subscription is not taken")
+
+
+def drawn_outlines_meet(files, program, count=1000):
+    """Two outlines around one point are told to meet by the service itself."""
+    draw = random.Random(11)
+    with over_tables(files, program) as place:
+        for _ in range(count):
+            center, start = shapes.draw_center(draw), int(time.time()) + draw.randint(600, 2000)
+            one, two = (shapes.draw_outline(draw, center)[0] for _ in range(2))
+            height = draw.uniform(-100, 100)
+            bodies = [intent(extent(one, height - draw.uniform(0, 9), height, start)),
+                      intent(extent(two, height, height + draw.uniform(0, 9), start - 10, start))]
+            name = new_id()
+            first = place.gateway.ask(files.token("uss-a", STRATEGIC), "PUT", f"{INTENTS}/{name}", bodies[0])
+            assert first.status == 201, first
+            second = place.gateway.ask(files.token("uss-b", STRATEGIC), "PUT", f"{INTENTS}/{new_id()}", bodies[1])
+            assert second.status == 409 and second.json["missing_operational_intents"][0]["id"] == name, (second, bodies)
+            place.gateway.ask(files.token("uss-a", STRATEGIC), "DELETE", f"{INTENTS}/{name}/{reference(first)['ovn']}")
+
+
+def body_of_the_document(files, program):
+    """The body of CLIENTS.md is translated to the one that it says."""
+    document = (TOP / "docs" / "CLIENTS.md").read_text()
+    usual, flat = (json.loads(it.split("```")[0]) for it in document.split("```json\n")[1:3])
+    assert translate(program, [("intent", usual)]) == [flat]
+
+
+ALL = [
+    two_suppliers, constraints, availability, states_and_scopes, explicit_subscriptions, implicit_subscriptions,
+    shared_implicit_subscriptions, answers_lost_on_the_way, new_subscription_over_tables, drawn_outlines_meet, body_of_the_document]

@@ -1,0 +1,248 @@
+"""What the cases stand on: programs that are started and ended, tokens that are signed, requests, and what is expected."""
+import contextlib
+import http.client
+import json
+import os
+import pathlib
+import shutil
+import signal
+import socket
+import subprocess
+import tempfile
+import threading
+import time
+import uuid
+
+import jwt
+from cryptography.hazmat.primitives import serialization
+from cryptography.hazmat.primitives.asymmetric import rsa
+
+TOP = pathlib.Path(__file__).resolve().parents[2]
+ISSUER, AUDIENCE = "auth.example", "dss.example"
+SUPPLIERS = ["uss-a", "uss-b", "uss-c", "uss-v", "uss-d client@example"]
+STRATEGIC, PROCESSING, MANAGEMENT = "utm.strategic_coordination", "utm.constraint_processing", "utm.constraint_management"
+MONITORING, ARBITRATION = "utm.conformance_monitoring_sa", "utm.availability_arbitration"
+ZERO = "00000000-0000-4000-8000-000000000000"
+FRONT = "/dss/v1/"
+INTENTS, CONSTRAINTS, SUBSCRIPTIONS = (FRONT + it for it in ("operational_intent_references", "constraint_references", "subscriptions"))
+
+
+def free_port():
+    with socket.socket() as it:
+        it.bind(("127.0.0.1", 0))
+        return it.getsockname()[1]
+
+
+def wait_for(port):
+    for _ in range(4000):
+        with contextlib.suppress(OSError), socket.create_connection(("127.0.0.1", port), 1):
+            return
+        time.sleep(0.025)
+    raise AssertionError(f"nothing listens on {port}")
+
+
+def key_pair(bits=2048):
+    """A private key, and the public one in PEM."""
+    key = rsa.generate_private_key(65537, bits)
+    return key, key.public_key().public_bytes(serialization.Encoding.PEM, serialization.PublicFormat.SubjectPublicKeyInfo)
+
+
+class Files:
+    """A folder with a key of the issuer, the gateway's secret, and the token file that is made of it."""
+
+    def __init__(self, gateway):
+        shm = "/dev/shm" if os.access("/dev/shm", os.W_OK) else None
+        self.folder = pathlib.Path(tempfile.mkdtemp(dir=shm))
+        self.private, self.public = key_pair()
+        (self.folder / "keys.pem").write_bytes(key_pair()[1] + self.public)
+        (self.folder / "secret").write_text("0123456789abcdef" * 4)
+        (self.folder / "suppliers").write_text("# who flies\n" + "\n".join(SUPPLIERS) + "\n")
+        made = subprocess.run(
+            [gateway, "tokens", "--secret", self.folder / "secret", "--suppliers", self.folder / "suppliers"],
+            stdout=subprocess.PIPE, check=True)
+        (self.folder / "tokens.toml").write_bytes(made.stdout)
+
+    def forget(self):
+        shutil.rmtree(self.folder)
+
+    def token(self, sub, *scopes, key=None, algorithm="RS256", headers=None, without=(), **claims):
+        body = {"sub": sub, "scope": " ".join(scopes), "iss": ISSUER, "aud": AUDIENCE, "exp": int(time.time()) + 600} | claims
+        body = {name: it for name, it in body.items() if name not in without}
+        return jwt.encode(body, key or self.private, algorithm, headers=headers)
+
+
+class Answer:
+    def __init__(self, status, headers, body):
+        self.status, self.headers, self.text = status, headers, body
+        self.json = json.loads(body) if body else None
+
+    def __repr__(self):
+        return f"{self.status} {self.text[:300]}"
+
+
+class Gateway:
+    """A gateway in front of the service on a port."""
+
+    def __init__(self, program, files, service, *options):
+        self.port, self.log = free_port(), tempfile.TemporaryFile(mode="w+")
+        self.files = files
+        words = {"port": self.port, "service": service, "issuer": ISSUER, "audience": AUDIENCE}
+        words |= {name: files.folder / f for name, f in (("tokens", "tokens.toml"), ("keys", "keys.pem"), ("secret", "secret"))}
+        words = [it for name, value in words.items() for it in (f"--{name}", str(value))]
+        self.process = subprocess.Popen([program, "serve", *words, *options], stderr=self.log)
+        wait_for(self.port)
+
+    def end(self):
+        """Ends it in order, and says whether it lived until then."""
+        alive = self.process.poll() is None
+        self.process.send_signal(signal.SIGTERM)
+        self.process.wait(60)
+        return alive and self.process.returncode == 0
+
+    def lines(self):
+        self.log.seek(0)
+        return self.log.read()
+
+    def ask(self, token, method, path, body=None, headers=None):
+        connection = http.client.HTTPConnection("127.0.0.1", self.port, timeout=60)
+        fields = ({"Authorization": f"Bearer {token}"} if token else {}) | (headers or {})
+        if body is not None and not isinstance(body, (bytes, str)):
+            body = json.dumps(body)
+        with contextlib.closing(connection):
+            connection.request(method, path, body, fields)
+            got = connection.getresponse()
+            return Answer(got.status, dict(got.getheaders()), got.read().decode())
+
+    def raw(self, data, end=False):
+        """Sends bytes on a connection of their own, and returns all that comes."""
+        with socket.create_connection(("127.0.0.1", self.port), 30) as it:
+            with contextlib.suppress(OSError):
+                it.sendall(data)
+                if end:
+                    it.shutdown(socket.SHUT_WR)
+            got = b""
+            with contextlib.suppress(OSError):
+                while piece := it.recv(65536):
+                    got += piece
+            return got
+
+
+class Service:
+    """`dss serve` over a database."""
+
+    def __init__(self, files, port=None, database="dss.db"):
+        self.files, self.port, self.database = files, port or free_port(), files.folder / database
+        self.start()
+
+    def start(self):
+        self.process = subprocess.Popen(
+            [TOP / "dss", "serve", "--tokens", self.files.folder / "tokens.toml", "--db", self.database,
+             "--port", str(self.port), "--count", "1000000"], stderr=subprocess.DEVNULL)
+        wait_for(self.port)
+
+    def end(self, how=signal.SIGKILL):
+        self.process.send_signal(how)
+        self.process.wait()
+
+
+class Memory:
+    """`dss run` in memory behind a port, for up to a hundred requests. It writes down what it is asked, and can lose an answer:
+    of the request with the number `lost`, counted from 0, before (`is_done` False) or after it is done."""
+
+    def __init__(self, files):
+        self.asked, self.lost, self.is_done = [], None, True
+        self.process = subprocess.Popen(
+            [TOP / "dss", "run", "--tokens", files.folder / "tokens.toml", "--now", str(int(time.time())), "-"],
+            stdin=subprocess.PIPE, stdout=subprocess.PIPE)
+        self.socket = socket.create_server(("127.0.0.1", 0))
+        self.port = self.socket.getsockname()[1]
+        threading.Thread(target=self.serve, daemon=True).start()
+
+    def end(self):
+        self.process.kill()
+        self.process.wait()
+        self.socket.close()
+
+    def serve(self):
+        with contextlib.suppress(OSError):
+            while True:
+                connection, _ = self.socket.accept()
+                with connection, connection.makefile("rb") as reader:
+                    while self.one(connection, reader):
+                        pass
+
+    def one(self, connection, reader):
+        request = read_message(reader)
+        if not request:
+            return False
+        head, body = request
+        method, path, _ = head.split(b"\r\n")[0].decode().split(" ")
+        number = len(self.asked)
+        self.asked.append((method, path, json.loads(body) if body else None))
+        if number == self.lost and not self.is_done:
+            return False
+        self.process.stdin.write(head + body)
+        self.process.stdin.flush()
+        answer = b"".join(read_message(self.process.stdout))
+        if number == self.lost:
+            return False
+        connection.sendall(answer)
+        return True
+
+
+def read_message(reader):
+    head, length = b"", 0
+    while line := reader.readline():
+        head += line
+        if line == b"\r\n":
+            return head, reader.read(length)
+        if line.lower().startswith(b"content-length:"):
+            length = int(line.split(b":")[1])
+    return None
+
+
+def stamp(second, form="%Y-%m-%dT%H:%M:%SZ"):
+    return {"value": time.strftime(form, time.gmtime(second)), "format": "RFC3339"}
+
+
+def metres(value):
+    return {"value": value, "reference": "W84", "units": "M"}
+
+
+def polygon(*corners):
+    return {"outline_polygon": {"vertices": [{"lat": lat, "lng": lng} for lat, lng in corners]}}
+
+
+def circle(lat, lng, radius):
+    return {"outline_circle": {"center": {"lat": lat, "lng": lng}, "radius": {"value": radius, "units": "M"}}}
+
+
+MANHATTAN = polygon((40.740, -73.982), (40.740, -73.974), (40.748, -73.974), (40.748, -73.982))
+BESIDE = polygon((40.750, -73.970), (40.744, -73.978), (40.750, -73.978))
+FAR = circle(41.2, -73.97, 300.5)
+
+
+def extent(volume, lower=0.0, upper=119.95, start=None, end=None):
+    now = int(time.time())
+    return {
+        "volume": {**volume, "altitude_lower": metres(lower), "altitude_upper": metres(upper)},
+        "time_start": stamp(now if start is None else start), "time_end": stamp(now + 3600 if end is None else end)}
+
+
+def intent(*extents, key=(), state="Accepted", **more):
+    return {"extents": list(extents), "key": list(key), "state": state, "uss_base_url": "https://uss.example", **more}
+
+
+def new_id():
+    return str(uuid.uuid4())
+
+
+def expect(answer, status, message=None):
+    assert answer.status == status, f"{answer}, and it should be {status}"
+    if message is not None:
+        assert message in answer.json["message"], f"{answer}, and it should say {message}"
+    return answer.json
+
+
+def ovn(answer):
+    return next(iter(answer.values()))["ovn"] if "ovn" in next(iter(answer.values())) else answer["operational_intent_reference"]["ovn"]
