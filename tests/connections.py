@@ -137,14 +137,19 @@ def failing_devices():
     """A read or a write that fails ends the stream, and the answers to all requests whose bytes had come stand there."""
     found = []
     with Room() as room:
-        stream, wanted = joined(TWO_READINGS)
-        ends = [len(TWO_READINGS[0][0]), len(stream)]
-        sizes = [0, len(TWO_READINGS[0][1]), len(wanted)]
-        for at in range(1, len(stream) + 1):
+        # two requests that leave the connection open: the last reading is the one that finds the end
+        both = TWO_READINGS[:1] * 2
+        stream, wanted = joined(both)
+        ends = [len(both[0][0]), len(stream)]
+        sizes = [0, len(both[0][1]), len(wanted)]
+        for at in range(1, len(stream) + 2):
             come = sum(end < at for end in ends)
             got = room.serve(stream, READ_BYTES=1, READ_FAILS=at)
             found += [f"read {at}: {got!r}"] if got != (1, wanted[: sizes[come]], READS) else []
+        got = room.serve(stream, READ_BYTES=1, READ_FAILS=len(stream) + 2)
+        found += [f"no read fails: {got!r}"] if got != (0, wanted, b"") else []
         # each answer is written by itself, in pieces
+        stream, _ = joined(TWO_READINGS)
         pieces = [answer[at : at + PIECE] for _, answer in TWO_READINGS for at in range(0, len(answer), PIECE)]
         for fault in "WRITE_FAILS", "WRITE_STOPS":
             for at in range(1, len(pieces) + 1):
@@ -178,11 +183,20 @@ def cell_not_written():
 
 
 def truncated():
-    """A put that is cut anywhere gets no answer, and the next stream finds nothing."""
+    """A put that is cut anywhere gets no answer, and the next stream over the database finds nothing."""
     stream = MEETING[0][0]
+    reading = ask("GET", f"{wire.INTENTS}/{ID_A}", "tok-a", closes=True)
+    found = []
     with Room() as room:
-        got = [(size, room.serve(stream[:size])) for size in range(len(stream))]
-    return [f"{size} bytes: {it!r}" for size, it in got if it != (0, b"", b"")]
+        file = f"{room.folder.name}/dss.db"
+        for size in range(len(stream)):
+            is_kept = size % 16 == 0 or size > len(stream) - 4
+            cut = room.serve(stream[:size], database=file if is_kept else None)
+            found += [f"{size} bytes: {cut!r}"] if cut != (0, b"", b"") else []
+            if is_kept:
+                read = room.serve(reading, database=file)
+                found += [f"after {size} bytes: {read!r}"] if read != (0, refused(404, "P7 FOUND"), b"") else []
+    return found
 
 
 def turns_end():

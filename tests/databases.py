@@ -291,6 +291,43 @@ def done_to_it():
     return found
 
 
+def vacuumed(file):
+    with sqlite3.connect(file) as database:
+        database.execute("VACUUM")
+    database.close()
+
+
+def dumped(file):
+    """SQLite's `.dump`, read into a new file in the place of the old one."""
+    with sqlite3.connect(file) as database:
+        text = "".join(f"{line}\n" for line in database.iterdump())
+    database.close()
+    file.unlink()
+    with sqlite3.connect(file) as database:
+        database.executescript(text)
+    database.close()
+
+
+def written_anew():
+    """A file that SQLite wrote anew among the calls of a stream is taken, and these are answered as they are without."""
+    found = []
+    for write in vacuumed, dumped:
+        requests, outcomes = drawn_calls.stream(SEEDS[0], keeps_subscriptions=False)
+        wanted = [it.text(closes=False) for it in outcomes]
+        got = []
+        with Room() as room:
+            for at in range(0, len(requests), CHUNK):
+                status, output, error = room.serve(requests[at : at + CHUNK], drawn_calls.NOW)
+                found += [f"{write.__name__}, call {at}: {status}, {error!r}"] if (status, error) != (0, b"") else []
+                got += wire.answers_of(output)
+                write(room.database)
+            found += wrong_with(room)
+        got = [it.replace(b"Connection: close\r\n", b"") for it in got]
+        why = first_difference(wanted, got)
+        found += [f"{write.__name__}: {why}"] if why else []
+    return found
+
+
 # Rows that the rules of the tables take or refuse, one after the other.
 RULED = [
     ("INSERT INTO meta VALUES (2, 1, 0)", False),
@@ -440,6 +477,7 @@ CASES = {
     "rules-of-the-tables": rules_of_tables,
     "greatest-serial-in-a-database": greatest_serial,
     "databases-that-were-changed": done_to_it,
+    "databases-that-sqlite-wrote-anew": written_anew,
     "databases-that-are-not-taken": not_taken,
     "database-that-is-cut-short": cut_short,
 }

@@ -305,8 +305,9 @@ def mangled(draw, call):
     return method, target, authorization, bytes(body) if call[3] is not None else None
 
 
-def stream(seed, count=wire.MOST_REQUESTS, is_mangled=False, keeps_subscriptions=True, met=None):
-    """The requests of a stream, and the outcomes that the plain policy gives them. What puts met is counted in `met`."""
+def stream(seed, count=wire.MOST_REQUESTS, is_mangled=False, keeps_subscriptions=True, met=None, notified=None):
+    """The requests of a stream, and the outcomes that the plain policy gives them. What puts met is counted in `met`, and
+    who was told of changes in `notified`."""
     draw = Draw(seed)
     airspace = plain_policy.Airspace(NOW, ALL_TOKENS, keeps_subscriptions=keeps_subscriptions)
     drawn = Drawn(draw, airspace)
@@ -317,4 +318,6 @@ def stream(seed, count=wire.MOST_REQUESTS, is_mangled=False, keeps_subscriptions
         outcomes.append(airspace.ask(*call))
     if met is not None:
         met.update(airspace.met)
+    if notified is not None:
+        notified.update(airspace.notified)
     return requests, outcomes

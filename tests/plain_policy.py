@@ -516,6 +516,8 @@ class Airspace:
         self.entities, self.subscriptions, self.settings, self.serial = {}, {}, {}, 0
         # how often a put that needs a key met an intent of each state, of a manager of each availability
         self.met = collections.Counter()
+        # how often a subscription was told of a change, and why
+        self.notified = collections.Counter()
 
     def ask(self, method, target, authorization=None, body=b""):
         """Answers a request, and keeps what it changes."""
@@ -598,23 +600,39 @@ class Airspace:
         self.serial += 1
         return self.serial
 
-    def keep(self, call, manager, version):
+    def told(self, call, old, new):
+        """Who is told of a change, with the new indexes: all that want the kind and meet an old or a new volume."""
+        told = {}
+        for id_, it in sorted(self.subscriptions.items()):
+            wants = it.put.intents if call.kind == INTENT else it.put.constraints
+            meets = tuple(some_meet(it.put.extents, volumes) for volumes in (old, new))
+            if wants and any(meets):
+                self.subscriptions[id_] = dataclasses.replace(it, index=it.index + 1)
+                told.setdefault(it.put.url, []).append({"notification_index": it.index + 1, "subscription_id": id_})
+                both = "both" if all(meets) else "old alone" if meets[0] else "new alone"
+                self.notified.update([both, "the caller's own" if it.manager == call.uss else "another's"])
+        self.notified["two addresses"] += len(told) > 1
+        return [{"subscriptions": told[url], "uss_base_url": url} for url in sorted(told, key=str.encode)]
+
+    def keep(self, call, manager, version, old=()):
+        told = self.told(call, old, call.asked.put.extents)
         entity = Entity(call.kind, call.asked.id, manager, version, self.next(), call.asked.put)
         self.entities[call.kind, call.asked.id] = entity
-        return {f"{call.kind}_reference": self.view(call.uss, entity), "subscribers": []}
+        return {f"{call.kind}_reference": self.view(call.uss, entity), "subscribers": told}
 
     def create_entity(self, call):
         return 201, self.keep(call, call.uss, 1)
 
     def update_entity(self, call):
         old = self.found(call)
-        return 200, self.keep(call, old.manager, old.version + 1)
+        return 200, self.keep(call, old.manager, old.version + 1, old.put.extents)
 
     def delete_entity(self, call):
-        seen = self.view(call.uss, self.found(call))
+        old = self.found(call)
+        seen, told = self.view(call.uss, old), self.told(call, old.put.extents, ())
         del self.entities[call.kind, call.asked.id]
         self.next()
-        return 200, {f"{call.kind}_reference": seen, "subscribers": []}
+        return 200, {f"{call.kind}_reference": seen, "subscribers": told}
 
     def read_entity(self, call):
         return 200, {f"{call.kind}_reference": self.view(call.uss, self.found(call))}

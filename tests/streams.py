@@ -17,6 +17,9 @@ MANGLED_SEEDS = range(201, 291)
 LEAST, LEAST_MANGLED = 49, 10
 # how often a put meets an intent of each state beside each availability of its manager
 LEAST_MET = 20
+# how often subscriptions are told of changes, and how often for each cause
+LEAST_NOTIFIED, LEAST_OF_A_CAUSE = 500, 50
+CAUSES = ("old alone", "new alone", "both", "the caller's own", "another's", "two addresses")
 
 
 def served(name, requests, wanted, now, tokens=None):
@@ -52,11 +55,15 @@ def worked_examples():
 
 def drawn():
     """Streams of drawn calls are answered as the plain policy says, and each rule and each work comes. Intents of
-    each state are met, of managers of each availability."""
-    met = collections.Counter()
-    found = answered_as_drawn("drawn calls", SEEDS, LEAST, met=met)
+    each state are met, of managers of each availability, and subscriptions are told of changes for each cause."""
+    met, notified = collections.Counter(), collections.Counter()
+    found = answered_as_drawn("drawn calls", SEEDS, LEAST, met=met, notified=notified)
     rare = [it for it in itertools.product(STATES, AVAILABILITIES) if met[it] < LEAST_MET]
-    return found + ([f"under {LEAST_MET} of {rare}"] if rare else [])
+    rare += [it for it in CAUSES if notified[it] < LEAST_OF_A_CAUSE]
+    told = notified["the caller's own"] + notified["another's"]
+    print(f"subscriptions told of changes: {told}, of which are " + ", ".join(f"{it} {notified[it]}" for it in CAUSES))
+    found += [f"{told} subscriptions told of changes"] if told < LEAST_NOTIFIED else []
+    return found + ([f"too few of {rare}"] if rare else [])
 
 
 def mangled():

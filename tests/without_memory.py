@@ -73,6 +73,30 @@ def eight_calls():
     ]
 
 
+def notifying_calls():
+    """Subscriptions of two addresses, a creation, an update and a deletion that notify them, and what their indexes are."""
+    volume = {"cells": ["89c25904"], "altitude_lower": 0, "altitude_upper": 1200, "time_start": 1000, "time_end": 4600}
+    moved = {**volume, "cells": ["89c2590c"]}
+    a1, d1, d2 = (f"00000000-0000-4000-8000-0000000000{it}" for it in ("a1", "d1", "d2"))
+
+    def subscription(url):
+        put = {"extents": volume, "uss_base_url": url, "notify_for_operational_intents": True}
+        return json.dumps(put).encode()
+
+    def intent(extents):
+        put = {"extents": [extents], "uss_base_url": "https://a.example", "state": "Accepted", "key": []}
+        return json.dumps(put).encode()
+
+    return [
+        ("PUT", f"{wire.SUBSCRIPTIONS}/{d1}", "Bearer tok-b", subscription("https://b.example")),
+        ("PUT", f"{wire.SUBSCRIPTIONS}/{d2}", "Bearer tok-a", subscription("https://a.example")),
+        ("PUT", f"{wire.INTENTS}/{a1}", "Bearer tok-a", intent(volume)),
+        ("PUT", f"{wire.INTENTS}/{a1}/{wire.ovn(3)}", "Bearer tok-a", intent(moved)),
+        ("DELETE", f"{wire.INTENTS}/{a1}/{wire.ovn(4)}", "Bearer tok-a", None),
+        ("GET", f"{wire.SUBSCRIPTIONS}/{d1}", "Bearer tok-b", None),
+    ]
+
+
 def answers(calls, faulted=()):
     """The answers of the plain policy, in which some of the calls may be faults, which change nothing."""
     airspace = plain_policy.Airspace(NOW)
@@ -82,9 +106,18 @@ def answers(calls, faulted=()):
 
 
 def stream():
+    """Of a stream of calls of each kind."""
+    return stream_of("eight calls", eight_calls())
+
+
+def stream_that_notifies():
+    """Of a stream of changes that notify subscriptions: an index rises exactly where the change stands."""
+    return stream_of("calls that notify", notifying_calls())
+
+
+def stream_of(name, calls):
     """Refuses each growth of memory of a stream of calls in turn. Each answer is that of the plain policy, or a
     fault that changed nothing, or the stream ends with 'dss: memory' after some of them."""
-    calls = eight_calls()
     fault = wire.answer(*FAULT)
     faults, ends, others = collections.Counter(), collections.Counter(), 0
     command = [BUILT, "run", "--tokens", str(TOP / "examples" / "tokens.toml"), "--now", str(NOW), "-"]
@@ -101,7 +134,7 @@ def stream():
         else:
             return [f"growth {at}, refused: {is_refused}: {got!r}"]
     each = [faults[it] for it in range(len(calls))]
-    print(f"eight calls: {at - 1} growths of memory refused in turn: faults {each}, ends of the stream after so "
+    print(f"{name}: {at - 1} growths of memory refused in turn: faults {each}, ends of the stream after so "
           f"many answers {[ends[it] for it in range(len(calls))]}, without a trace {others}")
     return [] if all(each) else ["not each of the calls was answered with a fault"]
 
