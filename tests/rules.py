@@ -87,8 +87,11 @@ def done(status, value):
     return wire.answer(status, wire.compact(value))
 
 
-def put(reference, status=201):
-    return done(status, {f"{kind_of(reference)}_reference": reference, "subscribers": []})
+def put(reference, status=201, told=()):
+    """The answer to a change, which notifies subscriptions of one address: the ends of their ids, and their indexes."""
+    states = [{"notification_index": index, "subscription_id": id_of(end)} for end, index in told]
+    subscribers = [{"subscriptions": states, "uss_base_url": URL}] if told else []
+    return done(status, {f"{kind_of(reference)}_reference": reference, "subscribers": subscribers})
 
 
 def found(reference):

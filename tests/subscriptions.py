@@ -37,6 +37,10 @@ def removal(end, token, over):
     return ask("DELETE", f"{SUBSCRIPTIONS}/{id_of(end)}/{word}", token)
 
 
+def deletion(end, token, over):
+    return ask("DELETE", f"{INTENTS}/{id_of(end)}/{wire.ovn(over)}", token)
+
+
 def query(token, cells=ONE):
     return ask("POST", f"{SUBSCRIPTIONS}/query", token, wire.compact({"area_of_interest": {"cells": cells}}))
 
@@ -44,12 +48,12 @@ def query(token, cells=ONE):
 # ---- answers
 
 
-def shown(end, serial, intents=True, constraints=False, times=(900, 2000), dependents=()):
+def shown(end, serial, intents=True, constraints=False, times=(900, 2000), dependents=(), index=0):
     return {
         "dependent_operational_intents": [id_of(it) for it in dependents],
         "id": id_of(end),
         "implicit_subscription": False,
-        "notification_index": 0,
+        "notification_index": index,
         "notify_for_constraints": constraints,
         "notify_for_operational_intents": intents,
         "time_end": times[1],
@@ -140,7 +144,7 @@ def rows(intent, constraint, seen, put, missing, denied):
         ("P16: update", (a1,), naming("a1", "tok-a", "d1", over=1), denied(16)),
         ("P13 before P16", (), naming("a1", "tok-a", "d1", extents=ENDED), denied(13)),
         ("P16 before P14", (a1,), naming("b1", "tok-b", "d1"), denied(16)),
-        ("a named one is told to all", (D1,), naming("b1", "tok-b", "d1"), put(names(seen("b1", "uss-b", 2)))),
+        ("a named one is told to all", (D1,), naming("b1", "tok-b", "d1"), put(names(seen("b1", "uss-b", 2)), 201, [("d1", 1)])),
         (
             "a named one is shown in a query",
             (D1, naming("b1", "tok-b", "d1")),
@@ -151,13 +155,13 @@ def rows(intent, constraint, seen, put, missing, denied):
             "an update names another",
             (D1, subscription("d2", "tok-b"), naming("b1", "tok-b", "d1")),
             naming("b1", "tok-b", "d2", over=3),
-            put(names(seen("b1", "uss-b", 4, version=2), "d2"), 200),
+            put(names(seen("b1", "uss-b", 4, version=2), "d2"), 200, [("d1", 2), ("d2", 2)]),
         ),
         (
             "dependents by rising ids",
             (D1, naming("b2", "tok-b", "d1"), naming("b1", "tok-b", "d1", key=(2,))),
             reading("d1", "tok-b"),
-            found(shown("d1", 1, dependents=("b1", "b2"))),
+            found(shown("d1", 1, dependents=("b1", "b2"), index=2)),
         ),
         ("P17: deletion", (D1, naming("b1", "tok-b", "d1")), removal("d1", "tok-b", 1), denied(17)),
         ("P10 before P17", (D1, naming("b1", "tok-b", "d1")), removal("d1", "tok-b", 2), denied(10)),
@@ -165,13 +169,13 @@ def rows(intent, constraint, seen, put, missing, denied):
             "an update of the intent ends the naming",
             (D1, naming("b1", "tok-b", "d1"), intent("b1", "tok-b", over=2)),
             removal("d1", "tok-b", 1),
-            found(shown("d1", 1)),
+            found(shown("d1", 1, index=2)),
         ),
         (
             "a deletion of the intent ends it, too",
-            (D1, naming("b1", "tok-b", "d1"), ask("DELETE", f"{INTENTS}/{id_of('b1')}/{wire.ovn(2)}", "tok-b")),
+            (D1, naming("b1", "tok-b", "d1"), deletion("b1", "tok-b", 2)),
             removal("d1", "tok-b", 1),
-            found(shown("d1", 1)),
+            found(shown("d1", 1, index=2)),
         ),
     )
     both = subscription("d1", "tok-bc", True, True)
@@ -183,19 +187,19 @@ def rows(intent, constraint, seen, put, missing, denied):
             missing(seen_c1),
         ),
         ("P14: none as the subscription says, with their scope", (c1, D1), naming("b1", "tok-bc", "d1"),
-         put(names(seen("b1", "uss-b", 3)))),
+         put(names(seen("b1", "uss-b", 3)), 201, [("d1", 1)])),
         ("P14: none is named, with their scope", (c1, D1), naming("b1", "tok-bc", "00"), missing(seen_c1)),
         (
             "P14: constraints in the key",
             (c1, both),
             naming("b1", "tok-b", "d1", key=(1,)),
-            put(names(seen("b1", "uss-b", 3))),
+            put(names(seen("b1", "uss-b", 3)), 201, [("d1", 1)]),
         ),
         (
             "P14: as the subscription says after an update",
             (c1, both, subscription("d1", "tok-bc", True, False, over=2)),
             naming("b1", "tok-bc", "d1"),
-            put(names(seen("b1", "uss-b", 4))),
+            put(names(seen("b1", "uss-b", 4)), 201, [("d1", 1)]),
         ),
     )
     views = (
@@ -230,4 +234,28 @@ def rows(intent, constraint, seen, put, missing, denied):
         ("another's subscriptions", (D1,), query("tok-a"), listed()),
         ("a subscription elsewhere", (D1,), query("tok-b", ("89c2590c",)), listed()),
     )
-    return entities + roles + named + keys + views
+    high, new = subscription("d1", "tok-b", extents=HIGH), seen("a1", "uss-a", 3, version=2)
+    for_constraints = subscription("d1", "tok-p", False, True)
+    told = (
+        ("told: another's intent", (D1,), intent("a1", "tok-a"), put(seen("a1", "uss-a", 2), 201, [("d1", 1)])),
+        ("told: the caller's own", (subscription("d1", "tok-a"),), intent("a1", "tok-a"),
+         put(seen("a1", "uss-a", 2), 201, [("d1", 1)])),
+        ("told: of intents, not of a constraint", (D1,), constraint("c1", "tok-c"), put(seen("c1", "uss-c", 2, None))),
+        ("told: of a constraint", (for_constraints,), constraint("c1", "tok-c"),
+         put(seen("c1", "uss-c", 2, None), 201, [("d1", 1)])),
+        ("told: of constraints, not of an intent", (for_constraints,), intent("a1", "tok-a"), put(seen("a1", "uss-a", 2))),
+        ("told: nobody elsewhere", (high,), intent("a1", "tok-a"), put(seen("a1", "uss-a", 2))),
+        ("told: by one of two volumes", (high,), intent("a1", "tok-a", volumes=(volume(), HIGH)),
+         put(seen("a1", "uss-a", 2), 201, [("d1", 1)])),
+        ("told: by the old volumes", (D1, a1), intent("a1", "tok-a", volumes=(HIGH,), over=2), put(new, 200, [("d1", 2)])),
+        ("told: by the new volumes", (high, a1), intent("a1", "tok-a", volumes=(HIGH,), over=2), put(new, 200, [("d1", 1)])),
+        ("told: once by both", (D1, a1), intent("a1", "tok-a", over=2), put(new, 200, [("d1", 2)])),
+        ("told: of a deletion", (D1, a1), deletion("a1", "tok-a", 2), put(seen("a1", "uss-a", 2), 200, [("d1", 2)])),
+        ("told: by rising ids", (subscription("d2", "tok-a"), D1), intent("a1", "tok-a"),
+         put(seen("a1", "uss-a", 3), 201, [("d1", 1), ("d2", 1)])),
+        ("told: version and serial stay", (D1, a1), reading("d1", "tok-b"), found(shown("d1", 1, index=1))),
+        ("told: an update keeps the index", (D1, a1), subscription("d1", "tok-b", over=1, extents=HIGH),
+         stored(shown("d1", 3, index=1))),
+        ("told: a new one begins with 0", (D1, a1, removal("d1", "tok-b", 1)), D1, stored(shown("d1", 4), [seen_a1])),
+    )
+    return entities + roles + named + keys + views + told
