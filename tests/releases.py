@@ -25,7 +25,7 @@ NO_KIT = ", and the command rt is not on PATH, which proves and builds: nothing 
 OTHER_SOURCES = "the release is of other sources"
 DAMAGED = "the release is damaged"
 ASKED = "DSS_BUILD asks for a build"
-# what stands for the kit, and for the tests by bytes
+# what stands for the kit, for the tests by bytes and for those of the gateway
 KIT = """#!/bin/sh
 case $1 in
 version) echo a kit of tests ;;
@@ -38,6 +38,10 @@ esac
 """
 TESTS = """#!/bin/sh
 [ -x "$DSS_PROGRAM" ] && echo "1 passed, 0 failed"
+"""
+GATEWAY = """#!/bin/sh
+echo "${GATEWAY-1 passed, 0 failed}"
+[ -z "${GATEWAY-}" ]
 """
 
 
@@ -75,6 +79,7 @@ class Checkout:
                 if (TOP / "crates" / crate / part).is_dir():
                     shutil.copytree(TOP / "crates" / crate / part, self.top / "crates" / crate / part)
         script(self.top / "tests" / "end_to_end", TESTS)
+        script(self.top / "gateway" / "test", GATEWAY)
         script(self.top.parent / "kit" / "rt", KIT)
         done = self.run(["scripts/release", BUILT])
         if done[0]:
@@ -327,17 +332,18 @@ def gates():
     bad = {"COUNTS": "1 passed, 1 failed"}
     with Checkout(SOME) as it:
         found = gate("by bytes", it, ["check"], 1, 0, "1 passed, 0 failed")
-        found += gate("all", it, ["check", "all"], 3, 0, same)
-        found += gate("both", it, [".ci/run"], 3, 0, "are not run again")
-        found += gate("a red gate", it, ["check", "all"], 3, 1, same, more=bad)
-        found += gate("both, of a red gate", it, [".ci/run"], 3, 1, same, more=bad)
+        found += gate("all", it, ["check", "all"], 4, 0, same)
+        found += gate("both", it, [".ci/run"], 4, 0, "are not run again")
+        found += gate("a red gate", it, ["check", "all"], 4, 1, same, more=bad)
+        found += gate("both, of a red gate", it, [".ci/run"], 4, 1, same, more=bad)
+        found += gate("a red gateway", it, ["check", "all"], 3, 1, same, more={"GATEWAY": "0 passed, 1 failed"})
         other = it.top.parent / "other"
         other.write_bytes(pathlib.Path(BUILT).read_bytes() + b"\n")
-        found += gate("another program", it, ["check", "all"], 2, 1, run, more={"TESTED": str(other)})
+        found += gate("another program", it, ["check", "all"], 3, 1, run, more={"TESTED": str(other)})
         one_space(it.top)
-        found += gate("other sources", it, ["check", "all"], 2, 1, f"{OTHER_SOURCES}: {run}")
+        found += gate("other sources", it, ["check", "all"], 3, 1, f"{OTHER_SOURCES}: {run}")
         found += difference("scripts/release", it.run(["scripts/release"], kit=True)[0], 0)
-        found += gate("a new release", it, ["check", "all"], 3, 0, same)
+        found += gate("a new release", it, ["check", "all"], 4, 0, same)
         shutil.rmtree(it.top / ".dss")
         return found + it.answered("the new release")
 
