@@ -1,7 +1,6 @@
 """What SQLite's own library does of the statements of the space, by bench/space.c. It needs what Debian calls gcc and
 libsqlite3-dev."""
 import pathlib
-import re
 import subprocess
 import sys
 import tempfile
@@ -9,7 +8,7 @@ import tempfile
 TOP = pathlib.Path(__file__).resolve().parent.parent
 sys.path.insert(0, str(TOP / "tests"))
 
-import databases
+import tables
 
 MEMORY_DISK = "/dev/shm"
 # changes, and queries, of each kind
@@ -31,9 +30,8 @@ def built(folder):
 
 def schema():
     """What makes the tables."""
-    tables = ";".join(re.split(r"\n(?=CREATE)", databases.SCHEMA.strip()))
     rules = "PRAGMA foreign_keys = ON; PRAGMA journal_mode = WAL; PRAGMA synchronous = FULL;"
-    return f"{rules} {tables}; CREATE INDEX cell_range ON cell (lo, hi); INSERT INTO meta VALUES (1, 1, 0)"
+    return f"{rules} {tables.FORMATS[2]} INSERT INTO meta VALUES (1, 2, 0)"
 
 
 def rates(program, file, kept):

@@ -95,6 +95,7 @@ static int64_t number_of(int64_t which) {
 }
 
 static void clear(int64_t num) {
+    RUN("DELETE FROM naming WHERE entity = ?1", number(num));
     RUN("DELETE FROM cell WHERE entity = ?1", number(num));
     RUN("DELETE FROM volume WHERE entity = ?1", number(num));
     RUN("DELETE FROM entity WHERE num = ?1", number(num));
@@ -144,6 +145,7 @@ static int query(int64_t place) {
             " ORDER BY entity, place", number(found[at]));
         RUN("SELECT entity, volume, place, token, lo, hi FROM cell WHERE entity = ?1 ORDER BY entity, volume, place",
             number(found[at]));
+        RUN("SELECT subscription FROM naming WHERE entity = ?1", number(found[at]));
     }
     run("ROLLBACK", NULL, 0, NULL, 0);
     return count;

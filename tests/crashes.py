@@ -1,42 +1,70 @@
 """A machine that stops at each of its changes of the database's files, by what a disk may have kept: the airspace
-before or after the change is found again, and the one after where the change was acknowledged."""
+before or after the change is found again, and the one after where the change was acknowledged. Of a database of format 1
+that is opened the tables are found as they were, or as they are in format 2."""
 import pathlib
 import shutil
-import sqlite3
 
+import tables
 import wire
-from databases import CONSTRAINT, INTENT, NOW, Room, ask, filled, volume
+from changed_databases import Filled
+from databases import CONSTRAINT, INTENT, NAMED, NAMING, NOW, SUBSCRIPTION, Room, ask, filled, sub_put, volume
+from old_databases import HELD, MOVED, moved_wrong, unpacked
 from program import TOP, run
 
 STOPPED = 99
 KEPT = ("all", "synced", "half")
+# ids that nothing has yet
+OTHER, ANOTHER = (f"00000000-0000-4000-8000-0000000000{end}" for end in ("b2", "d3"))
 
 # what is asked of what is found, so that any difference shows
 SEEN = [
     ask("GET", f"{wire.INTENTS}/{INTENT}", "tok-a"),
+    *(ask("GET", f"{wire.INTENTS}/{it}", "tok-b") for it in (NAMING, OTHER)),
     ask("GET", f"{wire.CONSTRAINTS}/{CONSTRAINT}", "tok-c"),
     ask("POST", f"{wire.INTENTS}/query", "tok-a", {"area_of_interest": {"cells": ["89c3"]}}),
     ask("POST", f"{wire.INTENTS}/query", "tok-a", {"area_of_interest": {"cells": ["89c25904"], "altitude_upper": -101}}),
     ask("POST", f"{wire.CONSTRAINTS}/query", "tok-c", {"area_of_interest": {"cells": ["89c3"]}}),
     *(ask("GET", f"{wire.AVAILABILITY}/{it}", "tok-a") for it in ("uss-a", "uss-b")),
+    *(ask("GET", f"{wire.SUBSCRIPTIONS}/{it}", "tok-b") for it in (NAMED, ANOTHER)),
+    ask("GET", f"{wire.SUBSCRIPTIONS}/{SUBSCRIPTION}", "tok-a"),
+    *(
+        ask("POST", f"{wire.SUBSCRIPTIONS}/query", token, {"area_of_interest": {"cells": [cell]}})
+        for token in ("tok-a", "tok-b")
+        for cell in ("89c3", "89c25904", "89c2590c", "89c25914")
+    ),
 ]
 
 
 def changes():
-    """Each change with those before it."""
+    """Each change with those before it; most notify one subscription or two."""
     made = filled()
     moved = {
         "extents": [volume(["89c2590c"], (0, 100), (900, 2000)), volume(["89c2591"], (200, 300), (900, 2000))],
         "state": "Activated",
         "uss_base_url": "https://a.example/moved",
+        "key": [wire.ovn(8)],
     }
+    closed = {"extents": [volume(["89c2590c"], (0, 500), (900, 2000))], "uss_base_url": "https://c.example/moved"}
     settings = {"old_version": wire.ovn(4), "availability": "Normal"}
+    named = {"extents": [volume(["89c25904"], (0, 10), (900, 2000))], "state": "Accepted", "subscription_id": NAMED}
+    named |= {"uss_base_url": "https://b.example", "key": [wire.ovn(it) for it in (2, 3, 8)]}
+    new = sub_put("https://b.example/new", ["89c25904", "89c25914"], (0, 700), True, False)
     return {
         "the first of a new database": ([], made[0]),
         "a creation": (made[:2], made[2]),
-        "an update": (made, ask("PUT", f"{wire.INTENTS}/{INTENT}/{wire.ovn(2)}", "tok-a", moved)),
+        "a creation that names and notifies": (made, ask("PUT", f"{wire.INTENTS}/{OTHER}", "tok-bc", named)),
+        "an update that notifies two": (made, ask("PUT", f"{wire.INTENTS}/{INTENT}/{wire.ovn(2)}", "tok-a", moved)),
+        "an update that names none": (
+            made,
+            ask("PUT", f"{wire.INTENTS}/{NAMING}/{wire.ovn(8)}", "tok-bc", {it: named[it] for it in named if it != "subscription_id"}),
+        ),
+        "an update of a constraint": (made, ask("PUT", f"{wire.CONSTRAINTS}/{CONSTRAINT}/{wire.ovn(3)}", "tok-c", closed)),
         "a deletion": (made, ask("DELETE", f"{wire.INTENTS}/{INTENT}/{wire.ovn(2)}", "tok-a")),
+        "a deletion of what names": (made, ask("DELETE", f"{wire.INTENTS}/{NAMING}/{wire.ovn(8)}", "tok-b")),
         "a setting": (made, ask("PUT", f"{wire.AVAILABILITY}/uss-b", "tok-v", settings)),
+        "a subscription": (made, ask("PUT", f"{wire.SUBSCRIPTIONS}/{ANOTHER}", "tok-b", new)),
+        "an update of a subscription": (made, ask("PUT", f"{wire.SUBSCRIPTIONS}/{NAMED}/{wire.ovn(5)}", "tok-b", new)),
+        "a deletion of a subscription": (made, ask("DELETE", f"{wire.SUBSCRIPTIONS}/{SUBSCRIPTION}/{wire.ovn(7)}", "tok-a")),
     }
 
 
@@ -60,21 +88,21 @@ class Machine:
         shutil.copytree(self.saved, self.used)
         return self.used / "dss.db"
 
-    def run(self, database, requests, at=0, kept="all"):
+    def run(self, words, requests=(), at=0, kept="all"):
         """The status and output of a run that stops at that call, and how many calls it made if it did not."""
         counted = pathlib.Path(self.room.folder.name, "calls")
         counted.unlink(missing_ok=True)
         more = {"LD_PRELOAD": self.library, "CRASH_AT": f"{at}", "CRASH_KEEPS": kept, "CRASH_CALLS": f"{counted}"}
-        status, output, _ = run(self.room.words(NOW, database), b"".join(requests), more=more)
+        status, output, _ = run(words, b"".join(requests), more=more)
         return status, output, int(counted.read_text()) if counted.exists() else None
+
+    def serve(self, database, requests, at=0, kept="all"):
+        return self.run(self.room.words(NOW, database), requests, at, kept)
 
     def seen(self, database):
         """What is found of a database, as it is opened again; and what SQLite finds wrong with it."""
-        status, output, error = self.room.serve(SEEN, database=database)
-        with sqlite3.connect(database) as opened:
-            wrong = opened.execute("PRAGMA integrity_check").fetchall() + opened.execute("PRAGMA foreign_key_check").fetchall()
-        opened.close()
-        return (status, output, error) if wrong == [("ok",)] else wrong
+        got = self.room.serve(SEEN, database=database)
+        return tables.wrong_in(database) or got
 
 
 def of_change(name, made, change):
@@ -84,14 +112,14 @@ def of_change(name, made, change):
         machine = Machine(room, made)
         before = machine.seen(machine.again())
         database = machine.again()
-        status, answer, calls = machine.run(database, [change])
+        status, answer, calls = machine.serve(database, [change])
         after = machine.seen(database)
         if status or not calls or before == after or before[0] or after[0]:
             return [f"{name}: {status}, {answer!r}, {calls} calls, {before!r}, {after!r}"], 0
         for kept in KEPT:
             for at in range(1, calls + 1):
                 database = machine.again()
-                status, output, _ = machine.run(database, [change], at, kept)
+                status, output, _ = machine.serve(database, [change], at, kept)
                 seen = machine.seen(database)
                 stops += 1
                 is_right = seen == after if output == answer else seen in (before, after) and not output
@@ -109,4 +137,71 @@ def each_call():
     return found
 
 
-CASES = {"machine-that-stops-in-a-change": each_call}
+def copied(database):
+    """A copy of a file with what stands beside it, for SQLite to read, which takes the log into the file."""
+    folder = database.parent.with_name("copied")
+    shutil.rmtree(folder, ignore_errors=True)
+    shutil.copytree(database.parent, folder)
+    return folder / database.name
+
+
+def of_move(name, fill):
+    """What is wrong after a stop at any call by which `upgrade` moves a database of format 1, and how many stops there
+    were."""
+    found, stops = [], 0
+    with Room() as room:
+        machine = Machine(room, [])
+        fill(machine.saved)
+        before = tables.rows_in(copied(machine.again()))
+
+        def upgrade(database, *how):
+            return machine.run([*room.words_of("upgrade")[:-1], str(database)], (), *how)
+
+        database = machine.again()
+        status, output, calls = upgrade(database)
+        after = machine.seen(database)
+        if (status, output) != MOVED[:2] or not calls or after[0]:
+            return [f"{name}: {status}, {output!r}, {calls} calls, {after!r}"], 0
+        for kept in KEPT:
+            for at in range(1, calls + 1):
+                database = machine.again()
+                status, output, _ = upgrade(database, at, kept)
+                left = copied(database)
+                is_old = tables.rows_in(left) == before
+                stops += 1
+                where = f"{name}, call {at} of {calls}, {kept} kept"
+                found += [f"{where}: {status}, {output!r}"] if (status, output) != (STOPPED, b"") else []
+                found += [f"{where}: {it}" for it in tables.wrong_in(left)]
+                found += [] if is_old else moved_wrong(where, before, left)
+                # the next start finds it, moved or not, and from then on it is
+                got = upgrade(database)[:2], upgrade(database)[:2]
+                wanted = (MOVED if is_old else HELD)[:2], HELD[:2]
+                found += [f"{where}: then {got}"] if got != wanted else []
+                found += [f"{where}: then other answers"] if machine.seen(database) != after else []
+    return found, stops
+
+
+def moves():
+    """Old databases that are moved: filled, empty, and one that was killed, with its log."""
+
+    def filled_first(folder):
+        with Filled(1) as room:
+            shutil.copy(room.database, folder / "dss.db")
+
+    return {
+        "a move": filled_first,
+        "a move of nothing": lambda folder: tables.make(folder / "dss.db", 1),
+        "a move of what was killed": lambda folder: unpacked(folder, "killed"),
+    }
+
+
+def each_move():
+    found, stops = [], 0
+    for name, fill in moves().items():
+        wrong, count = of_move(name, fill)
+        found, stops = found + wrong, stops + count
+    print(f"the machine stopped {stops} times among the calls that move an old database")
+    return found
+
+
+CASES = {"machine-that-stops-in-a-change": each_call, "machine-that-stops-in-a-move": each_move}

@@ -1,7 +1,7 @@
 """The airspace in a database: the same answers as in memory, over a file that SQLite itself reads and checks,
 and files that are not taken."""
+import collections
 import json
-import os
 import pathlib
 import sqlite3
 import subprocess
@@ -9,36 +9,55 @@ import tempfile
 import time
 
 import drawn_calls
+import tables
 import wire
 from program import BUILT, TOP, first_difference, run
-from streams import kept_open
+from streams import CAUSES, kept_open
 
 NOW = 1000
-# streams of so many drawn calls, each by a program of its own over one database
+# streams of so many drawn calls, each by a program of its own over one database; they are among those in memory
 CHUNK = 20
-SEEDS = (1, 2, 3)
+SEEDS = range(1, 9)
+# how often subscriptions are told of changes in them, for each cause
+LEAST_OF_A_CAUSE = 5
 NOT_A_DSS, VERSION, STORE = (f"dss: db: fault {it}\n".encode() for it in ("1 NotADss", "2 Version", "3 Store"))
 
-SCHEMA = """
-CREATE TABLE meta (one INTEGER PRIMARY KEY NOT NULL CHECK (one = 1), format INTEGER NOT NULL,
-  serial INTEGER NOT NULL CHECK (serial >= 0)) STRICT
-CREATE TABLE entity (num INTEGER PRIMARY KEY NOT NULL, kind INTEGER NOT NULL CHECK (kind IN (0, 1)),
-  id TEXT NOT NULL, manager TEXT NOT NULL, state INTEGER NOT NULL CHECK (state BETWEEN 0 AND 4),
-  version INTEGER NOT NULL CHECK (version BETWEEN 1 AND 2147483647),
-  serial INTEGER NOT NULL CHECK (serial >= 0), ovn TEXT NOT NULL, url TEXT NOT NULL, UNIQUE (kind, id)) STRICT
-CREATE TABLE volume (entity INTEGER NOT NULL REFERENCES entity (num) ON DELETE CASCADE, place INTEGER NOT NULL,
-  alt_lower INTEGER NOT NULL, alt_upper INTEGER NOT NULL, time_start INTEGER NOT NULL, time_end INTEGER NOT NULL,
-  PRIMARY KEY (entity, place), CHECK (alt_lower <= alt_upper), CHECK (time_start <= time_end)) STRICT
-CREATE TABLE cell (entity INTEGER NOT NULL, volume INTEGER NOT NULL, place INTEGER NOT NULL, token TEXT NOT NULL,
-  lo INTEGER NOT NULL, hi INTEGER NOT NULL, PRIMARY KEY (entity, volume, place),
-  FOREIGN KEY (entity, volume) REFERENCES volume (entity, place) ON DELETE CASCADE, CHECK (lo <= hi)) STRICT
-CREATE TABLE availability (uss TEXT NOT NULL PRIMARY KEY,
-  state INTEGER NOT NULL CHECK (state BETWEEN 0 AND 2), version TEXT NOT NULL) STRICT
-"""
-TABLES = ("meta", "entity", "volume", "cell", "availability")
-
-# Two suppliers: an intent of two volumes that was updated once, a constraint, and an availability.
-INTENT, CONSTRAINT = ("00000000-0000-4000-8000-0000000000" + end for end in ("a1", "c1"))
+# Two suppliers: an intent of two volumes that was updated once, a constraint and an availability; two subscriptions, one
+# of them updated, and an intent that names the other one and that both were told of.
+INTENT, CONSTRAINT, NAMING, NAMED, SUBSCRIPTION = (
+    f"00000000-0000-4000-8000-0000000000{end}" for end in ("a1", "c1", "b1", "d1", "d2")
+)
+# What is kept of them, as SQLite reads it; the ranges are those of Google's S2.
+ROWS = {
+    "meta": [(1, 2, 8)],
+    "entity": [
+        (1, 0, INTENT, "uss-a", 1, 2, 2, wire.ovn(2), "https://a.example"),
+        (3, 1, CONSTRAINT, "uss-c", 4, 1, 3, wire.ovn(3), "https://c.example"),
+        (8, 0, NAMING, "uss-b", 0, 1, 8, wire.ovn(8), "https://b.example"),
+    ],
+    "volume": [
+        (1, 0, -100, 1200, 900, 2000), (1, 1, -100000, 1000000, 0, 253402300799), (3, 0, 0, 500, 900, 2000),
+        (8, 0, 0, 400, 900, 2000),
+    ],
+    "cell": [
+        (1, 0, 0, "89c25904", 288901920, 288901920),
+        (1, 0, 1, "89c2591", 288901920, 288901923),
+        (1, 1, 0, "89c25904", 288901920, 288901920),
+        (3, 0, 0, "89c3", 288899072, 288915455),
+        (8, 0, 0, "89c2590c", 288901921, 288901921),
+    ],
+    "availability": [("uss-b", 2, wire.ovn(4))],
+    "subscription": [
+        (5, NAMED, "uss-b", 5, wire.ovn(5), 1, "https://b.example", 1, 1, -50, 700, 900, 2000),
+        (6, SUBSCRIPTION, "uss-a", 7, wire.ovn(7), 1, "https://a.example/new", 1, 0, 0, 1200, 900, 2000),
+    ],
+    "subscription_cell": [
+        (5, 0, "89c25904", 288901920, 288901920),
+        (5, 1, "89c2591", 288901920, 288901923),
+        (6, 0, "89c2590c", 288901921, 288901921),
+    ],
+    "naming": [(8, 5)],
+}
 
 
 class Room:
@@ -63,8 +82,21 @@ class Room:
 
     def query(self, text):
         """The rows that SQLite itself answers."""
-        with sqlite3.connect(self.database) as database:
+        with tables.opened(self.database) as database:
             return database.execute(text).fetchall()
+
+    def words_of(self, command):
+        """The words of a command that takes a database alone."""
+        return [BUILT, command, "--db", str(self.database)]
+
+    def command(self, name, more=None):
+        """The status, output and error of such a command."""
+        return run(self.words_of(name), more=more)
+
+    def readable(self):
+        """Whether a reading over the database is answered as what is kept in `ROWS` has it."""
+        status, output, error = self.serve([ask("GET", f"{wire.AVAILABILITY}/uss-b", "tok-a")])
+        return (status, error) == (0, b"") and b'"availability":"Down"' in output
 
 
 def ask(method, target, token, body=None):
@@ -76,8 +108,13 @@ def volume(cells, altitudes, times):
     return {"cells": cells, "altitude_lower": lower, "altitude_upper": upper, "time_start": start, "time_end": end}
 
 
+def sub_put(url, cells, altitudes, intents, constraints):
+    flags = {"notify_for_operational_intents": intents, "notify_for_constraints": constraints}
+    return {"extents": volume(cells, altitudes, (900, 2000)), "uss_base_url": url, **flags}
+
+
 def filled():
-    """What a filled database is made by."""
+    """What a filled database is made by; the first four keep no subscription."""
     first = {"extents": [volume(["89c25904"], (0, 1200), (900, 2000))], "state": "Accepted"}
     second = {
         "extents": [
@@ -87,22 +124,29 @@ def filled():
         "state": "Activated",
     }
     closed = {"extents": [volume(["89c3"], (0, 500), (900, 2000))]}
+    named = sub_put("https://b.example", ["89c25904", "89c2591"], (-50, 700), True, True)
+    old = sub_put("https://a.example", ["89c2591", "89c25914"], (0, 100), True, False)
+    new = sub_put("https://a.example/new", ["89c2590c"], (0, 1200), True, False)
+    naming = {"extents": [volume(["89c2590c"], (0, 400), (900, 2000))], "state": "Accepted", "subscription_id": NAMED}
+    naming |= {"key": [wire.ovn(2), wire.ovn(3)], "uss_base_url": "https://b.example"}
     return [
         ask("PUT", f"{wire.INTENTS}/{INTENT}", "tok-a", first | {"uss_base_url": "https://a.example"}),
         ask("PUT", f"{wire.INTENTS}/{INTENT}/{wire.ovn(1)}", "tok-a", second | {"uss_base_url": "https://a.example"}),
         ask("PUT", f"{wire.CONSTRAINTS}/{CONSTRAINT}", "tok-c", closed | {"uss_base_url": "https://c.example"}),
         ask("PUT", f"{wire.AVAILABILITY}/uss-b", "tok-v", {"old_version": "", "availability": "Down"}),
+        ask("PUT", f"{wire.SUBSCRIPTIONS}/{NAMED}", "tok-bc", named),
+        ask("PUT", f"{wire.SUBSCRIPTIONS}/{SUBSCRIPTION}", "tok-a", old),
+        ask("PUT", f"{wire.SUBSCRIPTIONS}/{SUBSCRIPTION}/{wire.ovn(6)}", "tok-a", new),
+        ask("PUT", f"{wire.INTENTS}/{NAMING}", "tok-bc", naming),
     ]
 
 
 def worked_examples():
-    """Each worked example without subscriptions, which a database does not keep, gives over one the bytes that it gives
-    in memory, in one stream and with a program for each step."""
+    """Each worked example gives over a database the bytes that it gives in memory, in one stream and with a program for
+    each step."""
     found = []
     for example in json.loads((TOP / "tests" / "worked_examples.json").read_text()):
         requests = [step["request"].encode("latin-1") for step in example["steps"]]
-        if any(f"PUT {wire.SUBSCRIPTIONS}/".encode() in it for it in requests):
-            continue
         answers = [step["answer"].encode("latin-1") for step in example["steps"]]
         with Room() as room:
             for at, (request, answer) in enumerate(zip(requests, answers), 1):
@@ -117,214 +161,75 @@ def worked_examples():
     return found
 
 
+def drawn_over(room, seed, between=lambda: None, notified=None):
+    """How drawn calls are answered otherwise than the plain policy says, by one program after the other over one
+    database, with something done to its file between them."""
+    requests, outcomes = drawn_calls.stream(seed, notified=notified)
+    found, got = [], []
+    for at in range(0, len(requests), CHUNK):
+        status, output, error = room.serve(requests[at : at + CHUNK], drawn_calls.NOW)
+        found += [f"seed {seed}, call {at}: {status}, {error!r}"] if (status, error) != (0, b"") else []
+        got += wire.answers_of(output)
+        between()
+    # the last call of a stream of the most requests closes its connection
+    got = [it.replace(b"Connection: close\r\n", b"") for it in got]
+    why = first_difference([it.text(closes=False) for it in outcomes], got)
+    return found + ([f"seed {seed}: {why}"] if why else []) + wrong_with(room)
+
+
 def drawn():
-    """Drawn calls are answered as the plain policy says, by one program after the other over one database. SQLite then
-    finds nothing wrong with it."""
-    found = []
+    """Drawn calls are answered as in memory, and SQLite then finds nothing wrong with the file."""
+    found, notified = [], collections.Counter()
     for seed in SEEDS:
-        requests, outcomes = drawn_calls.stream(seed, keeps_subscriptions=False)
-        wanted = [it.text(closes=False) for it in outcomes]
-        got = []
         with Room() as room:
-            for at in range(0, len(requests), CHUNK):
-                status, output, error = room.serve(requests[at : at + CHUNK], drawn_calls.NOW)
-                found += [f"seed {seed}, call {at}: {status}, {error!r}"] if (status, error) != (0, b"") else []
-                got += wire.answers_of(output)
-            found += wrong_with(room)
-        # the last call of a stream of the most requests closes its connection
-        got = [it.replace(b"Connection: close\r\n", b"") for it in got]
-        why = first_difference(wanted, got)
-        found += [f"seed {seed}: {why}"] if why else []
-    return found
+            found += drawn_over(room, seed, notified=notified)
+    rare = [it for it in CAUSES if notified[it] < LEAST_OF_A_CAUSE]
+    return found + ([f"too few of {rare} in {dict(notified)}"] if rare else [])
 
 
 def wrong_with(room):
     """What SQLite finds wrong with the file."""
-    found = room.query("PRAGMA integrity_check") + room.query("PRAGMA foreign_key_check")
-    return [] if found == [("ok",)] else [f"SQLite: {found}"]
+    return tables.wrong_in(room.database)
 
 
 def as_rows():
     """The tables and rows of a filled database, as SQLite reads them."""
-    entities = [
-        (1, 0, INTENT, "uss-a", 1, 2, 2, wire.ovn(2), "https://a.example"),
-        (3, 1, CONSTRAINT, "uss-c", 4, 1, 3, wire.ovn(3), "https://c.example"),
-    ]
-    wanted = {
-        "meta": [(1, 1, 4)],
-        "entity": entities,
-        "volume": [(1, 0, -100, 1200, 900, 2000), (1, 1, -100000, 1000000, 0, 253402300799), (3, 0, 0, 500, 900, 2000)],
-        # the ranges are those of Google's S2
-        "cell": [
-            (1, 0, 0, "89c25904", 288901920, 288901920),
-            (1, 0, 1, "89c2591", 288901920, 288901923),
-            (1, 1, 0, "89c25904", 288901920, 288901920),
-            (3, 0, 0, "89c3", 288899072, 288915455),
-        ],
-        "availability": [("uss-b", 2, wire.ovn(4))],
-    }
     found = []
     with Room() as room:
         status, output, error = room.serve(filled())
-        if (status, error) != (0, b""):
+        done = output.count(b"HTTP/1.1 200 OK") + output.count(b"HTTP/1.1 201 Created")
+        if (status, error, done) != (0, b"", len(filled())):
             return [f"{status}, {output!r}, {error!r}"]
-        for table, rows in wanted.items():
-            got = room.query(f"SELECT * FROM {table} ORDER BY 1, 2, 3")
-            found += [f"{table}: wanted {rows}, got {got}"] if got != rows else []
-        said = {name: text for name, text in room.query("SELECT name, sql FROM sqlite_schema WHERE sql IS NOT NULL")}
-        for name, text in zip(TABLES, SCHEMA.strip().split("\nCREATE ")):
-            text = "CREATE " + text.removeprefix("CREATE ")
-            if "".join(said.get(name, "").split()) != "".join(text.split()):
+        for table, rows in tables.rows_in(room.database).items():
+            found += [f"{table}: wanted {ROWS.get(table)}, got {rows}"] if rows != ROWS.get(table) else []
+        said = tables.schema_in(room.database)
+        for name, text in tables.named(tables.FORMATS[2]).items():
+            if said.get(name) != "".join(text.split()):
                 found += [f"{name}: wanted {text!r}, got {said.get(name)!r}"]
         found += wrong_with(room)
     return found
 
 
-# What is done to a filled database by SQLite's own statements, its checks and references off, and the fault that is due;
-# None where it is taken. Rows that break a rule of their own table (a check, a reference) are no database to the library.
-DONE = [
-    ("DELETE FROM meta", NOT_A_DSS),
-    ("UPDATE meta SET format = 7", VERSION),
-    ("UPDATE meta SET format = 0", VERSION),
-    ("UPDATE meta SET serial = 2", NOT_A_DSS),
-    ("UPDATE meta SET serial = -1", STORE),
-    ("UPDATE meta SET serial = 9223372036854775807", None),
-    ("UPDATE meta SET one = 2", STORE),
-    ("INSERT INTO meta VALUES (2, 1, 4)", STORE),
-    ("ALTER TABLE meta DROP COLUMN format", NOT_A_DSS),
-    ("DROP TABLE cell", NOT_A_DSS),
-    ("DROP TABLE availability", NOT_A_DSS),
-    ("ALTER TABLE availability RENAME TO others", NOT_A_DSS),
-    ("ALTER TABLE volume RENAME COLUMN place TO number", NOT_A_DSS),
-    ("CREATE TABLE more (x)", None),
-    # another format is told before what is lacking, as long as meta is there
-    ("UPDATE meta SET format = 7; DROP TABLE cell", VERSION),
-    ("UPDATE meta SET format = 7; ALTER TABLE volume RENAME COLUMN place TO number", VERSION),
-    ("UPDATE meta SET format = 7; ALTER TABLE meta DROP COLUMN serial", NOT_A_DSS),
-    ("DELETE FROM meta; DROP TABLE cell", NOT_A_DSS),
-    ("DROP TABLE meta", NOT_A_DSS),
-    # a kind that is none, a state of no intent, an intent as a constraint
-    ("UPDATE entity SET kind = 2 WHERE num = 1", STORE),
-    ("UPDATE entity SET state = 4 WHERE num = 1", NOT_A_DSS),
-    ("UPDATE entity SET kind = 1 WHERE num = 1", NOT_A_DSS),
-    ("UPDATE entity SET kind = 1, state = 4 WHERE num = 1", None),
-    ("UPDATE entity SET state = 0 WHERE num = 3", NOT_A_DSS),
-    # versions from 1 to 2,147,483,647
-    ("UPDATE entity SET version = 0 WHERE num = 1", STORE),
-    ("UPDATE entity SET version = 2147483647 WHERE num = 1", None),
-    ("UPDATE entity SET version = 2147483648 WHERE num = 1", STORE),
-    # a create from 1 to the last put, and that to the serial of meta
-    ("UPDATE entity SET serial = 1 WHERE num = 1", None),
-    ("UPDATE entity SET serial = 4 WHERE num = 1", None),
-    ("UPDATE entity SET serial = 5 WHERE num = 1", NOT_A_DSS),
-    ("UPDATE entity SET serial = 0 WHERE num = 1", NOT_A_DSS),
-    ("UPDATE entity SET serial = -7 WHERE num = 1", STORE),
-    ("UPDATE entity SET num = 4 WHERE num = 3", STORE),
-    # texts
-    ("UPDATE entity SET id = upper(id) WHERE num = 1", NOT_A_DSS),
-    ("UPDATE entity SET id = 'a1' WHERE num = 1", NOT_A_DSS),
-    ("UPDATE entity SET manager = 'uss a' WHERE num = 1", NOT_A_DSS),
-    ("UPDATE entity SET ovn = '0123456789abcde' WHERE num = 1", NOT_A_DSS),
-    ("UPDATE entity SET ovn = '0123456789abcde!' WHERE num = 1", None),
-    ("UPDATE entity SET url = '' WHERE num = 1", NOT_A_DSS),
-    ("UPDATE entity SET url = CAST(x'ff' AS TEXT) WHERE num = 1", NOT_A_DSS),
-    ("UPDATE availability SET uss = 'uss b'", NOT_A_DSS),
-    ("UPDATE availability SET version = '0123'", NOT_A_DSS),
-    ("UPDATE availability SET state = 3", STORE),
-    # volumes: a gap, another entity, none at all
-    ("UPDATE volume SET place = 2 WHERE entity = 1 AND place = 1", STORE),
-    ("UPDATE volume SET place = 1 WHERE entity = 3", STORE),
-    ("UPDATE volume SET entity = 4 WHERE entity = 1 AND place = 1", STORE),
-    ("DELETE FROM volume WHERE entity = 1 AND place = 1", STORE),
-    ("DELETE FROM volume WHERE entity = 3", STORE),
-    ("UPDATE volume SET place = 1 WHERE entity = 3; UPDATE cell SET volume = 1 WHERE entity = 3", NOT_A_DSS),
-    ("DELETE FROM volume WHERE entity = 3; DELETE FROM cell WHERE entity = 3", NOT_A_DSS),
-    ("DELETE FROM volume WHERE entity = 1 AND place = 1; DELETE FROM cell WHERE volume = 1", None),
-    ("UPDATE entity SET num = 4 WHERE num = 3; UPDATE volume SET entity = 4 WHERE entity = 3;"
-     " UPDATE cell SET entity = 4 WHERE entity = 3", NOT_A_DSS),
-    ("DELETE FROM entity WHERE num = 3", STORE),
-    # beyond a limit, and bounds that are turned
-    ("UPDATE volume SET alt_lower = -100001 WHERE entity = 1 AND place = 0", NOT_A_DSS),
-    ("UPDATE volume SET alt_upper = 1000001 WHERE entity = 1 AND place = 1", NOT_A_DSS),
-    ("UPDATE volume SET alt_lower = 1200, alt_upper = -100 WHERE entity = 1", STORE),
-    ("UPDATE volume SET time_start = -1 WHERE entity = 1 AND place = 0", NOT_A_DSS),
-    ("UPDATE volume SET time_end = 253402300800 WHERE entity = 1 AND place = 1", NOT_A_DSS),
-    ("UPDATE volume SET time_start = 2000, time_end = 900 WHERE entity = 1 AND place = 0", STORE),
-    # cells: a gap, a volume that is none, another entity, a volume without a cell
-    ("UPDATE cell SET place = 2 WHERE entity = 1 AND volume = 0 AND place = 1", NOT_A_DSS),
-    ("UPDATE cell SET volume = 2 WHERE entity = 1 AND volume = 1", STORE),
-    ("UPDATE cell SET entity = 4 WHERE entity = 1 AND volume = 1", STORE),
-    ("UPDATE cell SET volume = 0, place = 2 WHERE entity = 1 AND volume = 1", NOT_A_DSS),
-    ("DELETE FROM cell WHERE volume = 1", NOT_A_DSS),
-    ("DELETE FROM cell WHERE entity = 3", NOT_A_DSS),
-    # a token that is printed otherwise, of another cell, and none
-    ("UPDATE cell SET token = '89C25904' WHERE place = 0 AND volume = 0 AND entity = 1", NOT_A_DSS),
-    ("UPDATE cell SET token = '89c259040' WHERE volume = 1", NOT_A_DSS),
-    ("UPDATE cell SET token = '0' WHERE volume = 1", NOT_A_DSS),
-    ("UPDATE cell SET token = '89c5' WHERE entity = 3", NOT_A_DSS),
-    # a range that is not the cell's
-    ("UPDATE cell SET lo = 288901919 WHERE place = 1", NOT_A_DSS),
-    ("UPDATE cell SET hi = 288901924 WHERE place = 1", NOT_A_DSS),
-]
-
-
-def done_to_it():
-    """Of a database to which something was done, the fault that is due, and the file as it was; else its reading."""
-    found = []
-    for statement, fault in DONE:
-        with Room() as room:
-            room.serve(filled())
-            with sqlite3.connect(room.database) as database:
-                database.execute("PRAGMA foreign_keys = OFF")
-                database.execute("PRAGMA ignore_check_constraints = ON")
-                database.execute("PRAGMA legacy_alter_table = ON")
-                for part in statement.split(";"):
-                    database.execute(part)
-            database.close()
-            before = room.database.read_bytes()
-            got = room.serve([ask("GET", f"{wire.AVAILABILITY}/uss-b", "tok-a")])
-            if fault is None:
-                is_right = got[0] == 0 and got[2] == b"" and b'"availability":"Down"' in got[1]
-            else:
-                is_right = got == (1, b"", fault) and room.database.read_bytes() == before
-            found += [] if is_right else [f"{statement}: wanted {fault!r}, got {got!r}"]
-    return found
-
-
 def vacuumed(file):
-    with sqlite3.connect(file) as database:
+    with tables.opened(file) as database:
         database.execute("VACUUM")
-    database.close()
 
 
 def dumped(file):
     """SQLite's `.dump`, read into a new file in the place of the old one."""
-    with sqlite3.connect(file) as database:
+    with tables.opened(file) as database:
         text = "".join(f"{line}\n" for line in database.iterdump())
-    database.close()
     file.unlink()
-    with sqlite3.connect(file) as database:
+    with tables.opened(file) as database:
         database.executescript(text)
-    database.close()
 
 
 def written_anew():
     """A file that SQLite wrote anew among the calls of a stream is taken, and these are answered as they are without."""
     found = []
     for write in vacuumed, dumped:
-        requests, outcomes = drawn_calls.stream(SEEDS[0], keeps_subscriptions=False)
-        wanted = [it.text(closes=False) for it in outcomes]
-        got = []
         with Room() as room:
-            for at in range(0, len(requests), CHUNK):
-                status, output, error = room.serve(requests[at : at + CHUNK], drawn_calls.NOW)
-                found += [f"{write.__name__}, call {at}: {status}, {error!r}"] if (status, error) != (0, b"") else []
-                got += wire.answers_of(output)
-                write(room.database)
-            found += wrong_with(room)
-        got = [it.replace(b"Connection: close\r\n", b"") for it in got]
-        why = first_difference(wanted, got)
-        found += [f"{write.__name__}: {why}"] if why else []
+            found += [f"{write.__name__}: {it}" for it in drawn_over(room, SEEDS[0], lambda: write(room.database))]
     return found
 
 
@@ -356,20 +261,51 @@ RULED = [
     ("INSERT INTO availability VALUES ('m', 2, 'v')", True),
     ("INSERT INTO availability VALUES ('m', 0, 'v')", False),
     ("INSERT INTO availability VALUES ('n', 3, 'v')", False),
+    ("INSERT INTO subscription VALUES (4, 'a', 'm', 0, 'v', 0, 'u', 1, 0, -5, -5, 7, 7)", True),
+    ("INSERT INTO subscription VALUES (1, 'b', 'm', 1, 'v', 1, 'u', 0, 1, 0, 1, 0, 1)", True),
+    # an id that stands already, and a number that does
+    ("INSERT INTO subscription VALUES (6, 'a', 'm', 1, 'v', 1, 'u', 1, 1, 0, 1, 0, 1)", False),
+    ("INSERT INTO subscription VALUES (4, 'c', 'm', 1, 'v', 1, 'u', 1, 1, 0, 1, 0, 1)", False),
+    ("INSERT INTO subscription VALUES (6, 'c', 'm', -1, 'v', 1, 'u', 1, 1, 0, 1, 0, 1)", False),
+    ("INSERT INTO subscription VALUES (6, 'c', 'm', 1, 'v', -1, 'u', 1, 1, 0, 1, 0, 1)", False),
+    # for nothing, and for what is neither 0 nor 1
+    ("INSERT INTO subscription VALUES (6, 'c', 'm', 1, 'v', 1, 'u', 0, 0, 0, 1, 0, 1)", False),
+    ("INSERT INTO subscription VALUES (6, 'c', 'm', 1, 'v', 1, 'u', 2, 1, 0, 1, 0, 1)", False),
+    ("INSERT INTO subscription VALUES (6, 'c', 'm', 1, 'v', 1, 'u', 1, 2, 0, 1, 0, 1)", False),
+    ("INSERT INTO subscription VALUES (6, 'c', 'm', 1, 'v', 1, 'u', 1, 1, 1, 0, 0, 1)", False),
+    ("INSERT INTO subscription VALUES (6, 'c', 'm', 1, 'v', 1, 'u', 1, 1, 0, 1, 1, 0)", False),
+    ("INSERT INTO subscription VALUES (6, 'c', 'm', 1, 'v', 1, NULL, 1, 1, 0, 1, 0, 1)", False),
+    ("INSERT INTO subscription_cell VALUES (4, 0, '1', 5, 5)", True),
+    ("INSERT INTO subscription_cell VALUES (1, 0, '1', 5, 6)", True),
+    ("INSERT INTO subscription_cell VALUES (4, 0, '1', 5, 6)", False),
+    ("INSERT INTO subscription_cell VALUES (6, 0, '1', 5, 6)", False),
+    ("INSERT INTO subscription_cell VALUES (4, 1, '1', 6, 5)", False),
+    ("INSERT INTO naming VALUES (1, 4)", True),
+    # an entity names one subscription, and both are there
+    ("INSERT INTO naming VALUES (1, 1)", False),
+    ("INSERT INTO naming VALUES (3, 4)", False),
+    ("INSERT INTO naming VALUES (2, 6)", False),
+    # what is named stays, and what goes with it
+    ("DELETE FROM subscription WHERE num = 4", False),
+    ("UPDATE subscription SET notes = notes + 1 WHERE id = 'a'", True),
+    ("UPDATE subscription SET notes = -1 WHERE id = 'a'", False),
+    ("UPDATE subscription SET num = 6 WHERE num = 4", False),
+    ("DELETE FROM subscription WHERE num = 1", True),
 ]
 
 
 def rules_of_tables():
-    """The rules of the tables that the program made, as SQLite keeps them; what is below an entity goes with it."""
+    """The rules of the tables that the program made, as SQLite keeps them; what is below an entity goes with it, and its
+    naming, and what is below a subscription once no entity names it."""
     found = []
     with Room() as room:
         room.serve([])
-        if room.query("SELECT * FROM meta") != [(1, 1, 0)]:
+        if room.query("SELECT * FROM meta") != [(1, 2, 0)]:
             found += [f"meta: {room.query('SELECT * FROM meta')}"]
-        # five tables, four indexes of their keys, and that on the ranges of cells
-        if room.query("SELECT count(*) FROM sqlite_schema") != [(10,)]:
+        # eight tables, six indexes of their keys, and those on the ranges of cells
+        if room.query("SELECT count(*) FROM sqlite_schema") != [(16,)]:
             found += [f"{room.query('SELECT name FROM sqlite_schema')}"]
-        with sqlite3.connect(room.database) as database:
+        with tables.opened(room.database) as database:
             database.execute("PRAGMA foreign_keys = ON")
             for statement, is_taken in RULED:
                 try:
@@ -378,10 +314,16 @@ def rules_of_tables():
                 except sqlite3.IntegrityError:
                     got = False
                 found += [f"{statement}: wanted {is_taken}"] if got != is_taken else []
+
+            def compare(counts):
+                for table, count in counts.items():
+                    got = database.execute(f"SELECT count(*) FROM {table}").fetchone()[0]
+                    found.extend([f"{table}: wanted {count}, got {got}"] if got != count else [])
+
             database.execute("DELETE FROM entity WHERE num = 1")
-            for table, count in ("volume", 0), ("cell", 0), ("entity", 1):
-                got = database.execute(f"SELECT count(*) FROM {table}").fetchone()[0]
-                found += [f"{table}: wanted {count}, got {got}"] if got != count else []
+            compare({"volume": 0, "cell": 0, "naming": 0, "entity": 1, "subscription": 1, "subscription_cell": 1})
+            database.execute("DELETE FROM subscription WHERE num = 4")
+            compare({"entity": 1, "subscription": 0, "subscription_cell": 0})
     return found
 
 
@@ -400,9 +342,8 @@ NONE_LEFT = (
 def at_serial(room, serial):
     """The database is made, and its serial is that number."""
     room.serve([])
-    with sqlite3.connect(room.database) as database:
+    with tables.opened(room.database) as database:
         database.execute(f"UPDATE meta SET serial = {serial}")
-    database.close()
 
 
 def greatest_serial():
@@ -422,6 +363,37 @@ def greatest_serial():
         found += [f"{status}, {output!r}, {error!r}"] if status or b" 201 " not in output or error else []
         got = room.query("SELECT num, kind, serial FROM entity")
         found += [f"{got}"] if got != [(2**63 - 1, 1, 2**63 - 1)] else []
+        found += wrong_with(room)
+    return found
+
+
+def greatest_index():
+    """A subscription is told of a change to which the greatest index is given, beside the greatest serial; after it
+    there is no change more, and so no index over it."""
+    most, found = 2**63 - 1, []
+    moved = ask("DELETE", f"{wire.INTENTS}/{NAMING}/{wire.ovn(8)}", "tok-b")
+    again = ask("DELETE", f"{wire.INTENTS}/{INTENT}/{wire.ovn(2)}", "tok-a")
+    reading = ask("GET", f"{wire.SUBSCRIPTIONS}/{NAMED}", "tok-b")
+    with Room() as room:
+        tables.make(room.database, 2, ROWS)
+        with tables.opened(room.database) as database:
+            database.execute(f"UPDATE meta SET serial = {most - 1}")
+            database.execute(f"UPDATE subscription SET notes = {most - 1} WHERE num = 5")
+        status, output, error = room.serve([moved, again, reading])
+        answers = [it.partition(b"\r\n\r\n") for it in wire.answers_of(output)]
+        if (status, len(answers), error) != (0, 3, b""):
+            return [f"{status}, {output!r}, {error!r}"]
+        told = [{"notification_index": most, "subscription_id": NAMED}], [{"notification_index": 2, "subscription_id": SUBSCRIPTION}]
+        told = [{"subscriptions": it, "uss_base_url": url} for it, url in zip(told, ("https://b.example", "https://a.example/new"))]
+        wanted = sorted(told, key=lambda it: it["uss_base_url"])
+        got = json.loads(answers[0][2])["subscribers"]
+        found += [f"told: wanted {wanted}, got {got}"] if got != wanted else []
+        found += [f"the next: {answers[1]}"] if answers[1][2] != b'{"message":"P15 LIMIT"}' else []
+        got = json.loads(answers[2][2])["subscription"]
+        is_right = (got["notification_index"], got["version"]) == (most, wire.ovn(5))
+        found += [] if is_right else [f"read: {got}"]
+        got = room.query("SELECT num, serial, notes FROM subscription ORDER BY num")
+        found += [f"{got}"] if got != [(5, 5, most), (6, 7, 2)] else []
         found += wrong_with(room)
     return found
 
@@ -476,7 +448,7 @@ CASES = {
     "database-as-sqlite-reads-it": as_rows,
     "rules-of-the-tables": rules_of_tables,
     "greatest-serial-in-a-database": greatest_serial,
-    "databases-that-were-changed": done_to_it,
+    "greatest-index-in-a-database": greatest_index,
     "databases-that-sqlite-wrote-anew": written_anew,
     "databases-that-are-not-taken": not_taken,
     "database-that-is-cut-short": cut_short,

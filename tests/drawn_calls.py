@@ -305,11 +305,11 @@ def mangled(draw, call):
     return method, target, authorization, bytes(body) if call[3] is not None else None
 
 
-def stream(seed, count=wire.MOST_REQUESTS, is_mangled=False, keeps_subscriptions=True, met=None, notified=None):
+def stream(seed, count=wire.MOST_REQUESTS, is_mangled=False, met=None, notified=None):
     """The requests of a stream, and the outcomes that the plain policy gives them. What puts met is counted in `met`, and
     who was told of changes in `notified`."""
     draw = Draw(seed)
-    airspace = plain_policy.Airspace(NOW, ALL_TOKENS, keeps_subscriptions=keeps_subscriptions)
+    airspace = plain_policy.Airspace(NOW, ALL_TOKENS)
     drawn = Drawn(draw, airspace)
     requests, outcomes = [], []
     for _ in range(count):

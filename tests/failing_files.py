@@ -2,12 +2,13 @@
 or the service has stopped, then and from then on, as it does in each of the changes. What was acknowledged is found again."""
 import collections
 import pathlib
-import sqlite3
 
+import tables
 import wire
 from databases import STORE, Room
+from old_databases import HELD, MOVED, moved_wrong, unpacked
 from program import TOP, run
-from without_memory import FAULT, STOPPED, answers, eight_calls
+from without_memory import FAULT, STOPPED, answers, changes, eight_calls, lost, notifying_calls, without
 
 NOT_CLOSED = b"dss: db: fault\n"
 
@@ -28,52 +29,79 @@ def is_right(calls, got):
     return (found, status) == (wanted, error != b"") and error in (b"", NOT_CLOSED), "faults" if faulted else "done"
 
 
-def changes(calls, found):
-    """The places of the answers that acknowledge a change."""
-    done = (b"HTTP/1.1 200", b"HTTP/1.1 201")
-    return {at for at, (answer, (method, *_)) in enumerate(zip(found, calls)) if answer.startswith(done) and method != "POST"}
+class Failing(Room):
+    """A room in which calls on files fail, by what the environment says."""
 
-
-def is_kept(room, calls, found):
-    """Whether the database holds what was acknowledged, and at most the step of the call that stopped."""
-    made = len(changes(calls, found))
-    again = room.serve([])
-    with sqlite3.connect(room.database) as reader:
-        serial = reader.execute("SELECT serial FROM meta").fetchone()[0]
-        check = reader.execute("PRAGMA integrity_check").fetchall() + reader.execute("PRAGMA foreign_key_check").fetchall()
-    reader.close()
-    most = made + (wire.answer(*STOPPED) in found)
-    return again == (0, b"", b"") and made <= serial <= most and check == [("ok",)]
-
-
-def each_call():
-    calls = eight_calls()
-    given = b"".join(wire.request(*it) for it in calls)
-    found, ends = [], collections.Counter()
-    with Room() as room:
-        library, counted = (str(pathlib.Path(room.folder.name, it)) for it in ("fail_files.so", "calls"))
-        built = run(["cc", "-shared", "-fPIC", "-O1", "-o", library, str(TOP / "tests" / "fail_files.c")])
+    def __enter__(self):
+        super().__enter__()
+        self.library, self.counted = (str(pathlib.Path(self.folder.name, it)) for it in ("fail_files.so", "calls"))
+        built = run(["cc", "-shared", "-fPIC", "-O1", "-o", self.library, str(TOP / "tests" / "fail_files.c")])
         if built[0]:
             raise OSError(f"cc: {built[2]!r}")
+        return self
 
-        def one(more):
-            for file in pathlib.Path(room.folder.name).glob("dss.db*"):
-                file.unlink()
-            got = run(room.words(), given, more={"LD_PRELOAD": library, **more})
+    def run(self, words, given, more):
+        return run(words, given, more={"LD_PRELOAD": self.library, **more})
+
+    def ways(self, words, given, again):
+        """Each call on files failed alone, and with all after it, over a database that was made anew for each."""
+        again()
+        self.run(words, given, {"FAIL_CALLS": self.counted})
+        self.count = int(pathlib.Path(self.counted).read_text())
+        yield {"FAIL_CALLS": self.counted}
+        for at in range(1, self.count + 1):
+            yield {"FAIL_AT": str(at)}
+            yield {"FAIL_AT": str(at), "FAIL_ON": "1"}
+
+
+def each_call(name, calls):
+    """What is wrong with a stream of calls of which each call on files fails in turn."""
+    given = b"".join(wire.request(*it) for it in calls)
+    found, ends = [], collections.Counter()
+    with Failing() as room:
+        again = lambda: without(room.folder.name)
+        for more in room.ways(room.words(), given, again):
+            again()
+            got = room.run(room.words(), given, more)
             right, came = is_right(calls, got)
             ends[came] += 1
-            if not right or not is_kept(room, calls, wire.answers_of(got[1])):
-                found.append(f"{more}: {got!r}")
-
-        one({"FAIL_CALLS": counted})
-        count = int(pathlib.Path(counted).read_text())
-        for at in range(1, count + 1):
-            one({"FAIL_AT": str(at)})
-            one({"FAIL_AT": str(at), "FAIL_ON": "1"})
-    print(f"of {count} calls on files each failed alone, and with all after it: {dict(sorted(ends.items()))}")
+            wrong = lost(room.database, calls, wire.answers_of(got[1]))
+            found += [f"{name}, {more}: {got!r}"] if not right else []
+            found += [f"{name}, {more}: {it}" for it in wrong]
+    print(f"{name}: of {room.count} calls on files each failed alone, and with all after it: {dict(sorted(ends.items()))}")
     # readings and denials of what was just written need no call on a file
     stops = {f"stopped at {at + 1}" for at in changes(calls, answers(calls))}
-    return found + [f"never {it}" for it in sorted(stops - set(ends))]
+    return found + [f"{name}: never {it}" for it in sorted(stops - set(ends))]
 
 
-CASES = {"database-whose-calls-fail": each_call}
+def each_call_of_a_move():
+    """The move of a database of format 1 while each call on files fails in turn: it is made, or the database is not opened
+    and stays as it was, and the next start makes it."""
+    found, ends = [], collections.Counter()
+    with Failing() as room:
+
+        def again():
+            without(room.folder.name)
+            unpacked(room.folder.name, "closed")
+
+        again()
+        before = tables.rows_in(room.database)
+        for more in room.ways(room.words_of("upgrade"), b"", again):
+            again()
+            got = room.run(room.words_of("upgrade"), b"", more)
+            after = room.command("upgrade")
+            told = {MOVED: "done", (1, b"", STORE): "not opened", (1, b"", NOT_CLOSED): "not closed"}.get(got)
+            ends[told] += 1
+            # what was not opened may have been moved, where the disk did not tell
+            is_right = told and (after == HELD or after == MOVED and told == "not opened")
+            found += [] if is_right else [f"{more}: {got!r}, then {after!r}"]
+            found += moved_wrong(f"{more}", before, room.database) + [f"{more}: {it}" for it in tables.wrong_in(room.database)]
+    print(f"a move: of {room.count} calls on files each failed alone, and with all after it: {dict(sorted(ends.items()))}")
+    return found + [f"never {it}" for it in ("done", "not opened") if not ends[it]]
+
+
+CASES = {
+    "database-whose-calls-fail": lambda: each_call("eight calls", eight_calls()),
+    "database-whose-calls-fail-as-it-notifies": lambda: each_call("calls that notify", notifying_calls()),
+    "old-database-whose-calls-fail": each_call_of_a_move,
+}

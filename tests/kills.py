@@ -25,7 +25,7 @@ class Asked:
 
     def __init__(self, seed):
         self.draw = drawn_calls.Draw(seed)
-        airspace = plain_policy.Airspace(int(time.time()), drawn_calls.ALL_TOKENS, keeps_subscriptions=False)
+        airspace = plain_policy.Airspace(int(time.time()), drawn_calls.ALL_TOKENS)
         drawn = drawn_calls.Drawn(self.draw, airspace, AHEAD)
         self.requests, self.answers, self.serials = [], [], [0]
         for _ in range(CALLS):

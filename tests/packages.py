@@ -24,7 +24,7 @@ PATHS = {
     "DEBIAN/prerm": 0o755,
     "DEBIAN/postrm": 0o755,
 }
-COMMANDS = "run", "serve"
+COMMANDS = "run", "serve", "report", "upgrade"
 
 
 def paths(root):
@@ -73,6 +73,7 @@ def completions(root):
     found = [f"{it} is not offered" for it in COMMANDS if it not in completed(root, "")]
     found += difference("se", completed(root, "se")[:1], ["serve"] if "serve" in completed(root, "se") else ["self"])
     found += difference("--to", completed(root, "run", "--to"), ["--tokens"])
+    found += difference("--d", completed(root, "upgrade", "--d"), ["--db"])
     return found + difference("a file", completed(root, "run", "--tokens", "tok"), ["tokens.toml"])
 
 

@@ -508,10 +508,10 @@ class Outcome:
 
 
 class Airspace:
-    """What is kept, and by which tokens it is asked. One in a database keeps no subscriptions: the put of one fails."""
+    """What is kept, and by which tokens it is asked."""
 
-    def __init__(self, now, tokens=None, salt=wire.SALT, keeps_subscriptions=True):
-        self.now, self.salt, self.keeps_subscriptions = now, salt, keeps_subscriptions
+    def __init__(self, now, tokens=None, salt=wire.SALT):
+        self.now, self.salt = now, salt
         self.tokens = wire.TOKENS if tokens is None else tokens
         self.entities, self.subscriptions, self.settings, self.serial = {}, {}, {}, 0
         # how often a put that needs a key met an intent of each state, of a manager of each availability
@@ -525,8 +525,6 @@ class Airspace:
         for rule, breaks in BREAKS.items():
             if breaks(self, call):
                 return self.denial(rule, call)
-        if (call.kind, call.work) == (SUBSCRIPTION, "create") and not self.keeps_subscriptions:
-            return Outcome(500, wire.compact({"message": "fault"}), (), (call.kind, call.work))
         what = {None: "availability", SUBSCRIPTION: "subscription"}.get(call.kind, "entity")
         status, value = getattr(self, f"{call.work}_{what}")(call)
         return Outcome(status, wire.compact(value), (), (call.kind, call.work))

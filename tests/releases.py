@@ -81,7 +81,7 @@ class Checkout:
         script(self.top / "tests" / "end_to_end", TESTS)
         script(self.top / "gateway" / "test", GATEWAY)
         script(self.top.parent / "kit" / "rt", KIT)
-        done = self.run(["scripts/release", BUILT])
+        done = self.run(["scripts/release", BUILT], kit=True)
         if done[0]:
             raise OSError(f"scripts/release: {done[2]!r}")
 
@@ -340,6 +340,12 @@ def gates():
         other = it.top.parent / "other"
         other.write_bytes(pathlib.Path(BUILT).read_bytes() + b"\n")
         found += gate("another program", it, ["check", "all"], 3, 1, run, more={"TESTED": str(other)})
+        made = it.top / "release" / "made-of"
+        text = made.read_text()
+        made.write_text(text.replace("kit a kit of tests", "kit another kit"))
+        found += gate("another kit", it, ["check", "all"], 4, 0, "they are not compared", more={"TESTED": str(other)})
+        found += gate("another kit, same bytes", it, ["check", "all"], 4, 0, same)
+        made.write_text(text)
         one_space(it.top)
         found += gate("other sources", it, ["check", "all"], 3, 1, f"{OTHER_SOURCES}: {run}")
         found += difference("scripts/release", it.run(["scripts/release"], kit=True)[0], 0)
@@ -367,13 +373,15 @@ def portable():
 
 
 def kit_of_the_readme():
-    """The README names the kit that the release was made with, and the one that is here, where there is one."""
+    """The README names the kit that the release was made with, and one that is here has the same logic."""
     named = re.findall(r"^Proved with `(.*)`", (TOP / "README.md").read_text(), re.M)
     made = TOP / "release" / "made-of"
-    kits = re.findall(r"^kit (.*)$", made.read_text(), re.M) if made.is_file() else []
+    found = difference("the kit", re.findall(r"^kit (.*)$", made.read_text(), re.M), named) if made.is_file() else []
     if shutil.which("rt"):
-        kits.append(subprocess.run(["rt", "version"], capture_output=True, text=True, check=True).stdout.strip())
-    return [fault for it in kits for fault in difference("the kit", [it], named)]
+        here = subprocess.run(["rt", "version"], capture_output=True, text=True, check=True).stdout
+        logic = [it.partition(" ")[2] for it in named]
+        found += difference("the logic of the kit", [here.strip().partition(" ")[2]], logic)
+    return found
 
 
 CASES = {

@@ -1,21 +1,28 @@
-"""The statements by which a query finds entities ask for rows of `cell` by their places or by their entity, never for
-all of them: what a query costs is then what it finds, not what is kept.
+"""The statements of queries and changes ask for rows of `cell` and of `subscription_cell` by their places, by their
+entity or by their subscription, never for all of them: what a call costs is then what it finds, not what is kept.
 
-What `SqlSpace::meeting` runs stands in space_finding, and in the modules of space_reading beside the one that reads
-whole tables, which opening a database and listing all entities of a kind need."""
+Whole tables are read in space_reading alone, in the module that opening a database and listing all entities of a kind
+need. What finds, reads single things and changes them stands in the other crates over tables, which must not call it."""
 import re
 
 from program import TOP
 
-SOURCES = sorted(it for name in ("space_finding", "space_reading") for it in TOP.glob(f"crates/{name}/src/*.rt"))
 WHOLE_TABLES = "crates/space_reading/src/tables.rt"
-# what reads whole tables, which space_finding must not call
-READS_ALL = re.compile(r"\bread_(?:airspace|tables)\b")
+SOURCES = sorted(it for it in TOP.glob("crates/space_*/src/*.rt") if not str(it).endswith(WHOLE_TABLES))
+# the crates that ask for rows, and no call of which needs all
+NARROW = ("space_finding", "space_single", "space_changes")
+# what reads whole tables
+READS_ALL = re.compile(r"\bread_(?:airspace(?:_in)?|tables)\b")
 LITERAL = re.compile(r'"((?:[^"\\]|\\.)*)"', re.DOTALL)
-ON_CELLS = re.compile(r"\b(?:from|join)\s+(?:\w+\s*,\s*)*cell\b", re.IGNORECASE)
-# the first condition is on the column, and what follows narrows it
-NARROWED = re.compile(r"\bfrom\s+cell\s+where\s+(?:entity|lo)\s+(?:=|between)\s+\?", re.IGNORECASE)
-WIDENED = re.compile(r"\bor\b|\bunion\b|\bjoin\b|,\s*cell\b", re.IGNORECASE)
+CELLS = r"(?:subscription_)?cell\b"
+ON_CELLS = re.compile(rf"\b(?:(?:from|join)\s+(?:\w+\s*,\s*)*|update\s+){CELLS}", re.IGNORECASE)
+# the first condition is on a column with an index, and what follows narrows it
+BY_INDEX = r"(?:cell\s+where\s+(?:entity|lo)|subscription_cell\s+where\s+(?:subscription|lo))\s+(?:=|between)\s+\?"
+NARROWED = re.compile(rf"\bfrom\s+{BY_INDEX}", re.IGNORECASE)
+WIDENED = re.compile(rf"\bor\b|\bunion\b|\bjoin\b|,\s*{CELLS}", re.IGNORECASE)
+# each table of cells is asked in so many statements at least: by both kinds of places, and by what it belongs to, to
+# read and to remove
+LEAST = 4
 
 
 def literals(source):
@@ -25,7 +32,7 @@ def literals(source):
 
 
 def unnarrowed(source):
-    """The statements of a source that ask for rows of `cell` by no place and no entity."""
+    """The statements of a source that ask for rows of a table of cells by nothing that has an index."""
     return [it for it in literals(source) if ON_CELLS.search(it) and (not NARROWED.search(it) or WIDENED.search(it))]
 
 
@@ -36,23 +43,36 @@ PLANTED = {
     '"SELECT entity FROM cell WHERE lo = ?1 OR hi = ?2"': True,
     '"SELECT num FROM entity, cell WHERE entity = num"': True,
     '"SELECT entity, volume, place, token, lo, hi \\\n         FROM cell ORDER BY entity, volume, place"': True,
+    '"DELETE FROM cell"': True,
+    '"SELECT subscription FROM subscription_cell"': True,
+    '"SELECT subscription FROM subscription_cell WHERE hi >= ?1 AND lo <= ?2"': True,
+    '"SELECT subscription FROM subscription_cell WHERE place = ?1"': True,
+    '"SELECT num FROM subscription, subscription_cell WHERE subscription = num"': True,
+    '"SELECT id FROM subscription JOIN subscription_cell ON subscription = num WHERE id = ?1"': True,
+    '"UPDATE subscription_cell SET place = ?1"': True,
     '"SELECT entity FROM cell WHERE lo = ?1 AND hi = ?2"': False,
+    '"SELECT subscription FROM subscription_cell WHERE lo BETWEEN ?1 AND ?2"': False,
+    '"SELECT subscription, place, token, lo, hi FROM subscription_cell \\\n         WHERE subscription = ?1 ORDER BY place"': False,
+    '"DELETE FROM subscription_cell WHERE subscription = ?1"': False,
+    '"INSERT INTO subscription_cell (subscription, place, token, lo, hi) VALUES (?1, ?2, ?3, ?4, ?5)"': False,
+    '"CREATE INDEX subscription_cell_range ON subscription_cell (lo, hi)"': False,
     '// "SELECT entity FROM cell"': False,
     '"SELECT num FROM entity"': False,
 }
 
 
 def on_cells():
-    """Which statements of queries ask for all rows of `cell`; a planted one is found."""
-    found, seen = [], 0
+    """Which statements of queries and changes ask for all rows of a table of cells; a planted one is found."""
+    found, seen = [], {"cell": 0, "subscription_cell": 0}
     for file in SOURCES:
         name, source = str(file.relative_to(TOP)), file.read_text()
-        if name != WHOLE_TABLES:
-            found += [f"{name}: {it!r} asks for all cells" for it in unnarrowed(source)]
-        seen += sum(bool(ON_CELLS.search(it)) for it in literals(source))
-        if "/space_finding/" in name and READS_ALL.search(source):
+        found += [f"{name}: {it!r} asks for all cells" for it in unnarrowed(source)]
+        asked = [it for it in literals(source) if ON_CELLS.search(it)]
+        for table in seen:
+            seen[table] += sum(re.search(rf"(?<!_){table}\b", it) is not None for it in asked)
+        if any(f"/{it}/" in name for it in NARROW) and READS_ALL.search(source):
             found.append(f"{name} reads whole tables")
-    found += [] if seen > 4 else [f"{seen} statements on cells were seen"]
+    found += [f"{count} statements on {table} were seen" for table, count in seen.items() if count < LEAST]
     for text, is_wrong in PLANTED.items():
         planted = f"fn planted() {{\n    query(\n        tx,\n        {text},\n    )\n}}\n"
         found += [f"{text}: planted, and {'not ' * is_wrong}found"] if bool(unnarrowed(planted)) != is_wrong else []

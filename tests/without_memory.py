@@ -1,17 +1,19 @@
 """Runs of the built program in which one growth of memory is refused, each in turn."""
 import collections
+import gzip
 import json
 import pathlib
-import sqlite3
 import tempfile
 
 import plain_policy
+import tables
 import wire
-from program import BUILT, CASES, TOP, content, run
+from program import BUILT, CASES, TOP, content, first_difference, run
 
 MOST_GROWTHS = 20_000
 FAULT = (500, '{"message":"fault"}')
 STOPPED = (503, '{"message":"stopped"}')
+STORE = b"dss: db: fault 3 Store\n"
 # of the growths of memory of a stream over a database, one in so many is refused
 STEP = 61
 NOW = 1000
@@ -74,27 +76,67 @@ def eight_calls():
 
 
 def notifying_calls():
-    """Subscriptions of two addresses, a creation, an update and a deletion that notify them, and what their indexes are."""
+    """Subscriptions of two addresses, a creation that names one, an update and a deletion that notify them, an update and
+    a deletion of each of them, and what the index is of the one that is left."""
     volume = {"cells": ["89c25904"], "altitude_lower": 0, "altitude_upper": 1200, "time_start": 1000, "time_end": 4600}
     moved = {**volume, "cells": ["89c2590c"]}
     a1, d1, d2 = (f"00000000-0000-4000-8000-0000000000{it}" for it in ("a1", "d1", "d2"))
 
-    def subscription(url):
-        put = {"extents": volume, "uss_base_url": url, "notify_for_operational_intents": True}
+    def subscription(url, extents=volume):
+        put = {"extents": extents, "uss_base_url": url, "notify_for_operational_intents": True}
         return json.dumps(put).encode()
 
-    def intent(extents):
+    def intent(extents, **more):
         put = {"extents": [extents], "uss_base_url": "https://a.example", "state": "Accepted", "key": []}
-        return json.dumps(put).encode()
+        return json.dumps(put | more).encode()
 
     return [
         ("PUT", f"{wire.SUBSCRIPTIONS}/{d1}", "Bearer tok-b", subscription("https://b.example")),
         ("PUT", f"{wire.SUBSCRIPTIONS}/{d2}", "Bearer tok-a", subscription("https://a.example")),
-        ("PUT", f"{wire.INTENTS}/{a1}", "Bearer tok-a", intent(volume)),
+        ("PUT", f"{wire.INTENTS}/{a1}", "Bearer tok-a", intent(volume, subscription_id=d2)),
         ("PUT", f"{wire.INTENTS}/{a1}/{wire.ovn(3)}", "Bearer tok-a", intent(moved)),
+        ("PUT", f"{wire.SUBSCRIPTIONS}/{d1}/{wire.ovn(1)}", "Bearer tok-b", subscription("https://b.example/new", moved)),
         ("DELETE", f"{wire.INTENTS}/{a1}/{wire.ovn(4)}", "Bearer tok-a", None),
+        ("DELETE", f"{wire.SUBSCRIPTIONS}/{d2}/{wire.ovn(2)}", "Bearer tok-a", None),
         ("GET", f"{wire.SUBSCRIPTIONS}/{d1}", "Bearer tok-b", None),
     ]
+
+
+def changes(calls, found):
+    """The places of the answers that acknowledge a change."""
+    done = (b"HTTP/1.1 200", b"HTTP/1.1 201")
+    asked = [it.startswith(done) and method in ("PUT", "DELETE") for it, (method, *_) in zip(found, calls)]
+    return {at for at, it in enumerate(asked) if it}
+
+
+def airspace_after(calls, faulted, serial):
+    """What the plain policy keeps of calls, of which some may be faults, as its serial is that number."""
+    airspace = plain_policy.Airspace(NOW)
+    for at, call in enumerate(calls):
+        if airspace.serial == serial:
+            break
+        if at not in faulted:
+            airspace.ask(*call)
+    return airspace
+
+
+def lost(database, calls, found, is_cut=False):
+    """What is wrong with what a database keeps, opened again after calls of which these answers came: all that was
+    acknowledged, and at most the step of the call that stopped, or that ended the program where the answers were cut;
+    indexes and all else are as the plain policy has them."""
+    words = ["--tokens", str(TOP / "examples" / "tokens.toml"), "--now", str(NOW), "--db", str(database), "-"]
+    seen = [("GET", "/".join(target.split("/")[:5]), token, None) for method, target, token, _ in calls if method == "PUT"]
+    status, output, error = run([BUILT, "run", *words], b"".join(wire.request(*it) for it in seen))
+    (_, _, serial), *_ = tables.rows_in(database)["meta"]
+    faulted = {at for at, answer in enumerate(found) if answer == wire.answer(*FAULT)}
+    airspace = airspace_after(calls, faulted, serial)
+    why = first_difference([airspace.ask(*it).text() for it in seen], wire.answers_of(output))
+    wrong = [f"{status}, {error!r}"] if (status, error) != (0, b"") else []
+    wrong += [f"serial {serial}: {why}"] if why else []
+    made = len(changes(calls, found))
+    at_most = made + (is_cut or wire.answer(*STOPPED) in found)
+    wrong += [] if made <= serial <= at_most else [f"{made} were acknowledged, the serial is {serial}"]
+    return wrong + tables.wrong_in(database)
 
 
 def answers(calls, faulted=()):
@@ -140,21 +182,31 @@ def stream_of(name, calls):
 
 
 def stream_over_database(step=STEP):
-    """The same over a database, for some of the growths. A call may also stop the service, which then stands as before
+    """Of calls of each kind over a database, for some of the growths."""
+    return stream_over("eight calls", eight_calls(), step)
+
+
+def stream_that_notifies_over_database(step=STEP):
+    """Of changes that notify subscriptions, over a database: an index rises exactly where the change stands."""
+    return stream_over("calls that notify", notifying_calls(), step)
+
+
+def without(folder):
+    """Removes a database, if there is one, with what stands beside it."""
+    for file in pathlib.Path(folder).glob("dss.db*"):
+        file.unlink()
+
+
+def stream_over(name, calls, step):
+    """The same over a database, for one growth in so many. A call may also stop the service, which then stands as before
     that call or after it, and the database may not be opened. What was acknowledged is kept."""
-    calls = eight_calls()
     fault, stopped = wire.answer(*FAULT), wire.answer(*STOPPED)
     ends = collections.Counter()
     with tempfile.TemporaryDirectory() as room:
         database = pathlib.Path(room, "dss.db")
         words = ["--tokens", str(TOP / "examples" / "tokens.toml"), "--now", str(NOW), "--db", str(database), "-"]
-
-        def anew():
-            for file in pathlib.Path(room).glob("dss.db*"):
-                file.unlink()
-
         given = b"".join(wire.request(*it) for it in calls)
-        for at, got, is_refused in each_refused([BUILT, "run", *words], given, step, anew):
+        for at, got, is_refused in each_refused([BUILT, "run", *words], given, step, lambda: without(room)):
             status, output, error = got
             found = wire.answers_of(output)
             faulted = found.index(fault) if fault in found else None
@@ -162,19 +214,50 @@ def stream_over_database(step=STEP):
             if stopped in found:
                 first = found.index(stopped)
                 wanted[first:] = [stopped] * (len(calls) - first)
-            ended = {b"": "done", b"dss: memory\n": "memory", b"dss: db: fault 3 Store\n": "store", b"dss: db: fault\n": "close"}.get(error)
+            ended = {b"": "done", b"dss: memory\n": "memory", STORE: "store", b"dss: db: fault\n": "close"}.get(error)
             is_right = found == wanted[: len(found)] and ended is not None and status == (ended != "done")
             if not is_right or not is_refused and (ended, faulted, stopped in found) != ("done", None, False):
                 return [f"growth {at}, refused: {is_refused}: {got!r}"]
             ends["stopped" if stopped in found else "fault" if faulted is not None else ended] += 1
             run([BUILT, "run", *words])
-            made = sum(it.startswith((b"HTTP/1.1 200", b"HTTP/1.1 201")) for it, (method, *_) in zip(found, calls) if method != "POST")
-            with sqlite3.connect(database) as reader:
-                serial = reader.execute("SELECT serial FROM meta").fetchone()[0]
-                check = reader.execute("PRAGMA integrity_check").fetchall()
-            reader.close()
-            most = made + (stopped in found or ended == "memory")
-            if not made <= serial <= most or check != [("ok",)]:
-                return [f"growth {at}: {made} were acknowledged, the serial is {serial}, {check}"]
-    print(f"eight calls over a database: of {at} growths of memory one in {step} refused: {dict(ends)}")
+            wrong = lost(database, calls, found, ended == "memory")
+            if wrong:
+                return [f"growth {at}: {it}" for it in wrong]
+    print(f"{name} over a database: of {at} growths of memory one in {step} refused: {dict(ends)}")
     return [] if ends["fault"] and ends["store"] else [f"{dict(ends)}"]
+
+
+def move(step=STEP):
+    """Of the move of a database of format 1: it is made, or the database is not opened and stays as it was, and the next
+    start makes it; what is said of it is said once it stands."""
+    ends = collections.Counter()
+    with tempfile.TemporaryDirectory() as room:
+        database = pathlib.Path(room, "dss.db")
+        saved = gzip.decompress((TOP / "tests" / "format_1" / "closed.db.gz").read_bytes())
+        database.write_bytes(saved)
+        before = tables.rows_in(database)
+
+        def again():
+            without(room)
+            database.write_bytes(saved)
+
+        words = [BUILT, "upgrade", "--db", str(database)]
+        moved, held = b"format 2, was 1\n", b"format 2\n"
+        for at, got, is_refused in each_refused(words, b"", step, again):
+            ended = {
+                (0, moved, b""): "done", (1, b"", STORE): "store", (1, b"", b"dss: memory\n"): "memory",
+                (1, b"", b"dss: db: fault\n"): "close", (1, b"", b"dss: output\n"): "output",
+            }.get(got)
+            if ended is None or not is_refused and ended != "done":
+                return [f"growth {at}, refused: {is_refused}: {got!r}"]
+            ends[ended] += 1
+            status, said, error = run(words)
+            # a database that was not opened stands as it was, or moved, where that could not be told
+            is_right = (status, error) == (0, b"") and (said == held or said == moved and ended != "done")
+            rows = tables.rows_in(database)
+            wanted = before | {"meta": [(1, 2, before["meta"][0][2])]}
+            kept = {it: rows[it] for it in before if it in rows} == wanted and not any(rows[it] for it in tables.LATER_TABLES)
+            if not is_right or not kept or tables.wrong_in(database):
+                return [f"growth {at}: {got!r}, then {status}, {said!r}, {error!r}, {rows}"]
+    print(f"the move of a database: of {at} growths of memory one in {step} refused: {dict(ends)}")
+    return [] if ends["store"] else [f"{dict(ends)}"]

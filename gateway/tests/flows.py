@@ -9,7 +9,7 @@ from properties import translate
 from standard import check
 from world import (
     ARBITRATION, BESIDE, CONSTRAINTS, FAR, FRONT, INTENTS, MANAGEMENT, MANHATTAN, MONITORING, PROCESSING, STRATEGIC,
-    SUBSCRIPTIONS, TOP, ZERO, Gateway, Memory, Service, circle, expect, extent, intent, new_id, stamp)
+    SUBSCRIPTIONS, TOP, ZERO, Gateway, Recorded, Service, circle, expect, extent, intent, new_id, stamp)
 
 URL = {"uss_base_url": "https://uss.example"}
 
@@ -43,8 +43,8 @@ def over_tables(files, program, *options):
 
 
 @contextlib.contextmanager
-def in_memory(files, program, *options):
-    service = Memory(files)
+def recorded(files, program, *options):
+    service = Recorded(files)
     gateway = Gateway(program, files, service.port, *options)
     try:
         yield Place(files, gateway, service)
@@ -143,7 +143,7 @@ def states_and_scopes(files, program):
 
 
 def explicit_subscriptions(files, program):
-    with in_memory(files, program) as place:
+    with recorded(files, program) as place:
         name = new_id()
         body = {"extents": extent(MANHATTAN), "notify_for_operational_intents": True, **URL}
         created = expect(place.a("PUT", f"{SUBSCRIPTIONS}/{name}", body), 200)
@@ -179,7 +179,7 @@ def subscriptions_of(place):
 
 def implicit_subscriptions(files, program):
     """A subscription is made for an intent, moves with it, and goes with it."""
-    with in_memory(files, program) as place:
+    with recorded(files, program) as place:
         name = new_id()
         first = reference(place.a("PUT", f"{INTENTS}/{name}", intent(extent(MANHATTAN), extent(BESIDE, 20, 500), **NEW)))
         made = subscriptions_of(place)
@@ -215,7 +215,7 @@ def implicit_subscriptions(files, program):
 
 def shared_implicit_subscriptions(files, program):
     """One that another intent names stays, and is never moved."""
-    with in_memory(files, program) as place:
+    with recorded(files, program) as place:
         one, two = new_id(), new_id()
         first = reference(place.a("PUT", f"{INTENTS}/{one}", intent(extent(MANHATTAN), **NEW)))
         named = first["subscription_id"]
@@ -232,7 +232,7 @@ def answers_lost_on_the_way(files, program):
     the same put again ends well."""
     for is_done in (False, True):
         for lost in range(5):
-            with in_memory(files, program) as place:
+            with recorded(files, program) as place:
                 name, service = new_id(), place.service
                 before = reference(place.a("PUT", f"{INTENTS}/{name}", intent(extent(MANHATTAN), **NEW)))
                 service.lost, service.is_done = len(service.asked) + lost, is_done
@@ -262,7 +262,14 @@ def check_covered(service, now, kept):
 
 
 def new_subscription_over_tables(files, program):
-    """What is done with it is the operator's choice."""
+    """What is done with it is the operator's choice. What is made lasts, as the service starts anew."""
+    with over_tables(files, program) as place:
+        told = reference(place.a("PUT", f"{INTENTS}/{new_id()}", intent(extent(MANHATTAN), **NEW)))
+        kept = subscriptions_of(place)
+        assert list(kept) == [told["subscription_id"]] != [ZERO], (told, kept)
+        place.service.end()
+        place.service.start()
+        assert subscriptions_of(place) == kept
     with over_tables(files, program, "--new-subscription", "ignore") as place:
         told = reference(place.a("PUT", f"{INTENTS}/{new_id()}", intent(extent(MANHATTAN), **NEW)))
         assert told["subscription_id"] == ZERO

@@ -145,14 +145,15 @@ class Service:
         self.process.wait()
 
 
-class Memory:
-    """`dss run` in memory behind a port, for up to a hundred requests. It writes down what it is asked, and can lose an answer:
-    of the request with the number `lost`, counted from 0, before (`is_done` False) or after it is done."""
+class Recorded:
+    """`dss run` over a database behind a port, for up to a hundred requests. It writes down what it is asked, and can lose an
+    answer: of the request with the number `lost`, counted from 0, before (`is_done` False) or after it is done."""
 
     def __init__(self, files):
         self.asked, self.lost, self.is_done = [], None, True
+        database = files.folder / f"{new_id()}.db"
         self.process = subprocess.Popen(
-            [TOP / "dss", "run", "--tokens", files.folder / "tokens.toml", "--now", str(int(time.time())), "-"],
+            [TOP / "dss", "run", "--tokens", files.folder / "tokens.toml", "--db", database, "--now", str(int(time.time())), "-"],
             stdin=subprocess.PIPE, stdout=subprocess.PIPE)
         self.socket = socket.create_server(("127.0.0.1", 0))
         self.port = self.socket.getsockname()[1]

@@ -1,6 +1,6 @@
 //! One command line, run.
 use crate::fault::Fault;
-use crate::{connections, loopback, report, run};
+use crate::{connections, loopback, report, run, upgrade};
 use dss_line::fault::LineFault;
 use dss_line::line::{Line, parse};
 use dss_report::cell::token_line;
@@ -95,6 +95,7 @@ fn done<R: Read, O: Write, E: Write>(
         }
         Line::Cell { token } => cell(rt.alloc(), token, output),
         Line::Report { database } => report::report(rt, database, output),
+        Line::Upgrade { database } => upgrade::upgrade(rt, database, output),
     }
 }
 

@@ -2,6 +2,7 @@
 use crate::clock::SystemClock;
 use crate::database::{Work, over_database};
 use crate::fault::Fault;
+use crate::patience::Patient;
 use crate::tokens::{salt_of, token_table, unread};
 use entity_core::salt::Salt;
 use service_core::service::Service;
@@ -10,7 +11,7 @@ use std::io::{Read, Write};
 use std::net::{Ipv4Addr, Shutdown, TcpListener, TcpStream};
 use std::time::Duration;
 use token_conf::token_table::TokenTable;
-use wire_http::{Counted, serve_stream};
+use wire_http::{Counted, Served, StreamFault, serve_stream};
 
 // How long a client that sends nothing more is waited for, once its last answer was written.
 const PATIENCE_MILLIS: u64 = 200;
@@ -53,6 +54,29 @@ fn end(mut stream: &TcpStream) {
     }
 }
 
+// Serves the requests of one connection, whose client is waited for within bounds.
+fn serve_requests<S: Space + Drop>(
+    rt: &HostRuntime,
+    service: &mut Service<S>,
+    tokens: &TokenTable,
+    stream: &TcpStream,
+) -> Result<Served, StreamFault> {
+    let Ok(patient) = Patient::wait(rt, stream) else {
+        return Err(StreamFault::Read);
+    };
+    let mut clock = SystemClock::new(rt);
+    let mut reader = Counted::new(patient);
+    let mut writer = Counted::new(patient);
+    serve_stream(
+        rt.alloc(),
+        service,
+        tokens,
+        &mut clock,
+        &mut reader,
+        &mut writer,
+    )
+}
+
 // Serves one connection, and tells its fault if it has one.
 fn serve_connection<S: Space + Drop, E: Write>(
     rt: &HostRuntime,
@@ -62,18 +86,7 @@ fn serve_connection<S: Space + Drop, E: Write>(
     error: &mut E,
 ) {
     let _ = stream.set_nodelay(true);
-    let mut clock = SystemClock::new(rt);
-    let mut reader = Counted::new(stream);
-    let mut writer = Counted::new(stream);
-    let served = serve_stream(
-        rt.alloc(),
-        service,
-        tokens,
-        &mut clock,
-        &mut reader,
-        &mut writer,
-    );
-    if let Err(fault) = served {
+    if let Err(fault) = serve_requests(rt, service, tokens, stream) {
         let _ = writeln!(error, "{}", Fault::from(fault));
     }
     end(stream);

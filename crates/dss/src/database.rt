@@ -1,8 +1,8 @@
 //! The database of a command.
 use crate::fault::Fault;
-use space_core::space::{Space, SpaceFault};
+use space_core::space::Space;
 use space_sql::space::SqlSpace;
-use sqlite::Alter;
+use sqlite::{Alter, File, FileStore};
 
 /// What a command does over a space, with all that it was given.
 pub(crate) trait Work {
@@ -12,9 +12,14 @@ pub(crate) trait Work {
 
 // How a command over a database ended, which was closed last: a fault of its work is told before one
 // of the closing.
-fn after_closing(done: Result<(), Fault>, closed: Result<(), SpaceFault>) -> Result<(), Fault> {
+fn after_closing(done: Result<(), Fault>, closed: Result<(), Fault>) -> Result<(), Fault> {
     done?;
-    match closed {
+    closed
+}
+
+/// Closes the database of a command.
+pub(crate) fn close(space: SqlSpace<FileStore<File>>) -> Result<(), Fault> {
+    match space.close() {
         Ok(()) => Ok(()),
         Err(_) => Err(Fault::DatabaseFailed),
     }
@@ -37,5 +42,5 @@ pub(crate) fn over_database<W: Work + Drop>(
 ) -> Result<(), Fault> {
     let space = SqlSpace::open(rt, name)?;
     let (done, space) = performed(work, space);
-    after_closing(done, space.close())
+    after_closing(done, close(space))
 }

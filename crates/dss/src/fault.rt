@@ -1,7 +1,7 @@
 //! Why a command failed.
 use dss_report::fault::{CellFault, ReportFault};
 use grid_core::token::TokenFault;
-use space_sql::open_fault::OpenFault;
+use space_opening::open_fault::OpenFault;
 use std::fmt;
 use token_conf::conf_fault::ConfFault;
 use wire_http::StreamFault;

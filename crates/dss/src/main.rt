@@ -7,9 +7,11 @@ mod connections;
 mod database;
 mod fault;
 mod loopback;
+mod patience;
 mod report;
 mod run;
 mod tokens;
+mod upgrade;
 
 use crate::command::run_line;
 use std::process::ExitCode;

@@ -17,7 +17,7 @@ use Rattle.dss_line.specs.Line.{AsksNothing, Explains, HasNumber, HasValues}
 use Rattle.dss_line.specs.LineFault.{IsFaultOf}
 use Rattle.dss_line.specs.declared.fault.LineFault.{LineFault}
 use Rattle.dss_line.specs.declared.fault.LineFault.TheVariants as fault
-use Rattle.dss_line.specs.declared.line.Line.TheVariants.{Cell, Loopback, Report, Run, Serve}
+use Rattle.dss_line.specs.declared.line.Line.TheVariants.{Cell, Loopback, Report, Run, Serve, Upgrade}
 
 -- a number that was read is that of the argument's text
 pub number_from_text : (f : Found) (id : Text) (n : ℕ) → (one_text f id ≡ None → Some n ≡ None) → ((t : List ℕ) → one_text f id ≡ Some t → (IsNumeral 10 (without_leading_plus t) × (digits_value 10 (without_leading_plus t) < 2 ^ 64)) × (n ≡ digits_value 10 (without_leading_plus t))) → HasNumber id (rows_of f) n
@@ -51,6 +51,7 @@ nothing_of_run rows none (Serve tokens database port count) asks = other _ _ ref
 nothing_of_run rows none (Loopback tokens now request) asks = other _ _ refl asks.0
 nothing_of_run rows none (Cell token) asks = other _ _ refl asks.0
 nothing_of_run rows none (Report database) asks = other _ _ refl asks.0
+nothing_of_run rows none (Upgrade database) asks = other _ _ refl asks.0
 
 -- the command `serve` asks for nothing where no line of it has the values
 pub nothing_of_serve : (rows : List Row) → ((tokens : Bor (List ℕ)) (database : Bor (List ℕ)) (port : ℕ) (count : ℕ) → HasValues rows (Serve tokens database port count) → ⊥) → AsksNothing (Some (codes "serve", rows))
@@ -59,6 +60,7 @@ nothing_of_serve rows none (Serve tokens database port count) asks = none tokens
 nothing_of_serve rows none (Loopback tokens now request) asks = other _ _ refl asks.0
 nothing_of_serve rows none (Cell token) asks = other _ _ refl asks.0
 nothing_of_serve rows none (Report database) asks = other _ _ refl asks.0
+nothing_of_serve rows none (Upgrade database) asks = other _ _ refl asks.0
 
 -- the command `self` asks for nothing where no line of it has the values
 pub nothing_of_self : (rows : List Row) → ((tokens : Bor (List ℕ)) (now : ℕ) (request : Bor (List ℕ)) → HasValues rows (Loopback tokens now request) → ⊥) → AsksNothing (Some (codes "self", rows))
@@ -67,6 +69,7 @@ nothing_of_self rows none (Serve tokens database port count) asks = other _ _ re
 nothing_of_self rows none (Loopback tokens now request) asks = none tokens now request asks.1
 nothing_of_self rows none (Cell token) asks = other _ _ refl asks.0
 nothing_of_self rows none (Report database) asks = other _ _ refl asks.0
+nothing_of_self rows none (Upgrade database) asks = other _ _ refl asks.0
 
 -- the command `cell` asks for nothing where no line of it has the values
 pub nothing_of_cell : (rows : List Row) → ((token : Bor (List ℕ)) → HasValues rows (Cell token) → ⊥) → AsksNothing (Some (codes "cell", rows))
@@ -75,6 +78,7 @@ nothing_of_cell rows none (Serve tokens database port count) asks = other _ _ re
 nothing_of_cell rows none (Loopback tokens now request) asks = other _ _ refl asks.0
 nothing_of_cell rows none (Cell token) asks = none token asks.1
 nothing_of_cell rows none (Report database) asks = other _ _ refl asks.0
+nothing_of_cell rows none (Upgrade database) asks = other _ _ refl asks.0
 
 -- the command `report` asks for nothing where no line of it has the values
 pub nothing_of_report : (rows : List Row) → ((database : Bor (List ℕ)) → HasValues rows (Report database) → ⊥) → AsksNothing (Some (codes "report", rows))
@@ -83,6 +87,16 @@ nothing_of_report rows none (Serve tokens database port count) asks = other _ _ 
 nothing_of_report rows none (Loopback tokens now request) asks = other _ _ refl asks.0
 nothing_of_report rows none (Cell token) asks = other _ _ refl asks.0
 nothing_of_report rows none (Report database) asks = none database asks.1
+nothing_of_report rows none (Upgrade database) asks = other _ _ refl asks.0
+
+-- the command `upgrade` asks for nothing where no line of it has the values
+pub nothing_of_upgrade : (rows : List Row) → ((database : Bor (List ℕ)) → HasValues rows (Upgrade database) → ⊥) → AsksNothing (Some (codes "upgrade", rows))
+nothing_of_upgrade rows none (Run tokens now database requests) asks = other _ _ refl asks.0
+nothing_of_upgrade rows none (Serve tokens database port count) asks = other _ _ refl asks.0
+nothing_of_upgrade rows none (Loopback tokens now request) asks = other _ _ refl asks.0
+nothing_of_upgrade rows none (Cell token) asks = other _ _ refl asks.0
+nothing_of_upgrade rows none (Report database) asks = other _ _ refl asks.0
+nothing_of_upgrade rows none (Upgrade database) asks = none database asks.1
 
 -- an argument that is not there has no value
 pub absent : (found : Option Text) (text : Text) → found ≡ None → found ≡ Some text → ⊥

@@ -77,6 +77,9 @@ cell_app = with_rule (new_app (codes "cell")) token_rule
 abbrev pub report_app : App
 report_app = with_rule (new_app (codes "report")) store_rule
 
+abbrev pub upgrade_app : App
+upgrade_app = with_rule (new_app (codes "upgrade")) store_rule
+
 -- one of the commands has to be there
 abbrev pub dss_app : App
 dss_app =
@@ -84,8 +87,10 @@ dss_app =
     (with_subcommand
     (with_subcommand
     (with_subcommand
+    (with_subcommand
     (with_subcommand (on_top (λ s. record s { subcommand_required = true }) (new_app (codes "dss"))) run_app.top)
     serve_app.top)
     self_app.top)
     cell_app.top)
-    report_app.top
+    report_app.top)
+    upgrade_app.top

@@ -10,7 +10,7 @@ use Rattle.dss_line.specs.declared.fault.LineFault.{LineFault}
 use Rattle.dss_line.specs.declared.fault.LineFault.TheVariants as fault
 use Rattle.dss_line.specs.declared.line.TheConstants.{LAST_MOMENT, LAST_PORT, MOST_CONNECTIONS}
 use Rattle.dss_line.specs.declared.line.Line.{Line}
-use Rattle.dss_line.specs.declared.line.Line.TheVariants.{Cell, Loopback, Report, Run, Serve}
+use Rattle.dss_line.specs.declared.line.Line.TheVariants.{Cell, Loopback, Report, Run, Serve, Upgrade}
 
 -- the texts of some words
 abbrev pub texts : List (Bor (List ℕ)) → List Text
@@ -33,6 +33,7 @@ name_of (Serve tokens database port count) = codes "serve"
 name_of (Loopback tokens now request) = codes "self"
 name_of (Cell token) = codes "cell"
 name_of (Report database) = codes "report"
+name_of (Upgrade database) = codes "upgrade"
 
 -- the arguments have the values of the line
 abbrev pub HasValues : List Row → Line → Type 0
@@ -52,6 +53,7 @@ HasValues rows (Loopback tokens now request) =
     × (first_of (codes "request") rows ≡ Some request.now)
 HasValues rows (Cell token) = first_of (codes "token") rows ≡ Some token.now
 HasValues rows (Report database) = first_of (codes "db") rows ≡ Some database.now
+HasValues rows (Upgrade database) = first_of (codes "db") rows ≡ Some database.now
 
 -- the subcommand of that name with the values of these arguments asks for the line
 abbrev pub Asks : Option (Text × List Row) → Line → Type 0

@@ -19,6 +19,7 @@ ghost use Rattle.dss_line.specs.Grammar.{
   store_rule,
   token_rule,
   tokens_rule,
+  upgrade_app,
   word_rule,
 };
 
@@ -182,6 +183,15 @@ fn report_command<'a>(alloc: Global) -> Result<Command<'a>, AllocError>
         .arg(store_option(alloc))
 }
 
+fn upgrade_command<'a>(alloc: Global) -> Result<Command<'a>, AllocError>
+    ensures { IfOk result (λ command. (app_of command ≡ upgrade_app)
+        × ((out-Command command).has_globals ≡ false)) }
+{
+    Command::new(alloc, "upgrade")
+        .about("Brings a database to format 2, and prints which format it had")
+        .arg(store_option(alloc))
+}
+
 /// The commands of the program.
 pub(crate) fn command<'a>(alloc: Global) -> Result<Command<'a>, AllocError>
     ensures { IfOk result (λ command. (app_of command ≡ dss_app)
@@ -194,5 +204,6 @@ pub(crate) fn command<'a>(alloc: Global) -> Result<Command<'a>, AllocError>
         .subcommand(serve_command(alloc)?)?
         .subcommand(self_command(alloc)?)?
         .subcommand(cell_command(alloc)?)?
-        .subcommand(report_command(alloc)?)
+        .subcommand(report_command(alloc)?)?
+        .subcommand(upgrade_command(alloc)?)
 }

@@ -63,6 +63,11 @@ pub enum Line<'a> {
         /// The name of the database's file.
         database: &'a str,
     },
+    /// Bring a database to the newest format, and say which it had.
+    Upgrade {
+        /// The name of the database's file.
+        database: &'a str,
+    },
 }
 
 // The number of an argument, where it has one from the least to the greatest.
@@ -160,6 +165,17 @@ fn report_line<'a>(matches: &ArgMatches<'a>) -> Option<Line<'a>>
     })
 }
 
+// The same of the subcommand `upgrade`.
+fn upgrade_line<'a>(matches: &ArgMatches<'a>) -> Option<Line<'a>>
+    ensures some { IfSome result (Asks (Some (codes "upgrade", rows_of (found_of matches.now)))) }
+    ensures none { IfNone result (AsksNothing
+        (Some (codes "upgrade", rows_of (found_of matches.now)))) }
+{
+    Some(Line::Upgrade {
+        database: matches.get_str("db")?,
+    })
+}
+
 // What the matches of a subcommand ask for; `None` where no subcommand has that name.
 fn line_of<'a>(name: &str, matches: &ArgMatches<'a>) -> Option<Line<'a>>
     ensures some { IfSome result (Asks (Some (name.now, rows_of (found_of matches.now)))) }
@@ -171,6 +187,7 @@ fn line_of<'a>(name: &str, matches: &ArgMatches<'a>) -> Option<Line<'a>>
         "self" => loopback_line(matches),
         "cell" => cell_line(matches),
         "report" => report_line(matches),
+        "upgrade" => upgrade_line(matches),
         _ => None,
     }
 }

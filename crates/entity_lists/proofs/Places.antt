@@ -1,5 +1,5 @@
 -- Lists in the order of their keys, by where a search ends.
-use Rattle.std.specs.Prelude.{◌≡◌, ℕ, suc, ◌<◌, ◌≤◌, ◌+◌, not, false, List, [], ◌∷◌, ◌++◌, length, take, drop, filter, Option, Some, None, Result, Ok, Err, IfOk, IfErr, OnOk, OnErr}
+use Rattle.std.specs.Prelude.{◌≡◌, ℕ, suc, ◌<◌, ◌≤◌, ◌+◌, not, true, false, List, [], ◌∷◌, ◌++◌, length, take, drop, filter, Option, Some, None, Result, Ok, Err, IfOk, IfErr, OnOk, OnErr, IsSome, IsNone}
 use Rattle.std.specs.Ordering.{eq_by_cmp, is_lt}
 use Rattle.std.specs.declared.cmp.Ordering.{Ordering}
 use Rattle.std.specs.declared.cmp.Ordering.TheVariants.{Less, Equal, Greater}
@@ -82,12 +82,25 @@ module _ {A K X : Type 0} (R : K → K → Ordering) (pair : A → K × X) where
         ∙ (find_past R pair o k (take i xs) (h.element ∷ drop (suc i) xs) h.below
         ∙ find_here R pair o k h.element (drop (suc i) xs) h.level))
 
+    pub found_value : (xs : List A) (k : K) (i : ℕ) → Hit R pair xs k i → (v : A) → v ≡ get_or xs i v → Some (val v) ≡ find R k (keyed pair xs)
+    found_value xs k i h v is = ap (λ (e : A). Some (val e)) (read_hit xs k i h v is) ∙ found_hit xs k i h
+
     pub found_gap : (xs : List A) (k : K) (i : ℕ) → Gap R pair xs k i → Rise R pair xs → None ≡ find R k (keyed pair xs)
     found_gap xs k i g s =
         let parts : xs ≡ take i xs ++ drop i xs = sym (take-append-drop i xs) in
         sym (ap (λ (x : List A). find R k (keyed pair x)) parts
         ∙ (find_past R pair o k (take i xs) (drop i xs) g.below
         ∙ find_missed R pair o k (drop i xs) (Rise_rest R pair (take i xs) (drop i xs) (subst (Rise R pair) parts s)) g.above))
+
+    pub not_none : (xs : List A) (k : K) (i : ℕ) → Hit R pair xs k i → IsNone (find R k (keyed pair xs)) → ⊥
+    not_none xs k i h none = let bad : true ≡ false = subst IsNone (sym (found_hit xs k i h)) none in cc
+
+    pub not_some : (xs : List A) (k : K) (i : ℕ) → Gap R pair xs k i → Rise R pair xs → IsSome (find R k (keyed pair xs)) → ⊥
+    not_some xs k i g s some = let bad : false ≡ true = subst IsSome (sym (found_gap xs k i g s)) some in cc
+
+    -- what is said of what is found is said of what the map has
+    pub get_says : (P : Option X → Type 0) (d xs : List A) (k : K) → d ≡ xs → P (get (map_of R pair xs) k) → P (find R k (keyed pair d))
+    get_says P d xs k e h = subst P (get_of R pair o k xs ∙ ap (λ (x : List A). find R k (keyed pair x)) (sym e)) h
 
     pub get_answer : {E : Type 0} (r : Result (Option X) E) (d xs : List A) (k : K) → d ≡ xs → Rise R pair xs
         → IfOk r (λ f. f ≡ find R k (keyed pair d)) → IfOk r (λ f. f ≡ get (map_of R pair xs) k)

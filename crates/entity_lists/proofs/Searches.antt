@@ -1,19 +1,18 @@
 -- What a search in a list of entities finds under a key.
 use Rattle.std.specs.Prelude.{◌≡◌, ℕ, true, false, nat_eq, List, Option, Some, None}
-use Rattle.std.proofs.Common.{arith, sym, ap, ◌∙◌, subst, get_or}
+use Rattle.std.proofs.Common.{sym, ap, ◌∙◌, subst, get_or}
 use Rattle.std.proofs.lemmas.Option.{same_Some}
-use Rattle.std.proofs.lemmas.Bool.Decides.{nat_tests}
 use Rattle.std.specs.FinMap.{find, get}
 use Rattle.grid_core.specs.Extent.{Region}
 use Rattle.entity_core.specs.declared.entity.Entity.{Entity}
 use Rattle.entity_core.specs.declared.nature.Kind.{Kind}
 use Rattle.entity_core.specs.Airspace.{EntityKey, key_cmp, key_of}
 use Rattle.entity_core.specs.Search.{is_sought}
-use Rattle.entity_lists.specs.Entities.{FindsSought, InOrder, entity_map, pair_of}
+use Rattle.entity_lists.specs.Entities.{FindsSought, InOrder, entity_map, pair_of, was_put_at}
 use Rattle.entity_lists.specs.Sorted.{Gap, Hit, keyed}
 use Rattle.entity_lists.proofs.Keys.{key_total, key_exact}
 use Rattle.entity_lists.proofs.Maps.{get_of}
-use Rattle.entity_lists.proofs.Places.{found_hit, found_gap, read_hit}
+use Rattle.entity_lists.proofs.Places.{found_hit, found_gap, found_value, read_hit}
 
 -- a map of a list has what is found in the list
 pub get_find : (es d : List Entity) (k : EntityKey) → d ≡ es → get (entity_map es) k ≡ find key_cmp k (keyed pair_of d)
@@ -46,11 +45,9 @@ module _ (kind : Kind) (areas : List Region) (except : Option ℕ) (es : List En
   pub finds_none : Gap key_cmp pair_of es k i → InOrder es → FindsSought (find key_cmp k (keyed pair_of es)) kind areas except k None
   finds_none g s = λ x at sought. let bad : None ≡ Some x = found_gap key_cmp pair_of key_total es k i g s ∙ at in cc
 
-other_number : (a b : ℕ) → nat_eq a b ≡ false → a ≡ b → ⊥
-other_number a b h e = let bad : true ≡ false = sym (let t : nat_eq a b ≡ true = grind (arith, nat_tests, e) in t) ∙ h in cc
+-- whether what was found was put at a serial
+pub put_here : (es : List Entity) (k : EntityKey) (i : ℕ) → Hit key_cmp pair_of es k i → (a : Entity) (number serial : ℕ) → a ≡ get_or es i a → number ≡ a.serial → nat_eq number serial ≡ was_put_at serial (find key_cmp k (keyed pair_of es))
+put_here es k i h a number serial is own = ap (λ (n : ℕ). nat_eq n serial) own ∙ ap (was_put_at serial) (found_value key_cmp pair_of key_total es k i h a is)
 
-pub put_elsewhen : (es : List Entity) (k : EntityKey) (i : ℕ) (h : Hit key_cmp pair_of es k i) (a x : Entity) (number serial : ℕ) → a ≡ get_or es i a → number ≡ a.serial → nat_eq number serial ≡ false → find key_cmp k (keyed pair_of es) ≡ Some x → x.serial ≡ serial → ⊥
-put_elsewhen es k i h a x number serial is own other at same = other_number number serial other (own ∙ (ap (λ (e : Entity). e.serial) (there es k i h a x is at) ∙ same))
-
-pub put_nowhere : (es : List Entity) (k : EntityKey) (i : ℕ) → Gap key_cmp pair_of es k i → InOrder es → (x : Entity) → find key_cmp k (keyed pair_of es) ≡ Some x → ⊥
-put_nowhere es k i g s x at = let bad : None ≡ Some x = found_gap key_cmp pair_of key_total es k i g s ∙ at in cc
+pub put_nowhere : (es : List Entity) (k : EntityKey) (i : ℕ) (serial : ℕ) → Gap key_cmp pair_of es k i → InOrder es → false ≡ was_put_at serial (find key_cmp k (keyed pair_of es))
+put_nowhere es k i serial g s = ap (was_put_at serial) (found_gap key_cmp pair_of key_total es k i g s)

@@ -1,5 +1,5 @@
 -- Entities in the order of their kinds and ids.
-use Rattle.std.specs.Prelude.{◌≡◌, ℕ, true, List, Option, Some, None}
+use Rattle.std.specs.Prelude.{◌≡◌, ℕ, nat_eq, Bool, true, false, List, Option, Some, None}
 use Rattle.entity_core.specs.declared.entity.Entity.{Entity}
 use Rattle.grid_core.specs.Extent.{Region}
 use Rattle.entity_core.specs.declared.nature.Kind.{Kind}
@@ -25,3 +25,8 @@ FindsSought there kind areas except k None = (x : Entity) → there ≡ Some x
     → is_sought kind areas except (k, x) ≡ true → ⊥
 FindsSought there kind areas except k (Some e) = (there ≡ Some e) × (key_of e ≡ k)
     × (is_sought kind areas except (k, e) ≡ true)
+
+-- whether there is an entity, and it was last put at a serial
+abbrev pub was_put_at : ℕ → Option Entity → Bool
+was_put_at serial None = false
+was_put_at serial (Some e) = nat_eq e.serial serial

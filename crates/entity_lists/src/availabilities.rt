@@ -1,5 +1,5 @@
 //! Availabilities in the order of their suppliers.
-ghost use Rattle.std.specs.Prelude.{◌≡◌, [], OnOk, OnErr, IfOk, IfErr, length, unwrap_or};
+ghost use Rattle.std.specs.Prelude.{◌≡◌, [], OnOk, OnErr, IfOk, IfErr, IsOk, IsSome, IsNone, length, unwrap_or};
 ghost use Rattle.std.specs.List.Sorted.{IsBinarySearchResult, IsSearchInRange};
 ghost use Rattle.std.specs.FinMap.{find, get, insert};
 ghost use Rattle.std.specs.FinMap.Entries.{put};
@@ -63,7 +63,9 @@ fn place_of(items: &[Entry], uss: &UssId) -> Result<usize, usize>
 
 fn found(items: &[Entry], uss: &UssId) -> Result<Option<(Availability, Ovn)>, AllocError>
     requires { InOrder items.now }
-    ensures { IfOk result (λ found. found ≡ find text_cmp uss.now (keyed pair_of items.now)) }
+    ensures found { IfOk result (λ found.
+        found ≡ find text_cmp uss.now (keyed pair_of items.now)) }
+    ensures none { IsNone (find text_cmp uss.now (keyed pair_of items.now)) → IsOk result }
 {
     match place_of(items, uss) {
         Ok(i) => Ok(Some(items[i].stated()?)),
@@ -89,6 +91,8 @@ fn put_in_place(items: &mut Vec<Entry>, entry: Entry) -> Result<(), AllocError>
         ≡ put text_cmp entry.uss (entry.availability, entry.version)
         (keyed pair_of items.old.items)) }
     ensures err { OnErr result (items.new.items ≡ items.old.items) }
+    ensures over { IsSome (find text_cmp entry.uss (keyed pair_of items.old.items))
+        → IsOk result }
 {
     match place_of(items, &entry.uss) {
         Ok(i) => {
@@ -117,9 +121,11 @@ impl Availabilities {
         }
     }
 
-    /// A copy of what a supplier has set, if it has set anything.
+    /// A copy of what a supplier has set, if it has set anything. That it has set nothing takes no
+    /// memory to tell.
     pub fn availability(&self, uss: &UssId) -> Result<Option<(Availability, Ovn)>, AllocError>
-        ensures { IfOk result (λ found. found ≡ get (availability_map self.now) uss.now) }
+        ensures found { IfOk result (λ found. found ≡ get (availability_map self.now) uss.now) }
+        ensures none { IsNone (get (availability_map self.now) uss.now) → IsOk result }
     {
         found(&self.items, uss)
     }
@@ -134,7 +140,7 @@ impl Availabilities {
     }
 
     /// Puts what a supplier sets in the place of what it had set, or among the others where its
-    /// place is. On an error nothing is changed.
+    /// place is. On an error nothing is changed; where it had set something, none comes.
     pub fn put(
         &mut self,
         uss: UssId,
@@ -144,6 +150,7 @@ impl Availabilities {
         ensures ok { OnOk result (availability_map self.new
             ≡ insert (availability_map self.old) uss (availability, version)) }
         ensures err { OnErr result (self.new ≡ self.old) }
+        ensures over { IsSome (get (availability_map self.old) uss) → IsOk result }
     {
         let entry = Entry {
             uss,

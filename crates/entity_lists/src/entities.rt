@@ -1,5 +1,5 @@
 //! Entities in the order of their kinds and ids.
-ghost use Rattle.std.specs.Prelude.{◌≡◌, not, false, [], OnOk, OnErr, IfOk, IfErr, Some, filter, length, map};
+ghost use Rattle.std.specs.Prelude.{◌≡◌, not, false, [], OnOk, OnErr, IfOk, IfErr, IsOk, IsNone, Some, filter, length, map};
 ghost use Rattle.std.specs.List.Sorted.{IsBinarySearchResult, IsSearchInRange};
 ghost use Rattle.std.specs.Ordering.{eq_by_cmp};
 ghost use Rattle.std.specs.FinMap.{find, get, insert, remove};
@@ -9,7 +9,7 @@ ghost use Rattle.entity_core.specs.Search.{has_kind, is_naming, is_not, is_sough
 ghost use Rattle.entity_lists.specs.Sorted.{keyed, Hit, Gap};
 ghost use Rattle.entity_core.specs.Entity.{kind_index};
 ghost use Rattle.entity_core.specs.declared.entity.Entity.{Entity};
-ghost use Rattle.entity_lists.specs.Entities.{pair_of, entity_map, FindsSought, InOrder};
+ghost use Rattle.entity_lists.specs.Entities.{pair_of, entity_map, was_put_at, FindsSought, InOrder};
 
 use entity_core::entity::Entity;
 use entity_core::entity_id::EntityId;
@@ -96,7 +96,9 @@ fn found(
     id: EntityId,
 ) -> Result<Option<Entity>, AllocError>
     requires { InOrder items.now }
-    ensures { IfOk result (λ found. found ≡ find key_cmp (kind, id) (keyed pair_of items.now)) }
+    ensures found { IfOk result (λ found.
+        found ≡ find key_cmp (kind, id) (keyed pair_of items.now)) }
+    ensures none { IsNone (find key_cmp (kind, id) (keyed pair_of items.now)) → IsOk result }
 {
     match place_of(items, kind, id) {
         Ok(i) => Ok(Some(items[i].clone(alloc)?)),
@@ -200,11 +202,10 @@ fn wanted(
     }
 }
 
-// Whether the entity of a kind and an id was last put at a serial.
+// Whether the entity of a kind and an id is there, and was last put at a serial.
 fn was_put_at(items: &[Entity], kind: Kind, id: EntityId, serial: u64) -> bool
     requires { InOrder items.now }
-    ensures { result ≡ false → (x : Entity) → find key_cmp (kind, id) (keyed pair_of items.now)
-        ≡ Some x → x.serial ≡ serial → ⊥ }
+    ensures { result ≡ was_put_at serial (find key_cmp (kind, id) (keyed pair_of items.now)) }
 {
     match place_of(items, kind, id) {
         Ok(i) => items[i].serial.number() == serial,
@@ -215,6 +216,8 @@ fn was_put_at(items: &[Entity], kind: Kind, id: EntityId, serial: u64) -> bool
 // Gives what stood in its place.
 fn put_in_place(items: &mut Vec<Entity>, entity: Entity) -> Result<Option<Entity>, AllocError>
     requires { InOrder items.old.items }
+    ensures was { IfOk result (λ was. was
+        ≡ find key_cmp (key_of entity) (keyed pair_of items.old.items)) }
     ensures ok { OnOk result (keyed pair_of items.new.items
         ≡ put key_cmp (key_of entity) entity (keyed pair_of items.old.items)) }
     ensures err { OnErr result (items.new.items ≡ items.old.items) }
@@ -231,7 +234,8 @@ fn put_in_place(items: &mut Vec<Entity>, entity: Entity) -> Result<Option<Entity
 // Gives what stood there.
 fn remove_from(items: &mut Vec<Entity>, kind: Kind, id: EntityId) -> Option<Entity>
     requires { InOrder items.old.items }
-    ensures { filter (λ e. not (eq_by_cmp key_cmp (kind, id) (key_of e))) items.old.items
+    ensures was { result ≡ find key_cmp (kind, id) (keyed pair_of items.old.items) }
+    ensures left { filter (λ e. not (eq_by_cmp key_cmp (kind, id) (key_of e))) items.old.items
         ≡ items.new.items }
 {
     match place_of(items, kind, id) {
@@ -250,14 +254,16 @@ impl Entities {
         }
     }
 
-    /// A copy of the entity of a kind and an id, if there is one.
+    /// A copy of the entity of a kind and an id, if there is one. That there is none takes no
+    /// memory to tell.
     pub fn entity(
         &self,
         alloc: Global,
         kind: Kind,
         id: EntityId,
     ) -> Result<Option<Entity>, AllocError>
-        ensures { IfOk result (λ found. found ≡ get (entity_map self.now) (kind, id)) }
+        ensures found { IfOk result (λ found. found ≡ get (entity_map self.now) (kind, id)) }
+        ensures none { IsNone (get (entity_map self.now) (kind, id)) → IsOk result }
     {
         found(alloc, &self.items, kind, id)
     }
@@ -304,6 +310,7 @@ impl Entities {
 
     /// The same, and gives the one that had its kind and id.
     pub fn replace(&mut self, entity: Entity) -> Result<Option<Entity>, AllocError>
+        ensures was { IfOk result (λ was. was ≡ get (entity_map self.old) (key_of entity)) }
         ensures ok { OnOk result (entity_map self.new
             ≡ insert (entity_map self.old) (key_of entity) entity) }
         ensures err { OnErr result (self.new ≡ self.old) }
@@ -320,7 +327,8 @@ impl Entities {
 
     /// The same, and gives the one that was removed.
     pub fn take(&mut self, kind: Kind, id: EntityId) -> Option<Entity>
-        ensures { entity_map self.new ≡ remove (entity_map self.old) (kind, id) }
+        ensures was { result ≡ get (entity_map self.old) (kind, id) }
+        ensures left { entity_map self.new ≡ remove (entity_map self.old) (kind, id) }
     {
         remove_from(&mut self.items, kind, id)
     }
@@ -349,8 +357,8 @@ impl Entities {
 
     /// Whether an entity of the same kind, id and serial is among them.
     pub fn has_put(&self, entity: &Entity) -> bool
-        ensures { result ≡ false → (x : Entity) → get (entity_map self.now) (key_of entity.now)
-            ≡ Some x → x.serial ≡ entity.now.serial → ⊥ }
+        ensures { result ≡ was_put_at entity.now.serial
+            (get (entity_map self.now) (key_of entity.now)) }
     {
         was_put_at(
             &self.items,

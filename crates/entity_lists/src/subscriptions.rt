@@ -1,5 +1,5 @@
 //! Subscriptions in the order of their ids.
-ghost use Rattle.std.specs.Prelude.{◌≡◌, ◌<◌, not, [], OnOk, OnErr, IfOk, IfErr, filter, length, map};
+ghost use Rattle.std.specs.Prelude.{◌≡◌, ◌<◌, not, [], OnOk, OnErr, IfOk, IfErr, IsOk, IsSome, IsNone, filter, length, map};
 ghost use Rattle.std.specs.List.{AllByRecursion};
 ghost use Rattle.std.specs.List.Sorted.{IsBinarySearchResult, IsSearchInRange};
 ghost use Rattle.std.specs.Ordering.{eq_by_cmp, nat_cmp};
@@ -55,7 +55,8 @@ fn place_of(items: &[Sub], id: EntityId) -> Result<usize, usize>
 
 fn found(items: &[Sub], id: EntityId) -> Result<Option<Sub>, AllocError>
     requires { InOrder items.now }
-    ensures { IfOk result (λ found. found ≡ find nat_cmp id (keyed pair_of items.now)) }
+    ensures found { IfOk result (λ found. found ≡ find nat_cmp id (keyed pair_of items.now)) }
+    ensures none { IsNone (find nat_cmp id (keyed pair_of items.now)) → IsOk result }
 {
     match place_of(items, id) {
         Ok(i) => Ok(Some(items[i].clone()?)),
@@ -130,6 +131,7 @@ fn put_in_place(items: &mut Vec<Sub>, sub: Sub) -> Result<(), AllocError>
     ensures ok { OnOk result (keyed pair_of items.new.items
         ≡ put nat_cmp sub.id sub (keyed pair_of items.old.items)) }
     ensures err { OnErr result (items.new.items ≡ items.old.items) }
+    ensures over { IsSome (find nat_cmp sub.id (keyed pair_of items.old.items)) → IsOk result }
 {
     match place_of(items, sub.id) {
         Ok(i) => {
@@ -161,9 +163,11 @@ impl Subscriptions {
         }
     }
 
-    /// A copy of the subscription of an id, if there is one.
+    /// A copy of the subscription of an id, if there is one. That there is none takes no memory to
+    /// tell.
     pub fn subscription(&self, id: EntityId) -> Result<Option<Sub>, AllocError>
-        ensures { IfOk result (λ found. found ≡ get (subscription_map self.now) id) }
+        ensures found { IfOk result (λ found. found ≡ get (subscription_map self.now) id) }
+        ensures none { IsNone (get (subscription_map self.now) id) → IsOk result }
     {
         found(&self.items, id)
     }
@@ -201,11 +205,12 @@ impl Subscriptions {
     }
 
     /// Puts a subscription in the place of the one that has its id, or among the others where its
-    /// place is. On an error nothing is changed.
+    /// place is. On an error nothing is changed; over one that has its id, none comes.
     pub fn put(&mut self, sub: Sub) -> Result<(), AllocError>
         ensures ok { OnOk result (subscription_map self.new
             ≡ insert (subscription_map self.old) sub.id sub) }
         ensures err { OnErr result (self.new ≡ self.old) }
+        ensures over { IsSome (get (subscription_map self.old) sub.id) → IsOk result }
     {
         put_in_place(&mut self.items, sub)
     }

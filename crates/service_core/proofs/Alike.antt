@@ -43,7 +43,7 @@ use Rattle.entity_core.proofs.Entries.{entries-remove}
 use Rattle.service_step.specs.declared.reply.Answer.TheVariants.{Created, Changed, Listed, Avail}
 use Rattle.service_step.specs.declared.reply.Answer.TheVariants as answers
 use Rattle.service_step.specs.declared.reply.Reply.TheVariants.{Done, Denied}
-use Rattle.service_step.specs.Notices.{notices_in, notices_of, notified_in, states_at, touched, urls_of, with_notified}
+use Rattle.service_notices.specs.Notices.{notices_in, notices_of, notified_in, states_at, touched, urls_of, with_notified}
 use Rattle.service_step.specs.Step.{step, step_by, effect, effect_by, told_missing, created, kept_with, updated, update_effect, delete_effect, read_effect, sub_kept_as, seen_of, seen_sub, stored_reply, put_sub_effect, update_sub_effect, delete_sub_effect, read_sub_effect}
 
 -- ---- entries

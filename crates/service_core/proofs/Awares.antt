@@ -27,12 +27,15 @@ use Rattle.policy_core.proofs.Puts.{puts_know}
 use Rattle.entity_core.proofs.Keys.{key_total, key_exact, one_key}
 use Rattle.entity_core.proofs.Entries.{entries-remove}
 use Rattle.space_core.specs.declared.space.Space.{Ghosts}
+use Rattle.space_core.specs.Space.{IsContent}
 use Rattle.service_step.specs.declared.reply.Reply.{Reply}
 use Rattle.service_step.specs.declared.reply.Reply.TheVariants.{Done, Denied, Fault, Stopped}
 use Rattle.service_core.specs.Aware.{MadeCall, is_done, is_owed, left_by, put_in, last_writer, later_or, Knew, KnewOthers, SerialsDiffer, Aware}
-use Rattle.service_step.specs.Notices.{touched}
-use Rattle.service_core.specs.Run.{Timed, Runs, replies_of, airspace_after, answered_calls, told_replies, has_stopped}
+use Rattle.service_notices.specs.Notices.{touched}
+use Rattle.service_core.specs.Run.{Answered, MayHaveStepped, Timed, Runs, replies_of, airspace_after, answered_calls, told_replies, has_stopped}
+use Rattle.service_core.specs.Held.{is_shut, salt_of, space_of}
 use Rattle.service_core.specs.Stale.{IsNumbered, AllNumbered}
+use Rattle.service_core.specs.declared.service.Service.{Service}
 use Rattle.service_step.specs.Step.{step, step_by, effect, created, updated, update_effect, delete_effect, read_effect, sub_kept_as, read_sub_effect, update_sub_effect, delete_sub_effect}
 use Rattle.entity_core.proofs.Changes.{got, stayed, proper_with, proper_with_told, proper_without, proper_without_told, proper_stated, proper_sub, proper_without_sub, proper_empty}
 use Rattle.service_step.proofs.Keeps.{told_within}
@@ -344,13 +347,34 @@ pub aware_after : (salt : List ℕ) (n : ℕ) (cs : List Timed) (rs : List Reply
     → Aware salt (empty_at n) cs rs (airspace_after salt (empty_at n) (answered_calls cs rs))
 aware_after salt n cs rs told h = let k = kept_told salt n cs rs told h in record { proper = k.proper; serials = k.serials; knew = k.knew }
 
-pub numbered_after : (salt : List ℕ) (n : ℕ) (cs : List Timed) (rs : List Reply) → told_replies rs ≡ replies_of salt (empty_at n) (answered_calls cs rs) → has_stopped rs ≡ false → AllNumbered salt (airspace_after salt (empty_at n) (answered_calls cs rs))
-numbered_after salt n cs rs told h = (kept_told salt n cs rs told h).numbered
+-- each step keeps it, also the one of a call that was answered `Stopped`
+stepped_numbered : (salt : List ℕ) (last : EntityKey → Option MadeCall) (a : Airspace) (cs : List Timed) (rs : List Reply) (b : Airspace) → Kept salt last a → MayHaveStepped salt a cs rs b → AllNumbered salt b
+stepped_numbered salt last a [] rs b k is = subst (AllNumbered salt) (sym is) k.numbered
+stepped_numbered salt last a (c ∷ cs) [] b k is = subst (AllNumbered salt) (sym is) k.numbered
+stepped_numbered salt last a (c ∷ cs) (Fault ∷ rs) b k is = stepped_numbered salt last a cs rs b k is
+stepped_numbered salt last a (c ∷ cs) (Stopped ∷ rs) b k is =
+    elim is [
+      | inl same ↦ subst (AllNumbered salt) (sym same) k.numbered
+      | inr stepped ↦ subst (AllNumbered salt) (sym stepped) (kept_step salt last a c.0 c.1 k).numbered
+    ]
+stepped_numbered salt last a (c ∷ cs) (Done x ∷ rs) b k is = stepped_numbered salt (last_with last a c.1 (step salt a c.0 c.1).1) (step salt a c.0 c.1).0 cs rs b (kept_step salt last a c.0 c.1 k) is
+stepped_numbered salt last a (c ∷ cs) (Denied p m ∷ rs) b k is = stepped_numbered salt (last_with last a c.1 (step salt a c.0 c.1).1) (step salt a c.0 c.1).0 cs rs b (kept_step salt last a c.0 c.1 k) is
 
 -- ---- what is held after a run
 
 pub held_aware : {S : Type 0} (g : Ghosts S) (salt : List ℕ) (n : ℕ) (cs : List Timed) (rs : List Reply) (new : S) → Runs g salt (empty_at n) cs rs new → has_stopped rs ≡ false → (a : Airspace) → g.holds new a → Aware salt (empty_at n) cs rs a
 held_aware g salt n cs rs new t h a held = subst (Aware salt (empty_at n) cs rs) (sym ((t.whole h).only a held)) (aware_after salt n cs rs t.replies h)
 
-pub held_numbered : {S : Type 0} (g : Ghosts S) (salt : List ℕ) (n : ℕ) (cs : List Timed) (rs : List Reply) (new : S) → Runs g salt (empty_at n) cs rs new → has_stopped rs ≡ false → (a : Airspace) → g.holds new a → AllNumbered salt a
-held_numbered g salt n cs rs new t h a held = subst (AllNumbered salt) (sym ((t.whole h).only a held)) (numbered_after salt n cs rs t.replies h)
+held_numbered : {S : Type 0} (g : Ghosts S) (salt : List ℕ) (n : ℕ) (cs : List Timed) (rs : List Reply) (new : S) → Runs g salt (empty_at n) cs rs new → (a : Airspace) → g.holds new a → AllNumbered salt a
+held_numbered g salt n cs rs new t a held = stepped_numbered salt (λ k. None) (empty_at n) cs rs a (kept_empty salt n) (t.kept a held)
+
+pub same_numbered : {S : Type 0} (g : Ghosts S) (salt : List ℕ) (n : ℕ) (old : S) → IsContent g.holds old (empty_at n) → (a : Airspace) → g.holds old a → AllNumbered salt a
+same_numbered g salt n old content a held = subst (AllNumbered salt) (sym (content.only a held)) (kept_empty salt n).numbered
+
+pub run_numbered : {S : Type 0} (g : Ghosts S) (old : Service S) (cs : List Timed) (rs : List Reply) (new : Service S) → Answered g old cs rs new → g.is_sound (space_of new)
+    → (n : ℕ) → IsContent g.holds (space_of old) (empty_at n) → (a : Airspace) → g.holds (space_of new) a → AllNumbered (salt_of old) a
+run_numbered {S} g old cs rs new all s n content a held =
+    elim (is_shut old) as (λ b. is_shut old ≡ b → AllNumbered (salt_of old) a) [
+      | true ↦ λ h. same_numbered g (salt_of old) n (space_of old) content a (subst (λ (x : Service S). g.holds (space_of x) a) (all.stays.shut h) held)
+      | false ↦ λ h. held_numbered g (salt_of old) n cs rs (space_of new) (all.runs h s (empty_at n) content) a held
+    ] refl

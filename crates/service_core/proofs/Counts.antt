@@ -25,7 +25,7 @@ use Rattle.service_step.specs.declared.reply.Reply.{Reply}
 use Rattle.service_step.specs.declared.reply.Reply.TheVariants.{Done, Denied, Fault, Stopped}
 use Rattle.service_core.specs.Aware.{MadeCall, is_done, left_by}
 use Rattle.service_core.specs.Count.{Counts, IsCounted, creates_sub, done_calls, notified, notifies_one}
-use Rattle.service_step.specs.Notices.{notifies, touched, volumes_of}
+use Rattle.service_notices.specs.Notices.{notifies, touched, volumes_of}
 use Rattle.service_core.specs.Run.{Timed, Runs, replies_of, airspace_after, answered_calls, told_replies, has_stopped}
 use Rattle.service_step.specs.Step.{step, step_by, effect, update_effect, delete_effect, read_effect, sub_kept_as, read_sub_effect, update_sub_effect, delete_sub_effect}
 use Rattle.service_core.proofs.Awares.{step_left}

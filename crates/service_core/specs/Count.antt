@@ -9,7 +9,7 @@ use Rattle.policy_core.specs.declared.call.Operation.{Operation}
 use Rattle.policy_core.specs.declared.call.Operation.TheVariants.{CreateSub}
 use Rattle.service_step.specs.declared.reply.Reply.{Reply}
 use Rattle.service_core.specs.Aware.{MadeCall, is_done, left_by}
-use Rattle.service_step.specs.Notices.{notifies}
+use Rattle.service_notices.specs.Notices.{notifies}
 use Rattle.service_core.specs.Run.{Timed}
 
 -- ---- the calls that were answered `Done`

@@ -1,5 +1,5 @@
 -- What a service may answer to a list of calls.
-use Rattle.std.specs.Prelude.{◌≡◌, ℕ, Bool, true, false, List, [], ◌∷◌, ◌⊎◌, ◌||◌, All, IfSome, find, length}
+use Rattle.std.specs.Prelude.{◌≡◌, ℕ, Bool, true, false, List, [], ◌∷◌, ◌⊎◌, ◌||◌, All, IfSome, IsNone, find, length}
 use Rattle.entity_core.specs.Airspace.{Airspace}
 use Rattle.policy_core.specs.declared.call.Call.{Call}
 use Rattle.policy_core.specs.Missing.{nothing_missing}
@@ -20,7 +20,7 @@ Timed = ℕ × Call
 
 -- The service was asked once, and this is its reply. Where it was not shut: what the policy says,
 -- or a fault where one may come, or `Stopped`, which shuts it; a call that breaks an early rule is
--- denied at once.
+-- denied at once, and over a space that was broken before any other is answered `Stopped`.
 pub record IsReplyTo {S : Type 0} (g : Ghosts S) (old new : Service S) (moment : ℕ) (call : Call)
     (reply : Reply) : Type 0 where
   pub stays : Stays g old new
@@ -29,6 +29,8 @@ pub record IsReplyTo {S : Type 0} (g : Ghosts S) (old new : Service S) (moment :
   pub early : is_shut old ≡ false → (a : Airspace) (now : ℕ)
       → IfSome (find (breaks a now call) early_rules)
       (λ rule. (reply ≡ Denied rule nothing_missing) × (new ≡ old))
+  pub broken : is_shut old ≡ false → g.is_broken (space_of old) ≡ true → (a : Airspace) (now : ℕ)
+      → IsNone (find (breaks a now call) early_rules) → reply ≡ Stopped
   pub answers : is_shut old ≡ false
       → Answers g (salt_of old) moment call (space_of old) (space_of new) reply
 

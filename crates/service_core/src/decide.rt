@@ -1,5 +1,5 @@
 //! What a call is: refused, or allowed.
-ghost use Rattle.std.specs.Prelude.{◌≡◌, ℕ, map, not, Ok, Err, Some, None, find, IfOk};
+ghost use Rattle.std.specs.Prelude.{◌≡◌, ℕ, map, not, Ok, Err, Some, None, find, IfOk, IsErrOf, true};
 ghost use Rattle.entity_core.specs.Airspace.{Airspace};
 ghost use Rattle.grid_core.specs.Extent.{region_of};
 ghost use Rattle.policy_core.specs.Missing.{is_nothing, missing_by, missing_from, missing_with, needed_with};
@@ -22,7 +22,7 @@ use policy_core::standing::standing;
 use service_step::halt::Halt;
 use service_step::look::{Grounds, look};
 use service_step::needed::{missing_from, needed_with};
-use space_core::space::Space;
+use space_core::space::{Space, SpaceFault};
 use std::alloc::Global;
 
 /// What was decided of a call.
@@ -177,6 +177,8 @@ pub fn decide<S: Space>(
     ensures ready { IfOk result (IsReadyIfAllowed call.now.op) }
     ensures memory { result ≡ Err Halt.NoMemory → S.is_sound space.new → (a : Airspace)
         → S.holds space.old a → find (breaks a now call.now) standing_rules ≡ None }
+    ensures broken { S.is_broken space.old ≡ true
+        → IsErrOf result (Halt.Space SpaceFault.Broken) }
 {
     let grounds = look(space, &call.op)?;
     let judged = judge(space, alloc, now, call, caller, &grounds)?;

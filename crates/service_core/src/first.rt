@@ -3,7 +3,7 @@ ghost use Rattle.std.specs.Prelude.{◌≡◌, false};
 ghost use Rattle.entity_core.specs.Airspace.{empty_at};
 ghost use Rattle.service_core.specs.Held.{space_of};
 ghost use Rattle.service_step.specs.Reply.{is_stopped};
-ghost use Rattle.service_core.specs.Service.{Leaves};
+ghost use Rattle.service_core.specs.Service.{Leaves, MayFail};
 
 use crate::service::Service;
 use entity_core::salt::Salt;
@@ -16,10 +16,14 @@ use std::alloc::Global;
 /// Answers a call over a new, empty airspace, and gives the service that did so.
 ///
 /// What a service promises is said of any space with a content. Here both are there: the reply and
-/// the content are the policy's, or it is `Fault` and the airspace is still empty.
+/// the content are the policy's, or it is `Fault` and the airspace is still empty. Such a space has
+/// refused nothing before, so that for a call that breaks one of P7 to P13, P16 or P17 a `Fault`
+/// comes only where it did now.
 pub fn first_call(alloc: Global, salt: Salt, now: u64, call: &Call) -> (Reply, Service<ListSpace>)
     ensures leaves { Leaves ⟦<ListSpace as Space>⟧ salt (empty_at 0) now call.now
         result.0 (space_of result.1) }
+    ensures fails { MayFail (empty_at 0) now call.now result.0 0
+        (⟦<ListSpace as Space>⟧.refusals (space_of result.1)) }
     ensures goes_on { is_stopped result.0 ≡ false }
 {
     let mut service = Service::new(ListSpace::new(alloc), salt);

@@ -55,7 +55,8 @@ fn answered<S: Space>(
 ) -> Reply
     requires caller { call.now.caller ≡ Some caller.now }
     requires early { (a : Airspace) → find (breaks a now call.now) early_rules ≡ None }
-    ensures { Answers S.Space salt.now now call.now space.old space.new result }
+    ensures answers { Answers S.Space salt.now now call.now space.old space.new result }
+    ensures broken { S.is_broken space.old ≡ true → result ≡ Reply.Stopped }
 {
     match decide(space, alloc, now, call, caller) {
         Ok(Verdict::Refused(broken, missing)) => Reply::Denied(broken, missing),
@@ -168,7 +169,8 @@ impl<S: Space + Drop> Service<S> {
     /// It does not come for a call that breaks one of P1 to P6, and for one that breaks one of P7
     /// to P13, P16 or P17 only where the space's count of refusals rose, or is at its greatest.
     /// `Stopped` comes for the call in which the space answered `Broken`, and for each call after
-    /// it. A call that breaks one of P1 to P6 is denied without memory, and the space is not asked.
+    /// it: where the space was broken before, for the first call that breaks none of P1 to P6. One
+    /// that does is denied without memory, and the space is not asked.
     ///
     /// A put that needs to know an entity, and whose key has OVNs of other serials alone, is not
     /// done: it is denied by one of P1 to P14 or by P16, and where it is P14, the entity is listed.
@@ -196,7 +198,8 @@ impl<S: Space + Drop> Service<S> {
     /// Answers calls in order, each at its moment. The room for the replies is taken first, so that
     /// after an error no call was made.
     ///
-    /// Where the space was empty and nothing stopped: of two entities that meet in the end, where
+    /// Where the space was empty, each entity that is held then has the OVN of its own serial. Where
+    /// also nothing stopped: of two entities that meet in the end, where
     /// the later one is an intent that is planned or flown as planned, the last put of the later
     /// one had the OVN of the other in its key (that of a constraint, if it named a subscription
     /// that was for constraints, or none and its caller processes them; that of an intent that was
@@ -217,10 +220,9 @@ impl<S: Space + Drop> Service<S> {
             → (n : ℕ) → IsContent S.holds (space_of self.old) (empty_at n)
             → (a : Airspace) → S.holds (space_of self.new) a
             → Counts (salt_of self.old) (empty_at n) calls.now replies.items a) }
-        ensures numbered { is_shut self.old ≡ false → S.is_sound (space_of self.new)
-            → IfOk result (λ replies. has_stopped replies.items ≡ false
+        ensures numbered { S.is_sound (space_of self.new)
             → (n : ℕ) → IsContent S.holds (space_of self.old) (empty_at n)
-            → (a : Airspace) → S.holds (space_of self.new) a → AllNumbered (salt_of self.old) a) }
+            → (a : Airspace) → S.holds (space_of self.new) a → AllNumbered (salt_of self.old) a }
     {
         let mut replies = Vec::with_capacity(alloc, calls.len())?;
         for entry in calls {

@@ -1,4 +1,3 @@
-pub mod Urls
 pub mod Notified
 pub mod Looked
 pub mod Steps

@@ -36,7 +36,7 @@ use Rattle.service_step.specs.declared.reply.Answer.TheVariants as answers
 use Rattle.service_step.specs.declared.reply.Reply.{Reply}
 use Rattle.service_step.specs.declared.reply.Reply.TheVariants.{Done}
 use Rattle.service_step.specs.declared.look.Grounds.{Grounds}
-use Rattle.service_step.specs.Notices.{notices_in, touched}
+use Rattle.service_notices.specs.Notices.{notices_in, touched}
 use Rattle.service_step.specs.Step.{effect, effect_by, kept_as, kept_with, create_effect, put_effect, update_effect, delete_effect, sub_kept_as, seen_of, seen_sub, stored_reply, put_sub_effect, update_sub_effect, delete_sub_effect}
 use Rattle.service_step.specs.Looks.{CanTell, IsGround, IsNotified, Makes, Prepares, PutsSub, changed_by}
 use Rattle.policy_core.proofs.Finds.{find_rest, none_passes}

@@ -26,7 +26,7 @@ use Rattle.policy_core.specs.View.{view_of}
 use Rattle.policy_core.specs.SubView.{sub_view_of}
 use Rattle.policy_core.specs.declared.reference.Reference.{Reference}
 use Rattle.policy_core.specs.declared.sub_view.SubView.{SubView}
-use Rattle.service_step.specs.Notices.{notices_in, touched, with_notified}
+use Rattle.service_notices.specs.Notices.{notices_in, touched, with_notified}
 use Rattle.service_step.specs.declared.reply.Answer.TheVariants.{Created, Changed, Found, Listed, Avail, SubStored, SubFound, SubListed}
 use Rattle.service_step.specs.declared.reply.Reply.{Reply}
 use Rattle.service_step.specs.declared.reply.Reply.TheVariants.{Done, Denied, Fault}

@@ -9,6 +9,5 @@ pub mod halt;
 pub mod look;
 pub mod made;
 pub mod needed;
-pub mod notice;
 pub mod reply;
 mod sub_effects;

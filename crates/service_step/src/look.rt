@@ -1,5 +1,5 @@
 //! Looks at a space, before a call is judged and its answer made.
-ghost use Rattle.std.specs.Prelude.{◌≡◌, ◌≢◌, Err, IfOk, List, map, unwrap_or, []};
+ghost use Rattle.std.specs.Prelude.{◌≡◌, ◌≢◌, Err, IfOk, IsErrOf, true, List, map, unwrap_or, []};
 ghost use Rattle.std.specs.FinMap.{get};
 ghost use Rattle.entity_core.specs.Airspace.{Airspace, availability_of};
 ghost use Rattle.entity_core.specs.Search.{subscribers_in};
@@ -23,7 +23,7 @@ use policy_core::call::Operation;
 use policy_core::reference::{Reference, References, view};
 use policy_core::standing::Facts;
 use space_core::met::Met;
-use space_core::space::Space;
+use space_core::space::{Space, SpaceFault};
 use std::alloc::{AllocError, Global};
 
 /// What was looked up for an operation.
@@ -106,6 +106,8 @@ fn look_kept<S: Space>(space: &mut S, op: &Operation) -> Result<Option<(Availabi
 fn look_serial<S: Space>(space: &mut S) -> Result<u64, Halt>
     ensures looks { Looks S.Space space.old space.new result (λ a serial. serial ≡ a.serial) }
     ensures memory { result ≢ Err Halt.NoMemory }
+    ensures broken { S.is_broken space.old ≡ true
+        → IsErrOf result (Halt.Space SpaceFault.Broken) }
 {
     Ok(space.serial()?)
 }
@@ -154,14 +156,17 @@ fn look_depended<S: Space>(space: &mut S, op: &Operation) -> Result<bool, Halt>
     }
 }
 
-/// Looks up what the rules and the effect of an operation need. It takes no memory of its own.
+/// Looks up what the rules and the effect of an operation need. It takes no memory of its own. The
+/// serial comes first, since each operation asks for it: so a space that is broken is told at once.
 pub fn look<S: Space>(space: &mut S, op: &Operation) -> Result<Grounds, Halt>
     ensures looks { Looks S.Space space.old space.new result (IsGround op.now) }
     ensures memory { result ≢ Err Halt.NoMemory }
+    ensures broken { S.is_broken space.old ≡ true
+        → IsErrOf result (Halt.Space SpaceFault.Broken) }
 {
+    let serial = look_serial(space)?;
     let found = look_found(space, op)?;
     let kept = look_kept(space, op)?;
-    let serial = look_serial(space)?;
     let sub = look_sub(space, subject_of(op))?;
     let depended = look_depended(space, op)?;
     Ok(Grounds {

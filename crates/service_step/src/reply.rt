@@ -1,7 +1,6 @@
 //! What is answered.
 ghost use Rattle.std.specs.Prelude.{◌≡◌};
 
-use crate::notice::Notices;
 use entity_core::availability::Availability;
 use entity_core::nature::Kind;
 use entity_core::text::Text;
@@ -9,6 +8,7 @@ use entity_core::uss_id::UssId;
 use policy_core::reference::{Missing, Reference, References};
 use policy_core::rule::Rule;
 use policy_core::sub_view::{SubView, SubViews};
+use service_notices::notice::Notices;
 
 /// The answer to a call that broke no rule.
 #[derive(Debug, Drop)]

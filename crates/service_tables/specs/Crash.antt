@@ -5,10 +5,12 @@ use Rattle.sqlite_trees.specs.declared.store.Store.{Ghosts}
 use Rattle.entity_core.specs.Airspace.{Airspace}
 use Rattle.policy_core.specs.declared.call.Call.{Call}
 use Rattle.space_core.specs.Space.{IsContent}
+use Rattle.space_core.specs.declared.space.Space as spaces
 use Rattle.service_step.specs.declared.reply.Reply.{Reply}
 use Rattle.service_step.specs.declared.reply.Reply.TheVariants.{Done, Denied, Fault, Stopped}
 use Rattle.service_core.specs.declared.service.Service.{Service}
-use Rattle.service_core.specs.Held.{is_shut, space_of}
+use Rattle.service_core.specs.Held.{is_shut, salt_of, space_of}
+use Rattle.service_core.specs.Run.{IsReplyTo}
 use Rattle.service_step.specs.Step.{step}
 use Rattle.space_sql.specs.Crash.{may_leave_of}
 use Rattle.space_sql.specs.Holding.{Keeps, Kept, holds_of, is_sound_of, is_whole_of}
@@ -31,3 +33,16 @@ pub record CrashLeaves {S : Type 0} (g : Ghosts S) (salt : List ℕ) (now : ℕ)
       → (db : Trees) → may_leave_of g (space_of new) db
       → KeepsAfter a (step salt a now call).0 reply db
   pub stays : is_shut old ≡ true → new ≡ old
+
+-- It is so after each call, by what is said of its reply.
+abbrev pub CrashAfterCall : {S : Type 0} → Ghosts S → spaces.Ghosts (Kept S) → Type 0
+CrashAfterCall {S} g space = (old new : Service (Kept S)) (now : ℕ) (call : Call) (reply : Reply)
+    → IsReplyTo space old new now call reply → CrashLeaves g (salt_of old) now call old new reply
+
+-- A crash leaves something of a space over which a call was answered, where the airspace was this
+-- one before; and whatever it leaves keeps the airspace that is due.
+pub record LeavesDue {S : Type 0} (g : Ghosts S) (salt : List ℕ) (before : Airspace) (now : ℕ)
+    (call : Call) (reply : Reply) (k : Kept S) : Type 0 where
+  pub some : ∥ ((db : Trees) × may_leave_of g k db) ∥₁
+  pub each : (db : Trees) → may_leave_of g k db
+      → KeepsAfter before (step salt before now call).0 reply db

@@ -1,4 +1,5 @@
 //! A service over tables: what a crash leaves of it.
 #![tactic(auto)]
 
-pub mod crash;
+pub mod first;
+pub mod laws;

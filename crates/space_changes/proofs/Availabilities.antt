@@ -1,11 +1,11 @@
 -- What a USS has set is replaced.
-use Rattle.std.proofs.Common.{◌≡◌, ℕ, ◌+◌, ◌<◌, ℤ, List, [], ◌∷◌, ◌++◌, map, filter, not, ◌&&◌, Bool, true, false, Ok, Err, Result, OnOk, refl, sym, ap, subst, ◌∙◌, arith}
+use Rattle.std.proofs.Common.{◌≡◌, ℕ, ◌<◌, ℤ, List, [], ◌∷◌, ◌++◌, filter, not, ◌&&◌, Bool, true, false, Ok, Err, Result, OnOk, refl, sym, ap, subst, ◌∙◌, arith}
 use Rattle.std.specs.Prelude.{IsPermutation}
 use Rattle.std.specs.Ordering.{eq_by_cmp}
 use Rattle.std.specs.FinMap.{entries, insert, nat_cmp-IsAntisymmetric, slice_cmp-IsAntisymmetric, IsAntisymmetric}
 use Rattle.std.proofs.lemmas.Cmp.{nat_list_cmp_total, eq_by_cmp_equiv}
 use Rattle.std.proofs.lemmas.List.Elements.{All-from_recursion, recursion_from_All}
-use Rattle.std.proofs.lemmas.List.Sorted.{All-permutation, IsPermutation-append_comm, IsPermutation-trans, IsPermutation-sym, IsPermutation-refl}
+use Rattle.std.proofs.lemmas.List.Sorted.{All-permutation, IsPermutation-append_comm, IsPermutation-trans, IsPermutation-sym}
 use Rattle.sqlite_keyed.proofs.ListLemmas.{all-filter}
 use Rattle.sqlite_tied.proofs.RuleLemmas.{and_true}
 use Rattle.sqlite_tied.specs.Compute.{everything}
@@ -14,44 +14,38 @@ use Rattle.sqlite_sql.specs.declared.ops.BinaryOp.TheVariants.{Compare}
 use Rattle.sqlite_sql.specs.declared.ops.CompareOp.TheVariants.{Eq}
 use Rattle.sqlite_sql.specs.Ops.{binary, is_true}
 use Rattle.sqlite_value.specs.declared.keys.Collation.TheVariants.{Binary}
-use Rattle.sqlite.specs.declared.types.Value.TheVariants.{Null, Int, Text}
+use Rattle.sqlite.specs.declared.types.Value.TheVariants.{Text}
 use Rattle.sqlite.specs.Order.{Row, column}
-use Rattle.sqlite.specs.Term.{lit, col}
+use Rattle.sqlite.specs.Term.{col}
 use Rattle.sqlite.specs.Tree.{Trees}
-use Rattle.sqlite.specs.Edit.{Edit, edit_of}
-use Rattle.sqlite_rules.specs.Edit.{taken_by, next_rowid}
-use Rattle.sqlite_rules.specs.Action.{works, Writes as Acts}
+use Rattle.sqlite.specs.Edit.{edit_of}
+use Rattle.sqlite_rules.specs.Edit.{taken_by}
+use Rattle.sqlite_rules.specs.Action.{works}
 use Rattle.sqlite_schema.specs.declared.schema.Keys.TheVariants.{Enforced}
-use Rattle.sqlite.specs.Rowids.TheVariants.{Given, Chosen}
+use Rattle.sqlite.specs.Rowids.TheVariants.{Given}
 use Rattle.sqlite.specs.Effect.{Database}
-use Rattle.sqlite.specs.Command.TheVariants.{Insert, Delete}
-use Rattle.sqlite.specs.Source.TheVariants.{Values}
+use Rattle.sqlite.specs.Command.TheVariants.{Delete}
 use Rattle.sqlite.specs.declared.error.Error.{Error}
 use Rattle.sqlite.specs.Listing.{understood}
 use Rattle.sqlite.specs.State.{State, Executes}
-use Rattle.sqlite.proofs.Callers.{IsPlain, command_of, statement_of, runs_as, one_step}
+use Rattle.sqlite.proofs.Callers.{IsPlain, command_of, one_step}
 use Rattle.entity_core.specs.declared.availability.Availability.{Availability}
-use Rattle.entity_core.specs.Airspace.{Airspace, Stated, text_cmp, with_availability}
+use Rattle.entity_core.specs.Airspace.{Availabilities, Stated, text_cmp, with_availability}
 use Rattle.entity_core.specs.Serial.{greatest_serial}
 use Rattle.space_core.specs.declared.space.Change.TheVariants.{Avail}
-use Rattle.space_rows.proofs.Pieces.{all_turned}
 use Rattle.space_tables.specs.Tables.{dss_schema, availability}
-use Rattle.space_tables.proofs.FirstFormat.{IsFirstGroup, spelt_first}
-use Rattle.space_tables.specs.Spelling.{Spells, IsStated, AreApart, availability_number, availability_values, three_columns}
-use Rattle.space_tables.proofs.Steps.{cast_int, cast_null, inserts}
-use Rattle.space_changes.specs.Layout.{Always, Relays, ReplacesAvailability, layout_of, with_availability_row, without_availability_row, with_next_serial}
+use Rattle.space_tables.specs.Spelling.{IsStated, availability_values, three_columns}
+use Rattle.space_changes.specs.Layout.{Always, AreRows, LaysOut, Relays, ReplacesAvailability, layout_of, with_availability_row, without_availability_row, with_next_serial}
 use Rattle.space_changes.specs.Statements.{RelaysSound, MakesChange}
-use Rattle.space_changes.proofs.Texts.{clear_availability_text, insert_availability_text}
+use Rattle.space_changes.proofs.Texts.{clear_availability_text}
 use Rattle.space_tables.proofs.Selecting.{query_of}
 use Rattle.space_changes.proofs.Means.{is_first}
 use Rattle.space_changes.proofs.Selecting.{clears_table}
-use Rattle.space_changes.proofs.Clear.{apart_kept}
 use Rattle.space_changes.proofs.Relaying.{availabilities_relaid}
-use Rattle.space_changes.proofs.Rows.{rows_passing}
-use Rattle.space_changes.proofs.Joining.{grows, apart_joined}
-use Rattle.space_changes.proofs.Inserting.{fresh_one, one_put}
+use Rattle.space_changes.proofs.Rows.{some_left}
 use Rattle.space_changes.proofs.Entries.{others, inserted}
-use Rattle.space_changes.proofs.Spelt.{AreRowsOf, lay_out, spell_out}
+use Rattle.space_changes.proofs.Numbered.{made}
+use Rattle.space_changes.proofs.Spelt.{AreStated, entities_later, lay_out, own_entities, own_stated, own_subs, subs_later}
 
 -- ---- the row is deleted
 
@@ -78,82 +72,25 @@ pub clears_availability : (old new : State) (uss : List ℕ) (r : Result ℕ Err
 clears_availability old new uss (Err e) h = tt
 clears_availability old new uss (Ok count) h = λ l _ has.
     let db = old.now.trees in
-    let u = clears_table clear_availability_text (Text uss ∷ []) (availability 8) 4 (is_first 1) refl clear_availability_is clear_availability_plain old new count has.schema has.apart.2 refl h
+    let u = clears_table clear_availability_text (Text uss ∷ []) (availability 8) 4 (is_first 1) refl clear_availability_is clear_availability_plain old new count has.schema has.availabilities.apart refl h
     (λ ids next same wrote. one_step dss_schema Enforced db next (edit_of db (availability 8) ids Given 0 []) (no_works db ids) wrote) in
-    let at = λ (t : ℕ). ap (λ (d : Database). d.trees t) u.is in
-    let eight = at 8 ∙ u.rows in
-    let left = filter (λ (s : List ℕ × Stated). not (eq_by_cmp text_cmp uss s.0)) l.availabilities in
-    availabilities_relaid old.now new.now l has (ap (λ (d : Database). d.schema) u.is)
-    (at 0 ∙ u.step.tables.0 (λ e. cc)) (at 1 ∙ u.step.tables.1.0 (λ e. cc)) (at 3 ∙ u.step.tables.1.1.0 (λ e. cc)) (at 5 ∙ u.step.tables.1.1.1.0 (λ e. cc))
-    left
-    (subst (λ rs. IsPermutation (map availability_values left) (map three_columns rs)) (sym eight)
-    (rows_passing availability_values three_columns l.availabilities (db 8) has.availabilities (λ c. not (names uss c)) (λ s. not (eq_by_cmp text_cmp uss s.0)) (λ s. ap not (names_uss uss s))))
-    (subst AreApart (sym eight) (apart_kept (λ r. not (names uss (three_columns r))) (db 8) has.apart.2))
-
--- ---- and inserted
-
-insert_availability_is : command_of (understood dss_schema insert_availability_text) ≡ Insert 4 (Values (lit Null ∷ col 0 0 ∷ col 0 1 ∷ col 0 2 ∷ []) 4)
-unfolding understood everything
-insert_availability_is = refl
-
-insert_availability_plain : IsPlain (understood dss_schema insert_availability_text)
-unfolding understood everything
-insert_availability_plain = (refl, refl)
-
-abbrev availability_edit : Trees → List ℕ × Stated → Edit
-availability_edit db s = edit_of db (availability 8) [] Chosen 0 ((Null ∷ availability_values s) ∷ [])
-
-abbrev stored_availability : Trees → List ℕ × Stated → Row
-stored_availability db s = Int (next_rowid (db 8)) ∷ availability_values s
-
-new_availability : (db : Trees) (s : List ℕ × Stated) → (availability_edit db s).news ≡ stored_availability db s ∷ []
-new_availability db s = rw (cast_int (availability_number s.1.0), cast_null)
-
-availability_works : (db : Trees) (s : List ℕ × Stated) → works dss_schema Enforced 0 8 (taken_by db (availability_edit db s)) (availability_edit db s).news ≡ []
-availability_works db s = refl
-
-pub inserts_availability : (old new : State) (s : List ℕ × Stated) (r : Result ℕ Error) → Executes insert_availability_text (availability_values s) old new r → OnOk r (Relays Always (with_availability_row s.0 s.1) old.now new.now)
-inserts_availability old new s (Err e) h = tt
-inserts_availability old new s (Ok count) h = λ l _ has.
-    let db = old.now.trees in
-    let w = runs_as insert_availability_text (availability_values s) old new dss_schema has.schema _ insert_availability_is insert_availability_plain count h in
-    let u = inserts dss_schema old new (availability_values s) (availability 8) 4 _ 4 (statement_of insert_availability_text (understood dss_schema insert_availability_text)) count has.schema refl refl w in
-    let rows : u.rows ≡ (Null ∷ availability_values s) ∷ [] = u.given in
-    let wrote = subst (λ rs. Acts dss_schema Enforced db (edit_of db (availability 8) [] Chosen 0 rs) (Ok u.next)) rows u.wrote in
-    let step = one_step dss_schema Enforced db u.next (availability_edit db s) (availability_works db s) wrote in
-    let at = λ (t : ℕ). ap (λ (d : Database). d.trees t) u.is in
-    let one = stored_availability db s in
-    let fresh = fresh_one db u.next (availability_edit db s) one (new_availability db s) refl step in
-    let put = at 8 ∙ one_put db u.next (availability_edit db s) one (new_availability db s) refl step in
-    availabilities_relaid old.now new.now l has (ap (λ (d : Database). d.schema) u.is)
-    (at 0 ∙ step.tables.0 (λ e. cc)) (at 1 ∙ step.tables.1.0 (λ e. cc)) (at 3 ∙ step.tables.1.1.0 (λ e. cc)) (at 5 ∙ step.tables.1.1.1.0 (λ e. cc))
-    (l.availabilities ++ s ∷ [])
-    (subst (λ rs. IsPermutation (map availability_values (l.availabilities ++ s ∷ [])) (map three_columns rs)) (sym put) (grows availability_values three_columns l.availabilities s one (db 8) refl fresh has.availabilities))
-    (subst AreApart (sym put) (apart_joined one (next_rowid (db 8)) (db 8) refl fresh has.apart.2))
+    let left = some_left availability_values three_columns l.availabilities (db 8) has.availabilities (λ c. not (names uss c)) (λ s. not (eq_by_cmp text_cmp uss s.0)) (λ s. ap not (names_uss uss s)) in
+    subst (λ d. LaysOut d (without_availability_row uss l)) (sym u.is) (availabilities_relaid old.now u.next l has u.step.tables _ (subst (AreRows availability_values three_columns _) (sym u.rows) left))
 
 -- ---- the airspace with it
 
 text_exact : IsAntisymmetric text_cmp
 text_exact = slice_cmp-IsAntisymmetric nat_cmp-IsAntisymmetric
 
-module _ (db : Database) (a : Airspace) (p : Spells db a) (uss : List ℕ) (stated : Stated) (is : IsStated (uss, stated)) where
-  together : IsPermutation ((uss, stated) ∷ others text_cmp nat_list_cmp_total text_exact uss (entries a.availabilities)) (entries (insert a.availabilities uss stated))
-  together = inserted text_cmp nat_list_cmp_total text_exact a.availabilities uss stated
+module _ (m : Availabilities) (uss : List ℕ) (stated : Stated) (is : IsStated (uss, stated)) where
+  together : IsPermutation ((uss, stated) ∷ others text_cmp nat_list_cmp_total text_exact uss (entries m)) (entries (insert m uss stated))
+  together = inserted text_cmp nat_list_cmp_total text_exact m uss stated
 
-  -- its rows are those of the airspace with what is set
-  pub rows_set : a.serial < greatest_serial → AreRowsOf (with_next_serial (with_availability_row uss stated (without_availability_row uss (layout_of db a p)))) p.groups (with_availability a uss stated)
-  rows_set room = record {
-    serial = refl;
-    most = omega (arith, room);
-    rising = p.rising;
-    each = all_turned (IsFirstGroup a.serial) (IsFirstGroup (a.serial + 1)) (λ g h. record { spelt = h.spelt; naming = h.naming; most = let low = h.most in omega (arith, low) }) p.groups (spelt_first db a p).each;
-    entities = IsPermutation-refl _;
-    volumes = IsPermutation-refl _;
-    cells = IsPermutation-refl _;
-    kept = p.kept;
-    subscriptions = (spelt_first db a p).subscriptions;
-    availabilities = IsPermutation-trans _ _ _ (IsPermutation-sym _ _ together) (IsPermutation-append_comm ((uss, stated) ∷ []) (others text_cmp nat_list_cmp_total text_exact uss (entries a.availabilities)));
-    stated = recursion_from_All IsStated _ (All-permutation IsStated _ _ together (All-from_recursion IsStated ((uss, stated) ∷ others text_cmp nat_list_cmp_total text_exact uss (entries a.availabilities)) (is, all-filter IsStated _ (entries a.availabilities) p.stated)));
+  -- the rows are what each USS has set, with what is set
+  stated_set : AreStated (entries m) m → AreStated (filter (λ (s : List ℕ × Stated). not (eq_by_cmp text_cmp uss s.0)) (entries m) ++ (uss, stated) ∷ []) (insert m uss stated)
+  stated_set are = record {
+    are = IsPermutation-trans _ _ _ (IsPermutation-sym _ _ together) (IsPermutation-append_comm ((uss, stated) ∷ []) (others text_cmp nat_list_cmp_total text_exact uss (entries m)));
+    stated = recursion_from_All IsStated _ (All-permutation IsStated _ _ together (All-from_recursion IsStated ((uss, stated) ∷ others text_cmp nat_list_cmp_total text_exact uss (entries m)) (is, all-filter IsStated _ (entries m) are.stated)));
   }
 
 -- what a USS has set is replaced, and the serial goes on
@@ -164,4 +101,10 @@ sets_availability old replaced new uss availability version replaces raises a p 
     let stated : Stated = (availability, version) in
     let set = with_availability_row uss stated (without_availability_row uss l) in
     let has = replaces.1 l tt (lay_out old a p) in
-    (spell_out new (with_next_serial set) p.groups (with_availability a uss stated) (raises.0 set fits.room has) (rows_set old a p uss stated replaces.0 fits.room), raises.1 set fits.room has)
+    made old new a (with_availability a uss stated) p (with_next_serial set) p.subs p.groups (raises.0 set fits.room has) (raises.1 set fits.room has) (record {
+      serial = refl;
+      most = let room = fits.room in omega (arith, room);
+      subs = subs_later _ _ _ _ _ (own_subs old a p);
+      entities = entities_later _ _ _ _ _ _ _ _ (own_entities old a p);
+      stated = stated_set a.availabilities uss stated replaces.0 (own_stated old a p);
+    }) (λ n k at there. at) (λ n k at there. at)

@@ -23,13 +23,13 @@ use Rattle.sqlite_rules.specs.declared.action.Deed.TheVariants as deed
 use Rattle.sqlite_rules.proofs.TableLemmas.{int_is}
 use Rattle.sqlite_schema.specs.declared.schema.Keys.TheVariants.{Enforced}
 use Rattle.sqlite_schema.specs.declared.schema.Reference.{Reference}
-use Rattle.sqlite_schema.specs.declared.schema.Action.TheVariants.{Cascade, NoAction}
+use Rattle.sqlite_schema.specs.declared.schema.Action.TheVariants.{Cascade, NoAction, Restrict}
 use Rattle.sqlite.specs.Rowids.TheVariants.{Given}
 use Rattle.std.proofs.Common.{codes}
-use Rattle.space_tables.specs.Tables.{dss_schema, cell, volume, entity}
+use Rattle.space_tables.specs.Tables.{dss_schema, cell, volume, entity, naming, subscription, subscription_cell}
 use Rattle.space_changes.proofs.Clear.{PairApart, ties_itself}
 use Rattle.space_changes.proofs.Lists.{all_there, first_of_two, last_of_two}
-use Rattle.space_changes.proofs.Cascade.{IsIdle, one_idle, none_left}
+use Rattle.space_changes.proofs.Cascade.{IsIdle, AreIdle, all_idle}
 
 any_some : {X : Type 0} (p : X → Bool) (xs : List X) → list_any p xs ≡ true → (x : X) × Has xs x × (p x ≡ true)
 any_some p [] e = absurd cc
@@ -76,6 +76,41 @@ taken_have P hit rows ids apart same each =
         go true e more = (subst P (sym (taken_row rows x apart (sub x (inl refl)))) (each x (sub x (inl refl)) e), more)
         go false e more = more
 
+-- ---- works that are idle
+
+-- the test of a child's column against a number
+abbrev pub differs : ℕ → ℤ → Row → Type 0
+differs place num r = is_true (binary (Compare Eq Binary) (column r place) (Int num)) ≡ false
+
+-- where no row bears the number, a work that acts on those that do is idle
+module _ (num : ℤ) (w : Work) (at place : ℕ) (same : (r : Row) (m : Row × Row) → is_child_of w r m ≡ true → is_true (binary (Compare Eq Binary) (column r at) (column m.0 place)) ≡ true) (olds : List Row) (moves : w.moves ≡ pairs olds []) where
+  pub idle : (db : Trees) → AllByRecursion (λ m. column m place ≡ Int num) olds → AllByRecursion (differs at num) (db w.child.tree) → IsIdle db w
+  idle db all none r h e =
+      let it = any_some (is_child_of w r) w.moves e in
+      let old = in_pairs olds it.0 (subst (λ ms. Has ms it.0) moves it.1) in
+      let borne = all_there (λ m. column m place ≡ Int num) olds all it.0.0 old in
+      let yes' = ap (λ v. is_true (binary (Compare Eq Binary) (column r at) v)) (sym borne) ∙ same r it.0 it.2 in
+      let no' = all_there (differs at num) (db w.child.tree) none r h in
+      absurd (let both = sym yes' ∙ no' in cc)
+
+none_idle : (db : Trees) → AreIdle db []
+none_idle db w h = absurd h
+
+one_idle : (db : Trees) (v : Work) → IsIdle db v → AreIdle db (v ∷ [])
+one_idle db v p w (inl e) = subst (IsIdle db) (sym e) p
+one_idle db v p w (inr h) = absurd h
+
+two_idle : (db : Trees) (u v : Work) → IsIdle db u → IsIdle db v → AreIdle db (u ∷ v ∷ [])
+two_idle db u v p q w (inl e) = subst (IsIdle db) (sym e) p
+two_idle db u v p q w (inr h) = one_idle db v q w h
+
+-- a write that sets off what has no child
+pub quiet_step : (db next : Trees) (edit : Edit) (ws : List Work) → works dss_schema Enforced 0 edit.table.tree (taken_by db edit) edit.news ≡ ws → ((mid : Trees) → Applies dss_schema Enforced db edit mid → AreIdle mid ws)
+    → Acts dss_schema Enforced db edit (Ok next) → Applies dss_schema Enforced db edit next
+quiet_step db next edit ws are idle (inl refused) = absurd (let e = refused.2 in cc)
+quiet_step db next edit ws are idle (inr (inl big)) = absurd (let e = big.3 in cc)
+quiet_step db next edit ws are idle (inr (inr went)) = subst (Applies dss_schema Enforced db edit) (sym (all_idle dss_schema Enforced went.2.0 went.0 next ws (idle went.0 went.1) (rw are at went.2.1))) went.1
+
 -- ---- volumes, whose cells are gone
 
 cell_reference : Reference
@@ -92,38 +127,22 @@ volume_works olds = go (list_any (loses plain (1 ∷ 2 ∷ [])) (pairs olds []))
     go true e = inr (rw e)
     go false e = inl (rw e)
 
--- a child of a row that bears the number bears it
-module _ (num : ℤ) (w : Work) (place : ℕ) (same : (r : Row) (m : Row × Row) → is_child_of w r m ≡ true → is_true (binary (Compare Eq Binary) (column r 1) (column m.0 place)) ≡ true) (olds : List Row) (moves : w.moves ≡ pairs olds []) where
-  pub idle : (db : Trees) → AllByRecursion (λ m. column m place ≡ Int num) olds → AllByRecursion (λ r. is_true (binary (Compare Eq Binary) (column r 1) (Int num)) ≡ false) (db w.child.tree) → IsIdle db w
-  idle db all none r h e =
-      let it = any_some (is_child_of w r) w.moves e in
-      let old = in_pairs olds it.0 (subst (λ ms. Has ms it.0) moves it.1) in
-      let borne = all_there (λ m. column m place ≡ Int num) olds all it.0.0 old in
-      let yes' = ap (λ v. is_true (binary (Compare Eq Binary) (column r 1) v)) (sym borne) ∙ same r it.0 it.2 in
-      let no' = all_there (λ r. is_true (binary (Compare Eq Binary) (column r 1) (Int num)) ≡ false) (db w.child.tree) none r h in
-      absurd (let both = sym yes' ∙ no' in cc)
-
 cell_of_volume : (olds : List Row) (r : Row) (m : Row × Row) → is_child_of (cell_work olds) r m ≡ true → is_true (binary (Compare Eq Binary) (column r 1) (column m.0 1)) ≡ true
 unfolding everything cell_reference
 cell_of_volume olds r m e = first_of_two _ _ (last_of_two _ _ e)
 
--- a write that sets off nothing, or what has no child
-pub quiet_step : (db next : Trees) (edit : Edit) (t : ℕ) (w : Work) → (works dss_schema Enforced 0 edit.table.tree (taken_by db edit) edit.news ≡ []) ⊎ (works dss_schema Enforced 0 edit.table.tree (taken_by db edit) edit.news ≡ w ∷ [])
-    → ((mid : Trees) → Applies dss_schema Enforced db edit mid → IsIdle mid w) → Acts dss_schema Enforced db edit (Ok next) → Applies dss_schema Enforced db edit next
-quiet_step db next edit t w cases idle (inl refused) = absurd (let e = refused.2 in cc)
-quiet_step db next edit t w cases idle (inr (inl big)) = absurd (let e = big.3 in cc)
-quiet_step db next edit t w (inl none) idle (inr (inr went)) = subst (Applies dss_schema Enforced db edit) (sym (none_left dss_schema Enforced went.2.0 went.0 next (rw none at went.2.1))) went.1
-quiet_step db next edit t w (inr one) idle (inr (inr went)) = subst (Applies dss_schema Enforced db edit) (sym (one_idle dss_schema Enforced went.2.0 went.0 next w (idle went.0 went.1) (rw one at went.2.1))) went.1
-
-pub volumes_quiet : (db next : Trees) (ids : List ℤ) (num : ℤ) → AllByRecursion (λ m. column m 1 ≡ Int num) (map (row_at (db 3)) ids) → AllByRecursion (λ r. is_true (binary (Compare Eq Binary) (column r 1) (Int num)) ≡ false) (db 5)
+pub volumes_quiet : (db next : Trees) (ids : List ℤ) (num : ℤ) → AllByRecursion (λ m. column m 1 ≡ Int num) (map (row_at (db 3)) ids) → AllByRecursion (differs 1 num) (db 5)
     → Acts dss_schema Enforced db (edit_of db (volume 3) ids Given 0 []) (Ok next) → Applies dss_schema Enforced db (edit_of db (volume 3) ids Given 0 []) next
 volumes_quiet db next ids num all none wrote =
     let edit = edit_of db (volume 3) ids Given 0 [] in
     let olds = map (row_at (db 3)) ids in
-    quiet_step db next edit 3 (cell_work olds) (volume_works olds) (λ mid step. idle num (cell_work olds) 1 (cell_of_volume olds) olds refl mid all
-    (subst (AllByRecursion (λ r. is_true (binary (Compare Eq Binary) (column r 1) (Int num)) ≡ false)) (sym (step.tables.1.1.1.0 (λ e. cc))) none)) wrote
+    let quiet = λ (mid : Trees) (step : Applies dss_schema Enforced db edit mid). idle num (cell_work olds) 1 1 (cell_of_volume olds) olds refl mid all (subst (AllByRecursion (differs 1 num)) (sym (step.tables.1.1.1.0 (λ e. cc))) none) in
+    elim (volume_works olds) [
+      | inl no' ↦ quiet_step db next edit [] no' (λ mid step. none_idle mid) wrote
+      | inr one ↦ quiet_step db next edit (cell_work olds ∷ []) one (λ mid step. one_idle mid (cell_work olds) (quiet mid step)) wrote
+    ]
 
--- ---- the entity, whose volumes are gone
+-- ---- the entity, whose volumes are gone, and which names nothing
 
 volume_reference : Reference
 volume_reference = record { columns = 1 ∷ []; parent = codes "entity"; parent_columns = codes "num" ∷ []; on_delete = Cascade; on_update = NoAction; is_deferred = false }
@@ -131,11 +150,17 @@ volume_reference = record { columns = 1 ∷ []; parent = codes "entity"; parent_
 abbrev volume_work : List Row → Work
 volume_work olds = record { depth = 0; child = volume 3; ref = volume_reference; places = 0 ∷ []; order = plain; deed = deed.Delete; moves = pairs olds [] }
 
-entity_works : (olds : List Row) → (works dss_schema Enforced 0 1 olds [] ≡ []) ⊎ (works dss_schema Enforced 0 1 olds [] ≡ volume_work olds ∷ [])
-unfolding everything volume_reference
+naming_reference : Reference
+naming_reference = record { columns = 0 ∷ []; parent = codes "entity"; parent_columns = codes "num" ∷ []; on_delete = Cascade; on_update = NoAction; is_deferred = false }
+
+abbrev naming_work : List Row → Work
+naming_work olds = record { depth = 0; child = naming 15; ref = naming_reference; places = 0 ∷ []; order = plain; deed = deed.Delete; moves = pairs olds [] }
+
+entity_works : (olds : List Row) → (works dss_schema Enforced 0 1 olds [] ≡ []) ⊎ (works dss_schema Enforced 0 1 olds [] ≡ volume_work olds ∷ naming_work olds ∷ [])
+unfolding everything volume_reference naming_reference
 entity_works olds = go (list_any (loses plain (0 ∷ [])) (pairs olds [])) refl
   where
-    go : (b : Bool) → list_any (loses plain (0 ∷ [])) (pairs olds []) ≡ b → (works dss_schema Enforced 0 1 olds [] ≡ []) ⊎ (works dss_schema Enforced 0 1 olds [] ≡ volume_work olds ∷ [])
+    go : (b : Bool) → list_any (loses plain (0 ∷ [])) (pairs olds []) ≡ b → (works dss_schema Enforced 0 1 olds [] ≡ []) ⊎ (works dss_schema Enforced 0 1 olds [] ≡ volume_work olds ∷ naming_work olds ∷ [])
     go true e = inr (rw e)
     go false e = inl (rw e)
 
@@ -143,10 +168,60 @@ volume_of_entity : (olds : List Row) (r : Row) (m : Row × Row) → is_child_of 
 unfolding everything volume_reference
 volume_of_entity olds r m e = first_of_two _ _ (last_of_two _ _ e)
 
-pub entity_quiet : (db next : Trees) (ids : List ℤ) (num : ℤ) → AllByRecursion (λ m. column m 0 ≡ Int num) (map (row_at (db 1)) ids) → AllByRecursion (λ r. is_true (binary (Compare Eq Binary) (column r 1) (Int num)) ≡ false) (db 3)
+naming_of_entity : (olds : List Row) (r : Row) (m : Row × Row) → is_child_of (naming_work olds) r m ≡ true → is_true (binary (Compare Eq Binary) (column r 0) (column m.0 0)) ≡ true
+unfolding everything naming_reference
+naming_of_entity olds r m e = first_of_two _ _ (last_of_two _ _ e)
+
+pub entity_quiet : (db next : Trees) (ids : List ℤ) (num : ℤ) → AllByRecursion (λ m. column m 0 ≡ Int num) (map (row_at (db 1)) ids) → AllByRecursion (differs 1 num) (db 3) → AllByRecursion (differs 0 num) (db 15)
     → Acts dss_schema Enforced db (edit_of db (entity 1) ids Given 0 []) (Ok next) → Applies dss_schema Enforced db (edit_of db (entity 1) ids Given 0 []) next
-entity_quiet db next ids num all none wrote =
+entity_quiet db next ids num all none unnamed wrote =
     let edit = edit_of db (entity 1) ids Given 0 [] in
     let olds = map (row_at (db 1)) ids in
-    quiet_step db next edit 1 (volume_work olds) (entity_works olds) (λ mid step. idle num (volume_work olds) 0 (volume_of_entity olds) olds refl mid all
-    (subst (AllByRecursion (λ r. is_true (binary (Compare Eq Binary) (column r 1) (Int num)) ≡ false)) (sym (step.tables.1.1.0 (λ e. cc))) none)) wrote
+    let volumes = λ (mid : Trees) (step : Applies dss_schema Enforced db edit mid). idle num (volume_work olds) 1 0 (volume_of_entity olds) olds refl mid all (subst (AllByRecursion (differs 1 num)) (sym (step.tables.1.1.0 (λ e. cc))) none) in
+    let namings = λ (mid : Trees) (step : Applies dss_schema Enforced db edit mid). idle num (naming_work olds) 0 0 (naming_of_entity olds) olds refl mid all (subst (AllByRecursion (differs 0 num)) (sym (step.tables.1.1.1.1.1.1.1.0 (λ e. cc))) unnamed) in
+    elim (entity_works olds) [
+      | inl no' ↦ quiet_step db next edit [] no' (λ mid step. none_idle mid) wrote
+      | inr two ↦ quiet_step db next edit (volume_work olds ∷ naming_work olds ∷ []) two (λ mid step. two_idle mid (volume_work olds) (naming_work olds) (volumes mid step) (namings mid step)) wrote
+    ]
+
+-- ---- the subscription, whose cells are gone, and which no entity names
+
+sub_cell_reference : Reference
+sub_cell_reference = record { columns = 1 ∷ []; parent = codes "subscription"; parent_columns = codes "num" ∷ []; on_delete = Cascade; on_update = NoAction; is_deferred = false }
+
+abbrev sub_cell_work : List Row → Work
+sub_cell_work olds = record { depth = 0; child = subscription_cell 12; ref = sub_cell_reference; places = 0 ∷ []; order = plain; deed = deed.Delete; moves = pairs olds [] }
+
+named_reference : Reference
+named_reference = record { columns = 2 ∷ []; parent = codes "subscription"; parent_columns = codes "num" ∷ []; on_delete = Restrict; on_update = NoAction; is_deferred = false }
+
+abbrev named_work : List Row → Work
+named_work olds = record { depth = 0; child = naming 15; ref = named_reference; places = 0 ∷ []; order = plain; deed = deed.Refuse; moves = pairs olds [] }
+
+sub_works : (olds : List Row) → (works dss_schema Enforced 0 10 olds [] ≡ []) ⊎ (works dss_schema Enforced 0 10 olds [] ≡ sub_cell_work olds ∷ named_work olds ∷ [])
+unfolding everything sub_cell_reference named_reference
+sub_works olds = go (list_any (loses plain (0 ∷ [])) (pairs olds [])) refl
+  where
+    go : (b : Bool) → list_any (loses plain (0 ∷ [])) (pairs olds []) ≡ b → (works dss_schema Enforced 0 10 olds [] ≡ []) ⊎ (works dss_schema Enforced 0 10 olds [] ≡ sub_cell_work olds ∷ named_work olds ∷ [])
+    go true e = inr (rw e)
+    go false e = inl (rw e)
+
+cell_of_sub : (olds : List Row) (r : Row) (m : Row × Row) → is_child_of (sub_cell_work olds) r m ≡ true → is_true (binary (Compare Eq Binary) (column r 1) (column m.0 0)) ≡ true
+unfolding everything sub_cell_reference
+cell_of_sub olds r m e = first_of_two _ _ (last_of_two _ _ e)
+
+naming_of_sub : (olds : List Row) (r : Row) (m : Row × Row) → is_child_of (named_work olds) r m ≡ true → is_true (binary (Compare Eq Binary) (column r 2) (column m.0 0)) ≡ true
+unfolding everything named_reference
+naming_of_sub olds r m e = first_of_two _ _ (last_of_two _ _ e)
+
+pub sub_quiet : (db next : Trees) (ids : List ℤ) (num : ℤ) → AllByRecursion (λ m. column m 0 ≡ Int num) (map (row_at (db 10)) ids) → AllByRecursion (differs 1 num) (db 12) → AllByRecursion (differs 2 num) (db 15)
+    → Acts dss_schema Enforced db (edit_of db (subscription 10) ids Given 0 []) (Ok next) → Applies dss_schema Enforced db (edit_of db (subscription 10) ids Given 0 []) next
+sub_quiet db next ids num all none unnamed wrote =
+    let edit = edit_of db (subscription 10) ids Given 0 [] in
+    let olds = map (row_at (db 10)) ids in
+    let cells = λ (mid : Trees) (step : Applies dss_schema Enforced db edit mid). idle num (sub_cell_work olds) 1 0 (cell_of_sub olds) olds refl mid all (subst (AllByRecursion (differs 1 num)) (sym (step.tables.1.1.1.1.1.1.0 (λ e. cc))) none) in
+    let namings = λ (mid : Trees) (step : Applies dss_schema Enforced db edit mid). idle num (named_work olds) 2 0 (naming_of_sub olds) olds refl mid all (subst (AllByRecursion (differs 2 num)) (sym (step.tables.1.1.1.1.1.1.1.0 (λ e. cc))) unnamed) in
+    elim (sub_works olds) [
+      | inl no' ↦ quiet_step db next edit [] no' (λ mid step. none_idle mid) wrote
+      | inr two ↦ quiet_step db next edit (sub_cell_work olds ∷ named_work olds ∷ []) two (λ mid step. two_idle mid (sub_cell_work olds) (named_work olds) (cells mid step) (namings mid step)) wrote
+    ]

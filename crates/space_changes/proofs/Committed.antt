@@ -15,6 +15,7 @@ use Rattle.space_tables.specs.Spelling.{Spells}
 use Rattle.space_tables.specs.Making.{IsUndone}
 use Rattle.space_tables.proofs.Steps.{ok_map}
 use Rattle.space_changes.specs.Committing.{Commits, MayBeChanged}
+use Rattle.space_changes.specs.Numbering.{KeepsNumbers}
 use Rattle.space_changes.specs.Statements.{Runs, MakesChange}
 
 -- what a commit that fails leaves of a transaction
@@ -41,10 +42,13 @@ module _ {S : Type 0} (g : Ghosts S) (old : Held S) (change : Change) (told : Li
     done = λ clean.
         let it = (ran.done (omega (arith, survives.clean)) refl).0 in
         ok_map r _ _ (ok clean) (λ shown. ((λ a p fits. subst (λ d. Spells d (changed change told a)) (sym shown.1.now_is) (it a p fits).0), (shown.1.is_open, shown.1.committed_is ∙ sym shown.1.now_is)));
+    numbers = λ clean.
+        let it = (ran.done (omega (arith, survives.clean)) refl).0 in
+        ok_map r _ _ (ok clean) (λ shown a p fits. subst (KeepsNumbers a (changed change told a) before.now) (sym shown.1.now_is) (it a p fits).2);
     err = λ clean alive.
         let mid : HasCleanDisk last = omega (arith, survives.clean) in
         let kept = ran.kept mid refl in
-        fails_back before last new r (err clean) (ran.done mid refl).1.mode (record { was_open = kept.was_open; committed = kept.committed }) alive;
+        fails_back before last new r (err clean) (ran.done mid refl).1.inside (record { was_open = kept.was_open; committed = kept.committed }) alive;
     crash = survives_then before last new _ _ (MayBeChanged (Fits change told) (changed change told) before) (λ _ db none. absurd none)
         (λ clean db is a p fits. let it = (ran.done (omega (arith, survives.clean)) refl).0 a p fits in (last.now, is, it.1, it.0))
         (survives_begin g old last _ ran.survives) survives;
@@ -55,6 +59,7 @@ module _ {S : Type 0} (g : Ghosts S) (old : Held S) (change : Change) (told : Li
   undone (Ok x) e failed ran back survives = absurd (let none = failed in cc)
   undone (Err f) e failed ran back survives = record {
     done = λ clean. tt;
+    numbers = λ clean. tt;
     err = λ clean alive.
         let kept = (ran.kept (omega (arith, survives.clean)) refl).committed ((back clean).was_open alive) in
         let it = (back clean).undone alive in

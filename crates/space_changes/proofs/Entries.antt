@@ -1,15 +1,19 @@
 -- The entries of a map with one more, or without one.
-use Rattle.std.proofs.Common.{◌≡◌, ◌≤◌, List, [], ◌∷◌, filter, length, not, Bool, false, cond, refl, sym, ap, subst, ◌∙◌, arith, is_eq, Ordering, Less, Equal, Greater}
-use Rattle.std.specs.Prelude.{IsPermutation}
+use Rattle.std.proofs.Common.{◌≡◌, inl, inr, ◌≤◌, List, [], ◌∷◌, filter, length, not, Bool, true, false, cond, Option, Some, None, refl, sym, ap, subst, ◌∙◌, arith, is_eq, Ordering, Less, Equal, Greater}
+use Rattle.std.specs.Prelude.{IsPermutation, IsSome}
 use Rattle.std.specs.List.{AllByRecursion}
 use Rattle.std.specs.Ordering.{eq_by_cmp}
 use Rattle.std.specs.Cmp.{IsTotalOrder}
-use Rattle.std.specs.FinMap.{FinMap, IsAntisymmetric, entries, entries_sorted, insert, remove, entries-insert}
+use Rattle.std.specs.FinMap.{FinMap, IsAntisymmetric, entries, entries_sorted, entries-insert, find, get, get-entries, get-remove, insert, remove}
 use Rattle.std.specs.FinMap.Entries.{put, by_order}
 use Rattle.std.proofs.lemmas.List.Sorted.{IsPermutation-refl, IsPermutation-trans, IsPermutation-cons, IsPermutation-middle}
 use Rattle.sqlite_keyed.proofs.ListLemmas.{filter_none}
 use Rattle.sqlite_trees.specs.Tree.{IsAscending}
+use Rattle.std.proofs.lemmas.Cmp.{tied_itself}
+use Rattle.std.proofs.lemmas.Option.{same_Some}
+use Rattle.sqlite_rules.specs.Lists.{Has}
 use Rattle.entity_core.proofs.Entries.{entries-remove}
+use Rattle.space_changes.proofs.Lists.{equal_of}
 use Rattle.space_tables.proofs.OneAirspace.{EntryLess, entries_rise}
 
 module _ {K X : Type 0} (R : K → K → Ordering) (o : IsTotalOrder R) (exact : IsAntisymmetric R) where
@@ -64,3 +68,23 @@ module _ {K X : Type 0} (R : K → K → Ordering) (o : IsTotalOrder R) (exact :
 
   pub removed : (m : FinMap R X) (k : K) → entries (remove m k) ≡ others k (entries m)
   removed m k = entries-remove o exact m k
+
+  find_there : (k : K) (es : List (K × X)) (x : X) → find R k es ≡ Some x → Has es (k, x)
+  find_there k [] x e = absurd (let none = e in cc)
+  find_there k (f ∷ es) x e = go (eq_by_cmp R k f.0) refl e (find_there k es x)
+    where
+      go : (b : Bool) → eq_by_cmp R k f.0 ≡ b → cond b (Some f.1) (find R k es) ≡ Some x → (find R k es ≡ Some x → Has es (k, x)) → Has (f ∷ es) (k, x)
+      go true h e more = let key = exact k f.0 (equal_of (R k f.0) h) in let value = sym (same_Some f.1 x e) in inl (λ i. (key i, value i))
+      go false h e more = inr (more e)
+
+  -- what is found is among the entries
+  pub entry_there : (m : FinMap R X) (k : K) (x : X) → get m k ≡ Some x → Has (entries m) (k, x)
+  entry_there m k x e = find_there k (entries m) x (sym (get-entries m k) ∙ e)
+
+  -- what is removed is not found
+  pub none_removed : (m : FinMap R X) (k : K) → get (remove m k) k ≡ None
+  none_removed m k = get-remove o m k k ∙ ap (λ c. cond (is_eq c) None (get m k)) (tied_itself o k)
+
+pub some_of : {X : Type 0} (found : Option X) → IsSome found → (x : X) × (found ≡ Some x)
+some_of None none = absurd (let no' : false ≡ true = none in cc)
+some_of (Some x) some = (x, refl)

@@ -14,6 +14,7 @@ use Rattle.sqlite_value.proofs.OrderLemmas.{value_cmp-Int}
 use Rattle.sqlite_trees.specs.Tree.{rowid, put_row, IsAscending}
 use Rattle.sqlite_rules.specs.Edit.{is_taken}
 use Rattle.space_tables.specs.Spelling.{AreApart}
+use Rattle.space_changes.specs.Layout.{AreRows}
 
 pub joins : (new : Row) (rows : List Row) → is_taken rows new ≡ false → IsPermutation (new ∷ rows) (put_row new rows)
 joins new [] fresh = IsPermutation-refl _
@@ -73,7 +74,7 @@ others_have new n rows ids is fresh same =
     all_weaker _ (λ m. int_eq m n ≡ false) (λ m h. ap is_eq (sym (value_cmp-Int m n)) ∙ (ap (λ v. is_eq (value_cmp (Int m) v)) (sym is) ∙ h)) ids (all_unmap Other (λ m. Int m) ids moved)
 
 -- the rows stay apart
-pub apart_joined : (new : Row) (n : ℤ) (rows : List Row) → rowid new ≡ Int n → is_taken rows new ≡ false → AreApart rows → AreApart (put_row new rows)
+apart_joined : (new : Row) (n : ℤ) (rows : List Row) → rowid new ≡ Int n → is_taken rows new ≡ false → AreApart rows → AreApart (put_row new rows)
 apart_joined new n rows is fresh it = (
   put_by (λ m. m) n it.0,
   put_rises (λ m. m) n it.0 (others_have new n rows it.0 is fresh it.2) it.1,
@@ -82,8 +83,10 @@ apart_joined new n rows is fresh it = (
 )
 
 -- and the table has one row more
-pub grows : {R : Type 0} (encode : R → Row) (columns : Row → Row) (rs : List R) (r : R) (new : Row) (rows : List Row) → columns new ≡ encode r → is_taken rows new ≡ false → IsPermutation (map encode rs) (map columns rows)
-    → IsPermutation (map encode (rs ++ r ∷ [])) (map columns (put_row new rows))
-grows encode columns rs r new rows is fresh same =
-    IsPermutation-trans _ _ _ (IsPermutation-map encode _ _ (IsPermutation-append_comm rs (r ∷ [])))
-    (IsPermutation-trans _ _ _ (subst (λ v. IsPermutation (encode r ∷ map encode rs) (v ∷ map columns rows)) (sym is) (IsPermutation-cons (encode r) _ _ same)) (IsPermutation-map columns _ _ (joins new rows fresh)))
+pub one_more : {R : Type 0} (encode : R → Row) (columns : Row → Row) (rs : List R) (r : R) (new : Row) (n : ℤ) (rows : List Row) → columns new ≡ encode r → rowid new ≡ Int n → is_taken rows new ≡ false → AreRows encode columns rs rows
+    → AreRows encode columns (rs ++ r ∷ []) (put_row new rows)
+one_more encode columns rs r new n rows is number fresh has = record {
+  same = IsPermutation-trans _ _ _ (IsPermutation-map encode _ _ (IsPermutation-append_comm rs (r ∷ [])))
+      (IsPermutation-trans _ _ _ (subst (λ v. IsPermutation (encode r ∷ map encode rs) (v ∷ map columns rows)) (sym is) (IsPermutation-cons (encode r) _ _ has.same)) (IsPermutation-map columns _ _ (joins new rows fresh)));
+  apart = apart_joined new n rows number fresh has.apart;
+}

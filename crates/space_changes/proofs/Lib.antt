@@ -6,6 +6,9 @@ pub mod Relaying
 pub mod Joining
 pub mod Inserting
 pub mod Inserted
+pub mod Updating
+pub mod Groups
+pub mod Telling
 pub mod Putting
 pub mod Rows
 pub mod Clear
@@ -16,7 +19,13 @@ pub mod Removing
 pub mod Serials
 pub mod Spelt
 pub mod Numbers
+pub mod SubNumbers
 pub mod Entries
+pub mod Numbered
 pub mod Removed
+pub mod SubRemoved
+pub mod SubStored
+pub mod Tells
+pub mod ToldAll
 pub mod Availabilities
 pub mod Committed

@@ -35,8 +35,7 @@ use Rattle.space_rows.specs.declared.rows.EntityRow.{EntityRow}
 use Rattle.space_rows.specs.Rows.{kind_number}
 use Rattle.space_rows.proofs.OneEntity.{one_id}
 use Rattle.space_tables.specs.Tables.{dss_schema}
-use Rattle.space_tables.proofs.FirstFormat.{IsFirstGroup, spelt_first}
-use Rattle.space_tables.specs.Spelling.{Group, entity_values, entity_columns}
+use Rattle.space_tables.specs.Spelling.{Group, IsGroup, SubGroup, entity_values, entity_columns}
 use Rattle.space_changes.specs.Layout.{Layout, LaysOut, IsNumberOf, layout_of}
 use Rattle.space_changes.specs.Statements.{FindsNumber, ShowsNumbers, is_of}
 use Rattle.space_changes.proofs.Texts.{number_text}
@@ -69,7 +68,7 @@ shows_numbers old new kind id rows h = λ l has. ((shown_same old new number_tex
         let db = old.now.trees in
         let read = reads_as number_text params old new dss_schema has.schema _ number_is number_plain number_unlisted rows h in
         let shown = shows 1 is_kind_and_id (col 1 0 ∷ []) db params rows refl (read.answer Null) in
-        let passed = rows_passing entity_values entity_columns l.entities (db 1) has.entities (tests_of kind id) (is_of kind id) (agrees kind id) in
+        let passed = rows_passing entity_values entity_columns l.entities (db 1) has.entities.same (tests_of kind id) (is_of kind id) (agrees kind id) in
         let first = IsPermutation-map (λ c. column c 0 ∷ []) _ _ passed in
         let from = subst (λ k. IsPermutation k (map (λ c. column c 0 ∷ []) (map entity_columns (filter (λ r. tests_of kind id (entity_columns r)) (db 1))))) (map-map (λ c. column c 0 ∷ []) entity_values (filter (is_of kind id) l.entities)) first in
         let to = subst (IsPermutation (map (λ (e : EntityRow). Int e.num ∷ []) (filter (is_of kind id) l.entities))) (map-map (λ c. column c 0 ∷ []) entity_columns (filter (λ r. tests_of kind id (entity_columns r)) (db 1))) from in
@@ -77,7 +76,7 @@ shows_numbers old new kind id rows h = λ l has. ((shown_same old new number_tex
 
 -- ---- from the rows to the entity
 
-same_text : (a b : List ℕ) → eq_by_cmp text_cmp a b ≡ true → a ≡ b
+pub same_text : (a b : List ℕ) → eq_by_cmp text_cmp a b ≡ true → a ≡ b
 same_text a b e = slice_cmp-IsAntisymmetric nat_cmp-IsAntisymmetric a b (equal_of _ e)
 
 one_kind : (a b : Kind) → kind_number a ≡ kind_number b → a ≡ b
@@ -86,19 +85,19 @@ one_kind kind.Constraint kind.Constraint e = refl
 one_kind kind.Intent kind.Constraint e = absurd cc
 one_kind kind.Constraint kind.Intent e = absurd cc
 
-module _ (serial : ℕ) (k : EntityKey) where
+module _ (serial : ℕ) (ss : List SubGroup) (k : EntityKey) where
   abbrev is_its : EntityRow → Bool
   is_its = is_of (kind_number k.0) (printed k.1)
 
   -- the row of an entity of the key passes
-  passes_own : (g : Group) → IsFirstGroup serial g → key_of g.entity ≡ k → is_its g.row ≡ true
+  passes_own : (g : Group) → IsGroup serial ss g → key_of g.entity ≡ k → is_its g.row ≡ true
   passes_own g is e =
       let kind : g.row.kind ≡ kind_number k.0 = is.spelt.entity.kind ∙ ap (λ (q : EntityKey). kind_number q.0) e in
       let id : g.row.id ≡ printed k.1 = is.spelt.entity.id ∙ ap (λ (q : EntityKey). printed q.1) e in
       rw (kind, id, (Decides-int_eq (kind_number k.0) (kind_number k.0)).1 refl, tied_itself nat_list_cmp_total (printed k.1))
 
   -- and no other
-  key_from : (g : Group) → k.1 < 2 ^ 128 → IsFirstGroup serial g → is_its g.row ≡ true → key_of g.entity ≡ k
+  pub key_from : (g : Group) → k.1 < 2 ^ 128 → IsGroup serial ss g → is_its g.row ≡ true → key_of g.entity ≡ k
   key_from g low is e =
       let kind = one_kind (kind_of g.entity.nature) k.0 (sym is.spelt.entity.kind ∙ same_int g.row.kind (kind_number k.0) (first_of_two _ _ e)) in
       let id = one_id g.row.id g.entity.id k.1 is.spelt.kept.id low is.spelt.entity.id (same_text g.row.id (printed k.1) (last_of_two _ _ e)) in
@@ -116,13 +115,13 @@ module _ (serial : ℕ) (k : EntityKey) where
       go true e more = ((h, sub h (inl refl), e, refl), more)
       go false e more = more
 
-  module _ (gs : List Group) (each : AllByRecursion (IsFirstGroup serial) gs) (rows : List Row) (same : IsPermutation (map (λ (e : EntityRow). Int e.num ∷ []) (filter is_its (map (λ (g : Group). g.row) gs))) rows) where
+  module _ (gs : List Group) (each : AllByRecursion (IsGroup serial ss) gs) (rows : List Row) (same : IsPermutation (map (λ (e : EntityRow). Int e.num ∷ []) (filter is_its (map (λ (g : Group). g.row) gs))) rows) where
     -- each row that is shown has the number of the entity
     pub shown_number : k.1 < 2 ^ 128 → (row : Row) (num : ℤ) → Has rows row → column row 0 ≡ Int num → IsNumberOf num k gs
     shown_number low row num there is =
         let all = recursion_from_All (IsShownOf gs) rows (All-permutation (IsShownOf gs) _ rows same (All-from_recursion (IsShownOf gs) _ (each_shown gs gs (λ g m. m)))) in
         let it = all_there (IsShownOf gs) rows all row there in
-        record { group = it.0; there = it.1; number = number_of_int it.0.row.num num (sym (ap (λ c. column c 0) it.3) ∙ is); key = key_from it.0 low (all_there (IsFirstGroup serial) gs each it.0 it.1) it.2 }
+        record { group = it.0; there = it.1; number = number_of_int it.0.row.num num (sym (ap (λ c. column c 0) it.3) ∙ is); key = key_from it.0 low (all_there (IsGroup serial ss) gs each it.0 it.1) it.2 }
       where
         number_of_int : (m n : ℤ) → ◌≡◌ {A = Value} (Int m) (Int n) → m ≡ n
         number_of_int m n e = cc
@@ -141,7 +140,7 @@ module _ (serial : ℕ) (k : EntityKey) where
     none_shown none num it =
         let moved = length_permutation _ rows same in
         let short = length-map (filter is_its (map (λ (g : Group). g.row) gs)) (λ (e : EntityRow). Int e.num ∷ []) in
-        none_there (filter is_its (map (λ (g : Group). g.row) gs)) it.group.row (has_filtered is_its (map (λ (g : Group). g.row) gs) it.group.row (has_row gs it.group it.there) (passes_own it.group (all_there (IsFirstGroup serial) gs each it.group it.there) it.key))
+        none_there (filter is_its (map (λ (g : Group). g.row) gs)) it.group.row (has_filtered is_its (map (λ (g : Group). g.row) gs) it.group.row (has_row gs it.group it.there) (passes_own it.group (all_there (IsGroup serial ss) gs each it.group it.there) it.key))
         (omega (arith, none, moved, short))
 
 pub first_there : {X : Type 0} (xs : List X) (x : X) → 0 < length xs → x ≡ get_or xs 0 x → Has xs x
@@ -152,9 +151,9 @@ first_there (y ∷ xs) x low e = inl e
 pub finds_none : (k : EntityKey) (rows : List Row) (old new : Database) → length rows ≡ 0 → ShowsNumbers (kind_number k.0) (printed k.1) rows old new → FindsNumber k None old new
 finds_none k rows old new none shown = λ a p.
     let it = shown (layout_of old a p) (lay_out old a p) in
-    (it.0, none_shown a.serial k p.groups (spelt_first old a p).each rows it.1 none)
+    (it.0, none_shown a.serial p.subs k p.groups p.each rows it.1 none)
 
 pub finds_number : (k : EntityKey) (rows : List Row) (row : Row) (num : ℤ) (old new : Database) → k.1 < 2 ^ 128 → Has rows row → column row 0 ≡ Int num → ShowsNumbers (kind_number k.0) (printed k.1) rows old new → FindsNumber k (Some num) old new
 finds_number k rows row num old new low there is shown = λ a p.
     let it = shown (layout_of old a p) (lay_out old a p) in
-    (it.0, shown_number a.serial k p.groups (spelt_first old a p).each rows it.1 low row num there is)
+    (it.0, shown_number a.serial p.subs k p.groups p.each rows it.1 low row num there is)

@@ -14,6 +14,8 @@ use Rattle.sqlite_value.specs.declared.keys.Collation.TheVariants.{Binary}
 use Rattle.sqlite.specs.declared.types.Value.TheVariants.{Int}
 use Rattle.sqlite.specs.Order.{Row, column}
 use Rattle.std.proofs.Common.{ℕ}
+use Rattle.space_changes.specs.Layout.{AreRows}
+use Rattle.space_changes.proofs.Clear.{apart_kept}
 
 -- what holds of each element, by a map
 pub all_mapped : {X Y : Type 0} (P : Y → Type 0) (f : X → Y) (xs : List X) → AllByRecursion (λ x. P (f x)) xs → AllByRecursion P (map f xs)
@@ -38,32 +40,41 @@ bears place num r = is_true (binary (Compare Eq Binary) (column r place) (Int nu
 pub bears_number : (m num : ℤ) → (is_true (binary (Compare Eq Binary) (Int m) (Int num)) && true) ≡ int_eq m num
 bears_number m num = and_true _ ∙ at_ints false Eq m num
 
-module _ {R : Type 0} (encode : R → Row) (key : R → ℤ) (first : (r : R) → column (encode r) 0 ≡ Int (key r)) (columns : Row → Row) (rs : List R) (rows : List Row) (same : IsPermutation (map encode rs) (map columns rows)) where
-  bears_key : (num : ℤ) (r : R) → bears 0 num (encode r) ≡ int_eq (key r) num
-  bears_key num r = ap (λ v. is_true (binary (Compare Eq Binary) v (Int num)) && true) (first r) ∙ bears_number (key r) num
+module _ {R : Type 0} (encode : R → Row) (columns : Row → Row) (rs : List R) (rows : List Row) (has : AreRows encode columns rs rows) where
+  -- some rows are left
+  pub some_left : (test : Row → Bool) (passes : R → Bool) → ((r : R) → test (encode r) ≡ passes r) → AreRows encode columns (filter passes rs) (filter (λ r. test (columns r)) rows)
+  some_left test passes agree = record { same = rows_passing encode columns rs rows has.same test passes agree; apart = apart_kept (λ r. test (columns r)) rows has.apart }
+
+module _ {R : Type 0} (place : ℕ) (encode : R → Row) (key : R → ℤ) (at : (r : R) → column (encode r) place ≡ Int (key r)) (columns : Row → Row) (rs : List R) (rows : List Row) (has : AreRows encode columns rs rows) where
+  bears_key : (num : ℤ) (r : R) → bears place num (encode r) ≡ int_eq (key r) num
+  bears_key num r = ap (λ v. is_true (binary (Compare Eq Binary) v (Int num)) && true) (at r) ∙ bears_number (key r) num
 
   -- those that are left without a number
-  pub rows_left : (num : ℤ) → IsPermutation (map encode (filter (λ r. not (int_eq (key r) num)) rs)) (map columns (filter (λ r. not (bears 0 num (columns r))) rows))
-  rows_left num = rows_passing encode columns rs rows same (λ c. not (bears 0 num c)) (λ r. not (int_eq (key r) num)) (λ r. ap not (bears_key num r))
+  pub rows_left : (num : ℤ) → AreRows encode columns (filter (λ r. not (int_eq (key r) num)) rs) (filter (λ r. not (bears place num (columns r))) rows)
+  rows_left num = some_left encode columns rs rows has (λ c. not (bears place num c)) (λ r. not (int_eq (key r) num)) (λ r. ap not (bears_key num r))
 
-  every_numbered : (xs : List R) → AllByRecursion (λ r. (k : ℤ) × (column (encode r) 0 ≡ Int k)) xs
+  -- those of a number
+  pub rows_of : (num : ℤ) → IsPermutation (map encode (filter (λ r. int_eq (key r) num) rs)) (map columns (filter (λ r. bears place num (columns r)) rows))
+  rows_of num = rows_passing encode columns rs rows has.same (bears place num) (λ r. int_eq (key r) num) (bears_key num)
+
+  every_numbered : (xs : List R) → AllByRecursion (λ r. (k : ℤ) × (column (encode r) place ≡ Int k)) xs
   every_numbered [] = tt
-  every_numbered (x ∷ xs) = ((key x, first x), every_numbered xs)
+  every_numbered (x ∷ xs) = ((key x, at x), every_numbered xs)
 
   -- each row has a number
-  pub rows_numbered : AllByRecursion (λ r. (k : ℤ) × (column (columns r) 0 ≡ Int k)) rows
-  rows_numbered = rows_all encode columns rs rows same (λ c. (k : ℤ) × (column c 0 ≡ Int k)) (every_numbered rs)
+  pub rows_numbered : AllByRecursion (λ r. (k : ℤ) × (column (columns r) place ≡ Int k)) rows
+  rows_numbered = rows_all encode columns rs rows has.same (λ c. (k : ℤ) × (column c place ≡ Int k)) (every_numbered rs)
 
   abbrev IsOther : ℤ → Row → Type 0
-  IsOther num c = is_true (binary (Compare Eq Binary) (column c 0) (Int num)) ≡ false
+  IsOther num c = is_true (binary (Compare Eq Binary) (column c place) (Int num)) ≡ false
 
   every_other : (num : ℤ) (xs : List R) → AllByRecursion (λ r. int_eq (key r) num ≡ false) xs → AllByRecursion (λ r. IsOther num (encode r)) xs
   every_other num [] all = tt
-  every_other num (x ∷ xs) all = (ap (λ v. is_true (binary (Compare Eq Binary) v (Int num))) (first x) ∙ (at_ints false Eq (key x) num ∙ all.0), every_other num xs all.1)
+  every_other num (x ∷ xs) all = (ap (λ v. is_true (binary (Compare Eq Binary) v (Int num))) (at x) ∙ (at_ints false Eq (key x) num ∙ all.0), every_other num xs all.1)
 
   -- where no typed row has the number, no row does
   pub rows_other : (num : ℤ) → AllByRecursion (λ r. int_eq (key r) num ≡ false) rs → AllByRecursion (λ r. IsOther num (columns r)) rows
-  rows_other num all = rows_all encode columns rs rows same (IsOther num) (every_other num rs all)
+  rows_other num all = rows_all encode columns rs rows has.same (IsOther num) (every_other num rs all)
 
 -- those that are left do not have it
 pub none_left_of : {R : Type 0} (key : R → ℤ) (num : ℤ) (rs : List R) → AllByRecursion (λ r. int_eq (key r) num ≡ false) (filter (λ r. not (int_eq (key r) num)) rs)

@@ -11,14 +11,14 @@ use Rattle.sqlite.specs.State.{State, HasCleanDisk, Survives, Shows, KeepsCommit
 use Rattle.sqlite.proofs.Callers.{IsPlain}
 use Rattle.sqlite.proofs.StateLemmas.{survives_then}
 use Rattle.space_tables.proofs.Steps.{keeps_then, kept_keeps, unchanged_keeps}
-use Rattle.space_changes.specs.Statements.{Runs}
+use Rattle.space_changes.specs.Statements.{GoesOn, Runs}
 
 -- ---- a statement that writes
 
 module _ (old new : State) (sql : List ℕ) (params : Row) where
   inside_done : (r : Result ℕ Error) (R : Database → Database → Type 0) → ExecutesInside 0 sql params old new r → (Executes sql params old new r → OnOk r (R old.now new.now))
-      → IfOk r (λ _. R old.now new.now × Shows old new new.now old.committed true)
-  inside_done (Ok n) R h each = (each h.0, h.1)
+      → IfOk r (λ _. R old.now new.now × GoesOn old new)
+  inside_done (Ok n) R h each = (each h.0, record { inside = h.1.mode; committed = h.1.committed_is })
   inside_done (Err e) R h each = tt
 
   inside_keeps : (r : Result ℕ Error) → ExecutesInside 0 sql params old new r → KeepsCommit old new
@@ -74,7 +74,7 @@ module _ (old new : State) (sql : List ℕ) (params : Row) where
   pub query_runs : {X : Type 0} (items : X → List Row) (R : X → Database → Database → Type 0) (r : Result X Error) → (HasCleanDisk new → IfOk r (λ x. Shown sql params old new (items x)))
       → (HasCleanDisk new → IfErr r (λ e. FailsToQuery sql params old new e ⊎ IsTooLate sql params old new e)) → Survives old new (λ _. ⊥) → ((x : X) → Shown sql params old new (items x) → R x old.now new.now) → Runs R old new r
   query_runs items R (Ok x) shown fails survives each = record {
-    done = λ clean on. (each x (shown clean), shown_shows (items x) (shown clean) on);
+    done = λ clean on. let s = shown_shows (items x) (shown clean) on in (each x (shown clean), record { inside = s.mode; committed = s.committed_is });
     kept = λ clean on. let s = shown_shows (items x) (shown clean) on in record { was_open = λ _. s.was_open; committed = λ _. s.committed_is };
     survives = survives;
   }
@@ -87,16 +87,16 @@ module _ {X Y Z : Type 0} (R : X → Database → Database → Type 0) (Q : Y �
   runs_then x y z joins p q = record {
     done = λ clean on.
         let first = p.done (omega (arith, q.survives.clean)) on in
-        let second = q.done clean first.1.mode in
-        (joins first.0 second.0, record { was_open = first.1.was_open; is_open = second.1.is_open; now_is = refl; committed_is = second.1.committed_is ∙ first.1.committed_is; mode = second.1.mode });
-    kept = λ clean on. let mid : HasCleanDisk b = omega (arith, q.survives.clean) in keeps_then a b d (p.kept mid on) (q.kept clean (p.done mid on).1.mode);
+        let second = q.done clean first.1.inside in
+        (joins first.0 second.0, record { inside = second.1.inside; committed = second.1.committed ∙ first.1.committed });
+    kept = λ clean on. let mid : HasCleanDisk b = omega (arith, q.survives.clean) in keeps_then a b d (p.kept mid on) (q.kept clean (p.done mid on).1.inside);
     survives = survives_then a b d _ _ (λ _. ⊥) (λ _ db none. none) (λ _ db none. none) p.survives q.survives;
   }
 
   pub runs_failed : (x : X) (e f : Error) → Runs R a b (Ok x) → Runs Q b d (Err e) → Runs T a d (Err f)
   runs_failed x e f p q = record {
     done = λ clean on. tt;
-    kept = λ clean on. let mid : HasCleanDisk b = omega (arith, q.survives.clean) in keeps_then a b d (p.kept mid on) (q.kept clean (p.done mid on).1.mode);
+    kept = λ clean on. let mid : HasCleanDisk b = omega (arith, q.survives.clean) in keeps_then a b d (p.kept mid on) (q.kept clean (p.done mid on).1.inside);
     survives = survives_then a b d _ _ (λ _. ⊥) (λ _ db none. none) (λ _ db none. none) p.survives q.survives;
   }
 
@@ -123,3 +123,12 @@ module _ {X Z : Type 0} (R : X → Database → Database → Type 0) (T : Z → 
 pub runs_weaker : {X : Type 0} (R T : X → Database → Database → Type 0) (a b : State) (r : Result X Error) → ((x : X) → R x a.now b.now → T x a.now b.now) → Runs R a b r → Runs T a b r
 runs_weaker R T a b (Ok x) turns p = runs_as_well R T a b x x (turns x) p
 runs_weaker R T a b (Err e) turns p = runs_err R T a b e e p
+
+-- ---- no statement
+
+pub runs_none : {X : Type 0} (R : X → Database → Database → Type 0) (a : State) (x : X) → R x a.now a.now → Runs R a a (Ok x)
+runs_none R a x holds = record {
+  done = λ clean on. (holds, record { inside = on; committed = refl });
+  kept = λ clean on. record { was_open = λ o. o; committed = λ _. refl };
+  survives = record { clean = omega arith; shield = λ h. h; counts = omega arith; limit = refl; closes = λ clean o. inl o; crash = λ clean db h. inl h };
+}

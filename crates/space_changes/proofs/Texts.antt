@@ -30,3 +30,30 @@ clear_availability_text = codes "DELETE FROM availability WHERE uss = ?1"
 
 abbrev pub insert_availability_text : List ℕ
 insert_availability_text = codes "INSERT INTO availability (uss, state, version) VALUES (?1, ?2, ?3)"
+
+abbrev pub clear_naming_text : List ℕ
+clear_naming_text = codes "DELETE FROM naming WHERE entity = ?1"
+
+abbrev pub insert_naming_text : List ℕ
+insert_naming_text = codes "INSERT INTO naming (entity, subscription) VALUES (?1, ?2)"
+
+abbrev pub sub_number_text : List ℕ
+sub_number_text = codes "SELECT num FROM subscription WHERE id = ?1"
+
+abbrev pub clear_sub_cells_text : List ℕ
+clear_sub_cells_text = codes "DELETE FROM subscription_cell WHERE subscription = ?1"
+
+abbrev pub clear_sub_row_text : List ℕ
+clear_sub_row_text = codes "DELETE FROM subscription WHERE num = ?1"
+
+abbrev pub insert_sub_row_text : List ℕ
+insert_sub_row_text = codes "INSERT INTO subscription (num, id, manager, serial, version, notes, url, for_intents, for_constraints, alt_lower, alt_upper, time_start, time_end) VALUES (?1, ?2, ?3, ?4, ?5, ?6, ?7, ?8, ?9, ?10, ?11, ?12, ?13)"
+
+abbrev pub insert_sub_cell_text : List ℕ
+insert_sub_cell_text = codes "INSERT INTO subscription_cell (subscription, place, token, lo, hi) VALUES (?1, ?2, ?3, ?4, ?5)"
+
+abbrev pub update_sub_row_text : List ℕ
+update_sub_row_text = codes "UPDATE subscription SET id = ?2, manager = ?3, serial = ?4, version = ?5, notes = ?6, url = ?7, for_intents = ?8, for_constraints = ?9, alt_lower = ?10, alt_upper = ?11, time_start = ?12, time_end = ?13 WHERE num = ?1"
+
+abbrev pub raise_notes_text : List ℕ
+raise_notes_text = codes "UPDATE subscription SET notes = notes + 1 WHERE id = ?1"

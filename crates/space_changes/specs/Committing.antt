@@ -7,6 +7,7 @@ use Rattle.sqlite.specs.declared.error.Error.{Error}
 use Rattle.entity_core.specs.Airspace.{Airspace}
 use Rattle.space_tables.specs.Spelling.{Spells}
 use Rattle.space_tables.specs.Making.{IsSettled, IsUndone}
+use Rattle.space_changes.specs.Numbering.{KeepsNumbers}
 
 -- trees that a commit may have left: those of a database that spells what comes of the airspace
 -- that was spelt
@@ -17,11 +18,15 @@ MayBeChanged P change old trees =
     → (db : Database) × (trees ≡ db.trees) × IsDatabase db × Spells db (change a)
 
 -- What a change leaves of an airspace that the tables spell and of which P holds: the changed one,
--- committed, or else the last commit as it was. A crash leaves one of the two.
+-- committed, in which who is kept keeps its number, or else the last commit as it was. A crash
+-- leaves one of the two.
 pub record Commits {X : Type 0} (P : Airspace → Type 0) (change : Airspace → Airspace)
     (old new : State) (result : Result X Error) : Type 0 where
   pub done : HasCleanDisk new
       → OnOk result
       (((a : Airspace) → Spells old.now a → P a → Spells new.now (change a)) × IsSettled new)
+  pub numbers : HasCleanDisk new
+      → OnOk result ((a : Airspace) → Spells old.now a → P a
+      → KeepsNumbers a (change a) old.now new.now)
   pub err : HasCleanDisk new → IsTrue new.is_open → OnErr result (IsUndone old new)
   pub crash : Survives old new (MayBeChanged P change old)

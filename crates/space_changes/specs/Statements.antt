@@ -4,15 +4,22 @@ use Rattle.std.specs.Ordering.{int_eq, eq_by_cmp}
 use Rattle.sqlite_value.specs.declared.value.Value.TheVariants.{Int}
 use Rattle.sqlite_value.specs.Order.{Row}
 use Rattle.sqlite.specs.Effect.{Database, IsDatabase}
-use Rattle.sqlite.specs.State.{State, Shows, HasCleanDisk, KeepsCommit, Survives}
+use Rattle.sqlite.specs.State.{State, HasCleanDisk, KeepsCommit, Survives}
 use Rattle.sqlite.specs.declared.error.Error.{Error}
 use Rattle.entity_core.specs.Airspace.{Airspace, EntityKey, text_cmp}
 use Rattle.space_core.specs.declared.space.Change.{Change}
 use Rattle.space_core.specs.Space.{Fits, changed}
 use Rattle.space_rows.specs.declared.rows.EntityRow.{EntityRow}
+use Rattle.space_rows.specs.declared.rows.SubRow.{SubRow}
 use Rattle.space_rows.specs.Finds.{Finds}
-use Rattle.space_tables.specs.Spelling.{Spells}
-use Rattle.space_changes.specs.Layout.{Layout, LaysOut, IsNumberOf, Relays}
+use Rattle.space_tables.specs.Spelling.{Spells, IsSubNumber}
+use Rattle.space_changes.specs.Numbering.{Makes}
+use Rattle.space_changes.specs.Layout.{Layout, LaysOut, IsNumberOf, Relays, has_id}
+
+-- the transaction goes on, and the last commit stands
+pub record GoesOn (old new : State) : Type 0 where
+  pub inside : new.in_transaction ≡ true
+  pub committed : new.committed ≡ old.committed
 
 -- Statements run in a transaction that goes on, and R holds of what they answer, the database
 -- before and that after. Whatever comes of them, the last commit stands, and a crash leaves what it
@@ -20,7 +27,7 @@ use Rattle.space_changes.specs.Layout.{Layout, LaysOut, IsNumberOf, Relays}
 pub record Runs {X : Type 0} (R : X → Database → Database → Type 0) (old new : State)
     (result : Result X Error) : Type 0 where
   pub done : HasCleanDisk new → IsTrue old.in_transaction
-      → IfOk result (λ x. R x old.now new.now × Shows old new new.now old.committed true)
+      → IfOk result (λ x. R x old.now new.now × GoesOn old new)
   pub kept : HasCleanDisk new → IsTrue old.in_transaction → KeepsCommit old new
   pub survives : Survives old new (λ _. ⊥)
 
@@ -45,15 +52,30 @@ FindsNumber k found old new =
     (a : Airspace) (p : Spells old a)
     → (new ≡ old) × Finds (λ num. IsNumberOf num k p.groups) found
 
+-- the numbers of the subscriptions of an id
+abbrev pub sub_numbers_of : List ℕ → List SubRow → List Row
+sub_numbers_of id rows = map (λ (row : SubRow). Int row.num ∷ []) (filter (has_id id) rows)
+
+-- the same of subscriptions
+abbrev pub ShowsSubNumbers : List ℕ → List Row → Database → Database → Type 0
+ShowsSubNumbers id shown old new =
+    (l : Layout) → LaysOut old l → (new ≡ old) × IsPermutation (sub_numbers_of id l.subs) shown
+
+-- the number under which the tables have a subscription is found, if they have it, and they stay as
+-- they are
+abbrev pub FindsSubNumber : ℕ → Option ℤ → Database → Database → Type 0
+FindsSubNumber id found old new =
+    (a : Airspace) (p : Spells old a)
+    → (new ≡ old) × Finds (λ num. IsSubNumber p.subs num id) found
+
 -- a change of the rows, after which they obey the schema
 abbrev pub RelaysSound : (P : Layout → Type 0) (change : Layout → Layout)
     → Database → Database → Type 0
 RelaysSound P change old new =
     Relays P change old new × ((l : Layout) → P l → LaysOut old l → IsDatabase new)
 
--- whatever airspace was spelt, if the change fits and may tell these, what comes of it is spelt, and
--- the rows obey the schema
+-- whatever airspace was spelt, if the change fits and may tell these, what comes of it is made
 abbrev pub MakesChange : Change → List ℕ → Database → Database → Type 0
 MakesChange change told old new =
     (a : Airspace) → Spells old a → Fits change told a
-    → Spells new (changed change told a) × IsDatabase new
+    → Makes a (changed change told a) old new

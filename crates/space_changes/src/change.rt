@@ -1,5 +1,5 @@
 //! A change of the airspace, made in one transaction.
-ghost use Rattle.std.specs.Prelude.{◌≡◌, false};
+ghost use Rattle.std.specs.Prelude.{◌≡◌, [], false};
 ghost use Rattle.sqlite.specs.Held.{state};
 ghost use Rattle.space_core.specs.Space.{Fits, changed};
 ghost use Rattle.space_changes.specs.Committing.{Commits};
@@ -8,10 +8,34 @@ ghost use Rattle.space_changes.specs.Statements.{Runs, MakesChange};
 use crate::availability::set_availability;
 use crate::put::put_entity;
 use crate::remove::remove_entity;
+use crate::sub_put::put_sub;
+use crate::sub_remove::remove_sub;
+use crate::tell::tell_all;
 use entity_core::entity_id::EntityId;
 use space_core::space::Change;
 use sqlite::{Alter, Connection, Error, Transaction};
 use std::alloc::Global;
+
+fn write_one<S: Alter>(
+    alloc: Global,
+    tx: &mut Transaction<'_, S>,
+    change: &Change,
+) -> Result<(), Error>
+    ensures same_reference { tx.new.conn.ghost_name ≡ tx.old.conn.ghost_name }
+    ensures changes { let old = state S.Store tx.old.conn.now in
+        let new = state S.Store tx.new.conn.now in
+        Runs (λ _. MakesChange change.now []) old new result }
+{
+    match change {
+        Change::Put(entity) => put_entity(alloc, tx, entity),
+        Change::Remove(kind, id) => remove_entity(alloc, tx, *kind, *id),
+        Change::Avail(uss, availability, version) => {
+            set_availability(tx, uss, *availability, version)
+        }
+        Change::PutSub(sub) => put_sub(alloc, tx, sub),
+        Change::RemoveSub(id) => remove_sub(alloc, tx, *id),
+    }
+}
 
 fn write_change<S: Alter>(
     alloc: Global,
@@ -24,29 +48,19 @@ fn write_change<S: Alter>(
         let new = state S.Store tx.new.conn.now in
         Runs (λ _. MakesChange change.now notify.now) old new result }
 {
-    // No table keeps subscriptions: there is none to be told, kept or removed.
-    if !notify.is_empty() {
-        return Err(Error::QueryReturnedNoRows);
-    }
-    match change {
-        Change::Put(entity) => put_entity(alloc, tx, entity),
-        Change::Remove(kind, id) => remove_entity(alloc, tx, *kind, *id),
-        Change::Avail(uss, availability, version) => {
-            set_availability(tx, uss, *availability, version)
-        }
-        Change::PutSub(_) | Change::RemoveSub(_) => Err(Error::QueryReturnedNoRows),
-    }
+    write_one(alloc, tx, change)?;
+    tell_all(alloc, tx, notify)
 }
 
-/// Makes a change in one transaction, and the serial goes on by one. It is for tables that spell an
-/// airspace in which the change fits and may tell these: of others it is told that what an Ok leaves
-/// is committed, and no more.
+/// Makes a change in one transaction, in which the subscriptions of these ids are told, and the
+/// serial goes on by one. Who is there before and after keeps its number. It is for tables that
+/// spell an airspace in which the change fits and may tell these: of others it is told that what an
+/// Ok leaves is committed, and no more.
 ///
 /// # Errors
 ///
-/// An error of the database, or want of memory. Of a change that keeps, removes or tells a
-/// subscription, or keeps an intent that names one, it is always an error: no table keeps
-/// subscriptions. While the connection stays open, it shows what was committed before.
+/// An error of the database, or want of memory. While the connection stays open, it shows what was
+/// committed before.
 pub fn make_change<S: Alter>(
     alloc: Global,
     conn: &mut Connection<S>,

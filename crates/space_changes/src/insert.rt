@@ -1,7 +1,7 @@
 //! The rows of an entity are inserted, those of a table before those that refer to them.
-ghost use Rattle.std.specs.Prelude.{◌≡◌, [], ◌∷◌};
+ghost use Rattle.std.specs.Prelude.{◌≡◌, [], ◌∷◌, Some};
 ghost use Rattle.sqlite.specs.Held.{state};
-ghost use Rattle.space_changes.specs.Layout.{Always, Relays, with_cells, with_entity_row, with_rows, with_volumes};
+ghost use Rattle.space_changes.specs.Layout.{Always, Relays, with_cells, with_entity_row, with_extents, with_naming, with_rows, with_volumes};
 ghost use Rattle.space_changes.specs.Statements.{Runs};
 
 use space_rows::rows::{CellRow, EntityRow, VolumeRow};
@@ -69,8 +69,24 @@ fn insert_cell<S: Alter>(tx: &mut Transaction<'_, S>, row: &CellRow) -> Result<u
     )
 }
 
-/// Inserts the rows of an entity.
-pub(crate) fn insert_rows<S: Alter>(
+fn insert_naming<S: Alter>(
+    tx: &mut Transaction<'_, S>,
+    entity: i64,
+    subscription: i64,
+) -> Result<usize, Error>
+    ensures same_reference { tx.new.conn.ghost_name ≡ tx.old.conn.ghost_name }
+    ensures inserts { let old = state S.Store tx.old.conn.now in
+        let new = state S.Store tx.new.conn.now in
+        Runs (λ _. Relays Always (with_naming entity (Some subscription))) old new result }
+{
+    tx.execute(
+        "INSERT INTO naming (entity, subscription) VALUES (?1, ?2)",
+        params![entity, subscription],
+    )
+}
+
+// Inserts the row of an entity, and those of its volumes and cells.
+fn insert_extents<S: Alter>(
     tx: &mut Transaction<'_, S>,
     row: &EntityRow,
     volumes: &[VolumeRow],
@@ -79,7 +95,7 @@ pub(crate) fn insert_rows<S: Alter>(
     ensures same_reference { tx.new.conn.ghost_name ≡ tx.old.conn.ghost_name }
     ensures inserts { let old = state S.Store tx.old.conn.now in
         let new = state S.Store tx.new.conn.now in
-        Runs (λ _. Relays Always (with_rows row.now volumes.now cells.now)) old new result }
+        Runs (λ _. Relays Always (with_extents row.now volumes.now cells.now)) old new result }
 {
     insert_row(tx, row)?;
     for volume in volumes {
@@ -89,4 +105,27 @@ pub(crate) fn insert_rows<S: Alter>(
         insert_cell(tx, cell)?;
     }
     Ok(())
+}
+
+/// Inserts the rows of an entity, and one by which it names the subscription of a number.
+pub(crate) fn insert_rows<S: Alter>(
+    tx: &mut Transaction<'_, S>,
+    row: &EntityRow,
+    volumes: &[VolumeRow],
+    cells: &[CellRow],
+    named: Option<i64>,
+) -> Result<(), Error>
+    ensures same_reference { tx.new.conn.ghost_name ≡ tx.old.conn.ghost_name }
+    ensures inserts { let old = state S.Store tx.old.conn.now in
+        let new = state S.Store tx.new.conn.now in
+        Runs (λ _. Relays Always (with_rows row.now volumes.now cells.now named)) old new result }
+{
+    insert_extents(tx, row, volumes, cells)?;
+    match named {
+        Some(subscription) => {
+            insert_naming(tx, row.num, subscription)?;
+            Ok(())
+        }
+        None => Ok(()),
+    }
 }

@@ -8,3 +8,8 @@ mod number;
 mod put;
 mod remove;
 mod serial;
+mod sub_insert;
+mod sub_number;
+mod sub_put;
+mod sub_remove;
+mod tell;

@@ -1,15 +1,15 @@
 //! An entity is put in the place of the one that has its kind and id.
-ghost use Rattle.std.specs.Prelude.{◌≡◌, ◌≤ℤ◌, pos, IfOk, None, []};
+ghost use Rattle.std.specs.Prelude.{◌≡◌, ◌≤ℤ◌, pos, IfOk, []};
 ghost use Rattle.sqlite.specs.Held.{state};
-ghost use Rattle.entity_core.specs.Entity.{subscription_of};
 ghost use Rattle.space_core.specs.declared.space.Change.TheVariants.{Put};
 ghost use Rattle.space_changes.specs.Statements.{Runs, MakesChange};
-ghost use Rattle.space_changes.specs.Putting.{InsertsEntity, MakesRoom};
+ghost use Rattle.space_changes.specs.Putting.{FindsNaming, InsertsEntity, MakesRoom};
 
 use crate::insert::insert_rows;
 use crate::number::number_of;
 use crate::remove::clear_entity;
 use crate::serial::raise_serial;
+use crate::sub_number::sub_number_of;
 use entity_core::entity::Entity;
 use space_rows::entity::rows_of;
 use sqlite::{Alter, Error, Transaction};
@@ -41,26 +41,46 @@ fn make_room<S: Alter>(
     }
 }
 
+// The number of the subscription that an entity names, if it names one. It is an error where that
+// one is not there.
+fn naming_of<S: Alter>(
+    alloc: Global,
+    tx: &mut Transaction<'_, S>,
+    entity: &Entity,
+) -> Result<Option<i64>, Error>
+    ensures same_reference { tx.new.conn.ghost_name ≡ tx.old.conn.ghost_name }
+    ensures finds { let old = state S.Store tx.old.conn.now in
+        let new = state S.Store tx.new.conn.now in
+        Runs (FindsNaming entity.now) old new result }
+{
+    match entity.nature.subscription() {
+        Some(id) => match sub_number_of(alloc, tx, id)? {
+            Some(num) => Ok(Some(num)),
+            None => Err(Error::QueryReturnedNoRows),
+        },
+        None => Ok(None),
+    }
+}
+
 fn insert_entity<S: Alter>(
     alloc: Global,
     tx: &mut Transaction<'_, S>,
     entity: &Entity,
     num: i64,
+    named: Option<i64>,
 ) -> Result<(), Error>
     requires least { pos 1 ≤ℤ num }
     requires most { num ≤ℤ pos entity.now.serial }
-    requires unnamed { subscription_of entity.now.nature ≡ None }
     ensures same_reference { tx.new.conn.ghost_name ≡ tx.old.conn.ghost_name }
     ensures inserts { let old = state S.Store tx.old.conn.now in
         let new = state S.Store tx.new.conn.now in
-        Runs (λ _. InsertsEntity entity.now num) old new result }
+        Runs (λ _. InsertsEntity entity.now num named) old new result }
 {
     let (row, volumes, cells) = rows_of(alloc, entity, num)?;
-    insert_rows(tx, &row, &volumes, &cells)
+    insert_rows(tx, &row, &volumes, &cells, named)
 }
 
-/// Puts an entity. It keeps the number of the one that has its kind and id, if there is one. It is an
-/// error where the entity names a subscription, since no table keeps one.
+/// Puts an entity. It keeps the number of the one that has its kind and id, if there is one.
 pub(crate) fn put_entity<S: Alter>(
     alloc: Global,
     tx: &mut Transaction<'_, S>,
@@ -71,11 +91,9 @@ pub(crate) fn put_entity<S: Alter>(
         let new = state S.Store tx.new.conn.now in
         Runs (λ _. MakesChange (Put entity.now) []) old new result }
 {
-    if entity.nature.subscription().is_some() {
-        return Err(Error::QueryReturnedNoRows);
-    }
+    let named = naming_of(alloc, tx, entity)?;
     let num = make_room(alloc, tx, entity)?;
-    insert_entity(alloc, tx, entity, num)?;
+    insert_entity(alloc, tx, entity, num, named)?;
     raise_serial(tx)?;
     Ok(())
 }

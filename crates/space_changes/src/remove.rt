@@ -1,9 +1,9 @@
-//! The rows of an entity are removed, cells first.
+//! The rows of an entity are removed, those that refer to others first.
 ghost use Rattle.std.specs.Prelude.{◌≡◌, ◌<◌, []};
 ghost use Rattle.sqlite.specs.Held.{state};
 ghost use Rattle.entity_core.specs.Serial.{greatest_serial};
 ghost use Rattle.space_core.specs.declared.space.Change.TheVariants.{Remove};
-ghost use Rattle.space_changes.specs.Layout.{Always, LacksCells, LacksVolumes, Relays, with_next_serial, without_cells, without_entity_row, without_rows, without_volumes};
+ghost use Rattle.space_changes.specs.Layout.{Always, LacksCells, LacksParts, Relays, with_next_serial, without_cells, without_entity_row, without_naming, without_parts, without_rows, without_volumes};
 ghost use Rattle.space_changes.specs.Statements.{RelaysSound, Runs, MakesChange};
 
 use crate::number::number_of;
@@ -31,22 +31,32 @@ fn clear_volumes<S: Alter>(tx: &mut Transaction<'_, S>, num: i64) -> Result<usiz
     tx.execute("DELETE FROM volume WHERE entity = ?1", params![num])
 }
 
+fn clear_naming<S: Alter>(tx: &mut Transaction<'_, S>, num: i64) -> Result<usize, Error>
+    ensures same_reference { tx.new.conn.ghost_name ≡ tx.old.conn.ghost_name }
+    ensures clears { let old = state S.Store tx.old.conn.now in
+        let new = state S.Store tx.new.conn.now in
+        Runs (λ _. Relays Always (without_naming num)) old new result }
+{
+    tx.execute("DELETE FROM naming WHERE entity = ?1", params![num])
+}
+
 fn clear_row<S: Alter>(tx: &mut Transaction<'_, S>, num: i64) -> Result<usize, Error>
     ensures same_reference { tx.new.conn.ghost_name ≡ tx.old.conn.ghost_name }
     ensures clears { let old = state S.Store tx.old.conn.now in
         let new = state S.Store tx.new.conn.now in
-        Runs (λ _. Relays (LacksVolumes num) (without_entity_row num)) old new result }
+        Runs (λ _. Relays (LacksParts num) (without_entity_row num)) old new result }
 {
     tx.execute("DELETE FROM entity WHERE num = ?1", params![num])
 }
 
-// Removes the volumes of an entity, and their cells.
-fn clear_extents<S: Alter>(tx: &mut Transaction<'_, S>, num: i64) -> Result<(), Error>
+// Removes the volumes of an entity and their cells, and what it names is not kept.
+fn clear_parts<S: Alter>(tx: &mut Transaction<'_, S>, num: i64) -> Result<(), Error>
     ensures same_reference { tx.new.conn.ghost_name ≡ tx.old.conn.ghost_name }
     ensures clears { let old = state S.Store tx.old.conn.now in
         let new = state S.Store tx.new.conn.now in
-        Runs (λ _. Relays Always (λ l. without_volumes num (without_cells num l))) old new result }
+        Runs (λ _. Relays Always (without_parts num)) old new result }
 {
+    clear_naming(tx, num)?;
     clear_cells(tx, num)?;
     clear_volumes(tx, num)?;
     Ok(())
@@ -59,7 +69,7 @@ pub(crate) fn clear_entity<S: Alter>(tx: &mut Transaction<'_, S>, num: i64) -> R
         let new = state S.Store tx.new.conn.now in
         Runs (λ _. Relays Always (without_rows num)) old new result }
 {
-    clear_extents(tx, num)?;
+    clear_parts(tx, num)?;
     clear_row(tx, num)?;
     Ok(())
 }

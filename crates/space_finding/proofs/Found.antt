@@ -1,114 +1,118 @@
--- Entities by the numbers of their rows, and the map that they become.
-use Rattle.std.proofs.Common.{◌≡◌, ◌⊎◌, inl, inr, ℤ, List, [], ◌∷◌, ◌++◌, map, Bool, true, false, cond, Some, None, refl, sym, ap, subst, ◌∙◌, is_eq, Equal}
+-- What groups of rows spell, by the numbers of the rows, and the map that it becomes.
+use Rattle.std.proofs.Common.{◌≡◌, ◌⊎◌, inl, inr, ℤ, List, [], ◌∷◌, ◌++◌, map, Bool, true, false, cond, Some, refl, sym, ap, subst, ◌∙◌, is_eq, Equal, Ordering}
+use Rattle.std.specs.Prelude.{IsPermutation}
 use Rattle.std.specs.Ordering.{eq_by_cmp}
-use Rattle.std.specs.FinMap.{get, insert, empty, entries, entries_sorted, get-entries, get-empty, get-insert, find}
+use Rattle.std.specs.Cmp.{Equal-is, IsTotalOrder}
+use Rattle.std.specs.FinMap.{FinMap, IsAntisymmetric, get, insert, empty, entries, entries_sorted, get-entries, get-empty, get-insert, find}
 use Rattle.std.proofs.lemmas.Cmp.{tied_itself}
 use Rattle.std.proofs.lemmas.List.Sorted.{IsPermutation-sym}
 use Rattle.sqlite_rules.specs.Lists.{Has}
 use Rattle.sqlite_rules.proofs.ListLemmas.{all_has, has_either}
 use Rattle.sqlite_trees.specs.Tree.{IsAscending}
-use Rattle.sqlite.specs.Effect.{Database}
-use Rattle.entity_core.specs.declared.entity.Entity.{Entity}
-use Rattle.entity_core.specs.Airspace.{Airspace, Entities, EntityKey, key_cmp, key_of}
-use Rattle.entity_core.proofs.Keys.{key_total, one_key}
-use Rattle.entity_lists.specs.Entities.{entity_map}
-use Rattle.space_tables.specs.Spelling.{Group, Spells, pair_of}
 use Rattle.space_tables.proofs.OneAirspace.{EntryLess, entries_rise}
-use Rattle.space_reading.specs.Numbered.{IsNumbered}
-use Rattle.space_finding.specs.Candidates.{IsPart, ReadsNumbered, AddsNumbered}
+use Rattle.space_finding.specs.Candidates.{IsPart, HoldsNumbered}
 use Rattle.space_finding.proofs.Lists.{has_map, map_has, has_moved}
-
--- ---- entries
-
-find_has : (k : EntityKey) (e : Entity) (es : List (EntityKey × Entity)) → find key_cmp k es ≡ Some e → Has es (k, e)
-find_has k e [] h = absurd cc
-find_has k e (p ∷ es) h = go (eq_by_cmp key_cmp k p.0) refl h (find_has k e es)
-  where
-    go : (b : Bool) → eq_by_cmp key_cmp k p.0 ≡ b → cond b (Some p.1) (find key_cmp k es) ≡ Some e → (find key_cmp k es ≡ Some e → Has es (k, e)) → Has (p ∷ es) (k, e)
-    go true t h more = let same : p.1 ≡ e = cc in inl (λ i. (one_key k p.0 t i, sym same i))
-    go false t h more = inr (more h)
-
-tied : (k : EntityKey) → eq_by_cmp key_cmp k k ≡ true
-tied k = ap is_eq (tied_itself key_total k)
-
-has_find : (k : EntityKey) (e : Entity) (es : List (EntityKey × Entity)) → IsAscending (EntryLess key_cmp) es → Has es (k, e) → find key_cmp k es ≡ Some e
-has_find k e [] up h = absurd h
-has_find k e (p ∷ es) up (inl same) = subst (λ (q : EntityKey × Entity). cond (eq_by_cmp key_cmp k q.0) (Some q.1) (find key_cmp k es) ≡ Some e) same (ap (λ b. cond b (Some e) (find key_cmp k es)) (tied k))
-has_find k e (p ∷ es) up (inr h) = go (eq_by_cmp key_cmp k p.0) refl (has_find k e es up.1 h)
-  where
-    go : (b : Bool) → eq_by_cmp key_cmp k p.0 ≡ b → find key_cmp k es ≡ Some e → cond b (Some p.1) (find key_cmp k es) ≡ Some e
-    go false t more = more
-    go true t more =
-        let below = all_has (EntryLess key_cmp p) es (k, e) up.0 h in
-        let tie = subst (λ (l : EntityKey). key_cmp p.0 l ≡ Equal) (sym (one_key k p.0 t)) (tied_itself key_total p.0) in
-        absurd (let both = sym below ∙ tie in cc)
-
-pub got_has : (m : Entities) (k : EntityKey) (e : Entity) → get m k ≡ Some e → Has (entries m) (k, e)
-got_has m k e h = find_has k e (entries m) (sym (get-entries m k) ∙ h)
-
-pub has_got : (m : Entities) (k : EntityKey) (e : Entity) → Has (entries m) (k, e) → get m k ≡ Some e
-has_got m k e h = get-entries m k ∙ has_find k e (entries m) (entries_rise key_cmp (entries m) (entries_sorted m)) h
-
--- ---- the entities of groups are those of the airspace
-
-pub group_got : (db : Database) (a : Airspace) (s : Spells db a) (g : Group) → Has s.groups g → get a.entities (key_of g.entity) ≡ Some g.entity
-group_got db a s g there = has_got a.entities (key_of g.entity) g.entity (has_moved (map pair_of s.groups) (entries a.entities) (pair_of g) s.kept (map_has pair_of s.groups g there))
-
-pub got_group : (db : Database) (a : Airspace) (s : Spells db a) (k : EntityKey) (e : Entity) → get a.entities k ≡ Some e → (g : Group) × Has s.groups g × ((k, e) ≡ pair_of g)
-got_group db a s k e h = has_map pair_of s.groups (k, e) (has_moved (entries a.entities) (map pair_of s.groups) (k, e) (IsPermutation-sym _ _ s.kept) (got_has a.entities k e h))
-
--- ---- one number after the other
-
-pub no_entities : (es : List Entity) → es ≡ [] → entity_map es ≡ empty
-no_entities es is = ap (λ (l : List Entity). entity_map l) is
-
-pub none_numbered : (db : Database) (found : Entities) → found ≡ empty → ReadsNumbered [] db found
-none_numbered db found is a s = record {
-  part = λ k e h. absurd (let none = sym (ap (λ (m : Entities). get m k) is ∙ get-empty key_cmp k) ∙ h in cc);
-  whole = λ g there none. absurd none;
-}
 
 one_more : (num : ℤ) (numbers : List ℤ) (n : ℤ) → Has (numbers ++ num ∷ []) n → Has numbers n ⊎ (n ≡ num)
 one_more num numbers n h = elim (has_either numbers (num ∷ []) n h) [ inl before ↦ inl before | inr last ↦ elim last [ inl same ↦ inr same | inr none ↦ absurd none ] ]
 
-pub adds_none : (num : ℤ) (db : Database) (m : Entities) → ((a : Airspace) (s : Spells db a) → IsNumbered num s.groups None) → AddsNumbered num db m m
-adds_none num db m none a s numbers h = record {
-  part = h.part;
-  whole = λ g there n. go g there (one_more num numbers g.row.num n);
-}
-  where
-    go : (g : Group) → Has s.groups g → Has numbers g.row.num ⊎ (g.row.num ≡ num) → get m (key_of g.entity) ≡ Some g.entity
-    go g there (inl before) = h.whole g there before
-    go g there (inr same) = absurd (let no_such = (none a s).own g there same in cc)
+-- ---- keys
 
-pub adds_one : (num : ℤ) (db : Database) (m n : Entities) (e : Entity) → n ≡ insert m (key_of e) e → ((a : Airspace) (s : Spells db a) → IsNumbered num s.groups (Some e)) → AddsNumbered num db m n
-adds_one num db m n e put one a s numbers h = record {
-  part = part;
-  whole = λ g there k. whole g there (one_more num numbers g.row.num k);
-}
-  where
-    own : get a.entities (key_of e) ≡ Some e
-    own = let k = (one a s).kept in subst (λ (x : Entity). get a.entities (key_of x) ≡ Some x) k.3 (group_got db a s k.0 k.1)
+module _ {K : Type 0} (R : K → K → Ordering) (total : IsTotalOrder R) (exact : IsAntisymmetric R) where
+  one : (k l : K) → eq_by_cmp R k l ≡ true → k ≡ l
+  one k l h = exact k l ((Equal-is (R k l)).0 h)
 
-    got : (k : EntityKey) → get n k ≡ cond (eq_by_cmp key_cmp k (key_of e)) (Some e) (get m k)
-    got k = ap (λ (x : Entities). get x k) put ∙ get-insert key_total m (key_of e) e k
+  tied : (k : K) → eq_by_cmp R k k ≡ true
+  tied k = ap is_eq (tied_itself total k)
 
-    part : IsPart n a.entities
-    part k x is = go (eq_by_cmp key_cmp k (key_of e)) refl (sym (got k) ∙ is)
+-- ---- entries
+
+module _ {K X : Type 0} (R : K → K → Ordering) (total : IsTotalOrder R) (exact : IsAntisymmetric R) where
+  find_has : (k : K) (x : X) (es : List (K × X)) → find R k es ≡ Some x → Has es (k, x)
+  find_has k x [] h = absurd cc
+  find_has k x (p ∷ es) h = go (eq_by_cmp R k p.0) refl h (find_has k x es)
+    where
+      go : (b : Bool) → eq_by_cmp R k p.0 ≡ b → cond b (Some p.1) (find R k es) ≡ Some x → (find R k es ≡ Some x → Has es (k, x)) → Has (p ∷ es) (k, x)
+      go true t h more = let same : p.1 ≡ x = cc in inl (λ i. (one R total exact k p.0 t i, sym same i))
+      go false t h more = inr (more h)
+
+  has_find : (k : K) (x : X) (es : List (K × X)) → IsAscending (EntryLess R) es → Has es (k, x) → find R k es ≡ Some x
+  has_find k x [] up h = absurd h
+  has_find k x (p ∷ es) up (inl same) = subst (λ (q : K × X). cond (eq_by_cmp R k q.0) (Some q.1) (find R k es) ≡ Some x) same (ap (λ b. cond b (Some x) (find R k es)) (tied R total exact k))
+  has_find k x (p ∷ es) up (inr h) = go (eq_by_cmp R k p.0) refl (has_find k x es up.1 h)
+    where
+      go : (b : Bool) → eq_by_cmp R k p.0 ≡ b → find R k es ≡ Some x → cond b (Some p.1) (find R k es) ≡ Some x
+      go false t more = more
+      go true t more =
+          let below = all_has (EntryLess R p) es (k, x) up.0 h in
+          let tie = subst (λ (l : K). R p.0 l ≡ Equal) (sym (one R total exact k p.0 t)) (tied_itself total p.0) in
+          absurd (let both = sym below ∙ tie in cc)
+
+  pub got_has : (m : FinMap R X) (k : K) (x : X) → get m k ≡ Some x → Has (entries m) (k, x)
+  got_has m k x h = find_has k x (entries m) (sym (get-entries m k) ∙ h)
+
+  pub has_got : (m : FinMap R X) (k : K) (x : X) → Has (entries m) (k, x) → get m k ≡ Some x
+  has_got m k x h = get-entries m k ∙ has_find k x (entries m) (entries_rise R (entries m) (entries_sorted m)) h
+
+  -- ---- what groups spell, each under its key, is what a map has
+
+  module _ {G : Type 0} (num : G → ℤ) (val : G → X) (key : X → K) (gs : List G) (all : FinMap R X) (kept : IsPermutation (map (λ g. (key (val g), val g)) gs) (entries all)) where
+    abbrev pair : G → K × X
+    pair g = (key (val g), val g)
+
+    abbrev Holds : List ℤ → FinMap R X → Type 0
+    Holds numbers found = HoldsNumbered num pair numbers gs all found
+
+    pub group_got : (g : G) → Has gs g → get all (key (val g)) ≡ Some (val g)
+    group_got g there = has_got all (key (val g)) (val g) (has_moved (map pair gs) (entries all) (pair g) kept (map_has pair gs g there))
+
+    pub got_group : (k : K) (x : X) → get all k ≡ Some x → (g : G) × Has gs g × ((k, x) ≡ pair g)
+    got_group k x h = has_map pair gs (k, x) (has_moved (entries all) (map pair gs) (k, x) (IsPermutation-sym _ _ kept) (got_has all k x h))
+
+    -- ---- one number after the other
+
+    pub none_numbered : (found : FinMap R X) → found ≡ empty → Holds [] found
+    none_numbered found is = record {
+      part = λ k x h. absurd (let none = sym (ap (λ (m : FinMap R X). get m k) is ∙ get-empty R k) ∙ h in cc);
+      whole = λ g there none. absurd none;
+    }
+
+    pub adds_none : (n : ℤ) (numbers : List ℤ) (m : FinMap R X) → ((g : G) → Has gs g → num g ≡ n → ⊥) → Holds numbers m → Holds (numbers ++ n ∷ []) m
+    adds_none n numbers m none h = record {
+      part = h.part;
+      whole = λ g there k. go g there (one_more n numbers (num g) k);
+    }
       where
-        go : (b : Bool) → eq_by_cmp key_cmp k (key_of e) ≡ b → cond b (Some e) (get m k) ≡ Some x → get a.entities k ≡ Some x
-        go true t h' = let same = one_key k (key_of e) t in ap (get a.entities) same ∙ (own ∙ h')
-        go false t h' = h.part k x h'
+        go : (g : G) → Has gs g → Has numbers (num g) ⊎ (num g ≡ n) → get m (key (val g)) ≡ Some (val g)
+        go g there (inl before) = h.whole g there before
+        go g there (inr same) = absurd (none g there same)
 
-    whole : (g : Group) → Has s.groups g → Has numbers g.row.num ⊎ (g.row.num ≡ num) → get n (key_of g.entity) ≡ Some g.entity
-    whole g there (inr same) =
-        let is : e ≡ g.entity = let both = (one a s).own g there same in cc in
-        subst (λ (x : Entity). get n (key_of x) ≡ Some x) is (got (key_of e) ∙ ap (λ b. cond b (Some e) (get m (key_of e))) (tied (key_of e)))
-    whole g there (inl before) = go (eq_by_cmp key_cmp (key_of g.entity) (key_of e)) refl
+    pub adds_one : (n : ℤ) (numbers : List ℤ) (m m' : FinMap R X) (x : X) → m' ≡ insert m (key x) x → ((g : G) → Has gs g → num g ≡ n → x ≡ val g) → (g : G) × Has gs g × (val g ≡ x) → Holds numbers m → Holds (numbers ++ n ∷ []) m'
+    adds_one n numbers m m' x put own there h = record {
+      part = part;
+      whole = λ g there k. whole g there (one_more n numbers (num g) k);
+    }
       where
-        go : (b : Bool) → eq_by_cmp key_cmp (key_of g.entity) (key_of e) ≡ b → get n (key_of g.entity) ≡ Some g.entity
-        go true t =
-            let same = one_key (key_of g.entity) (key_of e) t in
-            let found = got (key_of g.entity) ∙ ap (λ b. cond b (Some e) (get m (key_of g.entity))) t in
-            found ∙ (sym own ∙ (ap (get a.entities) (sym same) ∙ group_got db a s g there))
-        go false t = got (key_of g.entity) ∙ (ap (λ b. cond b (Some e) (get m (key_of g.entity))) t ∙ h.whole g there before)
+        here : get all (key x) ≡ Some x
+        here = subst (λ (y : X). get all (key y) ≡ Some y) there.2 (group_got there.0 there.1)
+
+        got : (k : K) → get m' k ≡ cond (eq_by_cmp R k (key x)) (Some x) (get m k)
+        got k = ap (λ (y : FinMap R X). get y k) put ∙ get-insert total m (key x) x k
+
+        part : IsPart m' all
+        part k y is = go (eq_by_cmp R k (key x)) refl (sym (got k) ∙ is)
+          where
+            go : (b : Bool) → eq_by_cmp R k (key x) ≡ b → cond b (Some x) (get m k) ≡ Some y → get all k ≡ Some y
+            go true t h' = let same = one R total exact k (key x) t in ap (get all) same ∙ (here ∙ h')
+            go false t h' = h.part k y h'
+
+        whole : (g : G) → Has gs g → Has numbers (num g) ⊎ (num g ≡ n) → get m' (key (val g)) ≡ Some (val g)
+        whole g there (inr same) = subst (λ (y : X). get m' (key y) ≡ Some y) (own g there same) (got (key x) ∙ ap (λ b. cond b (Some x) (get m (key x))) (tied R total exact (key x)))
+        whole g there (inl before) = go (eq_by_cmp R (key (val g)) (key x)) refl
+          where
+            go : (b : Bool) → eq_by_cmp R (key (val g)) (key x) ≡ b → get m' (key (val g)) ≡ Some (val g)
+            go true t =
+                let same = one R total exact (key (val g)) (key x) t in
+                let found = got (key (val g)) ∙ ap (λ b. cond b (Some x) (get m (key (val g)))) t in
+                found ∙ (sym here ∙ (ap (get all) (sym same) ∙ group_got g there))
+            go false t = got (key (val g)) ∙ (ap (λ b. cond b (Some x) (get m (key (val g)))) t ∙ h.whole g there before)

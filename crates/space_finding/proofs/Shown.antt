@@ -1,5 +1,5 @@
--- What the statements on the table cell show.
-use Rattle.std.proofs.Common.{◌≡◌, ℕ, List, [], ◌∷◌, ◌&&◌, Bool, true, false, codes, refl, sym, ap, subst, ◌∙◌, int_eq, int_le, arith}
+-- What the statements on a table of cells show.
+use Rattle.std.proofs.Common.{◌≡◌, ℕ, ◌+◌, List, [], ◌∷◌, ◌&&◌, Bool, true, false, codes, refl, sym, ap, subst, ◌∙◌, int_eq, int_le, arith}
 use Rattle.std.specs.List.{list_all}
 use Rattle.std.proofs.lemmas.Int.{ints}
 use Rattle.sqlite_rules.specs.Lists.{Has}
@@ -16,49 +16,61 @@ use Rattle.sqlite.specs.Order.{Row, column}
 use Rattle.sqlite.specs.Term.{Term, col, op2, holds, eval_all}
 use Rattle.sqlite.specs.Effect.{Database, Reads}
 use Rattle.sqlite.specs.Listing.{understood}
-use Rattle.space_rows.specs.declared.rows.CellRow.{CellRow}
-use Rattle.space_tables.specs.Spelling.{cell_values, six_columns}
-use Rattle.space_reading.specs.Selecting.{IsSelect, Answers, command_of}
-use Rattle.space_reading.proofs.Means.{listing, cols}
-use Rattle.space_reading.proofs.Selected.{selects_all}
+use Rattle.sqlite.specs.Program.{overlay}
+use Rattle.sqlite_trees.specs.Tree.{Trees}
+use Rattle.space_select.specs.Selecting.{IsSelect, Answers, command_of}
+use Rattle.space_select.proofs.Means.{listing, cols}
+use Rattle.space_select.proofs.Selected.{selects_all}
+use Rattle.space_finding.specs.declared.cell_table.CellTable.{CellTable}
+use Rattle.space_finding.specs.declared.cell_table.CellTable.TheVariants.{OfEntities, OfSubscriptions}
 use Rattle.space_finding.specs.declared.interval.Interval.{Interval}
+use Rattle.space_finding.specs.CellTable.{StoredCell, interval_text, lo_place, range_text, stored_columns, stored_values, tree_of}
 use Rattle.space_finding.specs.Numbers.{StartsIn, HasInterval, ShowsNumbers}
 use Rattle.space_finding.proofs.Lists.{has_map, map_has, has_moved}
 
-abbrev pub range_read : List ℕ
-range_read = codes "SELECT entity FROM cell WHERE lo BETWEEN ?1 AND ?2"
+-- what is asked of the place of `lo`, and of that of `hi`, which is one on
+abbrev range_tests : ℕ → List Term
+range_tests k = op2 (Compare Ge Binary) (col 1 k) (col 0 0) ∷ op2 (Compare Le Binary) (col 1 k) (col 0 1) ∷ []
 
-abbrev pub ancestor_read : List ℕ
-ancestor_read = codes "SELECT entity FROM cell WHERE lo = ?1 AND hi = ?2"
+abbrev interval_tests : ℕ → ℕ → List Term
+interval_tests k l = op2 (Compare Eq Binary) (col 1 k) (col 0 0) ∷ op2 (Compare Eq Binary) (col 1 l) (col 0 1) ∷ []
 
-abbrev range_tests : List Term
-range_tests = op2 (Compare Ge Binary) (col 1 5) (col 0 0) ∷ op2 (Compare Le Binary) (col 1 5) (col 0 1) ∷ []
+-- the name of the column that is shown
+abbrev number_name : CellTable → List ℕ
+number_name OfEntities = codes "entity"
+number_name OfSubscriptions = codes "subscription"
 
-abbrev ancestor_tests : List Term
-ancestor_tests = op2 (Compare Eq Binary) (col 1 5) (col 0 0) ∷ op2 (Compare Eq Binary) (col 1 6) (col 0 1) ∷ []
-
-pub range_select : IsSelect range_read
+pub range_select : (table : CellTable) → IsSelect (range_text table)
 unfolding understood everything
-range_select = record { plain = (refl, refl); unlisted = refl }
+range_select OfEntities = record { plain = (refl, refl); unlisted = refl }
+range_select OfSubscriptions = record { plain = (refl, refl); unlisted = refl }
 
-range_is : command_of range_read ≡ Select (record { lets = []; body = listing 5 range_tests (1 ∷ []) [] }) (codes "entity" ∷ [])
+range_is : (table : CellTable) → command_of (range_text table) ≡ Select (record { lets = []; body = listing (tree_of table) (range_tests (lo_place table)) (1 ∷ []) [] }) (number_name table ∷ [])
 unfolding understood everything
-range_is = refl
+range_is OfEntities = refl
+range_is OfSubscriptions = refl
 
-pub ancestor_select : IsSelect ancestor_read
+pub interval_select : (table : CellTable) → IsSelect (interval_text table)
 unfolding understood everything
-ancestor_select = record { plain = (refl, refl); unlisted = refl }
+interval_select OfEntities = record { plain = (refl, refl); unlisted = refl }
+interval_select OfSubscriptions = record { plain = (refl, refl); unlisted = refl }
 
-ancestor_is : command_of ancestor_read ≡ Select (record { lets = []; body = listing 5 ancestor_tests (1 ∷ []) [] }) (codes "entity" ∷ [])
+interval_is : (table : CellTable) → command_of (interval_text table) ≡ Select (record { lets = []; body = listing (tree_of table) (interval_tests (lo_place table) (lo_place table + 1)) (1 ∷ []) [] }) (number_name table ∷ [])
 unfolding understood everything
-ancestor_is = refl
+interval_is OfEntities = refl
+interval_is OfSubscriptions = refl
 
-module _ (tests : List Term) (params : Row) (P : CellRow → Type 0) (pass : (c : CellRow) (r : Row) → six_columns r ≡ cell_values c → P c → list_all (holds (params ∷ r ∷ [])) tests ≡ true) (db : Database) (rows : List Row) where
-  shown : Reads (Select (record { lets = []; body = listing 5 tests (1 ∷ []) [] }) (codes "entity" ∷ [])) db params rows → ShowsNumbers P db rows
+-- nothing is written over it
+same_rows : (table : CellTable) (trees : Trees) → overlay trees [] (tree_of table) ≡ trees (tree_of table)
+same_rows OfEntities trees = refl
+same_rows OfSubscriptions trees = refl
+
+module _ (table : CellTable) (tests : List Term) (params : Row) (P : StoredCell → Type 0) (pass : (c : StoredCell) (r : Row) → stored_columns table r ≡ stored_values c → P c → list_all (holds (params ∷ r ∷ [])) tests ≡ true) (db : Database) (rows : List Row) where
+  shown : Reads (Select (record { lets = []; body = listing (tree_of table) tests (1 ∷ []) [] }) (number_name table ∷ [])) db params rows → ShowsNumbers table P db rows
   shown read c there p =
-      let all = selects_all 5 tests (1 ∷ []) [] db.trees params rows refl (read.answer Null) in
-      let from = has_map six_columns (db.trees 5) (cell_values c) there in
-      let passes = has_kept (λ r. list_all (holds (params ∷ r ∷ [])) tests) (db.trees 5) from.0 from.1 (pass c from.0 (sym from.2) p) in
+      let all = selects_all (tree_of table) tests (1 ∷ []) [] db.trees params rows (same_rows table db.trees) (read.answer Null) in
+      let from = has_map (stored_columns table) (db.trees (tree_of table)) (stored_values c) there in
+      let passes = has_kept (λ r. list_all (holds (params ∷ r ∷ [])) tests) (db.trees (tree_of table)) from.0 from.1 (pass c from.0 (sym from.2) p) in
       let moved = has_moved _ rows _ all (map_has (λ r. eval_all (cols (1 ∷ [])) (params ∷ r ∷ [])) _ from.0 passes) in
       subst (λ (v : Value). Has rows (v ∷ [])) (ap (λ l. column l 0) (sym from.2)) moved
 
@@ -66,26 +78,25 @@ two_tests : (a b : Bool) → a ≡ true → b ≡ true → (a && b) ≡ true
 two_tests true b e f = f
 two_tests false b e f = cc
 
-range_passes : (i : Interval) (c : CellRow) (r : Row) → six_columns r ≡ cell_values c → StartsIn i c → list_all (holds ((Int i.lo ∷ Int i.hi ∷ []) ∷ r ∷ [])) range_tests ≡ true
-range_passes i c r e p =
-    let lo : column r 5 ≡ Int c.lo = ap (λ l. column l 4) e in
+range_passes : (k : ℕ) (i : Interval) (c : StoredCell) (r : Row) → column r k ≡ Int c.lo → StartsIn i c → list_all (holds ((Int i.lo ∷ Int i.hi ∷ []) ∷ r ∷ [])) (range_tests k) ≡ true
+range_passes k i c r lo p =
     let low : int_le i.lo c.lo ≡ true = let h = p.0 in grind (arith, ints, h) in
     let high : int_le c.lo i.hi ≡ true = let h = p.1 in grind (arith, ints, h) in
-    subst (λ (v : Value). list_all (holds ((Int i.lo ∷ Int i.hi ∷ []) ∷ (Null ∷ Null ∷ Null ∷ Null ∷ Null ∷ v ∷ []) ∷ [])) range_tests ≡ true) (sym lo)
+    subst (λ (v : Value). list_all (holds ((Int i.lo ∷ Int i.hi ∷ []) ∷ (v ∷ []) ∷ [])) (range_tests 0) ≡ true) (sym lo)
     (then_term (at_ints false Ge c.lo i.lo) (last_term (at_ints false Le c.lo i.hi)) ∙ two_tests _ _ low high)
 
-ancestor_passes : (i : Interval) (c : CellRow) (r : Row) → six_columns r ≡ cell_values c → HasInterval i c → list_all (holds ((Int i.lo ∷ Int i.hi ∷ []) ∷ r ∷ [])) ancestor_tests ≡ true
-ancestor_passes i c r e p =
-    let lo : column r 5 ≡ Int c.lo = ap (λ l. column l 4) e in
-    let hi : column r 6 ≡ Int c.hi = ap (λ l. column l 5) e in
+interval_passes : (k l : ℕ) (i : Interval) (c : StoredCell) (r : Row) → column r k ≡ Int c.lo → column r l ≡ Int c.hi → HasInterval i c → list_all (holds ((Int i.lo ∷ Int i.hi ∷ []) ∷ r ∷ [])) (interval_tests k l) ≡ true
+interval_passes k l i c r lo hi p =
     let first : int_eq c.lo i.lo ≡ true = let h = p.0 in grind (arith, ints, h) in
     let second : int_eq c.hi i.hi ≡ true = let h = p.1 in grind (arith, ints, h) in
-    subst (λ (v : Value). list_all (holds ((Int i.lo ∷ Int i.hi ∷ []) ∷ (Null ∷ Null ∷ Null ∷ Null ∷ Null ∷ v ∷ column r 6 ∷ []) ∷ [])) ancestor_tests ≡ true) (sym lo)
-    (subst (λ (v : Value). list_all (holds ((Int i.lo ∷ Int i.hi ∷ []) ∷ (Null ∷ Null ∷ Null ∷ Null ∷ Null ∷ Int c.lo ∷ v ∷ []) ∷ [])) ancestor_tests ≡ true) (sym hi)
+    subst (λ (v : Value). list_all (holds ((Int i.lo ∷ Int i.hi ∷ []) ∷ (v ∷ column r l ∷ []) ∷ [])) (interval_tests 0 1) ≡ true) (sym lo)
+    (subst (λ (v : Value). list_all (holds ((Int i.lo ∷ Int i.hi ∷ []) ∷ (Int c.lo ∷ v ∷ []) ∷ [])) (interval_tests 0 1) ≡ true) (sym hi)
     (then_term (at_ints false Eq c.lo i.lo) (last_term (at_ints false Eq c.hi i.hi)) ∙ two_tests _ _ first second))
 
-pub range_shown : (i : Interval) (db : Database) (rows : List Row) → Answers range_read (Int i.lo ∷ Int i.hi ∷ []) db rows → ShowsNumbers (StartsIn i) db rows
-range_shown i db rows h = shown range_tests (Int i.lo ∷ Int i.hi ∷ []) (StartsIn i) (range_passes i) db rows (subst (λ k. Reads k db (Int i.lo ∷ Int i.hi ∷ []) rows) range_is h)
+pub range_shown : (table : CellTable) (i : Interval) (db : Database) (rows : List Row) → Answers (range_text table) (Int i.lo ∷ Int i.hi ∷ []) db rows → ShowsNumbers table (StartsIn i) db rows
+range_shown table i db rows h =
+    shown table (range_tests (lo_place table)) (Int i.lo ∷ Int i.hi ∷ []) (StartsIn i) (λ c r e p. range_passes (lo_place table) i c r (ap (λ l. column l 1) e) p) db rows (subst (λ k. Reads k db (Int i.lo ∷ Int i.hi ∷ []) rows) (range_is table) h)
 
-pub ancestor_shown : (i : Interval) (db : Database) (rows : List Row) → Answers ancestor_read (Int i.lo ∷ Int i.hi ∷ []) db rows → ShowsNumbers (HasInterval i) db rows
-ancestor_shown i db rows h = shown ancestor_tests (Int i.lo ∷ Int i.hi ∷ []) (HasInterval i) (ancestor_passes i) db rows (subst (λ k. Reads k db (Int i.lo ∷ Int i.hi ∷ []) rows) ancestor_is h)
+pub interval_shown : (table : CellTable) (i : Interval) (db : Database) (rows : List Row) → Answers (interval_text table) (Int i.lo ∷ Int i.hi ∷ []) db rows → ShowsNumbers table (HasInterval i) db rows
+interval_shown table i db rows h =
+    shown table (interval_tests (lo_place table) (lo_place table + 1)) (Int i.lo ∷ Int i.hi ∷ []) (HasInterval i) (λ c r e p. interval_passes (lo_place table) (lo_place table + 1) i c r (ap (λ l. column l 1) e) (ap (λ l. column l 2) e) p) db rows (subst (λ k. Reads k db (Int i.lo ∷ Int i.hi ∷ []) rows) (interval_is table) h)

@@ -1,4 +1,5 @@
 pub mod Asked
+pub mod CellTable
 pub mod Numbers
 pub mod Candidates
 pub mod Met

@@ -2,13 +2,14 @@
 ghost use Rattle.std.specs.Prelude.{◌≡◌};
 ghost use Rattle.sqlite.specs.Held.{state};
 ghost use Rattle.entity_lists.specs.Entities.{entity_map};
-ghost use Rattle.space_reading.specs.Reading.{Reads};
+ghost use Rattle.space_select.specs.Reading.{Reads};
 ghost use Rattle.space_finding.specs.Candidates.{AddsNumbered, ReadsNumbered, HoldsCandidates};
 
+use crate::cell_table::CellTable;
 use crate::interval::Interval;
 use crate::numbers::find_numbers;
 use entity_lists::entities::Entities;
-use space_reading::numbered::read_numbered;
+use space_single::numbered::read_numbered;
 use sqlite::{Alter, Error, Transaction};
 use std::alloc::Global;
 
@@ -58,6 +59,6 @@ pub(crate) fn read_candidates<S: Alter>(
         Reads (λ db found. HoldsCandidates ranges.now ancestors.now db (entity_map found))
         old (state S.Store tx.new.conn.now) result }
 {
-    let numbers = find_numbers(alloc, tx, ranges, ancestors)?;
+    let numbers = find_numbers(alloc, tx, CellTable::OfEntities, ranges, ancestors)?;
     read_all(alloc, tx, numbers.as_slice())
 }

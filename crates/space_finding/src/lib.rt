@@ -1,9 +1,13 @@
-//! The entities that meet areas, found by the index on the intervals of cells.
+//! The entities and the subscriptions that meet areas, found by the indexes on the intervals of
+//! cells.
 #![tactic(auto)]
 
 mod asked;
 mod candidates;
+mod cell_table;
 mod interval;
 mod managers;
 pub mod meeting;
 mod numbers;
+mod sub_candidates;
+pub mod subscriptions;

@@ -1,14 +1,14 @@
 //! Entities with the availabilities of their managers, which are read in the same transaction.
 ghost use Rattle.std.specs.Prelude.{◌≡◌, [], unwrap_or};
 ghost use Rattle.sqlite.specs.Held.{state};
-ghost use Rattle.space_reading.specs.Reading.{Reads};
+ghost use Rattle.space_select.specs.Reading.{Reads};
 ghost use Rattle.space_finding.specs.Met.{AreWithAvailabilities, IsWithAvailability};
 
 use entity_core::availability::Availability;
 use entity_core::entity::Entity;
 use entity_core::ovn::Ovn;
 use space_core::met::Met;
-use space_reading::stated::read_stated;
+use space_single::stated::read_stated;
 use sqlite::{Alter, Error, Transaction};
 use std::alloc::Global;
 

@@ -4,7 +4,7 @@ ghost use Rattle.sqlite.specs.Held.{state};
 ghost use Rattle.sqlite.specs.State.{HasCleanDisk, Survives};
 ghost use Rattle.space_core.specs.Met.{met_in};
 ghost use Rattle.space_tables.specs.Tables.{dss_schema};
-ghost use Rattle.space_reading.specs.Reading.{GoesBack, Reads, ReadsTables};
+ghost use Rattle.space_select.specs.Reading.{GoesBack, Reads, ReadsTables};
 ghost use Rattle.space_finding.specs.Asked.{HasAllAncestors, HasRanges};
 ghost use Rattle.space_finding.specs.Met.{FindsMet};
 
@@ -16,7 +16,7 @@ use entity_core::entity_id::EntityId;
 use entity_core::nature::Kind;
 use grid_core::volume::Area;
 use space_core::met::Met;
-use space_reading::reading::{alive, known};
+use space_select::reading::alive;
 use sqlite::{Alter, Connection, Error, Transaction};
 use std::alloc::Global;
 
@@ -97,8 +97,8 @@ fn read_alive<S: Alter>(
 }
 
 /// The entities of a kind, but the one of an id, of which some volume meets some area, by rising
-/// ids, each with its manager's availability, as the tables of format 1 spell them. Where they spell
-/// no airspace, anything may come of it. It reads the rows of `cell` that the index on `lo` and `hi`
+/// ids, each with its manager's availability, as the tables spell them. Where they spell no
+/// airspace, anything may come of it. It reads the rows of `cell` that the index on `lo` and `hi`
 /// finds, those of the entities that have them, and the row of `availability` of each manager of
 /// what meets, all in one transaction. An error is one of the store, or want of memory.
 pub fn read_meeting<S: Alter>(

@@ -1,44 +1,45 @@
-//! The numbers of the entities that have a cell in an interval, or one with an interval, which the
-//! index on `lo` and `hi` finds.
+//! The numbers of what has a cell in an interval, or one with an interval, which the index on `lo`
+//! and `hi` of a table of cells finds.
 ghost use Rattle.std.specs.Prelude.{◌≡◌, ℤ, [], ◌∷◌, OnOk, IfOk};
 ghost use Rattle.std.specs.List.Sorted.{IsStrictlySortedBy};
 ghost use Rattle.std.specs.Ordering.{int_cmp};
 ghost use Rattle.sqlite_value.specs.declared.value.Value.TheVariants.{Int};
 ghost use Rattle.sqlite_rules.specs.Lists.{Has};
 ghost use Rattle.sqlite.specs.Held.{state};
-ghost use Rattle.space_reading.specs.Reading.{Reads};
+ghost use Rattle.space_select.specs.Reading.{Reads};
 ghost use Rattle.space_finding.specs.Asked.{Keeps};
 ghost use Rattle.space_finding.specs.Numbers.{StartsIn, HasInterval, ShowsNumbers, HasNumbers, FindsNumbers};
 
+use crate::cell_table::CellTable;
 use crate::interval::Interval;
+use space_select::select::query;
 use sqlite::{Alter, Error, Row, Transaction, params};
 use std::alloc::Global;
 
-fn query_range<S: Alter>(tx: &mut Transaction<'_, S>, range: &Interval) -> Result<Vec<Row>, Error>
+fn query_range<S: Alter>(
+    tx: &mut Transaction<'_, S>,
+    table: CellTable,
+    range: &Interval,
+) -> Result<Vec<Row>, Error>
     ensures same_reference { tx.new.conn.ghost_name ≡ tx.old.conn.ghost_name }
     ensures reads { let old = state S.Store tx.old.conn.now in
-        Reads (λ db rows. ShowsNumbers (StartsIn range.now) db rows.items)
+        Reads (λ db rows. ShowsNumbers table (StartsIn range.now) db rows.items)
         old (state S.Store tx.new.conn.now) result }
 {
-    tx.query_all(
-        "SELECT entity FROM cell WHERE lo BETWEEN ?1 AND ?2",
-        params![range.lo, range.hi],
-    )
+    query(tx, table.range_text(), params![range.lo, range.hi])
 }
 
 fn query_ancestor<S: Alter>(
     tx: &mut Transaction<'_, S>,
+    table: CellTable,
     ancestor: &Interval,
 ) -> Result<Vec<Row>, Error>
     ensures same_reference { tx.new.conn.ghost_name ≡ tx.old.conn.ghost_name }
     ensures reads { let old = state S.Store tx.old.conn.now in
-        Reads (λ db rows. ShowsNumbers (HasInterval ancestor.now) db rows.items)
+        Reads (λ db rows. ShowsNumbers table (HasInterval ancestor.now) db rows.items)
         old (state S.Store tx.new.conn.now) result }
 {
-    tx.query_all(
-        "SELECT entity FROM cell WHERE lo = ?1 AND hi = ?2",
-        params![ancestor.lo, ancestor.hi],
-    )
+    query(tx, table.interval_text(), params![ancestor.lo, ancestor.hi])
 }
 
 fn number_in(row: &Row) -> Result<i64, Error>
@@ -60,31 +61,33 @@ fn add_numbers(found: &mut Vec<i64>, rows: &[Row]) -> Result<(), Error>
 
 fn find_in_range<S: Alter>(
     tx: &mut Transaction<'_, S>,
+    table: CellTable,
     range: &Interval,
     found: &mut Vec<i64>,
 ) -> Result<(), Error>
     ensures same_reference { tx.new.conn.ghost_name ≡ tx.old.conn.ghost_name }
     ensures keeps { OnOk result (Keeps found.old.items found.new.items) }
     ensures finds { let old = state S.Store tx.old.conn.now in
-        Reads (λ db _. HasNumbers (StartsIn range.now) db found.new.items)
+        Reads (λ db _. HasNumbers table (StartsIn range.now) db found.new.items)
         old (state S.Store tx.new.conn.now) result }
 {
-    let rows = query_range(tx, range)?;
+    let rows = query_range(tx, table, range)?;
     add_numbers(found, rows.as_slice())
 }
 
 fn find_ancestor<S: Alter>(
     tx: &mut Transaction<'_, S>,
+    table: CellTable,
     ancestor: &Interval,
     found: &mut Vec<i64>,
 ) -> Result<(), Error>
     ensures same_reference { tx.new.conn.ghost_name ≡ tx.old.conn.ghost_name }
     ensures keeps { OnOk result (Keeps found.old.items found.new.items) }
     ensures finds { let old = state S.Store tx.old.conn.now in
-        Reads (λ db _. HasNumbers (HasInterval ancestor.now) db found.new.items)
+        Reads (λ db _. HasNumbers table (HasInterval ancestor.now) db found.new.items)
         old (state S.Store tx.new.conn.now) result }
 {
-    let rows = query_ancestor(tx, ancestor)?;
+    let rows = query_ancestor(tx, table, ancestor)?;
     add_numbers(found, rows.as_slice())
 }
 
@@ -96,26 +99,27 @@ fn put_in_order(numbers: &mut Vec<i64>)
     numbers.dedup();
 }
 
-/// The numbers of the entities that have a cell that starts in one of the ranges, or one that has
-/// the interval of one of the ancestors; each once.
+/// The numbers of those with a cell in a table that starts in one of the ranges, or with one that
+/// has the interval of one of the ancestors; each once.
 pub(crate) fn find_numbers<S: Alter>(
     alloc: Global,
     tx: &mut Transaction<'_, S>,
+    table: CellTable,
     ranges: &[Interval],
     ancestors: &[Interval],
 ) -> Result<Vec<i64>, Error>
     ensures same_reference { tx.new.conn.ghost_name ≡ tx.old.conn.ghost_name }
     ensures once { IfOk result (λ found. IsStrictlySortedBy int_cmp found.items) }
     ensures finds { let old = state S.Store tx.old.conn.now in
-        Reads (λ db found. FindsNumbers ranges.now ancestors.now db found.items)
+        Reads (λ db found. FindsNumbers table ranges.now ancestors.now db found.items)
         old (state S.Store tx.new.conn.now) result }
 {
     let mut found = Vec::new(alloc);
     for range in ranges {
-        find_in_range(tx, range, &mut found)?;
+        find_in_range(tx, table, range, &mut found)?;
     }
     for ancestor in ancestors {
-        find_ancestor(tx, ancestor, &mut found)?;
+        find_ancestor(tx, table, ancestor, &mut found)?;
     }
     put_in_order(&mut found);
     Ok(found)

@@ -1,6 +1,7 @@
 -- An index of the entities of a map, as entities come and go.
-use Rattle.std.specs.Prelude.{◌≡◌, ℕ, ◌+◌, ◌*◌, ◌≤◌, true, false, cond, List, [], Some, None, refl}
+use Rattle.std.specs.Prelude.{◌≡◌, ℕ, ◌+◌, ◌*◌, ◌≤◌, true, false, cond, List, [], Option, Some, None, nat_eq, refl}
 use Rattle.std.proofs.Common.{arith, sym, ap, ◌∙◌, subst}
+use Rattle.std.proofs.lemmas.Bool.Decides.{nat_tests}
 use Rattle.std.proofs.lemmas.Option.{same_Some}
 use Rattle.std.proofs.lemmas.List.Elements.{All-weaker}
 use Rattle.std.specs.List.{All}
@@ -15,7 +16,7 @@ use Rattle.entity_core.specs.declared.nature.Kind.TheVariants.{Intent, Constrain
 use Rattle.entity_core.specs.Entity.{kind_index, kind_of}
 use Rattle.entity_core.specs.Airspace.{Entities, EntityKey, key_cmp, key_of}
 use Rattle.space_list.specs.CellIndex.{AllMarked, Grows, IsIndexOf, IsMarked, KeepsOthers, Mark, mark_cmp, mark_of, tag_of}
-use Rattle.entity_lists.specs.Entities.{entity_map, pair_of}
+use Rattle.entity_lists.specs.Entities.{entity_map, pair_of, was_put_at}
 use Rattle.space_list.specs.Proper.{own_key}
 use Rattle.entity_lists.specs.Sorted.{keyed}
 use Rattle.space_list.proofs.CellMeetings.{marked_more}
@@ -63,14 +64,24 @@ same_kind Constraint Constraint e = refl
 same_tag : (s t i j : ℕ) → i ≤ 1 → j ≤ 1 → 2 * s + i ≡ 2 * t + j → (s ≡ t) × (i ≡ j)
 same_tag s t i j a b e = (omega (arith, e), omega (arith, e))
 
+same_number : (a b : ℕ) → a ≡ b → nat_eq a b ≡ true
+same_number a b e = grind (arith, nat_tests, e)
+
+-- what was not put at a serial is no entity of that serial
+not_put : (x : Entity) (serial : ℕ) (there : Option Entity) → was_put_at serial there ≡ false → there ≡ Some x → x.serial ≡ serial → ⊥
+not_put x serial there other at same =
+    let put : was_put_at serial (Some x) ≡ true = same_number x.serial serial same in
+    let not : was_put_at serial (Some x) ≡ false = ap (was_put_at serial) (sym at) ∙ other in
+    let bad : true ≡ false = sym put ∙ not in cc
+
 -- what is taken out is of no entity that is kept
 pub forgotten_indexed : (es : List Entity) (g : Entity) (old new : BTreeSet Mark) → KeepsOthers g old new
-    → ((x : Entity) → get (entity_map es) (key_of g) ≡ Some x → x.serial ≡ g.serial → ⊥) → IsIndexOf (entity_map es) old → IsIndexOf (entity_map es) new
+    → was_put_at g.serial (get (entity_map es) (key_of g)) ≡ false → IsIndexOf (entity_map es) old → IsIndexOf (entity_map es) new
 forgotten_indexed es g old new keeps gone h = λ k x at.
     let other : tag_of x ≡ tag_of g → x.id ≡ g.id → ⊥ = λ tag id.
     let same = same_tag x.serial g.serial (kind_index (kind_of x.nature)) (kind_index (kind_of g.nature)) (small_kind (kind_of x.nature)) (small_kind (kind_of g.nature)) tag in
     let kind : kind_of x.nature ≡ kind_of g.nature = same_kind (kind_of x.nature) (kind_of g.nature) same.1 in
     let keys : key_of x ≡ key_of g = λ i. (kind i, id i) in
     let own : key_of x ≡ k = own_key es k x (sym (get-from_entries key_total (keyed pair_of es) k) ∙ at) in
-    gone x (ap (λ (q : EntityKey). get (entity_map es) q) (sym keys ∙ own) ∙ at) same.0 in
+    not_put x g.serial (get (entity_map es) (key_of g)) gone (ap (λ (q : EntityKey). get (entity_map es) q) (sym keys ∙ own) ∙ at) same.0 in
     all_marked old new x (λ c m. record { cell = m.cell; narrow = m.narrow; mark = keeps (mark_of x c) other m.mark }) (h k x at)

@@ -1,7 +1,10 @@
 -- What a space in memory keeps.
-use Rattle.std.specs.Prelude.{ℕ}
+use Rattle.std.specs.Prelude.{ℕ, IsSome}
+use Rattle.std.specs.FinMap.{get}
 use Rattle.entity_core.specs.Airspace.{Airspace}
 use Rattle.entity_lists.specs.Lists.{airspace_of}
+use Rattle.space_core.specs.declared.space.Change.{Change}
+use Rattle.space_core.specs.declared.space.Change.TheVariants.{Put, Remove, Avail, PutSub, RemoveSub}
 use Rattle.space_list.specs.declared.list.ListSpace.{ListSpace}
 
 abbrev pub content_of : ListSpace → Airspace
@@ -10,3 +13,11 @@ content_of s = airspace_of s.entities s.subscriptions s.availabilities s.serial
 -- how often it has answered `Unchanged`
 abbrev pub refusals_of : ListSpace → ℕ
 refusals_of s = s.refusals
+
+-- a setting, or a put of a subscription, where there is one already
+abbrev pub IsOver : Change → Airspace → Type 0
+IsOver (Put e) a = ⊥
+IsOver (Remove kind id) a = ⊥
+IsOver (Avail uss availability version) a = IsSome (get a.availabilities uss)
+IsOver (PutSub s) a = IsSome (get a.subscriptions s.id)
+IsOver (RemoveSub id) a = ⊥

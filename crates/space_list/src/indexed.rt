@@ -1,5 +1,5 @@
 //! Entities with an index by the cells of their volumes, so that a search costs what it finds.
-ghost use Rattle.std.specs.Prelude.{◌≡◌, [], OnOk, OnErr, IfOk};
+ghost use Rattle.std.specs.Prelude.{◌≡◌, [], OnOk, OnErr, IfOk, IsOk, IsNone};
 ghost use Rattle.std.specs.FinMap.{get, insert, remove};
 ghost use Rattle.entity_core.specs.Airspace.{key_of};
 ghost use Rattle.entity_core.specs.Search.{meeting_in, all_in, dependents_in};
@@ -159,14 +159,16 @@ impl IndexedEntities {
         }
     }
 
-    /// A copy of the entity of a kind and an id, if there is one.
+    /// A copy of the entity of a kind and an id, if there is one. That there is none takes no
+    /// memory to tell.
     pub(crate) fn entity(
         &self,
         alloc: Global,
         kind: Kind,
         id: EntityId,
     ) -> Result<Option<Entity>, AllocError>
-        ensures { IfOk result (λ found. found ≡ get (entity_map self.now) (kind, id)) }
+        ensures found { IfOk result (λ found. found ≡ get (entity_map self.now) (kind, id)) }
+        ensures none { IsNone (get (entity_map self.now) (kind, id)) → IsOk result }
     {
         self.entities.entity(alloc, kind, id)
     }

@@ -1,6 +1,7 @@
 //! A space in memory: sorted lists of the entities, of the subscriptions and of what suppliers have
 //! set.
-ghost use Rattle.std.specs.Prelude.{◌≡◌, ◌≤◌, ℕ, false, ◌+◌, Ok, OnOk, OnErr, min, IsOk};
+ghost use Rattle.std.specs.Prelude.{◌≡◌, ◌≤◌, ℕ, false, ◌+◌, Ok, OnOk, OnErr, min, IfOk, IsOk, IsNone};
+ghost use Rattle.std.specs.FinMap.{get};
 ghost use Rattle.entity_core.specs.Airspace.{Airspace, IsAirspace, empty_at};
 ghost use Rattle.entity_core.specs.Serial.{greatest_serial};
 ghost use Rattle.space_core.specs.Space.{Fits, IsRemoval, Tells, changed, greatest_count};
@@ -40,17 +41,19 @@ impl ListSpace {
     ghost use Rattle.space_list.specs.List.{content_of};
     ghost use Rattle.space_core.specs.Space.{IsContent};
 
-    /// An empty airspace.
+    /// An empty airspace, in a space that has refused nothing.
     pub fn new(alloc: Global) -> Self
-        ensures { IsContent ⟦<ListSpace as Space>⟧.holds result (empty_at 0) }
+        ensures content { IsContent ⟦<ListSpace as Space>⟧.holds result (empty_at 0) }
+        ensures fresh { ⟦<ListSpace as Space>⟧.refusals result ≡ 0 }
     {
         ListSpace::at_serial(alloc, 0)
     }
 
-    /// An empty airspace whose serial has gone on so far.
+    /// An empty airspace whose serial has gone on so far, in a space that has refused nothing.
     pub fn at_serial(alloc: Global, serial: u64) -> Self
         requires { serial ≤ greatest_serial }
-        ensures { IsContent ⟦<ListSpace as Space>⟧.holds result (empty_at serial) }
+        ensures content { IsContent ⟦<ListSpace as Space>⟧.holds result (empty_at serial) }
+        ensures fresh { ⟦<ListSpace as Space>⟧.refusals result ≡ 0 }
     {
         ListSpace {
             alloc,
@@ -74,7 +77,7 @@ impl ListSpace {
 }
 
 impl Space for ListSpace {
-    ghost use Rattle.space_list.specs.List.{content_of, refusals_of};
+    ghost use Rattle.space_list.specs.List.{content_of, refusals_of, IsOver};
     ghost use Rattle.space_list.specs.Proper.{content_is_proper};
 
     ghost holds = { λ s a. a ≡ content_of s };
@@ -95,7 +98,13 @@ impl Space for ListSpace {
 
     ghost proper = { λ s a sound h. subst IsAirspace (sym h) (content_is_proper s) };
 
-    fn entity(&mut self, kind: Kind, id: EntityId) -> Result<Option<Entity>, SpaceFault> {
+    fn entity(&mut self, kind: Kind, id: EntityId) -> Result<Option<Entity>, SpaceFault>
+        ensures tells { Tells (refusals_of self.old) (refusals_of self.new) false false result }
+        ensures kept { content_of self.new ≡ content_of self.old }
+        ensures found { IfOk result (λ found.
+            found ≡ get (content_of self.old).entities (kind, id)) }
+        ensures none { IsNone (get (content_of self.old).entities (kind, id)) → IsOk result }
+    {
         match self.entities.entity(self.alloc, kind, id) {
             Ok(found) => Ok(found),
             Err(_) => Err(self.refuse()),
@@ -128,14 +137,26 @@ impl Space for ListSpace {
         }
     }
 
-    fn availability(&mut self, uss: &UssId) -> Result<Option<(Availability, Ovn)>, SpaceFault> {
+    fn availability(&mut self, uss: &UssId) -> Result<Option<(Availability, Ovn)>, SpaceFault>
+        ensures tells { Tells (refusals_of self.old) (refusals_of self.new) false false result }
+        ensures kept { content_of self.new ≡ content_of self.old }
+        ensures found { IfOk result (λ found.
+            found ≡ get (content_of self.old).availabilities uss.now) }
+        ensures none { IsNone (get (content_of self.old).availabilities uss.now) → IsOk result }
+    {
         match self.availabilities.availability(uss) {
             Ok(found) => Ok(found),
             Err(_) => Err(self.refuse()),
         }
     }
 
-    fn subscription(&mut self, id: EntityId) -> Result<Option<Sub>, SpaceFault> {
+    fn subscription(&mut self, id: EntityId) -> Result<Option<Sub>, SpaceFault>
+        ensures tells { Tells (refusals_of self.old) (refusals_of self.new) false false result }
+        ensures kept { content_of self.new ≡ content_of self.old }
+        ensures found { IfOk result (λ found.
+            found ≡ get (content_of self.old).subscriptions id) }
+        ensures none { IsNone (get (content_of self.old).subscriptions id) → IsOk result }
+    {
         match self.subscriptions.subscription(id) {
             Ok(found) => Ok(found),
             Err(_) => Err(self.refuse()),
@@ -177,6 +198,7 @@ impl Space for ListSpace {
         ensures refused { OnErr result (content_of self.new ≡ content_of self.old) }
         ensures tells { Tells (refusals_of self.old) (refusals_of self.new) false false result }
         ensures removed { IsRemoval change → IsOk result }
+        ensures over { IsOver change (content_of self.old) → IsOk result }
     {
         match make(
             &mut self.entities,

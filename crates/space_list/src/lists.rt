@@ -7,6 +7,7 @@ ghost use Rattle.entity_lists.specs.Lists.{airspace_of};
 ghost use Rattle.space_core.specs.Met.{met_in, met_of};
 ghost use Rattle.space_core.specs.Space.{IsRemoval, changed};
 ghost use Rattle.entity_lists.specs.Subscriptions.{CanRise};
+ghost use Rattle.space_list.specs.List.{IsOver};
 
 use crate::indexed::IndexedEntities;
 use entity_core::entity::Entity;
@@ -74,6 +75,8 @@ pub(crate) fn make(
     ensures same_subscriptions { OnErr result (subscriptions.new ≡ subscriptions.old) }
     ensures same_availabilities { OnErr result (availabilities.new ≡ availabilities.old) }
     ensures removed { IsRemoval change → IsOk result }
+    ensures over { (serial : ℕ) → IsOver change
+        (airspace_of entities.old subscriptions.old availabilities.old serial) → IsOk result }
 {
     match change {
         Change::Put(entity) => {

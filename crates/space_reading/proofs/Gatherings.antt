@@ -1,172 +1,142 @@
--- The rows are gathered one after the other: what is left is gathered exactly where the whole is.
-use Rattle.std.specs.Prelude.{◌≡◌, ℕ, ℤ, pos, ◌<ℤ◌, ◌↔◌, List, [], ◌∷◌, ◌++◌, None, take, drop, refl}
-use Rattle.std.specs.List.{AllByRecursion, AllZip}
-use Rattle.std.specs.Ordering.{int_cmp, MatchOrdering}
-use Rattle.std.specs.Cmp.{int_ranks}
+-- Entities are gathered one after the other.
+use Rattle.std.specs.Prelude.{◌≡◌, ℕ, ℤ, pos, ◌<ℤ◌, ◌↔◌, List, [], ◌∷◌, Option, Some, None, refl}
+use Rattle.std.specs.List.{AllByRecursion}
 use Rattle.std.specs.FinMap.{insert, empty}
-use Rattle.std.specs.declared.cmp.Ordering.{Ordering}
-use Rattle.std.specs.declared.cmp.Ordering.TheVariants.{Less}
-use Rattle.std.proofs.Common.{sym, ap, ap₂, ◌∙◌, subst, arith, take-append-drop}
-use Rattle.std.proofs.lemmas.Int.{ints}
-use Rattle.grid_core.specs.Extent.{Extent}
+use Rattle.std.proofs.Common.{sym, ap, ◌∙◌, subst}
 use Rattle.entity_core.specs.declared.entity.Entity.{Entity}
 use Rattle.entity_core.specs.Airspace.{Entities, key_of}
 use Rattle.space_rows.specs.declared.rows.EntityRow.{EntityRow}
 use Rattle.space_rows.specs.declared.rows.VolumeRow.{VolumeRow}
 use Rattle.space_rows.specs.declared.rows.CellRow.{CellRow}
-use Rattle.space_rows.specs.Rows.{PlacedCell, placed, IsVolumeRow, IsCellRow, SpellsEntity}
 use Rattle.space_rows.proofs.OneEntity.{one_entity}
-use Rattle.space_rows.proofs.Pieces.{all_joined, all_turned}
-use Rattle.space_reading.specs.Gathering.{Gathers, IsNext, StartsElse}
+use Rattle.space_tables.proofs.Rising.{volumes_of, cells_of}
+use Rattle.space_select.specs.declared.sub_rows.NamingRow.{NamingRow}
+use Rattle.space_reading.specs.declared.naming.Numbered.{Numbered}
+use Rattle.space_reading.specs.Gathering.{Gathers, IsNext, NamesBy, Parts, id_in, joined}
+use Rattle.space_reading.proofs.Fronts.{Front, less, later, one_front}
 
--- the rows of the next entity, and the others
-pub record Front {X : Type 0} (P : X → Type 0) (rest own more : List X) : Type 0 where
-  pub whole : rest ≡ own ++ more
-  pub these : AllByRecursion P own
-  pub others : StartsElse P more
+-- ---- what is named
 
-pub front_of : {X : Type 0} (P : X → Type 0) (n : ℕ) (rest own more : List X) → own ≡ take n rest → more ≡ drop n rest → AllByRecursion P (take n rest) → StartsElse P (drop n rest) → Front P rest own more
-front_of P n rest own more e f these other = record {
-  whole = sym (take-append-drop n rest) ∙ (λ i. sym e i ++ sym f i);
-  these = subst (AllByRecursion P) (sym e) these;
-  others = subst (StartsElse P) (sym f) other;
-}
+pub own_namings : (numbers : List Numbered) (num : ℤ) (own : List NamingRow) (named : Option ℕ) → NamesBy numbers num own named → AllByRecursion (λ (n : NamingRow). n.entity ≡ num) own
+own_namings numbers num own None h = subst (AllByRecursion (λ (n : NamingRow). n.entity ≡ num)) (sym h) tt
+own_namings numbers num own (Some id) h = subst (AllByRecursion (λ (n : NamingRow). n.entity ≡ num)) (sym h.1) (refl, tt)
 
-one_split : {X : Type 0} (P : X → Type 0) (xs ys rs ss : List X) → AllByRecursion P xs → AllByRecursion P ys → StartsElse P rs → StartsElse P ss → xs ++ rs ≡ ys ++ ss → (xs ≡ ys) × (rs ≡ ss)
-one_split P [] [] rs ss p q r s e = (refl, e)
-one_split P [] (y ∷ ys) [] ss p q r s e = absurd cc
-one_split P [] (y ∷ ys) (z ∷ rs) ss p q r s e = let same : z ≡ y = cc in absurd (r (subst P (sym same) q.0))
-one_split P (x ∷ xs) [] rs [] p q r s e = absurd cc
-one_split P (x ∷ xs) [] rs (z ∷ ss) p q r s e = let same : x ≡ z = cc in absurd (s (subst P same p.0))
-one_split P (x ∷ xs) (y ∷ ys) rs ss p q r s e =
-    let head : x ≡ y = cc in
-    let rest : xs ++ rs ≡ ys ++ ss = cc in
-    let more = one_split P xs ys rs ss p.1 q.1 r s rest in
-    (ap₂ ◌∷◌ head more.0, more.1)
+first_at : List NamingRow → ℤ
+first_at [] = pos 0
+first_at (n ∷ ns) = n.subscription
 
-abbrev IsVolumeOf : ℤ → VolumeRow → Type 0
-IsVolumeOf num r = r.entity ≡ num
+-- the rows name one id
+pub one_id : (numbers : List Numbered) (num : ℤ) (own : List NamingRow) (a b : Option ℕ) → NamesBy numbers num own a → NamesBy numbers num own b → a ≡ b
+unfolding first_at
+one_id numbers num own None None p q = refl
+one_id numbers num own None (Some y) p q = absurd (let e = sym p ∙ q.1 in cc)
+one_id numbers num own (Some x) None p q = absurd (let e = sym q ∙ p.1 in cc)
+one_id numbers num own (Some x) (Some y) p q =
+    let same : p.0 ≡ q.0 = ap first_at (sym p.1 ∙ q.1) in
+    sym p.2 ∙ (ap (id_in numbers) same ∙ q.2)
 
-abbrev IsCellOf : ℤ → CellRow → Type 0
-IsCellOf num r = r.entity ≡ num
+-- ---- the parts of the next entity
 
-own_volumes : (num : ℤ) (vs : List VolumeRow) (es : List (ℕ × Extent)) → AllZip (IsVolumeRow num) vs es → AllByRecursion (IsVolumeOf num) vs
-own_volumes num [] es p = tt
-own_volumes num (v ∷ vs) [] p = absurd p
-own_volumes num (v ∷ vs) (e ∷ es) p = (p.0.entity, own_volumes num vs es p.1)
+pub record Fronts (num : ℤ) (rest own more : Parts) : Type 0 where
+  pub volumes : Front (λ (v : VolumeRow). v.entity ≡ num) rest.volumes own.volumes more.volumes
+  pub cells : Front (λ (c : CellRow). c.entity ≡ num) rest.cells own.cells more.cells
+  pub namings : Front (λ (n : NamingRow). n.entity ≡ num) rest.namings own.namings more.namings
 
-own_cells : (num : ℤ) (cs : List CellRow) (es : List PlacedCell) → AllZip (IsCellRow num) cs es → AllByRecursion (IsCellOf num) cs
-own_cells num [] es p = tt
-own_cells num (c ∷ cs) [] p = absurd p
-own_cells num (c ∷ cs) (e ∷ es) p = (p.0.entity, own_cells num cs es p.1)
+whole : (num : ℤ) (rest own more : Parts) → Fronts num rest own more → rest ≡ joined own more
+whole num rest own more f = λ i. record { volumes = f.volumes.whole i; cells = f.cells.whole i; namings = f.namings.whole i }
 
-pub less : (x y : ℤ) → int_cmp x y ≡ Less → x <ℤ y
-less x y e = subst (λ (r : Ordering). MatchOrdering r (x <ℤ y) (x ≡ y) (y <ℤ x)) e (int_ranks x y)
+abbrev of_volume : VolumeRow → ℤ
+of_volume v = v.entity
 
-after : (x y z : ℤ) → x <ℤ y → z ≡ y → x <ℤ z
-after x y z p e = subst (λ (w : ℤ). x <ℤ w) (sym e) p
+abbrev of_cell : CellRow → ℤ
+of_cell c = c.entity
 
-pub trans : (x y z : ℤ) → x <ℤ y → y <ℤ z → x <ℤ z
-trans x y z p q = omega (arith, ints)
+abbrev of_naming : NamingRow → ℤ
+of_naming n = n.entity
 
-not_self : (x y : ℤ) → x <ℤ y → ¬ (y ≡ x)
-not_self x y p e = omega (arith, ints)
+record AllLater (last : ℤ) (parts : Parts) : Type 0 where
+  volumes : AllByRecursion (λ (v : VolumeRow). last <ℤ v.entity) parts.volumes
+  cells : AllByRecursion (λ (c : CellRow). last <ℤ c.entity) parts.cells
+  namings : AllByRecursion (λ (n : NamingRow). last <ℤ n.entity) parts.namings
 
-later_volumes : (serial : ℕ) (last : ℤ) (rows : List EntityRow) (vs : List VolumeRow) (cs : List CellRow) (m m' : Entities) → Gathers serial last rows vs cs m m' → AllByRecursion (λ (v : VolumeRow). last <ℤ v.entity) vs
-later_volumes serial last [] vs cs m m' g = subst (AllByRecursion (λ (v : VolumeRow). last <ℤ v.entity)) (sym g.0) tt
-later_volumes serial last (r ∷ rows) vs cs m m' g =
-    let s = g.0 in
-    let up = less last r.num s.next.rising in
-    let own = all_turned (IsVolumeOf r.num) (λ (v : VolumeRow). last <ℤ v.entity) (λ v e. after last r.num v.entity up e) s.own_volumes (own_volumes r.num s.own_volumes (placed 0 s.entity.volumes) s.next.spelt.volumes_are) in
-    let more = all_turned (λ (v : VolumeRow). r.num <ℤ v.entity) (λ (v : VolumeRow). last <ℤ v.entity) (λ v h. trans last r.num v.entity up h) s.more_volumes (later_volumes serial r.num rows s.more_volumes s.more_cells (insert m (key_of s.entity) s.entity) m' g.1) in
-    subst (AllByRecursion (λ (v : VolumeRow). last <ℤ v.entity)) (sym s.volumes_are) (all_joined (λ (v : VolumeRow). last <ℤ v.entity) s.own_volumes s.more_volumes own more)
-
-later_cells : (serial : ℕ) (last : ℤ) (rows : List EntityRow) (vs : List VolumeRow) (cs : List CellRow) (m m' : Entities) → Gathers serial last rows vs cs m m' → AllByRecursion (λ (v : CellRow). last <ℤ v.entity) cs
-later_cells serial last [] vs cs m m' g = subst (AllByRecursion (λ (v : CellRow). last <ℤ v.entity)) (sym g.1) tt
-later_cells serial last (r ∷ rows) vs cs m m' g =
-    let s = g.0 in
-    let up = less last r.num s.next.rising in
-    let own = all_turned (IsCellOf r.num) (λ (v : CellRow). last <ℤ v.entity) (λ v e. after last r.num v.entity up e) s.own_cells (own_cells r.num s.own_cells _ s.next.spelt.cells_are) in
-    let more = all_turned (λ (v : CellRow). r.num <ℤ v.entity) (λ (v : CellRow). last <ℤ v.entity) (λ v h. trans last r.num v.entity up h) s.more_cells (later_cells serial r.num rows s.more_volumes s.more_cells (insert m (key_of s.entity) s.entity) m' g.1) in
-    subst (AllByRecursion (λ (v : CellRow). last <ℤ v.entity)) (sym s.cells_are) (all_joined (λ (v : CellRow). last <ℤ v.entity) s.own_cells s.more_cells own more)
-
-no_volume_of : (num : ℤ) (vs : List VolumeRow) → AllByRecursion (λ (v : VolumeRow). num <ℤ v.entity) vs → StartsElse (IsVolumeOf num) vs
-no_volume_of num [] p = tt
-no_volume_of num (v ∷ vs) p = not_self num v.entity p.0
-
-no_cell_of : (num : ℤ) (vs : List CellRow) → AllByRecursion (λ (v : CellRow). num <ℤ v.entity) vs → StartsElse (IsCellOf num) vs
-no_cell_of num [] p = tt
-no_cell_of num (v ∷ vs) p = not_self num v.entity p.0
-
--- the first entity, and the others
-pub gathers_first : (serial : ℕ) (last : ℤ) (r : EntityRow) (rows : List EntityRow) (vs ov mv : List VolumeRow) (cs oc mc : List CellRow) (m m' : Entities) → Front (λ (v : VolumeRow). v.entity ≡ r.num) vs ov mv → Front (λ (c : CellRow). c.entity ≡ r.num) cs oc mc
-    → Gathers serial last (r ∷ rows) vs cs m m' → (e : Entity) × IsNext serial last r ov oc m e × Gathers serial r.num rows mv mc (insert m (key_of e) e) m'
-gathers_first serial last r rows vs ov mv cs oc mc m m' f h g =
-    let s = g.0 in
-    let v = one_split (IsVolumeOf r.num) s.own_volumes ov s.more_volumes mv (own_volumes r.num s.own_volumes (placed 0 s.entity.volumes) s.next.spelt.volumes_are) f.these
-    (no_volume_of r.num s.more_volumes (later_volumes serial r.num rows s.more_volumes s.more_cells (insert m (key_of s.entity) s.entity) m' g.1)) f.others (sym s.volumes_are ∙ f.whole) in
-    let c = one_split (IsCellOf r.num) s.own_cells oc s.more_cells mc (own_cells r.num s.own_cells _ s.next.spelt.cells_are) h.these
-    (no_cell_of r.num s.more_cells (later_cells serial r.num rows s.more_volumes s.more_cells (insert m (key_of s.entity) s.entity) m' g.1)) h.others (sym s.cells_are ∙ h.whole) in (
-      s.entity,
+module _ (serial : ℕ) (numbers : List Numbered) where
+  later_parts : (last : ℤ) (rows : List EntityRow) (parts : Parts) (m n : Entities) → Gathers serial numbers last rows parts m n → AllLater last parts
+  later_parts last [] parts m n g = subst (AllLater last) (sym g.0) (record { volumes = tt; cells = tt; namings = tt })
+  later_parts last (r ∷ rows) parts m n g =
+      let s = g.0 in
+      let up = less last r.num s.next.rising in
+      let more = later_parts r.num rows s.more (insert m (key_of s.entity) s.entity) n g.1 in
       record {
-        rising = s.next.rising;
-        spelt = subst (λ (l : List VolumeRow). SpellsEntity r l oc None s.entity) v.0 (subst (λ (l : List CellRow). SpellsEntity r s.own_volumes l None s.entity) c.0 s.next.spelt);
-        most = s.next.most;
-        new = s.next.new;
-      },
-      subst (λ (l : List VolumeRow). Gathers serial r.num rows l mc (insert m (key_of s.entity) s.entity) m') v.1
-          (subst (λ (l : List CellRow). Gathers serial r.num rows s.more_volumes l (insert m (key_of s.entity) s.entity) m') c.1 g.1),
+        volumes = later of_volume last r.num parts.volumes s.own.volumes s.more.volumes up (volumes_of r.num s.own.volumes _ s.next.spelt.volumes_are) more.volumes (ap (λ (p : Parts). p.volumes) s.parts_are);
+        cells = later of_cell last r.num parts.cells s.own.cells s.more.cells up (cells_of r.num s.own.cells _ s.next.spelt.cells_are) more.cells (ap (λ (p : Parts). p.cells) s.parts_are);
+        namings = later of_naming last r.num parts.namings s.own.namings s.more.namings up (own_namings numbers r.num s.own.namings s.named s.names) more.namings (ap (λ (p : Parts). p.namings) s.parts_are);
+      }
+
+  -- the first entity, and the others
+  record First (last : ℤ) (r : EntityRow) (rows : List EntityRow) (own more : Parts) (m n : Entities) : Type 0 where
+    named : Option ℕ
+    entity : Entity
+    names : NamesBy numbers r.num own.namings named
+    next : IsNext serial last r own.volumes own.cells named m entity
+    rest : Gathers serial numbers r.num rows more (insert m (key_of entity) entity) n
+
+  first : (last : ℤ) (r : EntityRow) (rows : List EntityRow) (parts own more : Parts) (m n : Entities) → Fronts r.num parts own more → Gathers serial numbers last (r ∷ rows) parts m n → First last r rows own more m n
+  first last r rows parts own more m n f g =
+      let s = g.0 in
+      let after = later_parts r.num rows s.more (insert m (key_of s.entity) s.entity) n g.1 in
+      let v = one_front of_volume r.num parts.volumes s.own.volumes s.more.volumes own.volumes more.volumes (volumes_of r.num s.own.volumes _ s.next.spelt.volumes_are) after.volumes (ap (λ (p : Parts). p.volumes) s.parts_are) f.volumes in
+      let c = one_front of_cell r.num parts.cells s.own.cells s.more.cells own.cells more.cells (cells_of r.num s.own.cells _ s.next.spelt.cells_are) after.cells (ap (λ (p : Parts). p.cells) s.parts_are) f.cells in
+      let k = one_front of_naming r.num parts.namings s.own.namings s.more.namings own.namings more.namings (own_namings numbers r.num s.own.namings s.named s.names) after.namings (ap (λ (p : Parts). p.namings) s.parts_are) f.namings in
+      let mine : s.own ≡ own = λ i. record { volumes = v.0 i; cells = c.0 i; namings = k.0 i } in
+      let others : s.more ≡ more = λ i. record { volumes = v.1 i; cells = c.1 i; namings = k.1 i } in
+      record {
+        named = s.named;
+        entity = s.entity;
+        names = subst (λ (p : Parts). NamesBy numbers r.num p.namings s.named) mine s.names;
+        next = subst (λ (p : Parts). IsNext serial last r p.volumes p.cells s.named m s.entity) mine s.next;
+        rest = subst (λ (p : Parts). Gathers serial numbers r.num rows p (insert m (key_of s.entity) s.entity) n) others g.1;
+      }
+
+  -- what is left is gathered exactly where the whole is
+  abbrev pub GathersOn : List EntityRow → Parts → ℤ → List EntityRow → Parts → Entities → Type 0
+  GathersOn rows parts last rest left m = (n : Entities) → Gathers serial numbers (pos 0) rows parts empty n ↔ Gathers serial numbers last rest left m n
+
+  pub gathers_start : (rows : List EntityRow) (parts : Parts) (m : Entities) → m ≡ empty → GathersOn rows parts (pos 0) rows parts m
+  gathers_start rows parts m e n = ((λ w. subst (λ (k : Entities). Gathers serial numbers (pos 0) rows parts k n) (sym e) w), (λ w. subst (λ (k : Entities). Gathers serial numbers (pos 0) rows parts k n) e w))
+
+  module _ (rows : List EntityRow) (parts : Parts) (last : ℤ) (r : EntityRow) (rest more : List EntityRow) (left own others : Parts) (m : Entities) (is : rest ≡ r ∷ more) (f : Fronts r.num left own others) (g : GathersOn rows parts last rest left m) where
+    first_left : (n : Entities) → Gathers serial numbers (pos 0) rows parts empty n → First last r more own others m n
+    first_left n w = first last r more left own others m n f (subst (λ (l : List EntityRow). Gathers serial numbers last l left m n) is ((g n).0 w))
+
+    pub gathers_more : (named : Option ℕ) (e : Entity) (n : Entities) → NamesBy numbers r.num own.namings named → IsNext serial last r own.volumes own.cells named m e → n ≡ insert m (key_of e) e → GathersOn rows parts r.num more others n
+    gathers_more named e n names t put a = (
+      (λ w.
+          let h = first_left a w in
+          let called = one_id numbers r.num own.namings h.named named h.names names in
+          let spelt = subst (λ (k : Option ℕ). IsNext serial last r own.volumes own.cells k m h.entity) called h.next in
+          let same : h.entity ≡ e = one_entity r own.volumes own.cells named h.entity e spelt.spelt t.spelt in
+          subst (λ (k : Entities). Gathers serial numbers r.num more others k a) (ap (λ (x : Entity). insert m (key_of x) x) same ∙ sym put) h.rest),
+      (λ w.
+          (g a).1 (subst (λ (l : List EntityRow). Gathers serial numbers last l left m a) (sym is)
+          (record { own = own; more = others; named = named; entity = e; parts_are = whole r.num left own others f; names = names; next = t }, subst (λ (k : Entities). Gathers serial numbers r.num more others k a) put w))),
     )
 
-gathers_join : (serial : ℕ) (last : ℤ) (r : EntityRow) (rows : List EntityRow) (vs ov mv : List VolumeRow) (cs oc mc : List CellRow) (m m' : Entities) (e : Entity) → vs ≡ ov ++ mv → cs ≡ oc ++ mc → IsNext serial last r ov oc m e
-    → Gathers serial r.num rows mv mc (insert m (key_of e) e) m' → Gathers serial last (r ∷ rows) vs cs m m'
-gathers_join serial last r rows vs ov mv cs oc mc m m' e f h t g = (
-  record {
-    own_volumes = ov;
-    more_volumes = mv;
-    own_cells = oc;
-    more_cells = mc;
-    entity = e;
-    volumes_are = f;
-    cells_are = h;
-    next = t;
-  },
-  g,
-)
+    -- no entity is spelt with what is named
+    pub gathers_none : (named : Option ℕ) → NamesBy numbers r.num own.namings named → ((e : Entity) → ¬ IsNext serial last r own.volumes own.cells named m e) → (n : Entities) → ¬ Gathers serial numbers (pos 0) rows parts empty n
+    gathers_none named names none n w =
+        let h = first_left n w in
+        let called = one_id numbers r.num own.namings h.named named h.names names in
+        none h.entity (subst (λ (k : Option ℕ). IsNext serial last r own.volumes own.cells k m h.entity) called h.next)
 
--- what is left is gathered exactly where the whole is
-abbrev pub GathersOn : ℕ → List EntityRow → List VolumeRow → List CellRow → ℤ → List EntityRow → List VolumeRow → List CellRow → Entities → Type 0
-GathersOn serial rows vs cs last rows' vs' cs' m = (m' : Entities) → Gathers serial (pos 0) rows vs cs empty m' ↔ Gathers serial last rows' vs' cs' m m'
+    -- the rows of naming are those of no entity
+    pub gathers_unnamed : ((named : Option ℕ) → ¬ NamesBy numbers r.num own.namings named) → (n : Entities) → ¬ Gathers serial numbers (pos 0) rows parts empty n
+    gathers_unnamed none n w = let h = first_left n w in none h.named h.names
 
-pub gathers_more : (serial : ℕ) (rows : List EntityRow) (vs : List VolumeRow) (cs : List CellRow) (last : ℤ) (r : EntityRow) (rest more : List EntityRow) (vl ov mv : List VolumeRow) (cl oc mc : List CellRow) (m n : Entities) (e : Entity)
-    → rest ≡ r ∷ more → Front (λ (v : VolumeRow). v.entity ≡ r.num) vl ov mv → Front (λ (c : CellRow). c.entity ≡ r.num) cl oc mc → IsNext serial last r ov oc m e → n ≡ insert m (key_of e) e
-    → GathersOn serial rows vs cs last rest vl cl m → GathersOn serial rows vs cs r.num more mv mc n
-gathers_more serial rows vs cs last r rest more vl ov mv cl oc mc m n e is f h t put g m' = (
-  (λ w.
-      let a = gathers_first serial last r more vl ov mv cl oc mc m m' f h (subst (λ (l : List EntityRow). Gathers serial last l vl cl m m') is ((g m').0 w)) in
-      let same : a.0 ≡ e = one_entity r ov oc None a.0 e a.1.spelt t.spelt in
-      subst (λ (k : Entities). Gathers serial r.num more mv mc k m') (ap (λ (x : Entity). insert m (key_of x) x) same ∙ sym put) a.2),
-  (λ w.
-      (g m').1 (subst (λ (l : List EntityRow). Gathers serial last l vl cl m m') (sym is)
-      (gathers_join serial last r more vl ov mv cl oc mc m m' e f.whole h.whole t (subst (λ (k : Entities). Gathers serial r.num more mv mc k m') put w)))),
-)
+  module _ (rows : List EntityRow) (parts : Parts) (last : ℤ) (rest : List EntityRow) (left : Parts) (m : Entities) (is : rest ≡ []) (g : GathersOn rows parts last rest left m) where
+    pub gathers_all : left.volumes ≡ [] → left.cells ≡ [] → left.namings ≡ [] → Gathers serial numbers (pos 0) rows parts empty m
+    gathers_all v c k = (g m).1 (subst (λ (l : List EntityRow). Gathers serial numbers last l left m m) (sym is) ((λ i. record { volumes = v i; cells = c i; namings = k i }), refl))
 
-pub gathers_none : (serial : ℕ) (rows : List EntityRow) (vs : List VolumeRow) (cs : List CellRow) (last : ℤ) (r : EntityRow) (rest more : List EntityRow) (vl ov mv : List VolumeRow) (cl oc mc : List CellRow) (m : Entities)
-    → rest ≡ r ∷ more → Front (λ (v : VolumeRow). v.entity ≡ r.num) vl ov mv → Front (λ (c : CellRow). c.entity ≡ r.num) cl oc mc → ((e : Entity) → ¬ IsNext serial last r ov oc m e)
-    → GathersOn serial rows vs cs last rest vl cl m → (m' : Entities) → ¬ Gathers serial (pos 0) rows vs cs empty m'
-gathers_none serial rows vs cs last r rest more vl ov mv cl oc mc m is f h none g m' w =
-    let a = gathers_first serial last r more vl ov mv cl oc mc m m' f h (subst (λ (l : List EntityRow). Gathers serial last l vl cl m m') is ((g m').0 w)) in
-    none a.0 a.1
-
-pub gathers_all : (serial : ℕ) (rows : List EntityRow) (vs : List VolumeRow) (cs : List CellRow) (last : ℤ) (rest : List EntityRow) (vl : List VolumeRow) (cl : List CellRow) (m : Entities) → rest ≡ [] → vl ≡ [] → cl ≡ []
-    → GathersOn serial rows vs cs last rest vl cl m → Gathers serial (pos 0) rows vs cs empty m
-gathers_all serial rows vs cs last rest vl cl m is v c g = (g m).1 (subst (λ (l : List EntityRow). Gathers serial last l vl cl m m) (sym is) (v, c, refl))
-
-pub gathers_over : (serial : ℕ) (rows : List EntityRow) (vs : List VolumeRow) (cs : List CellRow) (last : ℤ) (rest : List EntityRow) (vl : List VolumeRow) (cl : List CellRow) (m : Entities) → rest ≡ [] → ¬ ((vl ≡ []) × (cl ≡ []))
-    → GathersOn serial rows vs cs last rest vl cl m → (m' : Entities) → ¬ Gathers serial (pos 0) rows vs cs empty m'
-gathers_over serial rows vs cs last rest vl cl m is some g m' w =
-    let h = subst (λ (l : List EntityRow). Gathers serial last l vl cl m m') is ((g m').0 w) in
-    some (h.0, h.1)
-
-pub gathers_start : (serial : ℕ) (rows : List EntityRow) (vs : List VolumeRow) (cs : List CellRow) (m : Entities) → m ≡ empty → GathersOn serial rows vs cs (pos 0) rows vs cs m
-gathers_start serial rows vs cs m e m' = ((λ w. subst (λ (k : Entities). Gathers serial (pos 0) rows vs cs k m') (sym e) w), (λ w. subst (λ (k : Entities). Gathers serial (pos 0) rows vs cs k m') e w))
+    pub gathers_over : ¬ ((left.volumes ≡ []) × (left.cells ≡ []) × (left.namings ≡ [])) → (n : Entities) → ¬ Gathers serial numbers (pos 0) rows parts empty n
+    gathers_over some n w =
+        let h = (subst (λ (l : List EntityRow). Gathers serial numbers last l left m n) is ((g n).0 w)).0 in
+        some (ap (λ (p : Parts). p.volumes) h, ap (λ (p : Parts). p.cells) h, ap (λ (p : Parts). p.namings) h)

@@ -1,52 +1,9 @@
 -- What the statements mean.
-use Rattle.std.proofs.Common.{◌≡◌, ℕ, List, refl, codes, [], ◌∷◌, None, pos, negsuc, false, map}
-use Rattle.sqlite.specs.declared.types.Value.TheVariants.{Int}
+use Rattle.std.proofs.Common.{refl, codes, [], ◌∷◌}
 use Rattle.sqlite_tied.specs.Compute.{everything}
-use Rattle.sqlite.specs.Listing.{understood, reads_listing}
-use Rattle.sqlite.proofs.Callers.{IsPlain, command_of}
-use Rattle.sqlite.specs.Command.TheVariants.{Select}
-use Rattle.sqlite.specs.Query.{Query, inner, end}
-use Rattle.sqlite.specs.Term.{Term, lit, col}
-use Rattle.sqlite_value.specs.Keys.{ascending}
-use Rattle.sqlite_value.specs.declared.keys.Key.{Key}
-use Rattle.sqlite.specs.Collation.TheVariants.{Binary}
-use Rattle.space_tables.specs.Tables.{dss_schema}
-use Rattle.space_reading.proofs.Texts.{metas_read, entities_read, volumes_read, cells_read, settings_read, volume_ids_read, cell_ids_read, setting_ids_read}
-
--- all rows of a table that pass some tests, some columns of each
-abbrev pub simple : ℕ → List Term → List Term → Query
-simple t filter project = record {
-  from = inner t end;
-  filter = filter;
-  group = None;
-  project = project;
-  distinct = false;
-  collations = [];
-  order = [];
-  limit = lit (Int (negsuc 0));
-  offset = lit (Int (pos 0));
-}
-
-abbrev pub up : ℕ → Term × Key
-up place = (col 1 place, ascending Binary)
-
-abbrev pub cols : List ℕ → List Term
-cols places = map (col 1) places
-
--- the rows of a table that pass some tests, some columns of each, in an order
-abbrev pub listing : ℕ → List Term → List ℕ → List ℕ → Query
-listing t tests shown order = record (simple t tests (cols shown)) { order = map up order }
-
--- what the text of a reading means
-pub record Lists (text : List ℕ) (t : ℕ) (shown order : List ℕ) : Type 0 where
-  pub names : List (List ℕ)
-  pub is : command_of (understood dss_schema text) ≡ Select (record { lets = []; body = listing t [] shown order }) names
-  pub plain : IsPlain (understood dss_schema text)
-  pub unlisted : reads_listing dss_schema text ≡ false
-
-pub metas_list : Lists metas_read 0 (0 ∷ 2 ∷ 3 ∷ []) []
-unfolding understood everything
-metas_list = record { names = codes "one" ∷ codes "format" ∷ codes "serial" ∷ []; is = refl; plain = (refl, refl); unlisted = refl }
+use Rattle.sqlite.specs.Listing.{understood}
+use Rattle.space_select.proofs.Means.{Lists}
+use Rattle.space_reading.proofs.Texts.{entities_read, volumes_read, cells_read, settings_read, volume_ids_read, cell_ids_read, setting_ids_read, subs_read, sub_cells_read, namings_read, sub_cell_ids_read}
 
 pub entities_list : Lists entities_read 1 (0 ∷ 2 ∷ 3 ∷ 4 ∷ 5 ∷ 6 ∷ 7 ∷ 8 ∷ 9 ∷ []) (0 ∷ [])
 unfolding understood everything
@@ -75,3 +32,19 @@ cell_ids_list = record { names = codes "rowid" ∷ []; is = refl; plain = (refl,
 pub setting_ids_list : Lists setting_ids_read 8 (0 ∷ []) (0 ∷ [])
 unfolding understood everything
 setting_ids_list = record { names = codes "rowid" ∷ []; is = refl; plain = (refl, refl); unlisted = refl }
+
+pub subs_list : Lists subs_read 10 (0 ∷ 2 ∷ 3 ∷ 4 ∷ 5 ∷ 6 ∷ 7 ∷ 8 ∷ 9 ∷ 10 ∷ 11 ∷ 12 ∷ 13 ∷ []) (0 ∷ [])
+unfolding understood everything
+subs_list = record { names = codes "num" ∷ codes "id" ∷ codes "manager" ∷ codes "serial" ∷ codes "version" ∷ codes "notes" ∷ codes "url" ∷ codes "for_intents" ∷ codes "for_constraints" ∷ codes "alt_lower" ∷ codes "alt_upper" ∷ codes "time_start" ∷ codes "time_end" ∷ []; is = refl; plain = (refl, refl); unlisted = refl }
+
+pub sub_cells_list : Lists sub_cells_read 12 (1 ∷ 2 ∷ 3 ∷ 4 ∷ 5 ∷ []) (1 ∷ 2 ∷ [])
+unfolding understood everything
+sub_cells_list = record { names = codes "subscription" ∷ codes "place" ∷ codes "token" ∷ codes "lo" ∷ codes "hi" ∷ []; is = refl; plain = (refl, refl); unlisted = refl }
+
+pub namings_list : Lists namings_read 15 (0 ∷ 2 ∷ []) (0 ∷ [])
+unfolding understood everything
+namings_list = record { names = codes "entity" ∷ codes "subscription" ∷ []; is = refl; plain = (refl, refl); unlisted = refl }
+
+pub sub_cell_ids_list : Lists sub_cell_ids_read 12 (0 ∷ []) (0 ∷ [])
+unfolding understood everything
+sub_cell_ids_list = record { names = codes "rowid" ∷ []; is = refl; plain = (refl, refl); unlisted = refl }

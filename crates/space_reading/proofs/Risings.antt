@@ -6,7 +6,7 @@ use Rattle.std.specs.declared.cmp.Ordering.TheVariants.{Less}
 use Rattle.std.proofs.Common.{sym, subst}
 use Rattle.space_rows.proofs.Pieces.{all_turned}
 use Rattle.sqlite_trees.specs.Tree.{IsAscending}
-use Rattle.space_reading.proofs.Gatherings.{less, trans}
+use Rattle.space_reading.proofs.Fronts.{less, trans}
 
 abbrev IsRising : List ℤ → Type 0
 IsRising ids = IsAscending (λ m n. int_cmp m n ≡ Less) ids

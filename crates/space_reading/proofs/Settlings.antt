@@ -6,8 +6,9 @@ use Rattle.sqlite_value.specs.Order.{Row}
 use Rattle.entity_core.specs.Airspace.{Availabilities, Stated}
 use Rattle.space_tables.specs.Spelling.{availability_values}
 use Rattle.space_tables.proofs.OneAirspace.{stated_of_values, stated_back}
-use Rattle.space_reading.specs.declared.settings.Setting.{Setting}
-use Rattle.space_reading.specs.Gathering.{Settles, IsSetting, stated_by}
+use Rattle.space_select.specs.declared.setting.Setting.{Setting}
+use Rattle.space_select.specs.Setting.{stated_by}
+use Rattle.space_reading.specs.Gathering.{Settles, IsSetting}
 
 -- a row is what one USS has set
 pub one_setting : (s t : List ℕ × Stated) → availability_values s ≡ availability_values t → s ≡ t

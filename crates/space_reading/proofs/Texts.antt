@@ -1,8 +1,5 @@
--- The statements that read the tables.
+-- The statements that read all rows of a table.
 use Rattle.std.specs.Prelude.{ℕ, List, codes}
-
-abbrev pub metas_read : List ℕ
-metas_read = codes "SELECT one, format, serial FROM meta"
 
 abbrev pub entities_read : List ℕ
 entities_read = codes "SELECT num, kind, id, manager, state, version, serial, ovn, url FROM entity ORDER BY num"
@@ -25,20 +22,14 @@ cell_ids_read = codes "SELECT rowid FROM cell ORDER BY rowid"
 abbrev pub setting_ids_read : List ℕ
 setting_ids_read = codes "SELECT rowid FROM availability ORDER BY rowid"
 
-abbrev pub serial_read : List ℕ
-serial_read = codes "SELECT serial FROM meta WHERE one = 1"
+abbrev pub subs_read : List ℕ
+subs_read = codes "SELECT num, id, manager, serial, version, notes, url, for_intents, for_constraints, alt_lower, alt_upper, time_start, time_end FROM subscription ORDER BY num"
 
-abbrev pub availability_read : List ℕ
-availability_read = codes "SELECT uss, state, version FROM availability WHERE uss = ?1"
+abbrev pub sub_cells_read : List ℕ
+sub_cells_read = codes "SELECT subscription, place, token, lo, hi FROM subscription_cell ORDER BY subscription, place"
 
-abbrev pub head_read : List ℕ
-head_read = codes "SELECT num, kind, id, manager, state, version, serial, ovn, url FROM entity WHERE kind = ?1 AND id = ?2"
+abbrev pub namings_read : List ℕ
+namings_read = codes "SELECT entity, subscription FROM naming ORDER BY entity"
 
-abbrev pub own_volumes_read : List ℕ
-own_volumes_read = codes "SELECT entity, place, alt_lower, alt_upper, time_start, time_end FROM volume WHERE entity = ?1 ORDER BY entity, place"
-
-abbrev pub own_cells_read : List ℕ
-own_cells_read = codes "SELECT entity, volume, place, token, lo, hi FROM cell WHERE entity = ?1 ORDER BY entity, volume, place"
-
-abbrev pub numbered_read : List ℕ
-numbered_read = codes "SELECT num, kind, id, manager, state, version, serial, ovn, url FROM entity WHERE num = ?1"
+abbrev pub sub_cell_ids_read : List ℕ
+sub_cell_ids_read = codes "SELECT rowid FROM subscription_cell ORDER BY rowid"

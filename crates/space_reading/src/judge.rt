@@ -5,11 +5,12 @@ ghost use Rattle.space_tables.specs.Spelling.{meta_values};
 ghost use Rattle.space_reading.specs.Gathering.{Judges, HaveRisingIds};
 
 use crate::entities::entities_in;
-use crate::meta::{Meta, meta_of};
 use crate::rising::are_rising;
 use crate::settings::settings_in;
+use crate::subscriptions::subs_in;
 use crate::tables::{Rowids, Tables};
 use crate::verdict::{Listed, Verdict};
+use space_select::meta::{Meta, meta_of};
 use sqlite::Error;
 use std::alloc::Global;
 
@@ -23,23 +24,31 @@ fn have_rising_ids(alloc: Global, tables: &Tables) -> Result<bool, Error>
     if !are_rising(alloc, ids.cells.as_slice())? {
         return Ok(false);
     }
-    are_rising(alloc, ids.settings.as_slice())
+    if !are_rising(alloc, ids.settings.as_slice())? {
+        return Ok(false);
+    }
+    are_rising(alloc, ids.sub_cells.as_slice())
 }
 
 fn judge_ours(alloc: Global, tables: &Tables, serial: u64) -> Result<Verdict, Error>
-    requires meta { tables.now.metas.items ≡ meta_values 1 serial ∷ [] }
+    requires meta { tables.now.metas.items ≡ meta_values 2 serial ∷ [] }
     requires most { serial ≤ greatest_serial }
     ensures { IfOk result (Judges tables.now) }
 {
     if !have_rising_ids(alloc, tables)? {
         return Ok(Verdict::Unspelt);
     }
-    let Some(entities) = entities_in(alloc, serial, &tables.entities)? else {
+    let Some(known) = subs_in(alloc, serial, &tables.subscriptions)? else {
+        return Ok(Verdict::Unspelt);
+    };
+    let numbers = known.numbers.as_slice();
+    let Some(entities) = entities_in(alloc, serial, numbers, &tables.entities)? else {
         return Ok(Verdict::Unspelt);
     };
     match settings_in(alloc, tables.settings.as_slice())? {
         Some(availabilities) => Ok(Verdict::Spelt(Listed {
             entities,
+            subscriptions: known.subscriptions,
             availabilities,
             serial,
         })),

@@ -1,40 +1,18 @@
 //! The airspace is read of a connection.
 ghost use Rattle.std.specs.Prelude.{◌≡◌, false, OnOk, IfOk, IsTrue};
 ghost use Rattle.sqlite.specs.Held.{state};
-ghost use Rattle.sqlite.specs.State.{HasCleanDisk, IsLive, IsUnchanged, Survives};
+ghost use Rattle.sqlite.specs.State.{HasCleanDisk, Survives};
 ghost use Rattle.space_tables.specs.Tables.{dss_schema};
 ghost use Rattle.space_reading.specs.Judging.{JudgesDatabase};
-ghost use Rattle.space_reading.specs.Reading.{ShowsTables, RestsAs};
+ghost use Rattle.space_select.specs.Reading.{Reads, RestsAs};
+ghost use Rattle.space_reading.specs.Showing.{ShowsTables};
 
 use crate::judge::judge;
-use crate::tables::{Tables, read_tables};
+use crate::tables::{Tables, read_all, read_tables};
 use crate::verdict::Verdict;
-use sqlite::{Alter, Connection, Error};
+use space_select::reading::{alive, known};
+use sqlite::{Alter, Connection, Error, Transaction};
 use std::alloc::Global;
-
-/// What is known of a connection at any time. It does nothing.
-pub fn known<S: Alter>(conn: &Connection<S>)
-    ensures live { IsLive (state S.Store conn.now) }
-    ensures settled { let s = state S.Store conn.now in
-        conn.now.in_transaction ≡ false → IsTrue s.is_open → s.now ≡ s.committed }
-{
-    let _ = conn.schema();
-    let _ = conn.is_autocommit();
-}
-
-/// Tests whether the store still works. It writes nothing.
-pub fn alive<S: Alter>(conn: &mut Connection<S>) -> Result<(), Error>
-    requires { conn.old.in_transaction ≡ false }
-    ensures outside { conn.new.in_transaction ≡ false }
-    ensures same { let new = state S.Store conn.new in
-        HasCleanDisk new → OnOk result (IsUnchanged (state S.Store conn.old) new) }
-    ensures survives { Survives (state S.Store conn.old) (state S.Store conn.new) (λ _. ⊥) }
-{
-    match conn.prepare("SELECT serial FROM meta WHERE one = 1") {
-        Ok(_) => Ok(()),
-        Err(error) => Err(error),
-    }
-}
 
 // Reads all tables of a store that still works after it.
 fn read_alive<S: Alter>(conn: &mut Connection<S>) -> Result<Tables, Error>
@@ -55,8 +33,8 @@ fn read_alive<S: Alter>(conn: &mut Connection<S>) -> Result<Tables, Error>
     Ok(tables)
 }
 
-/// Reads the airspace that the tables of format 1 spell, and leaves them as they are. What it says
-/// holds of a database with the schema of format 1, and no other; `Unspelt` is for texts that are
+/// Reads the airspace that the tables of format 2 spell, and leaves them as they are. What it says
+/// holds of a database with the schema of format 2, and no other; `Unspelt` is for texts that are
 /// not UTF-8, too. An error is one of the store, or want of memory.
 pub fn read_airspace<S: Alter>(alloc: Global, conn: &mut Connection<S>) -> Result<Verdict, Error>
     requires { conn.old.in_transaction ≡ false }
@@ -71,5 +49,18 @@ pub fn read_airspace<S: Alter>(alloc: Global, conn: &mut Connection<S>) -> Resul
     ensures survives { Survives (state S.Store conn.old) (state S.Store conn.new) (λ _. ⊥) }
 {
     let tables = read_alive(conn)?;
+    judge(alloc, &tables)
+}
+
+/// The same in a transaction that goes on.
+pub fn read_airspace_in<S: Alter>(
+    alloc: Global,
+    tx: &mut Transaction<'_, S>,
+) -> Result<Verdict, Error>
+    ensures same_reference { tx.new.conn.ghost_name ≡ tx.old.conn.ghost_name }
+    ensures reads { let old = state S.Store tx.old.conn.now in
+        Reads JudgesDatabase old (state S.Store tx.new.conn.now) result }
+{
+    let tables = read_all(tx)?;
     judge(alloc, &tables)
 }

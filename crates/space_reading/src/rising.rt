@@ -5,7 +5,7 @@ ghost use Rattle.std.specs.declared.cmp.Ordering.TheVariants.{Less};
 ghost use Rattle.sqlite_trees.specs.Tree.{IsAscending};
 ghost use Rattle.space_reading.specs.Gathering.{AreRising};
 
-use crate::rows::number_rows;
+use space_select::rows::number_rows;
 use sqlite::{Error, Row};
 use std::alloc::Global;
 

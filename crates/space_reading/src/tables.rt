@@ -3,9 +3,19 @@ ghost use Rattle.std.specs.Prelude.{◌≡◌, false, IfOk, IsTrue};
 ghost use Rattle.sqlite.specs.Held.{state};
 ghost use Rattle.sqlite.specs.State.{HasCleanDisk, Survives};
 ghost use Rattle.space_tables.specs.Tables.{dss_schema};
-ghost use Rattle.space_reading.specs.Reading.{Reads, GoesBack, ShowsMeta, ShowsEntities, ShowsVolumes, ShowsCells, ShowsSettings, ShowsVolumeIds, ShowsCellIds, ShowsSettingIds, ShowsEntityTables, ShowsRowids, ShowsTables};
+ghost use Rattle.space_select.specs.Reading.{Reads, GoesBack};
+ghost use Rattle.space_select.specs.Meta.{ShowsMeta};
+ghost use Rattle.space_reading.specs.Showing.{ShowsSubs, ShowsSubCells, ShowsEntities, ShowsVolumes, ShowsCells, ShowsNamings, ShowsSettings, ShowsVolumeIds, ShowsCellIds, ShowsSettingIds, ShowsSubCellIds, ShowsSubTables, ShowsEntityTables, ShowsRowids, ShowsTables};
 
 use sqlite::{Alter, Connection, Error, Row, Transaction};
+
+/// The rows of the tables that keep subscriptions, by rising keys.
+#[derive(Drop)]
+pub(crate) struct SubTables {
+    pub subscriptions: Vec<Row>,
+    /// Those of `subscription_cell`.
+    pub cells: Vec<Row>,
+}
 
 /// The rows of the tables that keep entities, by rising keys.
 #[derive(Drop)]
@@ -13,6 +23,7 @@ pub(crate) struct EntityTables {
     pub entities: Vec<Row>,
     pub volumes: Vec<Row>,
     pub cells: Vec<Row>,
+    pub namings: Vec<Row>,
 }
 
 /// The rowids of the tables that have no number as their key, rising.
@@ -21,12 +32,14 @@ pub(crate) struct Rowids {
     pub volumes: Vec<Row>,
     pub cells: Vec<Row>,
     pub settings: Vec<Row>,
+    pub sub_cells: Vec<Row>,
 }
 
 /// The rows of all tables.
 #[derive(Drop)]
 pub(crate) struct Tables {
     pub metas: Vec<Row>,
+    pub subscriptions: SubTables,
     pub entities: EntityTables,
     /// Those of `availability`.
     pub settings: Vec<Row>,
@@ -85,6 +98,42 @@ fn read_settings<S: Alter>(tx: &mut Transaction<'_, S>) -> Result<Vec<Row>, Erro
     tx.query_all("SELECT uss, state, version FROM availability", &[])
 }
 
+fn read_subscriptions<S: Alter>(tx: &mut Transaction<'_, S>) -> Result<Vec<Row>, Error>
+    ensures same_reference { tx.new.conn.ghost_name ≡ tx.old.conn.ghost_name }
+    ensures reads { let old = state S.Store tx.old.conn.now in
+        Reads (λ db rows. ShowsSubs db rows.items) old (state S.Store tx.new.conn.now) result }
+{
+    tx.query_all(
+        "SELECT num, id, manager, serial, version, notes, url, \
+         for_intents, for_constraints, alt_lower, alt_upper, time_start, time_end \
+         FROM subscription ORDER BY num",
+        &[],
+    )
+}
+
+fn read_sub_cells<S: Alter>(tx: &mut Transaction<'_, S>) -> Result<Vec<Row>, Error>
+    ensures same_reference { tx.new.conn.ghost_name ≡ tx.old.conn.ghost_name }
+    ensures reads { let old = state S.Store tx.old.conn.now in
+        Reads (λ db rows. ShowsSubCells db rows.items) old (state S.Store tx.new.conn.now) result }
+{
+    tx.query_all(
+        "SELECT subscription, place, token, lo, hi \
+         FROM subscription_cell ORDER BY subscription, place",
+        &[],
+    )
+}
+
+fn read_namings<S: Alter>(tx: &mut Transaction<'_, S>) -> Result<Vec<Row>, Error>
+    ensures same_reference { tx.new.conn.ghost_name ≡ tx.old.conn.ghost_name }
+    ensures reads { let old = state S.Store tx.old.conn.now in
+        Reads (λ db rows. ShowsNamings db rows.items) old (state S.Store tx.new.conn.now) result }
+{
+    tx.query_all(
+        "SELECT entity, subscription FROM naming ORDER BY entity",
+        &[],
+    )
+}
+
 fn read_volume_ids<S: Alter>(tx: &mut Transaction<'_, S>) -> Result<Vec<Row>, Error>
     ensures same_reference { tx.new.conn.ghost_name ≡ tx.old.conn.ghost_name }
     ensures reads { let old = state S.Store tx.old.conn.now in
@@ -110,6 +159,25 @@ fn read_setting_ids<S: Alter>(tx: &mut Transaction<'_, S>) -> Result<Vec<Row>, E
     tx.query_all("SELECT rowid FROM availability ORDER BY rowid", &[])
 }
 
+fn read_sub_cell_ids<S: Alter>(tx: &mut Transaction<'_, S>) -> Result<Vec<Row>, Error>
+    ensures same_reference { tx.new.conn.ghost_name ≡ tx.old.conn.ghost_name }
+    ensures reads { let old = state S.Store tx.old.conn.now in
+        Reads (λ db rows. ShowsSubCellIds db rows.items) old (state S.Store tx.new.conn.now) result }
+{
+    tx.query_all("SELECT rowid FROM subscription_cell ORDER BY rowid", &[])
+}
+
+fn read_sub_tables<S: Alter>(tx: &mut Transaction<'_, S>) -> Result<SubTables, Error>
+    ensures same_reference { tx.new.conn.ghost_name ≡ tx.old.conn.ghost_name }
+    ensures reads { let old = state S.Store tx.old.conn.now in
+        Reads ShowsSubTables old (state S.Store tx.new.conn.now) result }
+{
+    Ok(SubTables {
+        subscriptions: read_subscriptions(tx)?,
+        cells: read_sub_cells(tx)?,
+    })
+}
+
 fn read_entity_tables<S: Alter>(tx: &mut Transaction<'_, S>) -> Result<EntityTables, Error>
     ensures same_reference { tx.new.conn.ghost_name ≡ tx.old.conn.ghost_name }
     ensures reads { let old = state S.Store tx.old.conn.now in
@@ -119,6 +187,7 @@ fn read_entity_tables<S: Alter>(tx: &mut Transaction<'_, S>) -> Result<EntityTab
         entities: read_entities(tx)?,
         volumes: read_volumes(tx)?,
         cells: read_cells(tx)?,
+        namings: read_namings(tx)?,
     })
 }
 
@@ -131,16 +200,19 @@ fn read_rowids<S: Alter>(tx: &mut Transaction<'_, S>) -> Result<Rowids, Error>
         volumes: read_volume_ids(tx)?,
         cells: read_cell_ids(tx)?,
         settings: read_setting_ids(tx)?,
+        sub_cells: read_sub_cell_ids(tx)?,
     })
 }
 
-fn read_all<S: Alter>(tx: &mut Transaction<'_, S>) -> Result<Tables, Error>
+/// Reads all tables in a transaction that goes on.
+pub(crate) fn read_all<S: Alter>(tx: &mut Transaction<'_, S>) -> Result<Tables, Error>
     ensures same_reference { tx.new.conn.ghost_name ≡ tx.old.conn.ghost_name }
     ensures reads { let old = state S.Store tx.old.conn.now in
         Reads ShowsTables old (state S.Store tx.new.conn.now) result }
 {
     Ok(Tables {
         metas: read_metas(tx)?,
+        subscriptions: read_sub_tables(tx)?,
         entities: read_entity_tables(tx)?,
         settings: read_settings(tx)?,
         rowids: read_rowids(tx)?,

@@ -2,16 +2,18 @@
 
 use entity_lists::availabilities::Availabilities;
 use entity_lists::entities::Entities;
+use entity_lists::subscriptions::Subscriptions;
 
 /// An airspace, as it was read.
 #[derive(Debug, Drop)]
 pub struct Listed {
     pub entities: Entities,
+    pub subscriptions: Subscriptions,
     pub availabilities: Availabilities,
     pub serial: u64,
 }
 
-/// What the tables of format 1 are found to spell.
+/// What the tables of format 2 are found to spell.
 #[derive(Debug, Drop)]
 pub enum Verdict {
     /// This airspace.

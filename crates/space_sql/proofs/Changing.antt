@@ -15,7 +15,7 @@ use Rattle.space_tables.specs.Making.{IsUndone}
 use Rattle.space_tables.specs.Spelling.{Spells}
 use Rattle.space_tables.proofs.OneAirspace.{one_airspace}
 use Rattle.space_changes.specs.Committing.{Commits, MayBeChanged}
-use Rattle.space_sql.specs.Holding.{Keeps, holds_in, is_whole_in, holds_of, is_sound_of, is_whole_of, kept, with_tables}
+use Rattle.space_sql.specs.Holding.{Keeps, holds_in, is_whole_in, holds_of, is_sound_of, is_whole_of, kept, kept_by, with_tables}
 use Rattle.space_sql.proofs.Outcomes.{Laws, Rests, held_is_spelt, spelt_alone, spelt_is_held, whole_is_spelt}
 
 -- trees that a commit may have left keep the airspace that they spell
@@ -92,3 +92,9 @@ module _ {S : Type 0} (g : Ghosts S) (P : Airspace → Type 0) (change : Airspac
         broken = λ s is. change_only P change (state g old) (state g mid) (state g new) rests rested after live fits it.crash tried s.clean;
         frozen = λ s e. absurd cc;
       }
+
+-- whether its tables were those of format 1 has no part in what a change leaves
+pub changes_kept : {S T : Type 0} (g : Ghosts S) (old new : Held S) (n m : ℕ) (b d was off : Bool) (r : Result T SpaceFault) (change : Airspace → Airspace) → Changes (holds_of g) (is_sound_of g) (is_whole_of g) off (kept old n b) (kept new m d) r change
+    → Changes (holds_of g) (is_sound_of g) (is_whole_of g) off (kept_by was old n b) (kept_by was new m d) r change
+changes_kept {S} {T} g old new n m b d was off (Ok x) change p = record { sound = p.sound; whole = p.whole; done = λ s a h. let it = p.done s a h in record { held = it.held; only = it.only }; refused = p.refused; broken = p.broken; frozen = p.frozen }
+changes_kept {S} {T} g old new n m b d was off (Err e) change p = record { sound = p.sound; whole = p.whole; done = λ s. tt; refused = p.refused; broken = p.broken; frozen = p.frozen }

@@ -11,14 +11,16 @@ use Rattle.sqlite.specs.Effect.{Database}
 use Rattle.sqlite.specs.State.{State, IsLive}
 use Rattle.entity_core.specs.Airspace.{Airspace}
 use Rattle.space_core.specs.Space.{IsContent}
-use Rattle.space_reading.specs.Judging.{IsOtherFormat}
-use Rattle.space_tables.specs.Spelling.{Spells}
-use Rattle.space_tables.specs.Tables.{dss_schema}
+use Rattle.space_select.specs.Meta.{IsOtherFormat}
+use Rattle.space_tables.specs.declared.format.Format.{Format}
+use Rattle.space_tables.specs.declared.format.Format.TheVariants.{Two}
+use Rattle.space_tables.specs.Spelling.{Spells, SpellsAs}
+use Rattle.space_tables.specs.Tables.{dss_schema, schema_of}
 use Rattle.space_tables.proofs.OneAirspace.{one_airspace}
+use Rattle.space_opening.specs.Opening.{Refuses}
 use Rattle.space_sql.specs.Holding.{Keeps, holds_in, is_whole_in, with_tables}
-use Rattle.space_sql.specs.Opening.{Refuses}
-use Rattle.space_sql.specs.declared.open_fault.OpenFault.{OpenFault}
-use Rattle.space_sql.specs.declared.open_fault.OpenFault.TheVariants.{NotADss, Version, Store}
+use Rattle.space_opening.specs.declared.open_fault.OpenFault.{OpenFault}
+use Rattle.space_opening.specs.declared.open_fault.OpenFault.TheVariants.{NotADss, Version, Store}
 use Rattle.space_sql.proofs.Outcomes.{one_schema, respell}
 
 pub leaves_held : (s : State) → is_whole_in s → (db : Trees) → s.may_leave db → (a : Airspace) × holds_in s a × Keeps db a
@@ -52,9 +54,9 @@ format_in (r ∷ rows) = column r 1
 
 not_other : (db : Database) (a : Airspace) → Spells db a → IsOtherFormat db → ⊥
 unfolding format_in
-not_other db a p other = other.other (ap format_in (sym other.only ∙ p.meta))
+not_other db a p other = other.not_two (ap format_in (sym other.only ∙ p.meta))
 
-not_refused : (db : Database) (a : Airspace) (fault : OpenFault) → Spells db a → Refuses db fault → (fault ≡ Store → ⊥) → ⊥
+not_refused : (db : Database) (a : Airspace) (fault : OpenFault) → Spells db a → Refuses Two db fault → (fault ≡ Store → ⊥) → ⊥
 not_refused db a NotADss p r other = r.0 a p
 not_refused db a Version p r other = not_other db a p r
 not_refused db a Store p r other = other refl
@@ -74,14 +76,14 @@ if_err_as (Ok x) f p = tt
 if_err_as (Err e) f p = f e p
 
 module _ (old opened : State) (live : IsLive opened) (settled : IsTrue opened.is_open → opened.now ≡ opened.committed) {X C : Type 0} (r : Result X (OpenFault × C)) (Left : Type 0) (sees : Left → IsTrue opened.is_open × ∥ old.may_leave opened.committed.trees ∥₁) where
-  pub taken_again : (Sound : X → Type 0) (Holds : X → Airspace → Type 0) → IfOk r (λ s. Sound s → opened.now.schema ≡ dss_schema → (a : Airspace) × Spells opened.now a × IsContent Holds s a)
+  pub taken_again : (Sound : X → Type 0) (Holds : X → Airspace → Type 0) → IfOk r (λ s. Sound s → (format : Format) → opened.now.schema ≡ schema_of format → (a : Airspace) × SpellsAs format opened.now a × IsContent Holds s a)
       → IfOk r (λ s. Sound s → is_whole_in old → Left → ∥ ((a : Airspace) × holds_in old a × IsContent Holds s a) ∥₁)
   taken_again Sound Holds taken = if_ok_as r (λ s got sound whole left. ∥∥₁_map (sees left).1 (λ may.
       let it = found_again old opened whole live (sees left).0 (settled (sees left).0) may in
-      let own = got sound it.schema in
+      let own = got sound Two it.schema in
       (own.0, subst (λ a. holds_in old a) (one_airspace _ _ it.held own.0 refl it.spelt own.1) it.holds, own.2))) taken
 
-  pub refused_again : (Clean : C → Type 0) → IfErr r (λ e. Clean e.1 → opened.now.schema ≡ dss_schema → Refuses opened.now e.0) → IfErr r (λ e. Clean e.1 → is_whole_in old → Left → e.0 ≡ Store)
+  pub refused_again : (Clean : C → Type 0) → IfErr r (λ e. Clean e.1 → (format : Format) → opened.now.schema ≡ schema_of format → Refuses format opened.now e.0) → IfErr r (λ e. Clean e.1 → is_whole_in old → Left → e.0 ≡ Store)
   refused_again Clean refuses = if_err_as r (λ e why clean whole left. is_store e.0 (λ other. not_there (sees left).1 (λ may.
       let it = found_again old opened whole live (sees left).0 (settled (sees left).0) may in
-      not_refused opened.now it.held e.0 it.spelt (why clean it.schema) other))) refuses
+      not_refused opened.now it.held e.0 it.spelt (why clean Two it.schema) other))) refuses

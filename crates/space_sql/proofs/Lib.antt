@@ -3,4 +3,3 @@ pub mod Readings
 pub mod Changing
 pub mod Openings
 pub mod Crashes
-pub mod NoSubscriptions

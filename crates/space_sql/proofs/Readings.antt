@@ -11,9 +11,9 @@ use Rattle.space_core.specs.declared.space.SpaceFault.{SpaceFault}
 use Rattle.space_core.specs.declared.space.SpaceFault.TheVariants.{Unchanged, Broken}
 use Rattle.space_core.specs.Space.{Reads}
 use Rattle.space_reading.specs.declared.verdict.Listed.{Listed}
-use Rattle.space_sql.specs.Holding.{holds_of, is_sound_of, is_whole_of, kept}
+use Rattle.space_sql.specs.Holding.{holds_of, is_sound_of, is_whole_of, kept, kept_by}
 use Rattle.space_reading.specs.Judging.{listed_airspace}
-use Rattle.space_reading.specs.Reading.{ReadsTables}
+use Rattle.space_select.specs.Reading.{ReadsTables}
 use Rattle.space_sql.proofs.Outcomes.{Laws, Rests, clean_before, held_is_spelt, no_other, stays_held, stays_whole}
 
 -- what is found in the airspace that was read
@@ -62,3 +62,8 @@ module _ {S T : Type 0} (g : Ghosts S) (old mid new : Held S) (n m : ℕ) (b d :
 -- a space that is broken tells so, and is left
 pub reads_nothing : {S T : Type 0} (g : Ghosts S) (k : Held S) (n : ℕ) (b : Bool) (P : Airspace → T → Type 0) → Reads {T = T} (holds_of g) (is_sound_of g) (is_whole_of g) (kept k n b) (kept k n b) (Err Broken) P
 reads_nothing g k n b P = record { sound = λ s. s; whole = λ s whole. whole; stays = λ s. tt; no_other = λ s a h. h; answer = λ s. tt }
+
+-- whether its tables were those of format 1 has no part in what a space holds
+pub reads_kept : {S T : Type 0} (g : Ghosts S) (old new : Held S) (n m : ℕ) (b d was : Bool) (r : Result T SpaceFault) (P : Airspace → T → Type 0) → Reads (holds_of g) (is_sound_of g) (is_whole_of g) (kept old n b) (kept new m d) r P
+    → Reads (holds_of g) (is_sound_of g) (is_whole_of g) (kept_by was old n b) (kept_by was new m d) r P
+reads_kept g old new n m b d was r P p = record { sound = p.sound; whole = p.whole; stays = p.stays; no_other = p.no_other; answer = p.answer }

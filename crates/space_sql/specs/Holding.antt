@@ -10,11 +10,11 @@ use Rattle.entity_core.specs.Airspace.{Airspace}
 use Rattle.space_tables.specs.Spelling.{Spells}
 use Rattle.space_tables.specs.Tables.{dss_schema}
 
--- trees with the tables of format 1
+-- trees with the tables of format 2
 abbrev pub with_tables : Trees → Database
 with_tables db = record { schema = dss_schema; trees = db }
 
--- the trees are those of the tables of format 1 and no other, and spell the airspace
+-- the trees are those of the tables of format 2 and no other, and spell the airspace
 abbrev pub Keeps : Trees → Airspace → Type 0
 Keeps db a = IsDatabase (with_tables db) × Spells (with_tables db) a
 
@@ -41,15 +41,24 @@ pub record Kept (S : Type 0) : Type 0 where
   pub conn : Held S
   pub refusals : ℕ
   pub broken : Bool
+  -- its tables were those of format 1 when it took them
+  pub upgraded : Bool
 
 abbrev pub kept_code : {S : Type 0} → Coded S → Coded (Kept S)
 kept_code {S} store =
-    code_by (Held S × (ℕ × Bool)) (coded× (held_code store) (coded× coded_ℕ coded_bool))
-    (λ k. (k.conn, (k.refusals, k.broken)))
-    (λ p. record { conn = p.0; refusals = p.1.0; broken = p.1.1 }) (λ _. refl)
+    code_by (Held S × (ℕ × (Bool × Bool)))
+    (coded× (held_code store) (coded× coded_ℕ (coded× coded_bool coded_bool)))
+    (λ k. (k.conn, (k.refusals, (k.broken, k.upgraded))))
+    (λ p. record { conn = p.0; refusals = p.1.0; broken = p.1.1.0; upgraded = p.1.1.1 }) (λ _. refl)
 
+-- by its parts
+abbrev pub kept_by : {S : Type 0} → Bool → Held S → ℕ → Bool → Kept S
+kept_by upgraded conn refusals broken =
+    record { conn = conn; refusals = refusals; broken = broken; upgraded = upgraded }
+
+-- what a call sees of it: of its tables' past it knows nothing
 abbrev pub kept : {S : Type 0} → Held S → ℕ → Bool → Kept S
-kept conn refusals broken = record { conn = conn; refusals = refusals; broken = broken }
+kept conn refusals broken = kept_by false conn refusals broken
 
 -- of a space by its parts
 abbrev pub holds_of : {S : Type 0} → Ghosts S → Kept S → Airspace → Type 0

@@ -1,21 +1,23 @@
 -- What the outcomes of a crash keep. Proved, so nothing has to be believed here: a law of an `impl`
 -- cites `specs/` alone.
-use Rattle.std.specs.Prelude.{◌≡◌, ℕ, true, false, List, [], ◌∷◌, map, None, Some, cond, refl}
-use Rattle.std.proofs.Common.{sym, ap, subst, ◌∙◌}
+use Rattle.std.specs.Prelude.{◌≡◌, ◌≤◌, ℕ, true, false, List, [], ◌∷◌, map, Some, cond, refl}
+use Rattle.std.proofs.Common.{sym, subst, ◌∙◌}
 use Rattle.std.proofs.Math.Logic.{∥∥₁_map}
 use Rattle.std.proofs.lemmas.Option.{same_Some}
 use Rattle.std.specs.List.{AllByRecursion}
 use Rattle.std.specs.Ordering.{eq_by_cmp, nat_cmp}
+use Rattle.std.specs.declared.cmp.Ordering.{Ordering}
 use Rattle.std.specs.FinMap as maps
-use Rattle.std.specs.FinMap.{empty, entries, get, get-empty, get-entries}
+use Rattle.std.specs.FinMap.{entries, get, get-entries}
 use Rattle.sqlite_trees.specs.Tree.{Trees}
 use Rattle.sqlite_trees.proofs.ListLemmas.{all-permutation}
-use Rattle.entity_core.specs.Airspace.{Airspace, EntityKey, IsAirspace, Subscriptions, key_cmp, key_of}
+use Rattle.entity_core.specs.Airspace.{Airspace, EntityKey, IsAirspace, key_cmp, key_of}
 use Rattle.entity_core.specs.declared.entity.Entity.{Entity}
+use Rattle.entity_core.specs.declared.subscription.Sub.{Sub}
+use Rattle.entity_core.proofs.Changes.{one_id}
 use Rattle.entity_core.proofs.Keys.{one_key}
-use Rattle.space_tables.specs.Spelling.{Group, Spells, pair_of}
+use Rattle.space_tables.specs.Spelling.{Group, IsSubGroup, Spells, SubGroup, pair_of, sub_pair_of}
 use Rattle.space_tables.proofs.OneAirspace.{one_airspace}
-use Rattle.space_tables.proofs.FirstFormat.{spelt_first}
 use Rattle.space_sql.specs.Holding.{Keeps, with_tables}
 
 -- outcomes that are one keep one airspace
@@ -37,25 +39,43 @@ own_keys : (gs : List Group) → AllByRecursion IsUnderItsKey (map pair_of gs)
 own_keys [] = tt
 own_keys (g ∷ gs) = (refl, own_keys gs)
 
-own_key : (es : List (EntityKey × Entity)) (k : EntityKey) (x : Entity) → AllByRecursion IsUnderItsKey es → maps.find key_cmp k es ≡ Some x → key_of x ≡ k
-own_key [] k x all h = cc
-own_key (e ∷ es) k x all h =
-    elim (eq_by_cmp key_cmp k e.0) as (λ b. eq_by_cmp key_cmp k e.0 ≡ b → cond b (Some e.1) (maps.find key_cmp k es) ≡ Some x → key_of x ≡ k) [
-      | true ↦ λ t s. ap key_of (sym (same_Some e.1 x s)) ∙ all.0 ∙ sym (one_key k e.0 t)
-      | false ↦ λ t s. own_key es k x all.1 s
+-- under its own id, and its index is at most the serial
+abbrev IsUnderItsId : ℕ → ℕ × Sub → Type 0
+IsUnderItsId serial p = (p.1.id ≡ p.0) × (p.1.index ≤ serial)
+
+own_ids : (serial : ℕ) (gs : List SubGroup) → AllByRecursion (IsSubGroup serial) gs → AllByRecursion (IsUnderItsId serial) (map sub_pair_of gs)
+own_ids serial [] all = tt
+own_ids serial (g ∷ gs) all = ((refl, all.0.index), own_ids serial gs all.1)
+
+-- what is found stands in the list, under an equal key
+found_there : {K V : Type 0} (cmp : K → K → Ordering) (P : K × V → Type 0) (es : List (K × V)) (k : K) (x : V) → AllByRecursion P es → maps.find cmp k es ≡ Some x → (l : K) × (eq_by_cmp cmp k l ≡ true) × P (l, x)
+found_there cmp P [] k x all h = cc
+found_there {K} {V} cmp P (e ∷ es) k x all h =
+    elim (eq_by_cmp cmp k e.0) as (λ b. eq_by_cmp cmp k e.0 ≡ b → cond b (Some e.1) (maps.find cmp k es) ≡ Some x → (l : K) × (eq_by_cmp cmp k l ≡ true) × P (l, x)) [
+      | true ↦ λ t s. (e.0, t, subst (λ (v : V). P (e.0, v)) (same_Some e.1 x s) all.0)
+      | false ↦ λ t s. found_there cmp P es k x all.1 s
     ] refl h
 
--- where no subscription is kept, none is found
-pub no_subscription : (a : Airspace) → a.subscriptions ≡ empty → (id : ℕ) → get a.subscriptions id ≡ None
-no_subscription a none id = ap (λ (m : Subscriptions). get m id) none ∙ get-empty nat_cmp id
+own_key : (a : Airspace) (k : EntityKey) (x : Entity) → AllByRecursion IsUnderItsKey (entries a.entities) → get a.entities k ≡ Some x → key_of x ≡ k
+own_key a k x all h =
+    let it = found_there key_cmp IsUnderItsKey (entries a.entities) k x all (sym (get-entries a.entities k) ∙ h) in
+    it.2 ∙ sym (one_key k it.0 it.1)
+
+own_id : (a : Airspace) (id : ℕ) (s : Sub) → AllByRecursion (IsUnderItsId a.serial) (entries a.subscriptions) → get a.subscriptions id ≡ Some s → (s.id ≡ id) × (s.index ≤ a.serial)
+own_id a id s all h =
+    let it = found_there nat_cmp (IsUnderItsId a.serial) (entries a.subscriptions) id s all (sym (get-entries a.subscriptions id) ∙ h) in
+    (it.2.0 ∙ sym (one_id id it.0 it.1), it.2.1)
 
 -- what tables spell is an airspace that may be kept
 pub spelt_is_proper : (db : Trees) (a : Airspace) → Spells (with_tables db) a → IsAirspace a
-spelt_is_proper db a p = record {
-  keyed = λ k x h. own_key (entries a.entities) k x (all-permutation IsUnderItsKey _ _ p.kept (own_keys p.groups)) (sym (get-entries a.entities k) ∙ h);
-  own = λ id s h. let none = no_subscription a (spelt_first (with_tables db) a p).subscriptions id in cc;
-  told = λ id s h. let none = no_subscription a (spelt_first (with_tables db) a p).subscriptions id in cc;
-}
+spelt_is_proper db a p =
+    let keys = all-permutation IsUnderItsKey _ _ p.kept (own_keys p.groups) in
+    let ids = all-permutation (IsUnderItsId a.serial) _ _ p.subs_kept (own_ids a.serial p.subs p.each_sub) in
+    record {
+      keyed = λ k x h. own_key a k x keys h;
+      own = λ id s h. (own_id a id s ids h).0;
+      told = λ id s h. (own_id a id s ids h).1;
+    }
 
 -- what an outcome keeps is an airspace that may be kept
 pub kept_is_proper : {May : Trees → Type 0} (a : Airspace) → ((db : Trees) × May db × Keeps db a) → IsAirspace a

@@ -1,5 +1,4 @@
 pub mod Holding
 pub mod Laws
 pub mod Opening
-pub mod OpenFault
 pub mod Crash

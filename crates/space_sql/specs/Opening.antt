@@ -1,29 +1,45 @@
 -- What taking a database tells, and what it leaves.
-use Rattle.std.specs.Prelude.{◌≡◌, ◌≢◌, Result, Ok, Err}
+use Rattle.std.specs.Prelude.{◌≡◌}
 use Rattle.sqlite_trees.specs.Tree.{Trees}
-use Rattle.sqlite.specs.Effect.{Database}
-use Rattle.sqlite.specs.State.{State}
+use Rattle.sqlite.specs.State.{State, HasCleanDisk}
 use Rattle.entity_core.specs.Airspace.{Airspace}
-use Rattle.space_reading.specs.Judging.{IsOtherFormat}
+use Rattle.space_core.specs.Space.{IsContent}
+use Rattle.space_core.specs.declared.space.Space.{Ghosts}
+use Rattle.space_tables.specs.Spelling.{SpellsAs}
+use Rattle.space_tables.specs.Tables.{schema_of}
+use Rattle.space_tables.specs.declared.format.Format.{Format}
+use Rattle.space_tables.specs.declared.format.Format.TheVariants.{One, Two}
+use Rattle.space_tables.specs.declared.standing.Standing.{Standing}
+use Rattle.space_tables.specs.declared.standing.Standing.TheVariants.{Missing, Partial, Whole}
 use Rattle.space_tables.specs.Making.{MayBeMade}
-use Rattle.space_tables.specs.Spelling.{Spells}
-use Rattle.space_tables.specs.Tables.{dss_schema}
-use Rattle.space_sql.specs.declared.open_fault.OpenFault.{OpenFault}
-use Rattle.space_sql.specs.declared.open_fault.OpenFault.TheVariants.{NotADss, Version, Store}
+use Rattle.space_tables.specs.Standing.{standing_in}
+use Rattle.space_opening.specs.Opening.{MayBeMoved, Refuses}
+use Rattle.space_opening.specs.declared.open_fault.OpenFault.{OpenFault}
+use Rattle.space_opening.specs.declared.open_fault.OpenFault.TheVariants.{Store}
+use Rattle.space_sql.specs.Holding.{Kept}
 
--- Why tables of our schema were not taken: NotADss where they spell no airspace and the format is
--- not another one, Version where it is.
-abbrev pub Refuses : Database → OpenFault → Type 0
-Refuses db NotADss = ((a : Airspace) → ¬ Spells db a) × ¬ IsOtherFormat db
-Refuses db Version = IsOtherFormat db
-Refuses db Store = Unit {0}
+-- what is taken of tables of a format holds the airspace that they spell
+abbrev pub HoldsSpelt : {S : Type 0} → Ghosts (Kept S) → State → Kept S → Type 0
+HoldsSpelt space opened s =
+    space.is_sound s → (format : Format) → opened.now.schema ≡ schema_of format
+    → (a : Airspace) × SpellsAs format opened.now a × IsContent space.holds s a
 
--- what is told of tables of our schema: they are taken where they spell an airspace
-abbrev pub Examines : Database → Result (Unit {0}) OpenFault → Type 0
-Examines db (Ok x) = (a : Airspace) × Spells db a
-Examines db (Err fault) = Refuses db fault
+-- the fault of a connection that came back is one that is due over tables of a format
+abbrev pub IsDueFault : State → State → OpenFault → Type 0
+IsDueFault opened back fault =
+    HasCleanDisk back → (format : Format) → opened.now.schema ≡ schema_of format
+    → Refuses format opened.now fault
 
--- Trees that opening may have committed before it failed: after Store those of an empty airspace,
--- where there was no table, and never any over our tables.
+-- Trees that opening may have committed, by how the database stood to the tables: those of an empty
+-- airspace where there was no table, those of format 2 with the airspace that tables of format 1
+-- spelt, and else none.
+abbrev pub MayBeTaken : Standing → State → Trees → Type 0
+MayBeTaken Missing old trees = MayBeMade old trees
+MayBeTaken Partial old trees = ⊥
+MayBeTaken (Whole One) old trees = MayBeMoved old trees
+MayBeTaken (Whole Two) old trees = ⊥
+
+-- trees that opening may have committed before it failed: after NotADss and Version there are none
 abbrev pub MayBeOpened : State → OpenFault → Trees → Type 0
-MayBeOpened old fault trees = (fault ≡ Store) × MayBeMade old trees × (old.now.schema ≢ dss_schema)
+MayBeOpened old fault trees =
+    (fault ≡ Store) × MayBeTaken (standing_in old.now.schema.tables) old trees

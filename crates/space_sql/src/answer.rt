@@ -7,7 +7,7 @@ ghost use Rattle.space_core.specs.declared.space.SpaceFault.TheVariants.{Unchang
 ghost use Rattle.space_sql.specs.Holding.{IsKeeping};
 
 use space_core::space::SpaceFault;
-use space_reading::reading::alive;
+use space_select::reading::alive;
 use sqlite::{Alter, Connection, Error};
 
 // The fault of a call that failed: the store still works, or not.

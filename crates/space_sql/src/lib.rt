@@ -4,7 +4,6 @@
 mod answer;
 pub mod laws;
 pub mod open;
-pub mod open_fault;
 mod parts;
 mod reading;
 pub mod space;

@@ -1,35 +1,45 @@
 //! A space over tables is made, taken and given back.
-ghost use Rattle.std.specs.Prelude.{◌≡◌, ◌≢◌, codes, false, Err, IfErr, IfOk, IsTrue, OnErr, OnOk};
+ghost use Rattle.std.specs.Prelude.{◌≡◌, ◌≢◌, ◌↔◌, codes, false, Err, IfErr, IfOk, IsTrue};
 ghost use Rattle.sqlite.specs.Files.{file_state};
 ghost use Rattle.sqlite.specs.Held.{state};
 ghost use Rattle.sqlite.specs.State.{HasCleanDisk, Survives};
 ghost use Rattle.sqlite.specs.Steps.{IsEmpty, over_memory};
+ghost use Rattle.sqlite.specs.declared.error.Error.TheVariants.{SqliteFailure};
+ghost use Rattle.sqlite.specs.declared.error.ErrorCode.TheVariants.{NotADatabase};
 ghost use Rattle.entity_core.specs.Airspace.{Airspace, empty_at};
 ghost use Rattle.space_core.specs.Space.{IsContent};
 ghost use Rattle.space_tables.specs.Making.{IsSettled, IsUndone, MayBeMade};
-ghost use Rattle.space_tables.specs.Spelling.{Spells};
-ghost use Rattle.space_tables.specs.Tables.{dss_schema, no_schema};
-ghost use Rattle.space_sql.specs.Opening.{Examines, MayBeOpened, Refuses};
-ghost use Rattle.space_sql.specs.declared.open_fault.OpenFault.TheVariants.{Store};
+ghost use Rattle.space_tables.specs.Spelling.{Spells, SpellsAs};
+ghost use Rattle.space_tables.specs.Standing.{standing_in};
+ghost use Rattle.space_tables.specs.Tables.{dss_schema, first_schema, no_schema, schema_of};
+ghost use Rattle.space_tables.specs.declared.format.Format.{Format};
+ghost use Rattle.space_tables.specs.declared.format.Format.TheVariants.{One, Two};
+ghost use Rattle.space_tables.specs.declared.standing.Standing.TheVariants.{Whole};
+ghost use Rattle.space_opening.specs.Opening.{MayBeMoved, Refuses};
+ghost use Rattle.space_opening.specs.declared.open_fault.OpenFault.TheVariants.{Store};
+ghost use Rattle.space_sql.specs.Opening.{HoldsSpelt, IsDueFault, MayBeOpened};
 
-use crate::open_fault::OpenFault;
 use crate::space::SqlSpace;
 use space_core::space::{Space, SpaceFault};
-use space_reading::reading::{known, read_airspace};
-use space_reading::single::has_other_format;
-use space_reading::verdict::Verdict;
+use space_opening::examine::{examined, partial_fault};
+use space_opening::moving::moved;
+use space_opening::open_fault::OpenFault;
+use space_select::reading::known;
 use space_tables::format::Format;
 use space_tables::make::make_tables;
-use space_tables::standing::{Standing, has_meta, standing_of};
-use sqlite::{Alter, Connection, File, FileStore, MemStore};
+use space_tables::standing::{Standing, standing_of};
+use sqlite::{Alter, Connection, Error, ErrorCode, File, FileStore, MemStore};
 use std::alloc::Global;
+use std::io::Read;
+use std::{fs, io};
 
 // A space over a connection at rest, whose tables spell an airspace.
-fn space_over<S: Alter>(alloc: Global, conn: Connection<S>) -> SqlSpace<S>
+fn space_over<S: Alter>(alloc: Global, conn: Connection<S>, upgraded: bool) -> SqlSpace<S>
     requires outside { conn.in_transaction ≡ false }
     requires open { HasCleanDisk (state S.Store conn) → IsTrue (state S.Store conn).is_open }
     ensures same { result.conn ≡ conn }
     ensures fresh { (result.refusals ≡ 0) × (result.broken ≡ false) }
+    ensures told { result.upgraded ≡ upgraded }
     ensures sound { HasCleanDisk (state S.Store conn) → ⟦<SqlSpace<S> as Space>⟧.is_sound result }
     ensures content { ⟦<SqlSpace<S> as Space>⟧.is_sound result → IsSettled (state S.Store conn)
         → (a : Airspace) → Spells (state S.Store conn).now a
@@ -40,30 +50,8 @@ fn space_over<S: Alter>(alloc: Global, conn: Connection<S>) -> SqlSpace<S>
         conn,
         refusals: 0,
         broken: false,
+        upgraded,
         alloc,
-    }
-}
-
-// Whether our tables can be taken as they are; nothing is written.
-fn examined<S: Alter>(alloc: Global, conn: &mut Connection<S>) -> Result<(), OpenFault>
-    requires { conn.old.in_transaction ≡ false }
-    ensures outside { conn.new.in_transaction ≡ false }
-    ensures examines { HasCleanDisk (state S.Store conn.new)
-        → (state S.Store conn.old).now.schema ≡ dss_schema
-        → Examines (state S.Store conn.old).now result }
-    ensures open { HasCleanDisk (state S.Store conn.new)
-        → OnOk result (IsTrue (state S.Store conn.new).is_open) }
-    ensures at_rest { HasCleanDisk (state S.Store conn.new)
-        → (state S.Store conn.old).now.schema ≡ dss_schema → result ≢ Err Store
-        → IsSettled (state S.Store conn.new)
-        × ((state S.Store conn.new).now ≡ (state S.Store conn.old).now) }
-    ensures survives { Survives (state S.Store conn.old) (state S.Store conn.new) (λ _. ⊥) }
-{
-    match read_airspace(alloc, conn) {
-        Ok(Verdict::Spelt(_)) => Ok(()),
-        Ok(Verdict::OtherFormat) => Err(OpenFault::Version),
-        Ok(Verdict::Unspelt) => Err(OpenFault::NotADss),
-        Err(_) => Err(OpenFault::Store),
     }
 }
 
@@ -79,6 +67,7 @@ fn make_new<S: Alter>(
         → (state S.Store conn).now.schema ≡ no_schema
         → IsContent ⟦<SqlSpace<S> as Space>⟧.holds s (empty_at 0)) }
     ensures fresh { IfOk result (λ s. (s.refusals ≡ 0) × (s.broken ≡ false)) }
+    ensures new { IfOk result (λ s. s.upgraded ≡ false) }
     ensures store { IfErr result (λ e. e.0 ≡ OpenFault.Store) }
     ensures back { IfErr result (λ e. e.1.in_transaction ≡ false) }
     ensures undone { IfErr result (λ e. HasCleanDisk (state S.Store e.1)
@@ -87,13 +76,13 @@ fn make_new<S: Alter>(
         (MayBeMade (state S.Store conn))) }
 {
     match make_tables(&mut conn) {
-        Ok(()) => Ok(space_over(alloc, conn)),
+        Ok(()) => Ok(space_over(alloc, conn, false)),
         Err(_) => Err((OpenFault::Store, conn)),
     }
 }
 
-// Takes our tables as they are.
-fn take_old<S: Alter>(
+// Takes tables of format 2 as they are.
+fn take_second<S: Alter>(
     alloc: Global,
     mut conn: Connection<S>,
 ) -> Result<SqlSpace<S>, (OpenFault, Connection<S>)>
@@ -102,12 +91,13 @@ fn take_old<S: Alter>(
         → ⟦<SqlSpace<S> as Space>⟧.is_sound s) }
     ensures taken { IfOk result (λ s. ⟦<SqlSpace<S> as Space>⟧.is_sound s
         → (state S.Store conn).now.schema ≡ dss_schema
-        → (a : Airspace) × Spells (state S.Store conn).now a
+        → (a : Airspace) × SpellsAs Two (state S.Store conn).now a
         × IsContent ⟦<SqlSpace<S> as Space>⟧.holds s a) }
     ensures fresh { IfOk result (λ s. (s.refusals ≡ 0) × (s.broken ≡ false)) }
+    ensures same { IfOk result (λ s. s.upgraded ≡ false) }
     ensures refused { IfErr result (λ e. HasCleanDisk (state S.Store e.1)
         → (state S.Store conn).now.schema ≡ dss_schema
-        → Refuses (state S.Store conn).now e.0) }
+        → Refuses Two (state S.Store conn).now e.0) }
     ensures back { IfErr result (λ e. e.1.in_transaction ≡ false) }
     ensures unwritten { IfErr result (λ e. HasCleanDisk (state S.Store e.1)
         → (state S.Store conn).now.schema ≡ dss_schema → e.0 ≢ OpenFault.Store
@@ -116,29 +106,42 @@ fn take_old<S: Alter>(
         Survives (state S.Store conn) (state S.Store e.1) (λ _. ⊥)) }
 {
     match examined(alloc, &mut conn) {
-        Ok(()) => Ok(space_over(alloc, conn)),
+        Ok(()) => Ok(space_over(alloc, conn, false)),
         Err(fault) => Err((fault, conn)),
     }
 }
 
-// Why a database with only some of the tables is not taken: `meta`, where it is there, may tell
-// another format.
-fn partial_fault<S: Alter>(conn: &mut Connection<S>) -> OpenFault
-    requires { conn.old.in_transaction ≡ false }
-    ensures outside { conn.new.in_transaction ≡ false }
-    ensures survives { Survives (state S.Store conn.old) (state S.Store conn.new) (λ _. ⊥) }
+// Brings tables of format 1 to format 2, and takes them.
+fn take_first<S: Alter>(
+    alloc: Global,
+    mut conn: Connection<S>,
+) -> Result<SqlSpace<S>, (OpenFault, Connection<S>)>
+    requires { conn.in_transaction ≡ false }
+    ensures sound { IfOk result (λ s. HasCleanDisk (state S.Store s.conn)
+        → ⟦<SqlSpace<S> as Space>⟧.is_sound s) }
+    ensures taken { IfOk result (λ s. ⟦<SqlSpace<S> as Space>⟧.is_sound s
+        → (state S.Store conn).now.schema ≡ first_schema
+        → (a : Airspace) × SpellsAs One (state S.Store conn).now a
+        × IsContent ⟦<SqlSpace<S> as Space>⟧.holds s a) }
+    ensures fresh { IfOk result (λ s. (s.refusals ≡ 0) × (s.broken ≡ false)) }
+    ensures upgraded { IfOk result (λ s. IsTrue s.upgraded) }
+    ensures refused { IfErr result (λ e. HasCleanDisk (state S.Store e.1)
+        → (state S.Store conn).now.schema ≡ first_schema
+        → Refuses One (state S.Store conn).now e.0) }
+    ensures back { IfErr result (λ e. e.1.in_transaction ≡ false) }
+    ensures unwritten { IfErr result (λ e. HasCleanDisk (state S.Store e.1)
+        → (state S.Store conn).now.schema ≡ first_schema → e.0 ≢ OpenFault.Store
+        → IsSettled (state S.Store e.1) × ((state S.Store e.1).now ≡ (state S.Store conn).now)) }
+    ensures left { IfErr result (λ e. Survives (state S.Store conn) (state S.Store e.1)
+        (λ trees. (e.0 ≡ OpenFault.Store) × MayBeMoved (state S.Store conn) trees)) }
 {
-    if !has_meta(conn.schema()) {
-        return OpenFault::NotADss;
-    }
-    match has_other_format(conn) {
-        Ok(true) => OpenFault::Version,
-        Ok(false) => OpenFault::NotADss,
-        Err(_) => OpenFault::Store,
+    match moved(alloc, &mut conn) {
+        Ok(()) => Ok(space_over(alloc, conn, true)),
+        Err(fault) => Err((fault, conn)),
     }
 }
 
-// The same, with the connection that goes back.
+// Why a database with only some of the tables is not taken, with the connection that goes back.
 fn refused<S: Alter>(mut conn: Connection<S>) -> (OpenFault, Connection<S>)
     requires { conn.in_transaction ≡ false }
     ensures back { result.1.in_transaction ≡ false }
@@ -149,11 +152,12 @@ fn refused<S: Alter>(mut conn: Connection<S>) -> (OpenFault, Connection<S>)
 }
 
 impl<S: Alter> SqlSpace<S> {
-    /// Takes a connection that is outside a transaction, and makes the tables where it has none of
-    /// them. A database whose `meta` has one row, of another format, is `Version`; else one with
-    /// only some of the tables, or with rows that are no airspace, is `NotADss`. On a fault the
-    /// connection comes back: after `NotADss` and `Version` nothing was written, and after `Store`
-    /// the tables are as before, or as this call would have made them.
+    /// Takes a connection that is outside a transaction. Where it has none of the tables, they are
+    /// made; tables of format 1 are brought to format 2, in one transaction, with their airspace. A
+    /// database whose `meta` has one row, of a format that is neither 1 nor 2, is `Version`; else
+    /// one with only some of the tables, or with rows that are no airspace, is `NotADss`. On a
+    /// fault the connection comes back: after `NotADss` and `Version` nothing was written, and
+    /// after `Store` the tables are as before, or as this call would have made them.
     pub fn adopt(
         alloc: Global,
         conn: Connection<S>,
@@ -164,20 +168,19 @@ impl<S: Alter> SqlSpace<S> {
         ensures made { IfOk result (λ s. ⟦<SqlSpace<S> as Space>⟧.is_sound s
             → (state S.Store conn).now.schema ≡ no_schema
             → IsContent ⟦<SqlSpace<S> as Space>⟧.holds s (empty_at 0)) }
-        ensures taken { IfOk result (λ s. ⟦<SqlSpace<S> as Space>⟧.is_sound s
-            → (state S.Store conn).now.schema ≡ dss_schema
-            → (a : Airspace) × Spells (state S.Store conn).now a
-            × IsContent ⟦<SqlSpace<S> as Space>⟧.holds s a) }
+        ensures taken { IfOk result
+            (HoldsSpelt ⟦<SqlSpace<S> as Space>⟧ (state S.Store conn)) }
+        ensures upgraded { IfOk result (λ s. IsTrue s.upgraded
+            ↔ (standing_in (state S.Store conn).now.schema.tables ≡ Whole One)) }
         ensures fresh { IfOk result (λ s. (⟦<SqlSpace<S> as Space>⟧.refusals s ≡ 0)
             × (⟦<SqlSpace<S> as Space>⟧.is_broken s ≡ false)) }
         ensures new { IfErr result (λ e. (state S.Store conn).now.schema ≡ no_schema
             → e.0 ≡ OpenFault.Store) }
-        ensures refused { IfErr result (λ e. HasCleanDisk (state S.Store e.1)
-            → (state S.Store conn).now.schema ≡ dss_schema
-            → Refuses (state S.Store conn).now e.0) }
+        ensures refused { IfErr result (λ e.
+            IsDueFault (state S.Store conn) (state S.Store e.1) e.0) }
         ensures unwritten { IfErr result (λ e. HasCleanDisk (state S.Store e.1)
-            → (state S.Store conn).now.schema ≡ dss_schema → e.0 ≢ OpenFault.Store
-            → IsSettled (state S.Store e.1)
+            → (format : Format) → (state S.Store conn).now.schema ≡ schema_of format
+            → e.0 ≢ OpenFault.Store → IsSettled (state S.Store e.1)
             × ((state S.Store e.1).now ≡ (state S.Store conn).now)) }
         ensures left { IfErr result (λ e. Survives (state S.Store conn) (state S.Store e.1)
             (MayBeOpened (state S.Store conn) e.0)) }
@@ -185,9 +188,17 @@ impl<S: Alter> SqlSpace<S> {
     {
         match standing_of(conn.schema()) {
             Standing::Missing => make_new(alloc, conn),
-            Standing::Whole(Format::One) => take_old(alloc, conn),
-            Standing::Whole(Format::Two) | Standing::Partial => Err(refused(conn)),
+            Standing::Whole(Format::One) => take_first(alloc, conn),
+            Standing::Whole(Format::Two) => take_second(alloc, conn),
+            Standing::Partial => Err(refused(conn)),
         }
+    }
+
+    /// Whether the tables were those of format 1 when they were taken.
+    pub fn upgraded(&self) -> bool
+        ensures { result ≡ self.now.upgraded }
+    {
+        self.upgraded
     }
 
     /// The connection as it is.
@@ -199,6 +210,7 @@ impl<S: Alter> SqlSpace<S> {
             conn,
             refusals: _,
             broken: _,
+            upgraded: _,
             alloc: _,
         } = self;
         conn
@@ -232,14 +244,36 @@ impl SqlSpace<MemStore> {
     }
 }
 
+// Whether a file begins as a database of SQLite does.
+fn begins_as_database(rt: &HostRuntime, path: &str) -> io::Result<bool> {
+    let mut head = [0; 16];
+    let mut file = fs::File::open(rt, path)?;
+    file.read_exact(&mut head)?;
+    Ok(head == *b"SQLite format 3\0")
+}
+
+// Why a file was not opened. `sqlite` opens no database whose rows break a rule of their tables, as
+// those that refer to a table which is lacking: no airspace is spelt there.
+fn unopened(rt: &HostRuntime, path: &str, error: &Error) -> OpenFault
+    ensures { error.now ≢ SqliteFailure NotADatabase → result ≡ Store }
+{
+    match error {
+        Error::SqliteFailure(ErrorCode::NotADatabase) => match begins_as_database(rt, path) {
+            Ok(true) => OpenFault::NotADss,
+            Ok(false) => OpenFault::Store,
+            Err(_) => OpenFault::Store,
+        },
+        _ => OpenFault::Store,
+    }
+}
+
 fn file(rt: &HostRuntime, path: &str) -> Result<Connection<FileStore<File>>, OpenFault>
     ensures outside { IfOk result (λ conn. conn.in_transaction ≡ false) }
-    ensures store { IfErr result (λ fault. fault ≡ OpenFault.Store) }
     ensures memory { path.now ≡ codes ":memory:" → result ≡ Err OpenFault.Store }
 {
     match Connection::open(rt, path) {
         Ok(conn) => Ok(conn),
-        Err(_) => Err(OpenFault::Store),
+        Err(error) => Err(unopened(rt, path, &error)),
     }
 }
 

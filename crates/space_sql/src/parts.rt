@@ -21,8 +21,8 @@ use space_changes::change::make_change;
 use space_core::met::Met;
 use space_core::space::{Change, SpaceFault};
 use space_finding::meeting::read_meeting;
-use space_reading::reading::known;
-use space_reading::single::{read_availability, read_entity, read_serial};
+use space_select::reading::known;
+use space_single::single::{read_availability, read_entity, read_serial};
 use sqlite::{Alter, Connection};
 use std::alloc::Global;
 

@@ -3,7 +3,7 @@ ghost use Rattle.std.specs.Prelude.{◌≡◌, false, IfOk};
 ghost use Rattle.sqlite.specs.Held.{state};
 ghost use Rattle.entity_core.specs.Search.{all_in};
 ghost use Rattle.space_reading.specs.Judging.{listed_airspace};
-ghost use Rattle.space_reading.specs.Reading.{ReadsTables};
+ghost use Rattle.space_select.specs.Reading.{ReadsTables};
 
 use entity_core::entity::Entity;
 use entity_core::nature::Kind;

@@ -20,16 +20,16 @@ use std::marker::Model;
 
 /// An airspace in the tables of a store of SQLite.
 ///
-/// What a space holds is what a crash at this moment may leave of its tables: those of format 1 and
+/// What a space holds is what a crash at this moment may leave of its tables: those of format 2 and
 /// no other, and the airspace that they spell. What is said of it stands as long as the disk has
 /// returned what was written; a store in memory has no disk. After `Broken` every call answers
-/// `Broken`, and the tables are left. No table keeps subscriptions: none is found, and a change that
-/// keeps or tells one, or an intent that names one, is refused.
+/// `Broken`, and the tables are left.
 #[derive(Drop)]
 pub struct SqlSpace<S: Alter> {
     pub(crate) conn: Connection<S>,
     pub(crate) refusals: u64,
     pub(crate) broken: bool,
+    pub(crate) upgraded: bool,
     pub(crate) alloc: Global,
 }
 
@@ -41,7 +41,12 @@ impl<S: Alter> Model for SqlSpace<S> {
 
     ghost coded = { kept_code S.code };
 
-    ghost view = { λ s. record { conn = s.conn; refusals = s.refusals; broken = s.broken } };
+    ghost view = { λ s. record {
+      conn = s.conn;
+      refusals = s.refusals;
+      broken = s.broken;
+      upgraded = s.upgraded;
+    } };
 
     ghost invariant = { λ s. IsKeeping (state S.Store s.conn) s.broken };
 }
@@ -125,7 +130,14 @@ impl<S: Alter> Space for SqlSpace<S> {
     }
 
     fn subscription(&mut self, id: EntityId) -> Result<Option<Sub>, SpaceFault> {
-        subscriptions::subscription(&mut self.conn, &mut self.refusals, &mut self.broken, id)
+        let alloc = self.alloc;
+        subscriptions::subscription(
+            alloc,
+            &mut self.conn,
+            &mut self.refusals,
+            &mut self.broken,
+            id,
+        )
     }
 
     fn subscriptions_of(&mut self, uss: &UssId, area: &Area) -> Result<Vec<Sub>, SpaceFault> {

@@ -1,4 +1,4 @@
-//! What a space over tables tells of subscriptions: no table keeps any.
+//! The calls of a space over tables that tell of subscriptions, of its parts.
 ghost use Rattle.std.specs.Prelude.{◌≡◌};
 ghost use Rattle.std.specs.FinMap.{get};
 ghost use Rattle.sqlite.specs.Held.{state};
@@ -6,16 +6,22 @@ ghost use Rattle.entity_core.specs.Search.{dependents_in, subscribers_in, subscr
 ghost use Rattle.space_core.specs.Space.{Reads, Tells};
 ghost use Rattle.space_sql.specs.Holding.{IsKeeping, holds_of, is_sound_of, is_whole_of, kept};
 
+use crate::answer::settled;
 use entity_core::entity_id::EntityId;
 use entity_core::nature::Kind;
 use entity_core::subscription::Sub;
 use entity_core::uss_id::UssId;
 use grid_core::volume::Area;
 use space_core::space::SpaceFault;
+use space_finding::subscriptions::{find_subscribers, find_subscriptions_of};
+use space_select::reading::known;
+use space_single::dependents::read_dependents;
+use space_single::subscription::read_subscription;
 use sqlite::{Alter, Connection};
 use std::alloc::Global;
 
 pub(crate) fn subscription<S: Alter>(
+    alloc: Global,
     conn: &mut Connection<S>,
     refusals: &mut u64,
     broken: &mut bool,
@@ -28,11 +34,12 @@ pub(crate) fn subscription<S: Alter>(
         (kept conn.old refusals.old broken.old) (kept conn.new refusals.new broken.new) result
         (λ a found. found ≡ get a.subscriptions id) }
 {
-    let (_conn, _refusals, _id) = (conn, refusals, id);
     if *broken {
         return Err(SpaceFault::Broken);
     }
-    Ok(None)
+    known(conn);
+    let read = read_subscription(alloc, conn, id);
+    settled(conn, refusals, broken, read)
 }
 
 pub(crate) fn subscriptions_of<S: Alter>(
@@ -50,11 +57,12 @@ pub(crate) fn subscriptions_of<S: Alter>(
         (kept conn.old refusals.old broken.old) (kept conn.new refusals.new broken.new) result
         (λ a found. found.items ≡ subscriptions_in a.subscriptions uss.now area.now) }
 {
-    let (_conn, _refusals, _uss, _area) = (conn, refusals, uss, area);
     if *broken {
         return Err(SpaceFault::Broken);
     }
-    Ok(Vec::new(alloc))
+    known(conn);
+    let read = find_subscriptions_of(alloc, conn, uss, area);
+    settled(conn, refusals, broken, read)
 }
 
 pub(crate) fn subscribers<S: Alter>(
@@ -72,11 +80,12 @@ pub(crate) fn subscribers<S: Alter>(
         (kept conn.old refusals.old broken.old) (kept conn.new refusals.new broken.new) result
         (λ a found. found.items ≡ subscribers_in a.subscriptions kind areas.now) }
 {
-    let (_conn, _refusals, _kind, _areas) = (conn, refusals, kind, areas);
     if *broken {
         return Err(SpaceFault::Broken);
     }
-    Ok(Vec::new(alloc))
+    known(conn);
+    let read = find_subscribers(alloc, conn, kind, areas);
+    settled(conn, refusals, broken, read)
 }
 
 pub(crate) fn dependents<S: Alter>(
@@ -93,9 +102,10 @@ pub(crate) fn dependents<S: Alter>(
         (kept conn.old refusals.old broken.old) (kept conn.new refusals.new broken.new) result
         (λ a found. found.items ≡ dependents_in a.entities id) }
 {
-    let (_conn, _refusals, _id) = (conn, refusals, id);
     if *broken {
         return Err(SpaceFault::Broken);
     }
-    Ok(Vec::new(alloc))
+    known(conn);
+    let read = read_dependents(alloc, conn, id);
+    settled(conn, refusals, broken, read)
 }

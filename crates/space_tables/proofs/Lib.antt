@@ -8,4 +8,3 @@ pub mod Upgraded
 pub mod Rising
 pub mod OneAirspace
 pub mod Standings
-pub mod FirstFormat

@@ -30,14 +30,16 @@ use Rattle.std.proofs.lemmas.List.Sorted.{IsPermutation-refl}
 use Rattle.std.specs.FinMap.{entries, empty, len-entries, len-empty}
 use Rattle.std.proofs.Common.{length, Ordering}
 use Rattle.std.specs.Ordering.{nat_cmp}
-use Rattle.entity_core.specs.Airspace.{empty_at, key_cmp, text_cmp}
+use Rattle.entity_core.specs.Airspace.{key_cmp, text_cmp}
 use Rattle.sqlite.proofs.Callers.{one_step}
-use Rattle.space_tables.specs.Tables.{meta, dss_schema}
-use Rattle.space_tables.proofs.Texts.{first_row_text}
-use Rattle.space_tables.specs.Spelling.{Spells, AreApart, IsStated, availability_values, meta_columns, entity_columns, six_columns, three_columns}
-use Rattle.space_tables.proofs.Means.{first_row_is, first_row_plain}
+use Rattle.space_tables.specs.declared.format.Format.{Format}
+use Rattle.space_tables.specs.declared.format.Format.TheVariants.{One, Two}
+use Rattle.space_tables.specs.Tables.{meta, first_schema, dss_schema, schema_of, format_number}
+use Rattle.space_tables.proofs.Texts.{old_row_text, first_row_text}
+use Rattle.space_tables.specs.Spelling.{AreApart, IsStated, availability_values, meta_columns, entity_columns, six_columns, three_columns, sub_columns, five_columns, two_columns, later_rows}
+use Rattle.space_tables.proofs.Means.{old_row_is, old_row_plain, first_row_is, first_row_plain}
 use Rattle.space_tables.proofs.Steps.{cast_int, cast_null, inserts}
-use Rattle.space_tables.specs.Making.{HasRows, IsBare}
+use Rattle.space_tables.specs.Making.{HasRows, IsBare, SpellsEmpty, SpellsEmptyAs}
 use Rattle.space_tables.proofs.Steps.{went, same_value}
 
 -- a table is made beside others, whose rows stay
@@ -78,16 +80,19 @@ makes_index before after rows table at index text old new (Ok count) is plain wh
     let there = all_both (λ (t : Table). all.0.trees t.tree ≡ old.now.trees t.tree) (λ t. old.now.trees t.tree ≡ rows t.tree) (λ t. all.0.trees t.tree ≡ rows t.tree) (λ t p q. p ∙ q) before.tables made.rows has.1 in
     subst (HasRows after rows) (sym now) (schema, subst (λ ts. AllByRecursion (λ (t : Table). all.0.trees t.tree ≡ rows t.tree) ts) (sym tables) there)
 
-abbrev source : Row
-source = Int (pos 1) ∷ Null ∷ Int (pos 1) ∷ Int (pos 0) ∷ []
+abbrev source : ℕ → Row
+source format = Int (pos 1) ∷ Null ∷ Int (pos format) ∷ Int (pos 0) ∷ []
 
-abbrev first_edit : Trees → Edit
-first_edit db = edit_of db (meta 0) [] Chosen 0 (source ∷ [])
+abbrev first_edit : ℕ → Trees → Edit
+first_edit format db = edit_of db (meta 0) [] Chosen 0 (source format ∷ [])
 
-first_stored : (db : Trees) → db 0 ≡ [] → edited db (first_edit db) ≡ source ∷ []
-first_stored db none = rw (none, cast_int (pos 1), cast_null, cast_int (pos 0))
+first_stored : (format : ℕ) (db : Trees) → db 0 ≡ [] → edited db (first_edit format db) ≡ source format ∷ []
+first_stored format db none = rw (none, cast_int (pos 1), cast_null, cast_int (pos format), cast_int (pos 0))
 
-acts_on_none : (db : Trees) → works dss_schema Enforced 0 0 (taken_by db (first_edit db)) (first_edit db).news ≡ []
+none_acted : (db : Trees) → works first_schema Enforced 0 0 (taken_by db (first_edit 1 db)) (first_edit 1 db).news ≡ []
+none_acted db = refl
+
+acts_on_none : (db : Trees) → works dss_schema Enforced 0 0 (taken_by db (first_edit 2 db)) (first_edit 2 db).news ≡ []
 acts_on_none db = refl
 
 no_permutation : {X : Type 0} {ys zs : List X} → ys ≡ [] → zs ≡ [] → IsPermutation zs ys
@@ -104,16 +109,17 @@ pub no_entries : {K X : Type 0} (R : K → K → Ordering) → entries (empty {X
 no_entries {K} {X} R = none_of_length _ (sym (len-entries (empty {X = X} {R = R})) ∙ len-empty R X)
 
 -- empty tables and the first row of meta spell an empty airspace
-pub spells_empty : (db : Database) → db.schema ≡ dss_schema → db.trees 0 ≡ source ∷ [] → db.trees 1 ≡ [] → db.trees 3 ≡ [] → db.trees 5 ≡ [] → db.trees 8 ≡ [] → Spells db (empty_at 0)
-spells_empty db schema first one three five eight = record {
+pub spells_empty : (format : Format) (db : Database) → db.schema ≡ schema_of format → db.trees 0 ≡ source (format_number format) ∷ [] → db.trees 1 ≡ [] → db.trees 3 ≡ [] → db.trees 5 ≡ [] → db.trees 8 ≡ [] → later_rows format db 10 ≡ [] → later_rows format db 12 ≡ [] → later_rows format db 15 ≡ []
+    → SpellsEmptyAs format db
+spells_empty format db schema first one three five eight ten twelve fifteen = record {
   schema = schema;
   meta = ap (map meta_columns) first;
   most = omega arith;
   subs = [];
   subs_rising = tt;
   each_sub = tt;
-  sub_rows = IsPermutation-refl [];
-  sub_cells = IsPermutation-refl [];
+  sub_rows = no_permutation (ap (map sub_columns) ten) refl;
+  sub_cells = no_permutation (ap (map five_columns) twelve) refl;
   subs_kept = no_permutation (no_entries nat_cmp) refl;
   groups = [];
   rising = tt;
@@ -121,22 +127,38 @@ spells_empty db schema first one three five eight = record {
   entities = no_permutation (ap (map entity_columns) one) refl;
   volumes = no_permutation (ap (map six_columns) three) refl;
   cells = no_permutation (ap (map six_columns) five) refl;
-  namings = IsPermutation-refl [];
+  namings = no_permutation (ap (map two_columns) fifteen) refl;
   kept = no_permutation (no_entries key_cmp) refl;
   availabilities = no_permutation (ap (map three_columns) eight) (ap (map availability_values) (no_entries text_cmp));
   stated = subst (AllByRecursion IsStated) (sym (no_entries text_cmp)) tt;
-  apart = (none_apart _ three, none_apart _ five, none_apart _ eight, none_apart [] refl);
+  apart = (none_apart _ three, none_apart _ five, none_apart _ eight, none_apart _ twelve);
 }
 
-pub starts : (old new : State) (r : Result ℕ Error) → Executes first_row_text [] old new r → IsBare dss_schema old.now → OnOk r (Spells new.now (empty_at 0))
+pub starts_first : (old new : State) (r : Result ℕ Error) → Executes old_row_text [] old new r → IsBare first_schema old.now → OnOk r (SpellsEmptyAs One new.now)
+starts_first old new (Err e) h bare = tt
+starts_first old new (Ok count) h bare =
+    let db = old.now.trees in
+    let w = runs_as old_row_text [] old new first_schema bare.0 _ old_row_is old_row_plain count h in
+    let u = inserts first_schema old new [] (meta 0) 0 _ 4 (statement_of old_row_text (understood first_schema old_row_text)) count bare.0 refl refl w in
+    let rows : u.rows ≡ source 1 ∷ [] = u.given in
+    let wrote = subst (λ rs. Acts first_schema Enforced db (edit_of db (meta 0) [] Chosen 0 rs) (Ok u.next)) rows u.wrote in
+    let step = one_step first_schema Enforced db u.next (first_edit 1 db) (none_acted db) wrote in
+    let at = λ (t : ℕ). ap (λ (d : Database). d.trees t) u.is in
+    spells_empty One new.now (ap (λ (d : Database). d.schema) u.is) (at 0 ∙ step.rows ∙ first_stored 1 db bare.1.0)
+    (at 1 ∙ step.tables.1.0 (λ e. cc) ∙ bare.1.1.0) (at 3 ∙ step.tables.1.1.0 (λ e. cc) ∙ bare.1.1.1.0) (at 5 ∙ step.tables.1.1.1.0 (λ e. cc) ∙ bare.1.1.1.1.0) (at 8 ∙ step.tables.1.1.1.1.0 (λ e. cc) ∙ bare.1.1.1.1.1.0) refl refl refl
+
+pub starts : (old new : State) (r : Result ℕ Error) → Executes first_row_text [] old new r → IsBare dss_schema old.now → OnOk r (SpellsEmpty new.now)
 starts old new (Err e) h bare = tt
 starts old new (Ok count) h bare =
     let db = old.now.trees in
     let w = runs_as first_row_text [] old new dss_schema bare.0 _ first_row_is first_row_plain count h in
     let u = inserts dss_schema old new [] (meta 0) 0 _ 4 (statement_of first_row_text (understood dss_schema first_row_text)) count bare.0 refl refl w in
-    let rows : u.rows ≡ source ∷ [] = u.given in
+    let rows : u.rows ≡ source 2 ∷ [] = u.given in
     let wrote = subst (λ rs. Acts dss_schema Enforced db (edit_of db (meta 0) [] Chosen 0 rs) (Ok u.next)) rows u.wrote in
-    let step = one_step dss_schema Enforced db u.next (first_edit db) (acts_on_none db) wrote in
+    let step = one_step dss_schema Enforced db u.next (first_edit 2 db) (acts_on_none db) wrote in
     let at = λ (t : ℕ). ap (λ (d : Database). d.trees t) u.is in
-    spells_empty new.now (ap (λ (d : Database). d.schema) u.is) (at 0 ∙ step.rows ∙ first_stored db bare.1.0)
-    (at 1 ∙ step.tables.1.0 (λ e. cc) ∙ bare.1.1.0) (at 3 ∙ step.tables.1.1.0 (λ e. cc) ∙ bare.1.1.1.0) (at 5 ∙ step.tables.1.1.1.0 (λ e. cc) ∙ bare.1.1.1.1.0) (at 8 ∙ step.tables.1.1.1.1.0 (λ e. cc) ∙ bare.1.1.1.1.1.0)
+    let kept = step.tables.1 in
+    let none = bare.1.1 in
+    spells_empty Two new.now (ap (λ (d : Database). d.schema) u.is) (at 0 ∙ step.rows ∙ first_stored 2 db bare.1.0)
+    (at 1 ∙ kept.0 (λ e. cc) ∙ none.0) (at 3 ∙ kept.1.0 (λ e. cc) ∙ none.1.0) (at 5 ∙ kept.1.1.0 (λ e. cc) ∙ none.1.1.0) (at 8 ∙ kept.1.1.1.0 (λ e. cc) ∙ none.1.1.1.0)
+    (at 10 ∙ kept.1.1.1.1.0 (λ e. cc) ∙ none.1.1.1.1.0) (at 12 ∙ kept.1.1.1.1.1.0 (λ e. cc) ∙ none.1.1.1.1.1.0) (at 15 ∙ kept.1.1.1.1.1.1.0 (λ e. cc) ∙ none.1.1.1.1.1.1.0)

@@ -13,7 +13,7 @@ use Rattle.std.proofs.Common.{List}
 use Rattle.sqlite.specs.Term.{Term, lit, col}
 use Rattle.space_tables.specs.Tables.{meta, entity, volume, cell, availability, cell_range, subscription, subscription_cell, subscription_cell_range, naming, first_schema, second_schema, dss_schema, no_schema, schema_1, schema_2, schema_3, schema_4, schema_5, schema_7, schema_8, schema_9}
 use Rattle.space_tables.proofs.Selecting.{query_of, is_one}
-use Rattle.space_tables.proofs.Texts.{meta_text, entity_text, volume_text, cell_text, availability_text, range_text, first_row_text, subscription_text, subscription_cell_text, subscription_range_text, naming_text, set_format_text}
+use Rattle.space_tables.proofs.Texts.{meta_text, entity_text, volume_text, cell_text, availability_text, range_text, old_row_text, first_row_text, subscription_text, subscription_cell_text, subscription_range_text, naming_text, set_format_text}
 
 pub meta_is : table_defined_by meta_text ≡ Ok (meta 0)
 unfolding everything
@@ -39,7 +39,7 @@ pub index_is : index_defined_by (cell 5) range_text ≡ Ok (cell_range 0 5)
 unfolding everything
 index_is = refl
 
-pub schema_is : created (indexed (created (created (created (created no_schema (meta 0)) (entity 0)) (volume 0)) (cell 0)) (cell 5) (cell_range 0 5)) (availability 0) ≡ dss_schema
+pub schema_is : created (indexed (created (created (created (created no_schema (meta 0)) (entity 0)) (volume 0)) (cell 0)) (cell 5) (cell_range 0 5)) (availability 0) ≡ first_schema
 schema_is = refl
 
 pub meta_made : (command_of (understood no_schema meta_text) ≡ CreateTable) × IsPlain (understood no_schema meta_text) × (statement_of meta_text (understood no_schema meta_text) ≡ meta_text) × (created no_schema (meta 0) ≡ schema_1)
@@ -62,11 +62,19 @@ pub range_made : (command_of (understood schema_4 range_text) ≡ CreateIndex 3)
 unfolding understood everything
 range_made = (refl, (refl, refl), refl, refl)
 
-pub availability_made : (command_of (understood schema_5 availability_text) ≡ CreateTable) × IsPlain (understood schema_5 availability_text) × (statement_of availability_text (understood schema_5 availability_text) ≡ availability_text) × (created schema_5 (availability 0) ≡ dss_schema)
+pub availability_made : (command_of (understood schema_5 availability_text) ≡ CreateTable) × IsPlain (understood schema_5 availability_text) × (statement_of availability_text (understood schema_5 availability_text) ≡ availability_text) × (created schema_5 (availability 0) ≡ first_schema)
 unfolding understood everything
 availability_made = (refl, (refl, refl), refl, refl)
 
-pub first_row_is : command_of (understood dss_schema first_row_text) ≡ Insert 0 (Values (lit (Int (pos 1)) ∷ lit Null ∷ lit (Int (pos 1)) ∷ lit (Int (pos 0)) ∷ []) 4)
+pub old_row_is : command_of (understood first_schema old_row_text) ≡ Insert 0 (Values (lit (Int (pos 1)) ∷ lit Null ∷ lit (Int (pos 1)) ∷ lit (Int (pos 0)) ∷ []) 4)
+unfolding understood everything
+old_row_is = refl
+
+pub old_row_plain : IsPlain (understood first_schema old_row_text)
+unfolding understood everything
+old_row_plain = (refl, refl)
+
+pub first_row_is : command_of (understood dss_schema first_row_text) ≡ Insert 0 (Values (lit (Int (pos 1)) ∷ lit Null ∷ lit (Int (pos 2)) ∷ lit (Int (pos 0)) ∷ []) 4)
 unfolding understood everything
 first_row_is = refl
 

@@ -332,4 +332,4 @@ one_airspace_of format D E a b same p q =
     λ i. record { entities = entities i; subscriptions = subscriptions i; availabilities = availabilities i; serial = serial i }
 
 pub one_airspace : OneAirspace
-one_airspace D E a b same p q = one_airspace_of One D E a b same p q
+one_airspace D E a b same p q = one_airspace_of Two D E a b same p q

@@ -20,7 +20,10 @@ abbrev pub availability_text : List ℕ
 availability_text = codes "CREATE TABLE availability (uss TEXT NOT NULL PRIMARY KEY, state INTEGER NOT NULL CHECK (state BETWEEN 0 AND 2), version TEXT NOT NULL) STRICT"
 
 abbrev pub first_row_text : List ℕ
-first_row_text = codes "INSERT INTO meta (one, format, serial) VALUES (1, 1, 0)"
+first_row_text = codes "INSERT INTO meta (one, format, serial) VALUES (1, 2, 0)"
+
+abbrev pub old_row_text : List ℕ
+old_row_text = codes "INSERT INTO meta (one, format, serial) VALUES (1, 1, 0)"
 
 abbrev pub subscription_text : List ℕ
 subscription_text = codes "CREATE TABLE subscription (num INTEGER PRIMARY KEY NOT NULL, id TEXT NOT NULL UNIQUE, manager TEXT NOT NULL, serial INTEGER NOT NULL CHECK (serial >= 0), version TEXT NOT NULL, notes INTEGER NOT NULL CHECK (notes >= 0), url TEXT NOT NULL, for_intents INTEGER NOT NULL CHECK (for_intents IN (0, 1)), for_constraints INTEGER NOT NULL CHECK (for_constraints IN (0, 1)), alt_lower INTEGER NOT NULL, alt_upper INTEGER NOT NULL, time_start INTEGER NOT NULL, time_end INTEGER NOT NULL, CHECK (for_intents = 1 OR for_constraints = 1), CHECK (alt_lower <= alt_upper), CHECK (time_start <= time_end)) STRICT"

@@ -9,9 +9,10 @@ use Rattle.sqlite.specs.Effect.{Database, IsDatabase}
 use Rattle.sqlite.specs.State.{State, Shows, HasCleanDisk, KeepsCommit, Survives}
 use Rattle.sqlite.specs.declared.error.Error.{Error}
 use Rattle.entity_core.specs.Airspace.{Airspace, empty_at}
+use Rattle.space_tables.specs.declared.format.Format.{Format}
 use Rattle.space_tables.specs.declared.format.Format.TheVariants.{One, Two}
 use Rattle.space_tables.specs.Tables.{no_schema, first_schema, second_schema}
-use Rattle.space_tables.specs.Spelling.{Spells, SpellsAs, meta_columns}
+use Rattle.space_tables.specs.Spelling.{SpellsAs, meta_columns}
 
 -- the tables of a schema are there and no other, and these are their rows
 abbrev pub HasRows : Schema → Trees → Database → Type 0
@@ -37,8 +38,11 @@ abbrev pub Leads : {X : Type 0} → (A B : Database → Type 0) → State → St
 Leads A B old new result = Steps (λ before after. A before → B after) old new result
 
 -- an airspace is spelt that is empty and was never changed
+abbrev pub SpellsEmptyAs : Format → Database → Type 0
+SpellsEmptyAs format db = SpellsAs format db (empty_at 0)
+
 abbrev pub SpellsEmpty : Database → Type 0
-SpellsEmpty db = Spells db (empty_at 0)
+SpellsEmpty db = SpellsEmptyAs Two db
 
 -- what is seen is committed
 abbrev pub IsSettled : State → Type 0
@@ -51,6 +55,10 @@ AreMade old new = (old.now.schema ≡ no_schema → SpellsEmpty new.now) × IsSe
 -- what is seen and what is committed are what was committed
 abbrev pub IsUndone : State → State → Type 0
 IsUndone old new = (new.now ≡ old.committed) × (new.committed ≡ old.committed)
+
+-- the same of tables of format 1
+abbrev pub AreMadeFirst : State → State → Type 0
+AreMadeFirst old new = (old.now.schema ≡ no_schema → SpellsEmptyAs One new.now) × IsSettled new
 
 -- trees that a commit may have left: those of an empty airspace, where there was no table
 abbrev pub MayBeMade : State → Trees → Type 0

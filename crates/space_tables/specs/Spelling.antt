@@ -213,4 +213,4 @@ pub record SpellsAs (format : Format) (db : Database) (a : Airspace) : Type 0 wh
 
 -- the same of the format in which an airspace is kept
 abbrev pub Spells : Database → Airspace → Type 0
-Spells db a = SpellsAs One db a
+Spells db a = SpellsAs Two db a

@@ -243,7 +243,7 @@ format_number Two = 2
 
 -- the format in which an airspace is kept
 abbrev pub dss_schema : Schema
-dss_schema = schema_of One
+dss_schema = schema_of Two
 
 -- ---- the schema on the way, a table or an index a step
 

@@ -1,10 +1,12 @@
-//! The tables of format 1 are made, in one transaction.
+//! The tables are made, in one transaction.
 ghost use Rattle.std.specs.Prelude.{◌≡◌, false, OnOk, OnErr, IsTrue};
 ghost use Rattle.sqlite.specs.Held.{state};
 ghost use Rattle.sqlite.specs.State.{HasCleanDisk, Survives};
-ghost use Rattle.space_tables.specs.Making.{AreMade, IsBare, IsUndone, Leads, MayBeMade, SpellsEmpty};
-ghost use Rattle.space_tables.specs.Tables.{no_schema, dss_schema, schema_1, schema_2, schema_3, schema_4, schema_5};
+ghost use Rattle.space_tables.specs.declared.format.Format.TheVariants.{One};
+ghost use Rattle.space_tables.specs.Making.{AreMade, AreMadeFirst, IsBare, IsUndone, Leads, MayBeMade, SpellsEmpty, SpellsEmptyAs};
+ghost use Rattle.space_tables.specs.Tables.{no_schema, first_schema, dss_schema, schema_1, schema_2, schema_3, schema_4, schema_5};
 
+use crate::upgrade::make_later;
 use sqlite::{Alter, Connection, Error, Transaction};
 
 fn make_meta<S: Alter>(tx: &mut Transaction<'_, S>) -> Result<usize, Error>
@@ -75,7 +77,7 @@ fn make_range<S: Alter>(tx: &mut Transaction<'_, S>) -> Result<usize, Error>
 fn make_availability<S: Alter>(tx: &mut Transaction<'_, S>) -> Result<usize, Error>
     ensures same_reference { tx.new.conn.ghost_name ≡ tx.old.conn.ghost_name }
     ensures leads { let old = state S.Store tx.old.conn.now in
-        Leads (IsBare schema_5) (IsBare dss_schema) old (state S.Store tx.new.conn.now) result }
+        Leads (IsBare schema_5) (IsBare first_schema) old (state S.Store tx.new.conn.now) result }
 {
     tx.execute(
         "CREATE TABLE availability (uss TEXT NOT NULL PRIMARY KEY, \
@@ -88,6 +90,18 @@ fn add_first_row<S: Alter>(tx: &mut Transaction<'_, S>) -> Result<usize, Error>
     ensures same_reference { tx.new.conn.ghost_name ≡ tx.old.conn.ghost_name }
     ensures leads { let old = state S.Store tx.old.conn.now in
         Leads (IsBare dss_schema) SpellsEmpty old (state S.Store tx.new.conn.now) result }
+{
+    tx.execute(
+        "INSERT INTO meta (one, format, serial) VALUES (1, 2, 0)",
+        &[],
+    )
+}
+
+// The first row of meta in tables of format 1.
+fn add_old_row<S: Alter>(tx: &mut Transaction<'_, S>) -> Result<usize, Error>
+    ensures same_reference { tx.new.conn.ghost_name ≡ tx.old.conn.ghost_name }
+    ensures leads { let old = state S.Store tx.old.conn.now in
+        Leads (IsBare first_schema) (SpellsEmptyAs One) old (state S.Store tx.new.conn.now) result }
 {
     tx.execute(
         "INSERT INTO meta (one, format, serial) VALUES (1, 1, 0)",
@@ -121,7 +135,7 @@ fn make_extents<S: Alter>(tx: &mut Transaction<'_, S>) -> Result<(), Error>
 fn make_rest<S: Alter>(tx: &mut Transaction<'_, S>) -> Result<(), Error>
     ensures same_reference { tx.new.conn.ghost_name ≡ tx.old.conn.ghost_name }
     ensures leads { let old = state S.Store tx.old.conn.now in
-        Leads (IsBare schema_4) (IsBare dss_schema) old (state S.Store tx.new.conn.now) result }
+        Leads (IsBare schema_4) (IsBare first_schema) old (state S.Store tx.new.conn.now) result }
 {
     make_range(tx)?;
     make_availability(tx)?;
@@ -138,13 +152,25 @@ fn make_four<S: Alter>(tx: &mut Transaction<'_, S>) -> Result<(), Error>
     Ok(())
 }
 
-fn make_last<S: Alter>(tx: &mut Transaction<'_, S>) -> Result<(), Error>
+// The tables of format 1.
+fn make_first<S: Alter>(tx: &mut Transaction<'_, S>) -> Result<(), Error>
     ensures same_reference { tx.new.conn.ghost_name ≡ tx.old.conn.ghost_name }
     ensures leads { let old = state S.Store tx.old.conn.now in
-        Leads (IsBare schema_4) SpellsEmpty old (state S.Store tx.new.conn.now) result }
+        Leads (IsBare no_schema) (IsBare first_schema) old (state S.Store tx.new.conn.now) result }
 {
+    make_four(tx)?;
     make_rest(tx)?;
-    add_first_row(tx)?;
+    Ok(())
+}
+
+// Those of format 1 first, so that tables that were brought to format 2 are the same.
+fn make_both<S: Alter>(tx: &mut Transaction<'_, S>) -> Result<(), Error>
+    ensures same_reference { tx.new.conn.ghost_name ≡ tx.old.conn.ghost_name }
+    ensures leads { let old = state S.Store tx.old.conn.now in
+        Leads (IsBare no_schema) (IsBare dss_schema) old (state S.Store tx.new.conn.now) result }
+{
+    make_first(tx)?;
+    make_later(tx)?;
     Ok(())
 }
 
@@ -154,8 +180,19 @@ fn make_all<S: Alter>(tx: &mut Transaction<'_, S>) -> Result<(), Error>
     ensures leads { let old = state S.Store tx.old.conn.now in
         Leads (IsBare no_schema) SpellsEmpty old (state S.Store tx.new.conn.now) result }
 {
-    make_four(tx)?;
-    make_last(tx)?;
+    make_both(tx)?;
+    add_first_row(tx)?;
+    Ok(())
+}
+
+// All tables of format 1, and the first row of meta.
+fn make_all_first<S: Alter>(tx: &mut Transaction<'_, S>) -> Result<(), Error>
+    ensures same_reference { tx.new.conn.ghost_name ≡ tx.old.conn.ghost_name }
+    ensures leads { let old = state S.Store tx.old.conn.now in
+        Leads (IsBare no_schema) (SpellsEmptyAs One) old (state S.Store tx.new.conn.now) result }
+{
+    make_first(tx)?;
+    add_old_row(tx)?;
     Ok(())
 }
 
@@ -175,5 +212,19 @@ pub fn make_tables<S: Alter>(conn: &mut Connection<S>) -> Result<(), Error>
 {
     let mut tx = conn.transaction();
     make_all(&mut tx)?;
+    tx.commit()
+}
+
+/// Makes tables of format 1, in one transaction, as a service of before made them: for tests of the
+/// move to format 2. It is for a database that has no table.
+pub fn make_format_1<S: Alter>(conn: &mut Connection<S>) -> Result<(), Error>
+    requires { conn.old.in_transaction ≡ false }
+    ensures ended { conn.new.in_transaction ≡ false }
+    ensures done { let old = state S.Store conn.old in
+        let new = state S.Store conn.new in
+        HasCleanDisk new → OnOk result (AreMadeFirst old new) }
+{
+    let mut tx = conn.transaction();
+    make_all_first(&mut tx)?;
     tx.commit()
 }

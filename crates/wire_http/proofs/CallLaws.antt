@@ -8,9 +8,9 @@ use Rattle.policy_core.specs.declared.scope.Caller.{Caller}
 use Rattle.policy_core.specs.declared.call.Operation.{Operation}
 use Rattle.token_conf.specs.TokenFile.{Callers}
 use Rattle.wire_route.specs.declared.place.Place.{Place}
-use Rattle.wire_http.specs.Found.{Covers}
+use Rattle.wire_head.specs.Found.{Covers}
 use Rattle.wire_http.specs.Next.{body_at}
-use Rattle.wire_http.specs.Target.{path_of}
+use Rattle.wire_head.specs.Target.{path_of}
 use Rattle.wire_http.specs.Asked.{IsCallOf, IsAsked, caller_of}
 
 body_is : (buffer : List ℕ) (len size : ℕ) → take (len + size - len) (drop len buffer) ≡ body_at buffer len size

@@ -10,9 +10,9 @@ use Rattle.wire_body.proofs.OneBody.{asks_for_one_lem}
 use Rattle.wire_route.specs.declared.place.Place.{Place}
 use Rattle.wire_route.specs.Place.{kind_at}
 use Rattle.wire_route.proofs.Paths.{one_route}
-use Rattle.wire_http.specs.Rest.{after}
-use Rattle.wire_http.specs.Length.{length_of}
-use Rattle.wire_http.specs.Target.{path_of}
+use Rattle.wire_head.specs.Rest.{after}
+use Rattle.wire_head.specs.Length.{length_of}
+use Rattle.wire_head.specs.Target.{path_of}
 use Rattle.wire_http.specs.Asked.{IsCallOf, IsAsked, IsAskedAs, IsReadAs, fields_of}
 use Rattle.wire_http.specs.Wire.{IsRequest}
 use Rattle.wire_http.proofs.NextLaws.{same_head}

@@ -1,8 +1,9 @@
 -- Laws of the bytes that are known of readers and writers.
-use Rattle.std.proofs.Common.{◌≡◌, ℕ, List, [], ◌++◌, sym, ap, ◌∙◌, append_assoc, Option, Some, None, ◌+◌, ◌-◌, length, take, drop, arith}
+use Rattle.std.proofs.Common.{◌≡◌, ℕ, List, [], ◌++◌, refl, sym, ap, ◌∙◌, append_assoc, Option, Some, None, ◌+◌, ◌-◌, length, take, drop, arith}
 use Rattle.std.proofs.lemmas.List.{append-nil, take_all, length-drop}
 use Rattle.std.proofs.Math.Seq.{take-add}
-use Rattle.std.specs.Io.KnownBytes.{Appends, Consumes}
+use Rattle.std.specs.Io.KnownBytes.{Appends, Consumes, IsAtEnd}
+use Rattle.wire_http.specs.Input.{Came, IsInput, known_bytes}
 
 pub Appends_more : (a b c : Option (List ℕ)) (x y : List ℕ) → Appends a b x → Appends b c y → Appends a c (x ++ y)
 Appends_more None b c x y p q = tt
@@ -28,3 +29,32 @@ Appends_at a b c xs at n p q = rw (take-add at n xs) (Appends_more a b c _ _ p (
 pub Appends_nil : (a : Option (List ℕ)) → Appends a a []
 Appends_nil None = tt
 Appends_nil (Some s) = sym (append-nil s)
+
+-- ---- what came
+
+pub Consumes_nil : (a : Option (List ℕ)) → Consumes a a []
+Consumes_nil None = tt
+Consumes_nil (Some s) = refl
+
+pub Came_nil : (a : Option (List ℕ)) (x : List ℕ) → Came a a x x
+Came_nil a x = ([], sym (append-nil x), Consumes_nil a)
+
+pub Came_more : (a b c : Option (List ℕ)) (x y z : List ℕ) → Came a b x y → Came b c y z → Came a c x z
+Came_more a b c x y z (m, e, p) (n, f, q) = (m ++ n, f ∙ ap (λ v. v ++ n) e ∙ append_assoc x m n, Consumes_more a b c m n p q)
+
+pub known_end : (a : Option (List ℕ)) → IsAtEnd a → known_bytes a ≡ []
+known_end None e = refl
+known_end (Some s) e = e
+
+pub input_known : (a : Option (List ℕ)) → IsInput a (known_bytes a)
+input_known None = tt
+input_known (Some s) = refl
+
+pub input_more : (a b : Option (List ℕ)) (came ahead : List ℕ) → Consumes a b came → IsInput b ahead → IsInput a (came ++ ahead)
+input_more None b came ahead p q = tt
+input_more (Some s) None came ahead p q = absurd p
+input_more (Some s) (Some t) came ahead p q = ap (λ v. came ++ v) q ∙ sym p
+
+-- what stands in the buffer, as it stood with what came
+pub rest_at : (x y came ahead : List ℕ) → y ≡ x ++ came → y ++ ahead ≡ x ++ (came ++ ahead)
+rest_at x y came ahead e = ap (λ v. v ++ ahead) e ∙ append_assoc x came ahead

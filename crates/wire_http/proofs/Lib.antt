@@ -1,16 +1,10 @@
-pub mod BearerLaws
 pub mod CallLaws
 pub mod CallUnique
 pub mod CountLaws
-pub mod KindFinds
-pub mod KindLaws
 pub mod KnownBytes
-pub mod LengthLaws
 pub mod NextLaws
 pub mod StopLaws
 pub mod StreamLaws
 pub mod StreamUnique
-pub mod TargetLaws
 pub mod TurnLaws
-pub mod WindowLaws
 pub mod Written

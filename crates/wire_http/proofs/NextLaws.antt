@@ -1,9 +1,8 @@
 -- From what was found at the front of the rest to the next request.
-use Rattle.std.proofs.Common.{◌≡◌, ℕ, ◌+◌, ◌-◌, ◌<◌, ◌≤◌, List, [], ◌∷◌, ◌++◌, length, take, drop, map, All, refl, sym, ap, subst, ◌∙◌, Option, Some, None, IfSome, Ok, Err, inl, inr, true, false, cond, arith}
+use Rattle.std.proofs.Common.{◌≡◌, ℕ, ◌+◌, ◌-◌, ◌<◌, ◌≤◌, List, [], ◌∷◌, ◌++◌, length, take, drop, map, All, refl, sym, ap, subst, ◌∙◌, Ok, Err, inl, inr, true, false, cond, arith}
 use Rattle.std.specs.Prelude.{nat_le, codes}
 use Rattle.std.specs.Str.Parse.{digits_value}
-use Rattle.std.specs.Io.KnownBytes.{Consumes, IsAtEnd}
-use Rattle.std.proofs.lemmas.List.{length-append, length-drop, length-take, drop-append-le, take-append-le}
+use Rattle.std.proofs.lemmas.List.{append-nil, length-append, length-drop, length-take, drop-append-le, take-append-le}
 use Rattle.std.proofs.lemmas.List.Elements.{All-head, All-tail}
 use Rattle.httparse.specs.declared.spans.HeaderSpan.{HeaderSpan}
 use Rattle.httparse.specs.declared.spans.Span.{Span}
@@ -11,32 +10,25 @@ use Rattle.httparse.specs.declared.spans.RequestSpans.{RequestSpans}
 use Rattle.httparse.specs.Grammar.{RequestHead, print_request}
 use Rattle.httparse.specs.Spans.{IsRequestWithin, IsHeaderWithin, IsWithin, header_bytes, span_bytes}
 use Rattle.wire_http.specs.declared.end.End.TheVariants as ends
-use Rattle.wire_http.specs.declared.rule.WireRule.{WireRule}
-use Rattle.wire_http.specs.declared.rule.WireRule.TheVariants as rules
-use Rattle.wire_http.specs.declared.rest.Found.{Found}
-use Rattle.wire_http.specs.declared.rest.Found.TheVariants as found
+use Rattle.wire_head.specs.declared.rule.WireRule.{WireRule}
+use Rattle.wire_head.specs.declared.rule.WireRule.TheVariants as rules
+use Rattle.wire_head.specs.declared.rest.Found.{Found}
+use Rattle.wire_head.specs.declared.rest.Found.TheVariants as found
 use Rattle.wire_http.specs.declared.request.Next.TheVariants.{Request, Stop}
-use Rattle.wire_http.specs.Rest.{IsKind, whole, after}
-use Rattle.wire_http.specs.Found.{Finds, Covers}
-use Rattle.wire_http.specs.Fields.{Fields, values_of}
-use Rattle.wire_http.specs.Length.{length_of, refuse_coded, told_by, is_number}
+use Rattle.wire_head.specs.Rest.{IsKind, whole, after}
+use Rattle.wire_head.specs.Found.{Finds, Covers}
+use Rattle.wire_head.specs.Fields.{Fields, values_of}
+use Rattle.wire_head.specs.Length.{length_of, refuse_coded, told_by, is_number}
 use Rattle.wire_http.specs.Asked.{fields_of}
-use Rattle.wire_http.specs.Stop.{Breaks, HasRefused}
+use Rattle.wire_http.specs.Stop.{Breaks, HasRefused, StopsAs}
 use Rattle.wire_http.specs.Next.{IsNext, body_at}
-use Rattle.wire_http.proofs.KindLaws.{one_kind}
-use Rattle.wire_http.proofs.WindowLaws.{knows, knows_end}
+use Rattle.wire_head.proofs.KindLaws.{one_kind}
+use Rattle.wire_http.proofs.KnownBytes.{rest_at}
 
 -- ---- no request
 
-pub if_some : (o : Option (List ℕ)) (P Q : List ℕ → Type 0) → IfSome o P → ((x : List ℕ) → P x → Q x) → IfSome o Q
-if_some None P Q h f = tt
-if_some (Some x) P Q h f = f x h
-
-module _ (o : Option (List ℕ)) (f : Found) (buffer : List ℕ) (fields : List HeaderSpan) where
-  pub after_part : f ≡ found.Part → IfSome o (λ rest. Finds rest buffer fields f) → IfSome o (λ rest. IsNext rest buffer fields (Stop ends.Cut))
-  after_part e h =
-      if_some o (λ rest. Finds rest buffer fields found.Part) (λ rest. IsNext rest buffer fields (Stop ends.Cut))
-      (subst (λ (v : Found). IfSome o (λ rest. Finds rest buffer fields v)) e h) (λ rest x. inl x)
+pub after_part : (ahead buffer : List ℕ) (fields : List HeaderSpan) (f : Found) → f ≡ found.Part → Finds ahead buffer fields f → IsNext ahead buffer fields (Stop ends.Cut)
+after_part ahead buffer fields f e h = let part : Finds ahead buffer fields found.Part = subst (λ (v : Found). Finds ahead buffer fields v) e h in inl part
 
 -- ---- a head, and its body
 
@@ -76,26 +68,30 @@ told_by_head : (buffer : List ℕ) (fields : List HeaderSpan) (spans : RequestSp
     → length_of (map (header_bytes buffer) (take spans.headers fields)) ≡ length_of (fields_of h)
 told_by_head buffer fields spans h c = ap length_of c.fields
 
-pub refused : (a : Option (List ℕ)) (buffer new : List ℕ) (fields : List HeaderSpan) (spans : RequestSpans) (e : WireRule)
+-- a head stands there, whatever follows
+abbrev StandsIn : List ℕ → RequestHead → Type 0
+StandsIn buffer h = (later : List ℕ) → IsKind (buffer ++ later) (whole h)
+
+pub refused : (ahead buffer : List ℕ) (fields : List HeaderSpan) (spans : RequestSpans) (e : WireRule)
     → length_of (map (header_bytes buffer) (take spans.headers fields)) ≡ Err e
-    → IfSome a (λ rest. (h : RequestHead) → IsKind rest (whole h) → Covers buffer fields spans h → IsNext rest new fields (Stop (ends.Wire e)))
-refused None buffer new fields spans e told = tt
-refused (Some rest) buffer new fields spans e told = λ h x c. breaks_told rest e (h, x, sym (told_by_head buffer fields spans h c) ∙ told)
+    → (h : RequestHead) → StandsIn buffer h → Covers buffer fields spans h → IsNext ahead buffer fields (Stop (ends.Wire e))
+refused ahead buffer fields spans e told h x c = breaks_told (buffer ++ ahead) e (h, x ahead, sym (told_by_head buffer fields spans h c) ∙ told)
 
 head_fits : (rest : List ℕ) (h : RequestHead) → IsKind rest (whole h) → length (print_request h) ≤ length rest
 head_fits rest h (line, (more, reads, few)) = omega (arith, length-take 8192 rest, ap length reads.1, length-append (print_request h) more)
 
-pub ended : (a b : Option (List ℕ)) (buffer new : List ℕ) (fields : List HeaderSpan) (spans : RequestSpans) (size : ℕ)
-    → Consumes a b new → IsAtEnd b → length new < spans.len + size
+pub ended : (ahead buffer more new : List ℕ) (fields : List HeaderSpan) (spans : RequestSpans) (size : ℕ)
+    → new ≡ buffer ++ more → ahead ≡ [] → length new < spans.len + size
     → length_of (map (header_bytes buffer) (take spans.headers fields)) ≡ Ok size
-    → IfSome a (λ rest. (h : RequestHead) → IsKind rest (whole h) → Covers buffer fields spans h → IsNext rest new fields (Stop ends.Cut))
-ended a b buffer new fields spans size p z short told =
-    knows_end (λ rest. (h : RequestHead) → IsKind rest (whole h) → Covers buffer fields spans h → IsNext rest new fields (Stop ends.Cut)) a b new p z (λ h x c. inr (
+    → (h : RequestHead) → StandsIn buffer h → Covers buffer fields spans h → IsNext ahead new fields (Stop ends.Cut)
+ended ahead buffer more new fields spans size grown none short told h x c =
+    let here : IsKind new (whole h) = subst (λ (v : List ℕ). IsKind v (whole h)) (sym grown) (x more) in
+    subst (λ (v : List ℕ). StopsAs v ends.Cut) (sym (ap (λ v. new ++ v) none ∙ append-nil new)) (inr (
       h,
       size,
-      x,
+      here,
       sym (told_by_head buffer fields spans h c) ∙ told,
-      omega (arith, short, c.len, head_fits new h x, length-drop (length (print_request h)) new),
+      omega (arith, short, c.len, head_fits new h here, length-drop (length (print_request h)) new),
     ))
 
 -- ---- a buffer that has grown
@@ -133,20 +129,19 @@ body_more new tail len size fits =
     let room : size ≤ length (drop len new) = omega (arith, length-drop len new) in
     ap (λ v. take size v) (drop-append-le len new tail l) ∙ take-append-le size (drop len new) tail room
 
-pub taken : (a b : Option (List ℕ)) (buffer more new : List ℕ) (fields : List HeaderSpan) (spans : RequestSpans) (size : ℕ)
-    → Consumes a b new → new ≡ buffer ++ more → IsRequestWithin buffer fields spans → spans.len + size ≤ length new
+pub taken : (ahead buffer more new : List ℕ) (fields : List HeaderSpan) (spans : RequestSpans) (size : ℕ)
+    → new ≡ buffer ++ more → IsRequestWithin buffer fields spans → spans.len + size ≤ length new
     → length_of (map (header_bytes buffer) (take spans.headers fields)) ≡ Ok size
-    → IfSome a (λ rest. (h : RequestHead) → IsKind rest (whole h) → Covers buffer fields spans h → IsNext rest new fields (Request spans size))
-taken a b buffer more new fields spans size p grown within fits told =
-    knows (λ rest. (h : RequestHead) → IsKind rest (whole h) → Covers buffer fields spans h → IsNext rest new fields (Request spans size)) a b new p (λ tail h x c. (
-      h,
-      record {
-        head = x;
-        told = sym (told_by_head buffer fields spans h c) ∙ told ∙ ap Ok (sym (body_size new spans.len size fits));
-        follows =
-            ap (λ n. take n (after h (new ++ tail))) (body_size new spans.len size fits)
-            ∙ ap (λ n. take size (drop n (new ++ tail))) (sym c.len)
-            ∙ body_more new tail spans.len size fits;
-      },
-      subst (λ (v : List ℕ). Covers v fields spans h) (sym grown) (covers_more buffer more fields spans h within c),
-    ))
+    → (h : RequestHead) → StandsIn buffer h → Covers buffer fields spans h → IsNext ahead new fields (Request spans size)
+taken ahead buffer more new fields spans size grown within fits told h x c = (
+  h,
+  λ later. record {
+    head = subst (λ (v : List ℕ). IsKind v (whole h)) (sym (rest_at buffer new more later grown)) (x (more ++ later));
+    told = sym (told_by_head buffer fields spans h c) ∙ told ∙ ap Ok (sym (body_size new spans.len size fits));
+    follows =
+        ap (λ n. take n (after h (new ++ later))) (body_size new spans.len size fits)
+        ∙ ap (λ n. take size (drop n (new ++ later))) (sym c.len)
+        ∙ body_more new later spans.len size fits;
+  },
+  subst (λ (v : List ℕ). Covers v fields spans h) (sym grown) (covers_more buffer more fields spans h within c),
+)

@@ -4,14 +4,14 @@ use Rattle.std.proofs.lemmas.List.{length-take}
 use Rattle.httparse.specs.Grammar.{RequestHead}
 use Rattle.wire_http.specs.declared.end.End.{End}
 use Rattle.wire_http.specs.declared.end.End.TheVariants as ends
-use Rattle.wire_http.specs.declared.rule.WireRule.{WireRule}
-use Rattle.wire_http.specs.declared.rule.WireRule.TheVariants as rules
+use Rattle.wire_head.specs.declared.rule.WireRule.{WireRule}
+use Rattle.wire_head.specs.declared.rule.WireRule.TheVariants as rules
 use Rattle.wire_http.specs.Asked.{fields_of}
-use Rattle.wire_http.specs.Length.{length_of}
-use Rattle.wire_http.specs.Rest.{Kind, nothing, cut, bad, large, whole, IsKind, AreSame, after}
+use Rattle.wire_head.specs.Length.{length_of}
+use Rattle.wire_head.specs.Rest.{Kind, nothing, cut, bad, large, whole, IsKind, AreSame, after}
 use Rattle.wire_http.specs.Stop.{StopsAs, HasRefused, AreSameEnds}
 use Rattle.wire_http.specs.Wire.{IsRequest, Finishes}
-use Rattle.wire_http.proofs.KindLaws.{one_kind}
+use Rattle.wire_head.proofs.KindLaws.{one_kind}
 
 -- the end that the length of a body tells, where so many bytes follow the head
 abbrev IsTold : ℕ → Result ℕ WireRule → End → Type 0

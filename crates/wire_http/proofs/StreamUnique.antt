@@ -4,7 +4,7 @@ use Rattle.std.specs.Prelude.{◌==◌}
 use Rattle.token_conf.specs.TokenFile.{Callers}
 use Rattle.httparse.specs.Grammar.{RequestHead}
 use Rattle.wire_http.specs.declared.end.End.{End}
-use Rattle.wire_http.specs.Rest.{after}
+use Rattle.wire_head.specs.Rest.{after}
 use Rattle.wire_http.specs.Asked.{IsCallOf}
 use Rattle.wire_http.specs.Stop.{StopsAs, AreSameEnds}
 use Rattle.wire_http.specs.Wire.{Asked, Asks, Finishes, Leads, left_after}

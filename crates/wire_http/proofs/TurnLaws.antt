@@ -1,9 +1,9 @@
 -- From what was read, asked and answered to what one turn of a stream gives.
-use Rattle.std.proofs.Common.{◌≡◌, ℕ, suc, ◌+◌, ◌-◌, ◌<◌, ◌≤◌, ◌⊎◌, true, false, List, [], ◌++◌, length, take, drop, map, Bool, refl, sym, ap, subst, ◌∙◌, Option, Some, None, IfSome, Result, Ok, Err, IfErr, inl, inr, arith, cond}
+use Rattle.std.proofs.Common.{◌≡◌, ℕ, ◌+◌, ◌-◌, ◌<◌, ◌≤◌, ◌⊎◌, true, false, List, [], ◌∷◌, ◌++◌, length, take, drop, map, Bool, refl, sym, ap, subst, ◌∙◌, Option, Ok, Err, inl, inr, arith, cond}
 use Rattle.std.specs.Prelude.{◌==◌}
 use Rattle.std.specs.List.{concat}
-use Rattle.std.specs.Io.KnownBytes.{Appends, Consumes, prepend_known}
-use Rattle.std.proofs.lemmas.List.{drop-append-le, drop-drop, length-drop}
+use Rattle.std.specs.Io.KnownBytes.{Appends}
+use Rattle.std.proofs.lemmas.List.{append-nil, drop-append-le, drop-drop, length-drop}
 use Rattle.httparse.specs.declared.spans.HeaderSpan.{HeaderSpan}
 use Rattle.httparse.specs.declared.spans.RequestSpans.{RequestSpans}
 use Rattle.httparse.specs.Grammar.{RequestHead, print_request}
@@ -24,31 +24,23 @@ use Rattle.wire_http.specs.declared.request.Next.TheVariants.{Request, Stop}
 use Rattle.wire_http.specs.declared.serve.Turn.{Turn}
 use Rattle.wire_http.specs.declared.serve.Turn.TheVariants.{Answered, Ended}
 use Rattle.wire_http.specs.Asked.{IsCallOf}
-use Rattle.wire_http.specs.Close.{closes_by}
-use Rattle.wire_http.specs.Fault.{GaveUpAnswering, GaveUpAsking, IsOfAnswering}
-use Rattle.wire_http.specs.Found.{Covers}
+use Rattle.wire_head.specs.Close.{closes_by}
+use Rattle.wire_http.specs.Fault.{GaveUpAnswering, GaveUpAsking, GaveUpReading, IsOfAnswering, IsOfAsking}
+use Rattle.wire_http.specs.Input.{Came, known_bytes}
+use Rattle.wire_head.specs.Found.{Covers}
 use Rattle.wire_http.specs.Next.{IsNext, NextFits, body_at}
 use Rattle.wire_http.specs.Reply.{Replies, RepliesPart}
-use Rattle.wire_http.specs.Rest.{after}
+use Rattle.wire_head.specs.Rest.{after}
 use Rattle.wire_http.specs.Stop.{StopsAs}
-use Rattle.wire_http.specs.Text.{end_texts}
-use Rattle.wire_http.specs.Turn.{Took, IsTurn, IsTurnPart, MayGoOn}
-use Rattle.wire_http.specs.Wire.{ClockAfter, IsRequest, MayFollow, left_after}
-use Rattle.wire_http.proofs.KnownBytes.{Appends_nil}
-use Rattle.wire_http.proofs.NextLaws.{if_some, body_size}
-
-pub if_err : {T E : Type 0} (r : Result T E) (P : E → Type 0) → ((e : E) → r ≡ Err e → P e) → IfErr r P
-if_err (Ok x) P f = tt
-if_err (Err e) P f = f e refl
-
-always : (o : Option (List ℕ)) (P : List ℕ → Type 0) → ((x : List ℕ) → P x) → IfSome o P
-always None P f = tt
-always (Some x) P f = f x
+use Rattle.wire_http.specs.Text.{end_texts, rule_text}
+use Rattle.wire_http.specs.Turn.{Took, IsTurn, IsTurnPart, MayGoOn, StopsInRule}
+use Rattle.wire_http.specs.Wire.{Asked, Asks, ClockAfter, IsRequest, left_after}
+use Rattle.wire_http.proofs.KnownBytes.{Appends_nil, input_known, input_more, rest_at}
+use Rattle.wire_http.proofs.NextLaws.{body_size}
 
 -- what is found stands where it was read
-known_next : (u : Option (List ℕ)) (buffer : List ℕ) (fields : List HeaderSpan) (n m : Next) → n ≡ m
-    → IfSome u (λ rest. IsNext rest buffer fields n) → IfSome u (λ rest. IsNext rest buffer fields m)
-known_next u buffer fields n m e h = subst (λ (v : Next). IfSome u (λ rest. IsNext rest buffer fields v)) e h
+known_next : (ahead buffer : List ℕ) (fields : List HeaderSpan) (n m : Next) → n ≡ m → IsNext ahead buffer fields n → IsNext ahead buffer fields m
+known_next ahead buffer fields n m e h = subst (λ (v : Next). IsNext ahead buffer fields v) e h
 
 -- the bytes that are unread after a request
 unread_next : (b : List ℕ) (buffer rest left : List ℕ) (h : RequestHead) (len size : ℕ) → rest ≡ buffer ++ b → len ≡ length (print_request h)
@@ -63,13 +55,13 @@ unread_next b buffer rest left h len size e l fits d =
     ∙ ap (λ n. drop n (after h rest)) (sym (body_size buffer len size fits))
 
 module _ {M : Type 0} (Gives : M → ℕ → M → Type 0) (callers : Callers) where
-  -- no moment was taken
-  pub clock_same : (fault : StreamFault) (left : List ℕ) (clock : M) → ClockAfter Gives callers fault left clock clock
-  clock_same faults.Read left clock = refl
-  clock_same faults.Write left clock = refl
-  clock_same faults.Clock left clock = tt
-  clock_same faults.Memory left clock = inl refl
-  clock_same faults.Turns left clock = refl
+  -- no moment was asked for
+  pub clock_read : (fault : StreamFault) (f f' : ℕ) (b : Bool) (k : ℕ) (left : List ℕ) (clock : M) → GaveUpReading fault f f' b k → ClockAfter Gives callers fault left clock clock
+  clock_read faults.Read f f' b k left clock g = refl
+  clock_read faults.Write f f' b k left clock g = absurd g
+  clock_read faults.Clock f f' b k left clock g = absurd g
+  clock_read faults.Memory f f' b k left clock g = inl refl
+  clock_read faults.Turns f f' b k left clock g = refl
 
   -- a moment was asked for, and perhaps taken
   clock_asked : (fault : StreamFault) (f f' : ℕ) (left : List ℕ) (h : RequestHead) (body : List ℕ) (clock clock' : M)
@@ -77,59 +69,107 @@ module _ {M : Type 0} (Gives : M → ℕ → M → Type 0) (callers : Callers) w
       → ClockAfter Gives callers fault left clock clock'
   clock_asked faults.Read f f' left h body clock clock' x g t = absurd g
   clock_asked faults.Write f f' left h body clock clock' x g t = absurd g
-  clock_asked faults.Clock f f' left h body clock clock' x g t = tt
+  clock_asked faults.Clock f f' left h body clock clock' x g t = (h, body, x)
   clock_asked faults.Memory f f' left h body clock clock' x g t = let took = t refl in inr (h, body, took.0, x, took.1)
   clock_asked faults.Turns f f' left h body clock clock' x g t = absurd g
 
--- what gives up answering
-of_answering : (fault : StreamFault) (f f' : ℕ) → GaveUpAnswering fault f f' → IsOfAnswering fault
-of_answering faults.Read f f' g = g
-of_answering faults.Write f f' g = tt
-of_answering faults.Clock f f' g = g
-of_answering faults.Memory f f' g = tt
-of_answering faults.Turns f f' g = g
+-- what gives up reading, asking and answering
+of_reading : (fault : StreamFault) (f f' : ℕ) (b : Bool) (k : ℕ) → GaveUpReading fault f f' b k → IsOfAsking fault
+of_reading faults.Read f f' b k g = tt
+of_reading faults.Write f f' b k g = g
+of_reading faults.Clock f f' b k g = tt
+of_reading faults.Memory f f' b k g = tt
+of_reading faults.Turns f f' b k g = tt
 
--- the text of a rule follows where the rest breaks it
-follows_end : (k : ℕ) (rest : List ℕ) (end : End) → StopsAs rest end → MayFollow (suc k) rest (end_texts end)
-follows_end k rest ends.End x = inl refl
-follows_end k rest ends.Cut x = inl refl
-follows_end k rest ends.Close x = inl refl
-follows_end k rest (ends.Wire rule) x = inr (rule, x, refl)
+of_asking : (fault : StreamFault) (f f' : ℕ) → GaveUpAsking fault f f' → IsOfAsking fault
+of_asking faults.Read f f' g = tt
+of_asking faults.Write f f' g = g
+of_asking faults.Clock f f' g = tt
+of_asking faults.Memory f f' g = tt
+of_asking faults.Turns f f' g = tt
+
+of_answering : (fault : StreamFault) (f f' : ℕ) (b : Bool) → GaveUpAnswering fault f f' b → IsOfAnswering fault
+of_answering faults.Read f f' b g = g
+of_answering faults.Write f f' b g = tt
+of_answering faults.Clock f f' b g = g
+of_answering faults.Memory f f' b g = tt
+of_answering faults.Turns f f' b g = g
 
 module _ {S M : Type 0} (sp : Ghosts S) (Gives : M → ℕ → M → Type 0) (callers : Callers) (k : ℕ) where
   -- ---- no request
 
-  pub part_none : (u : Option (List ℕ)) (s : Service S) (clock : M) (w : Option (List ℕ)) (fault : StreamFault)
-      → IfSome u (λ rest. IsTurnPart sp Gives callers k rest s s clock clock w w fault)
-  part_none u s clock w fault =
-      always u (λ rest. IsTurnPart sp Gives callers k rest s s clock clock w w fault)
-      (λ rest. inr ([], 0, inr refl, refl, clock_same Gives callers fault rest clock, inl refl, Appends_nil w))
+  pub part_none : (u : Option (List ℕ)) (buffer : List ℕ) (s : Service S) (clock : M) (w : Option (List ℕ)) (fault : StreamFault) (f f' : ℕ) (b : Bool) (turns : ℕ)
+      → GaveUpReading fault f f' b turns → IsTurnPart sp Gives callers k s s clock clock w w u buffer fault
+  part_none u buffer s clock w fault f f' b turns g = (
+    known_bytes u,
+    input_known u,
+    inl (record {
+      fault_is = of_reading fault f f' b turns g;
+      same = refl;
+      clock_is = clock_read Gives callers fault f f' b turns (buffer ++ known_bytes u) clock g;
+      written = Appends_nil w;
+    }),
+  )
 
-  pub part_end : (u : Option (List ℕ)) (buffer : List ℕ) (fields : List HeaderSpan) (n : Next) (end : End) (s : Service S) (clock : M) (w v : Option (List ℕ)) (fault : StreamFault) (f f' : ℕ)
-      → n ≡ Stop end → IfSome u (λ rest. IsNext rest buffer fields n) → GaveUpAnswering fault f f'
-      → (size : ℕ) × Appends w v (take size (concat (end_texts end)))
-      → IfSome u (λ rest. IsTurnPart sp Gives callers k rest s s clock clock w v fault)
-  part_end u buffer fields n end s clock w v fault f f' e h g (size, written) =
-      if_some u (λ rest. IsNext rest buffer fields (Stop end)) (λ rest. IsTurnPart sp Gives callers k rest s s clock clock w v fault)
-      (known_next u buffer fields n (Stop end) e h)
-      (λ rest x. inr (end_texts end, size, inl (of_answering fault f f' g), refl, clock_same Gives callers fault rest clock, follows_end k rest end x, written))
+  -- where the end has no text, none was given up
+  in_rule : (rest : List ℕ) (end : End) (s : Service S) (clock : M) (w v : Option (List ℕ)) (fault : StreamFault) (size : ℕ)
+      → IsOfAnswering fault → StopsAs rest end → size < length (concat (end_texts end)) → Appends w v (take size (concat (end_texts end)))
+      → StopsInRule sp Gives callers k s s clock clock w v rest fault
+  in_rule rest ends.End s clock w v fault size of x short written = absurd (omega (arith, short))
+  in_rule rest ends.Cut s clock w v fault size of x short written = absurd (omega (arith, short))
+  in_rule rest ends.Close s clock w v fault size of x short written = absurd x
+  in_rule rest (ends.Wire rule) s clock w v fault size of x short written =
+      let one : concat (rule_text rule ∷ []) ≡ rule_text rule = append-nil (rule_text rule) in
+      record {
+        fault_is = of;
+        rule = rule;
+        breaks = x;
+        same = refl;
+        clock_is = refl;
+        size = size;
+        short = subst (λ (t : List ℕ). size < length t) one short;
+        written = subst (λ (t : List ℕ). Appends w v (take size t)) one written;
+      }
 
-  pub part_ask : (u : Option (List ℕ)) (buffer : List ℕ) (fields : List HeaderSpan) (n : Next) (spans : RequestSpans) (size : ℕ) (s : Service S) (clock clock' : M) (w : Option (List ℕ)) (fault : StreamFault) (f f' : ℕ)
-      → n ≡ Request spans size → IfSome u (λ rest. IsNext rest buffer fields n)
+  pub part_end : (a b : Option (List ℕ)) (old buffer : List ℕ) (fields : List HeaderSpan) (n : Next) (end : End) (s : Service S) (clock : M) (w v : Option (List ℕ)) (fault : StreamFault) (f f' : ℕ) (failed : Bool)
+      → n ≡ Stop end → Came a b old buffer → IsNext (known_bytes b) buffer fields n → GaveUpAnswering fault f f' failed
+      → (size : ℕ) × (size < length (concat (end_texts end))) × Appends w v (take size (concat (end_texts end)))
+      → IsTurnPart sp Gives callers k s s clock clock w v a old fault
+  part_end a b old buffer fields n end s clock w v fault f f' failed e (came, grown, p) h g (size, short, written) = (
+    came ++ known_bytes b,
+    input_more a b came (known_bytes b) p (input_known b),
+    inr (inr (subst (λ (rest : List ℕ). StopsInRule sp Gives callers k s s clock clock w v rest fault) (rest_at old buffer came (known_bytes b) grown)
+        (in_rule (buffer ++ known_bytes b) end s clock w v fault size (of_answering fault f f' failed g) (known_next (known_bytes b) buffer fields n (Stop end) e h) short written))),
+  )
+
+  pub part_ask : (a b : Option (List ℕ)) (old buffer : List ℕ) (fields : List HeaderSpan) (n : Next) (spans : RequestSpans) (size : ℕ) (s : Service S) (clock clock' : M) (w : Option (List ℕ)) (fault : StreamFault) (f f' : ℕ)
+      → n ≡ Request spans size → Came a b old buffer → IsNext (known_bytes b) buffer fields n
       → GaveUpAsking fault f f' → (fault ≡ faults.Memory → (moment : ℕ) × Gives clock moment clock')
-      → IfSome u (λ rest. IsTurnPart sp Gives callers k rest s s clock clock' w w fault)
-  part_ask u buffer fields n spans size s clock clock' w fault f f' e h g t =
-      if_some u (λ rest. IsNext rest buffer fields (Request spans size)) (λ rest. IsTurnPart sp Gives callers k rest s s clock clock' w w fault)
-      (known_next u buffer fields n (Request spans size) e h)
-      (λ rest x. inr ([], 0, inr refl, refl, clock_asked Gives callers fault f f' rest x.0 (body_at buffer spans.len size) clock clock' x.1 g t, inl refl, Appends_nil w))
+      → IsTurnPart sp Gives callers k s s clock clock' w w a old fault
+  part_ask a b old buffer fields n spans size s clock clock' w fault f f' e (came, grown, p) h g t =
+      let x : IsNext (known_bytes b) buffer fields (Request spans size) = known_next (known_bytes b) buffer fields n (Request spans size) e h in (
+        came ++ known_bytes b,
+        input_more a b came (known_bytes b) p (input_known b),
+        inl (record {
+          fault_is = of_asking fault f f' g;
+          same = refl;
+          clock_is = subst (λ (rest : List ℕ). ClockAfter Gives callers fault rest clock clock') (rest_at old buffer came (known_bytes b) grown)
+              (clock_asked Gives callers fault f f' (buffer ++ known_bytes b) x.0 (body_at buffer spans.len size) clock clock' (x.1 (known_bytes b)) g t);
+          written = Appends_nil w;
+        }),
+      )
 
-  pub turn_stopped : (u : Option (List ℕ)) (unread : Option (List ℕ)) (buffer : List ℕ) (fields : List HeaderSpan) (n : Next) (end : End) (s : Service S) (clock : M) (w v : Option (List ℕ))
-      → n ≡ Stop end → IfSome u (λ rest. IsNext rest buffer fields n) → Appends w v (concat (end_texts end))
-      → IfSome u (λ rest. IsTurn sp Gives callers k rest s s clock clock w v unread (Ended end))
-  turn_stopped u unread buffer fields n end s clock w v e h written =
-      if_some u (λ rest. IsNext rest buffer fields (Stop end)) (λ rest. IsTurn sp Gives callers k rest s s clock clock w v unread (Ended end))
-      (known_next u buffer fields n (Stop end) e h)
-      (λ rest x. (x, refl, refl, written))
+  pub turn_stopped : (a b : Option (List ℕ)) (old buffer left : List ℕ) (fields : List HeaderSpan) (n : Next) (end : End) (s : Service S) (clock : M) (w v : Option (List ℕ))
+      → n ≡ Stop end → Came a b old buffer → IsNext (known_bytes b) buffer fields n → Appends w v (concat (end_texts end))
+      → IsTurn sp Gives callers k s s clock clock w v a b old left (Ended end)
+  turn_stopped a b old buffer left fields n end s clock w v e (came, grown, p) h written = (
+    came ++ known_bytes b,
+    input_more a b came (known_bytes b) p (input_known b),
+    subst (λ (rest : List ℕ). StopsAs rest end) (rest_at old buffer came (known_bytes b) grown) (known_next (known_bytes b) buffer fields n (Stop end) e h),
+    refl,
+    refl,
+    written,
+  )
 
   -- ---- one request
 
@@ -147,68 +187,77 @@ module _ {S M : Type 0} (sp : Ghosts S) (Gives : M → ℕ → M → Type 0) (ca
       e ∙ ap (λ v. cond (closes_by v (map (header_bytes bytes) (take spans.headers fields))) 0 k) c.version
       ∙ ap (λ v. cond (closes_by h.minor v) 0 k) c.fields
 
-  took : (rest buffer bytes next : List ℕ) (fields : List HeaderSpan) (spans : RequestSpans) (size : ℕ) (place : Option Place) (moment : ℕ) (call : Call) (n : ℕ)
-      (old new : Service S) (clock later : M) (before text : Option (List ℕ)) (reply : Reply)
-      → bytes ≡ buffer → (x : IsNext rest buffer fields (Request spans size)) → Makes bytes fields spans size place call → Leaves bytes fields spans n
-      → Gives clock moment later → IsReplyTo sp old new moment call reply
-      → next ≡ drop (length (body_at buffer spans.len size)) (after x.0 rest)
-      → Took sp Gives callers k rest old new clock later before text
-      (record { head = x.0; place = place; moment = moment; call = call; closing = n == 0 }) reply n next
-  took rest buffer bytes next fields spans size place moment call n old new clock later before text reply g x made leaves gives is_reply after_it =
-      let made_at : Makes buffer fields spans size place call = subst (λ (v : List ℕ). Makes v fields spans size place call) g made in
-      let leaves_at : Leaves buffer fields spans n = subst (λ (v : List ℕ). Leaves v fields spans n) g leaves in
-      record {
-        asks = record {
-          body = body_at buffer spans.len size;
-          request = x.1;
-          call = made_at x.0 x.2;
-          moment = gives;
-          next_is = after_it;
-        };
-        n_is = leaves_head buffer fields spans n x.0 x.2 leaves_at;
-        closing = refl;
-        is_reply = is_reply;
-      }
+  took : (buffer bytes : List ℕ) (fields : List HeaderSpan) (spans : RequestSpans) (place : Option Place) (moment : ℕ) (call : Call) (n : ℕ)
+      (old new : Service S) (clock later : M) (before text : Option (List ℕ)) (reply : Reply) (h : RequestHead)
+      → bytes ≡ buffer → Covers buffer fields spans h → Leaves bytes fields spans n → IsReplyTo sp old new moment call reply
+      → Took sp Gives callers k old new clock later before text
+      (record { head = h; place = place; moment = moment; call = call; closing = n == 0 }) reply n
+  took buffer bytes fields spans place moment call n old new clock later before text reply h g c leaves is_reply = record {
+    n_is = leaves_head buffer fields spans n h c (subst (λ (v : List ℕ). Leaves v fields spans n) g leaves);
+    closing = refl;
+    is_reply = is_reply;
+  }
 
-  pub turn_answered : (u b : Option (List ℕ)) (buffer bytes left : List ℕ) (fields : List HeaderSpan) (m : Next) (spans : RequestSpans) (size : ℕ) (place : Option Place) (moment : ℕ) (call : Call) (n : ℕ)
-      (old new : Service S) (clock later : M) (before text : Option (List ℕ))
-      → m ≡ Request spans size → bytes ≡ buffer → Consumes u b buffer → IfSome u (λ rest. IsNext rest buffer fields m)
+  asks : (rest buffer bytes next : List ℕ) (fields : List HeaderSpan) (spans : RequestSpans) (size : ℕ) (place : Option Place) (moment : ℕ) (call : Call) (n : ℕ) (clock later : M) (h : RequestHead)
+      → bytes ≡ buffer → IsRequest rest h (body_at buffer spans.len size) → Covers buffer fields spans h → Makes bytes fields spans size place call → Gives clock moment later
+      → next ≡ drop (length (body_at buffer spans.len size)) (after h rest)
+      → Asks Gives callers rest clock (record { head = h; place = place; moment = moment; call = call; closing = n == 0 }) next later
+  asks rest buffer bytes next fields spans size place moment call n clock later h g x c made gives after_it = record {
+    body = body_at buffer spans.len size;
+    request = x;
+    call = subst (λ (v : List ℕ). Makes v fields spans size place call) g made h c;
+    moment = gives;
+    next_is = after_it;
+  }
+
+  pub turn_answered : (a b : Option (List ℕ)) (front buffer bytes left : List ℕ) (fields : List HeaderSpan) (m : Next) (spans : RequestSpans) (size : ℕ) (place : Option Place) (moment : ℕ) (call : Call) (n : ℕ)
+      (old new : Service S) (clock clock' : M) (before text : Option (List ℕ))
+      → m ≡ Request spans size → bytes ≡ buffer → Came a b front buffer → IsNext (known_bytes b) buffer fields m
       → spans.len + size ≤ length buffer → left ≡ drop (spans.len + size) buffer
-      → Makes bytes fields spans size place call → Leaves bytes fields spans n → Gives clock moment later
+      → Makes bytes fields spans size place call → Leaves bytes fields spans n → Gives clock moment clock'
       → Replies sp old new moment call place (n == 0) before text
-      → IfSome u (λ rest. IsTurn sp Gives callers k rest old new clock later before text (prepend_known left b) (Answered n))
-  turn_answered None b buffer bytes left fields m spans size place moment call n old new clock later before text e g p h fits d made leaves gives r = tt
-  turn_answered (Some rest) None buffer bytes left fields m spans size place moment call n old new clock later before text e g p h fits d made leaves gives r = absurd p
-  turn_answered (Some rest) (Some t) buffer bytes left fields m spans size place moment call n old new clock later before text e g p h fits d made leaves gives r =
-      let x : IsNext rest buffer fields (Request spans size) = subst (λ (v : Next). IsNext rest buffer fields v) e h in
-      let next : left ++ t ≡ drop (length (body_at buffer spans.len size)) (after x.0 rest) = unread_next t buffer rest left x.0 spans.len size p x.2.len fits d in (
-        record { head = x.0; place = place; moment = moment; call = call; closing = n == 0 },
+      → IsTurn sp Gives callers k old new clock clock' before text a b front left (Answered n)
+  turn_answered a b front buffer bytes left fields m spans size place moment call n old new clock clock' before text e g (came, grown, p) h fits d made leaves gives r =
+      let x : IsNext (known_bytes b) buffer fields (Request spans size) = known_next (known_bytes b) buffer fields m (Request spans size) e h in
+      let asked : Asked = record { head = x.0; place = place; moment = moment; call = call; closing = n == 0 } in (
+        asked,
         r.reply,
-        left ++ t,
-        took rest buffer bytes (left ++ t) fields spans size place moment call n old new clock later before text r.reply g x made leaves gives r.is_reply next,
-        refl,
+        came,
+        took buffer bytes fields spans place moment call n old new clock clock' before text r.reply x.0 g x.2 leaves r.is_reply,
+        p,
+        λ later. subst (λ (rest : List ℕ). Asks Gives callers rest clock asked (left ++ later) clock') (rest_at front buffer came later grown)
+            (asks (buffer ++ later) buffer bytes (left ++ later) fields spans size place moment call n clock clock' x.0 g (x.1 later) x.2 made gives
+            (unread_next later buffer (buffer ++ later) left x.0 spans.len size refl x.2.len fits d)),
         r.written,
       )
 
-  pub part_answered : (u : Option (List ℕ)) (buffer bytes : List ℕ) (fields : List HeaderSpan) (m : Next) (spans : RequestSpans) (size : ℕ) (place : Option Place) (moment : ℕ) (call : Call) (n : ℕ)
-      (old new : Service S) (clock later : M) (before text : Option (List ℕ)) (fault : StreamFault) (f f' : ℕ)
-      → m ≡ Request spans size → bytes ≡ buffer → GaveUpAnswering fault f f' → IfSome u (λ rest. IsNext rest buffer fields m)
-      → Makes bytes fields spans size place call → Leaves bytes fields spans n → Gives clock moment later
+  pub part_answered : (a b : Option (List ℕ)) (front buffer bytes : List ℕ) (fields : List HeaderSpan) (m : Next) (spans : RequestSpans) (size : ℕ) (place : Option Place) (moment : ℕ) (call : Call) (n : ℕ)
+      (old new : Service S) (clock clock' : M) (before text : Option (List ℕ)) (fault : StreamFault) (f f' : ℕ) (failed : Bool)
+      → m ≡ Request spans size → bytes ≡ buffer → GaveUpAnswering fault f f' failed → Came a b front buffer → IsNext (known_bytes b) buffer fields m
+      → Makes bytes fields spans size place call → Leaves bytes fields spans n → Gives clock moment clock'
       → RepliesPart sp old new moment call place (n == 0) before text
-      → IfSome u (λ rest. IsTurnPart sp Gives callers k rest old new clock later before text fault)
-  part_answered u buffer bytes fields m spans size place moment call n old new clock later before text fault f f' e g gave h made leaves gives r =
-      if_some u (λ rest. IsNext rest buffer fields (Request spans size)) (λ rest. IsTurnPart sp Gives callers k rest old new clock later before text fault)
-      (known_next u buffer fields m (Request spans size) e h)
-      (λ rest x. inl (
-        record { head = x.0; place = place; moment = moment; call = call; closing = n == 0 },
-        r.reply,
-        n,
-        drop (length (body_at buffer spans.len size)) (after x.0 rest),
-        r.size,
-        of_answering fault f f' gave,
-        took rest buffer bytes (drop (length (body_at buffer spans.len size)) (after x.0 rest)) fields spans size place moment call n old new clock later before text r.reply g x made leaves gives r.is_reply refl,
-        r.written,
-      ))
+      → IsTurnPart sp Gives callers k old new clock clock' before text a front fault
+  part_answered a b front buffer bytes fields m spans size place moment call n old new clock clock' before text fault f f' failed e g gave (came, grown, p) h made leaves gives r =
+      let x : IsNext (known_bytes b) buffer fields (Request spans size) = known_next (known_bytes b) buffer fields m (Request spans size) e h in
+      let rest : List ℕ = buffer ++ known_bytes b in
+      let next : List ℕ = drop (length (body_at buffer spans.len size)) (after x.0 rest) in
+      let asked : Asked = record { head = x.0; place = place; moment = moment; call = call; closing = n == 0 } in (
+        came ++ known_bytes b,
+        input_more a b came (known_bytes b) p (input_known b),
+        inr (inl (record {
+          fault_is = of_answering fault f f' failed gave;
+          asked = asked;
+          reply = r.reply;
+          n = n;
+          next = next;
+          took = took buffer bytes fields spans place moment call n old new clock clock' before text r.reply x.0 g x.2 leaves r.is_reply;
+          asks = subst (λ (v : List ℕ). Asks Gives callers v clock asked next clock') (rest_at front buffer came (known_bytes b) grown)
+              (asks rest buffer bytes next fields spans size place moment call n clock clock' x.0 g (x.1 (known_bytes b)) x.2 made gives refl);
+          size = r.size;
+          short = r.short;
+          written = r.written;
+        })),
+      )
 
 -- ---- what stands after a request
 

@@ -13,9 +13,9 @@ use Rattle.wire_body.specs.Body.{IsBody, Words}
 use Rattle.wire_route.specs.declared.place.Place.{Place}
 use Rattle.wire_route.specs.Place.{kind_at}
 use Rattle.wire_route.specs.Route.{IsRoute, HasNoRoute}
-use Rattle.wire_http.specs.Fields.{Fields}
-use Rattle.wire_http.specs.Bearer.{token_of}
-use Rattle.wire_http.specs.Target.{path_of}
+use Rattle.wire_head.specs.Fields.{Fields}
+use Rattle.wire_head.specs.Bearer.{token_of}
+use Rattle.wire_head.specs.Target.{path_of}
 
 -- the names and the values of a head's fields
 abbrev pub fields_of : RequestHead → Fields

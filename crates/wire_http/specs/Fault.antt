@@ -1,8 +1,8 @@
 -- Why a stream was given up.
-use Rattle.std.specs.Prelude.{◌≡◌, ℕ, List, codes}
+use Rattle.std.specs.Prelude.{◌≡◌, ℕ, Bool, List, codes}
 use Rattle.wire_http.specs.declared.fault.StreamFault.{StreamFault}
 use Rattle.wire_http.specs.declared.fault.StreamFault.TheVariants.{Read, Write, Clock, Memory, Turns}
-use Rattle.wire_http.specs.Count.{HasRisen}
+use Rattle.wire_http.specs.Count.{FailsLast, one_more}
 
 abbrev pub number_of : StreamFault → ℕ
 number_of Read = 1
@@ -26,28 +26,35 @@ IsOfAnswering Read = ⊥
 IsOfAnswering Clock = ⊥
 IsOfAnswering Turns = ⊥
 
--- why reading gave up: the reader's count of failures has risen, or it stands and no turn is left
--- or memory was refused
-abbrev pub GaveUpReading : StreamFault → ℕ → ℕ → ℕ → Type 0
-GaveUpReading Read failures failures' left = HasRisen failures failures'
-GaveUpReading Turns failures failures' left = (left ≡ 0) × (failures' ≡ failures)
-GaveUpReading Memory failures failures' left = failures' ≡ failures
-GaveUpReading Write failures failures' left = ⊥
-GaveUpReading Clock failures failures' left = ⊥
+-- a request was not asked: none came whole, the clock gave no moment, or memory was refused
+abbrev pub IsOfAsking : StreamFault → Type 0
+IsOfAsking Read = Unit {0}
+IsOfAsking Clock = Unit {0}
+IsOfAsking Memory = Unit {0}
+IsOfAsking Turns = Unit {0}
+IsOfAsking Write = ⊥
 
--- why asking gave up: the clock's count of failures has risen, or it stands and memory was refused
+-- Why reading gave up, by the counts of failures, whether the last read failed, and the turns that
+-- are left: the last read failed, or none did and no turn is left or memory was refused.
+abbrev pub GaveUpReading : StreamFault → ℕ → ℕ → Bool → ℕ → Type 0
+GaveUpReading Read failures failures' failed left = FailsLast failures failures' failed
+GaveUpReading Turns failures failures' failed left = (left ≡ 0) × (failures' ≡ failures)
+GaveUpReading Memory failures failures' failed left = failures' ≡ failures
+GaveUpReading Write failures failures' failed left = ⊥
+GaveUpReading Clock failures failures' failed left = ⊥
+
+-- why asking gave up: the clock failed once, or it did not and memory was refused
 abbrev pub GaveUpAsking : StreamFault → ℕ → ℕ → Type 0
-GaveUpAsking Clock failures failures' = HasRisen failures failures'
+GaveUpAsking Clock failures failures' = failures' ≡ one_more failures
 GaveUpAsking Memory failures failures' = failures' ≡ failures
 GaveUpAsking Read failures failures' = ⊥
 GaveUpAsking Write failures failures' = ⊥
 GaveUpAsking Turns failures failures' = ⊥
 
--- why answering gave up: the writer's count of failures has risen, or it stands and memory was
--- refused
-abbrev pub GaveUpAnswering : StreamFault → ℕ → ℕ → Type 0
-GaveUpAnswering Write failures failures' = HasRisen failures failures'
-GaveUpAnswering Memory failures failures' = failures' ≡ failures
-GaveUpAnswering Read failures failures' = ⊥
-GaveUpAnswering Clock failures failures' = ⊥
-GaveUpAnswering Turns failures failures' = ⊥
+-- why answering gave up: the last write failed, or none did and memory was refused
+abbrev pub GaveUpAnswering : StreamFault → ℕ → ℕ → Bool → Type 0
+GaveUpAnswering Write failures failures' failed = FailsLast failures failures' failed
+GaveUpAnswering Memory failures failures' failed = failures' ≡ failures
+GaveUpAnswering Read failures failures' failed = ⊥
+GaveUpAnswering Clock failures failures' failed = ⊥
+GaveUpAnswering Turns failures failures' failed = ⊥

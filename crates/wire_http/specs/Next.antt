@@ -1,11 +1,11 @@
 -- What the unread input gives next.
-use Rattle.std.specs.Prelude.{◌≤◌, ◌+◌, ℕ, List, length, take, drop, IsUtf8}
+use Rattle.std.specs.Prelude.{◌≤◌, ◌+◌, ℕ, List, ◌++◌, length, take, drop, IsUtf8}
 use Rattle.httparse.specs.declared.spans.HeaderSpan.{HeaderSpan}
 use Rattle.httparse.specs.Grammar.{RequestHead}
 use Rattle.httparse.specs.Spans.{span_bytes, IsRequestWithin}
 use Rattle.wire_http.specs.declared.request.Next.{Next}
 use Rattle.wire_http.specs.declared.request.Next.TheVariants.{Request, Stop}
-use Rattle.wire_http.specs.Found.{Covers}
+use Rattle.wire_head.specs.Found.{Covers}
 use Rattle.wire_http.specs.Stop.{StopsAs}
 use Rattle.wire_http.specs.Wire.{IsRequest}
 
@@ -13,12 +13,14 @@ use Rattle.wire_http.specs.Wire.{IsRequest}
 abbrev pub body_at : List ℕ → ℕ → ℕ → List ℕ
 body_at buffer start size = take size (drop start buffer)
 
--- the rest has this request next, whose parts the spans cover, or it stops the stream so
+-- This request stands in the buffer, whatever follows, and the spans cover its parts; or what stands
+-- there, with these bytes ahead of it, stops the stream so.
 abbrev pub IsNext : List ℕ → List ℕ → List HeaderSpan → Next → Type 0
-IsNext rest buffer fields (Request spans size) =
-    (h : RequestHead) × IsRequest rest h (body_at buffer spans.len size)
+IsNext ahead buffer fields (Request spans size) =
+    (h : RequestHead)
+    × ((later : List ℕ) → IsRequest (buffer ++ later) h (body_at buffer spans.len size))
     × Covers buffer fields spans h
-IsNext rest buffer fields (Stop end) = StopsAs rest end
+IsNext ahead buffer fields (Stop end) = StopsAs (buffer ++ ahead) end
 
 -- the request lies in the buffer, and at most 8,192 bytes stand after it
 abbrev pub NextFits : List ℕ → List HeaderSpan → Next → Type 0

@@ -6,7 +6,7 @@ use Rattle.policy_core.specs.declared.call.Call.{Call}
 use Rattle.token_conf.specs.TokenFile.{Callers}
 use Rattle.wire_http.specs.declared.call.Received.{Received}
 use Rattle.wire_route.specs.declared.place.Place.{Place}
-use Rattle.wire_http.specs.Found.{Covers}
+use Rattle.wire_head.specs.Found.{Covers}
 use Rattle.wire_http.specs.Next.{body_at}
 use Rattle.wire_http.specs.Asked.{IsCallOf}
 

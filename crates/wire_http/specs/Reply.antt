@@ -1,5 +1,5 @@
 -- What is known of the reply to one call.
-use Rattle.std.specs.Prelude.{ℕ, Bool, List, Option, take}
+use Rattle.std.specs.Prelude.{ℕ, ◌<◌, Bool, List, Option, length, take}
 use Rattle.std.specs.Io.KnownBytes.{Appends}
 use Rattle.policy_core.specs.declared.call.Call.{Call}
 use Rattle.space_core.specs.declared.space.Space.{Ghosts}
@@ -16,10 +16,11 @@ pub record Replies {S : Type 0} (g : Ghosts S) (old new : Service S) (moment : �
   pub is_reply : IsReplyTo g old new moment call reply
   pub written : Appends before text (answer_text place closing reply)
 
--- a reply was made, and the first bytes of its text were written
+-- a reply was made, and the first bytes of its text were written, but not all
 pub record RepliesPart {S : Type 0} (g : Ghosts S) (old new : Service S) (moment : ℕ) (call : Call)
     (place : Option Place) (closing : Bool) (before text : Option (List ℕ)) : Type 0 where
   pub reply : Reply
   pub is_reply : IsReplyTo g old new moment call reply
   pub size : ℕ
+  pub short : size < length (answer_text place closing reply)
   pub written : Appends before text (take size (answer_text place closing reply))

@@ -4,10 +4,10 @@ use Rattle.httparse.specs.Grammar.{RequestHead}
 use Rattle.httparse.specs.Spans.{RequestExceeds}
 use Rattle.wire_http.specs.declared.end.End.{End}
 use Rattle.wire_http.specs.declared.end.End.TheVariants as ends
-use Rattle.wire_http.specs.declared.rule.WireRule.{WireRule}
-use Rattle.wire_http.specs.declared.rule.WireRule.TheVariants as rules
-use Rattle.wire_http.specs.Rest.{IsKind, cut, bad, large, whole, after, window}
-use Rattle.wire_http.specs.Length.{length_of}
+use Rattle.wire_head.specs.declared.rule.WireRule.{WireRule}
+use Rattle.wire_head.specs.declared.rule.WireRule.TheVariants as rules
+use Rattle.wire_head.specs.Rest.{IsKind, cut, bad, large, whole, after, window}
+use Rattle.wire_head.specs.Length.{length_of}
 use Rattle.wire_http.specs.Asked.{fields_of}
 
 -- a whole head stands there, and this is the first rule that its fields break

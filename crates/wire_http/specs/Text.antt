@@ -10,8 +10,8 @@ use Rattle.wire_route.specs.declared.place.Place.{Place}
 use Rattle.wire_route.specs.Place.{allow_of}
 use Rattle.wire_http.specs.declared.end.End.{End}
 use Rattle.wire_http.specs.declared.end.End.TheVariants as ends
-use Rattle.wire_http.specs.declared.rule.WireRule.{WireRule}
-use Rattle.wire_http.specs.Rule as rule
+use Rattle.wire_head.specs.declared.rule.WireRule.{WireRule}
+use Rattle.wire_head.specs.Rule as rule
 
 -- a line with its end
 abbrev pub line : List ℕ → List ℕ

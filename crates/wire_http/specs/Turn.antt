@@ -1,19 +1,21 @@
 -- What one turn of a stream gives: one request more, or the end.
-use Rattle.std.specs.Prelude.{◌≡◌, ◌<◌, ◌≤◌, ◌==◌, ◌⊎◌, ℕ, suc, List, [], length, take, Option, Some}
+use Rattle.std.specs.Prelude.{◌≡◌, ◌<◌, ◌≤◌, ◌==◌, ◌⊎◌, ℕ, List, [], ◌++◌, length, take, Option}
 use Rattle.std.specs.List.{concat}
-use Rattle.std.specs.Io.KnownBytes.{Appends}
+use Rattle.std.specs.Io.KnownBytes.{Appends, Consumes}
 use Rattle.space_core.specs.declared.space.Space.{Ghosts}
 use Rattle.service_core.specs.declared.service.Service.{Service}
 use Rattle.service_step.specs.declared.reply.Reply.{Reply}
 use Rattle.service_core.specs.Run.{IsReplyTo}
 use Rattle.token_conf.specs.TokenFile.{Callers}
+use Rattle.wire_head.specs.declared.rule.WireRule.{WireRule}
 use Rattle.wire_http.specs.declared.fault.StreamFault.{StreamFault}
 use Rattle.wire_http.specs.declared.serve.Turn.{Turn}
 use Rattle.wire_http.specs.declared.serve.Turn.TheVariants.{Answered, Ended}
-use Rattle.wire_http.specs.Fault.{IsOfAnswering}
-use Rattle.wire_http.specs.Stop.{StopsAs}
-use Rattle.wire_http.specs.Text.{answer_text, end_texts}
-use Rattle.wire_http.specs.Wire.{Asked, Asks, ClockAfter, MayFollow, left_after}
+use Rattle.wire_http.specs.Fault.{IsOfAnswering, IsOfAsking}
+use Rattle.wire_http.specs.Input.{IsInput}
+use Rattle.wire_http.specs.Stop.{Breaks, StopsAs}
+use Rattle.wire_http.specs.Text.{answer_text, end_texts, rule_text}
+use Rattle.wire_http.specs.Wire.{Asked, Asks, ClockAfter, left_after}
 
 -- after an answer fewer requests may follow, and the buffer has at most 8,192 bytes that are unread
 abbrev pub MayGoOn : ℕ → List ℕ → Turn → Type 0
@@ -21,31 +23,60 @@ MayGoOn count buffer (Answered n) = (n < count) × (length buffer ≤ 8192)
 MayGoOn count buffer (Ended end) = Unit {0}
 
 module _ {S M : Type 0} (g : Ghosts S) (Gives : M → ℕ → M → Type 0) (callers : Callers)
-    (bound : ℕ) (rest : List ℕ) (old new : Service S) (clock clock' : M)
-    (before text : Option (List ℕ)) where
-  -- a request of the rest was asked, and this is the reply; after it so many may come, from next on
-  pub record Took (asked : Asked) (reply : Reply) (n : ℕ) (next : List ℕ) : Type 0 where
-    pub asks : Asks Gives callers rest clock asked next clock'
+    (bound : ℕ) (old new : Service S) (clock clock' : M) (before text : Option (List ℕ)) where
+  -- the service was asked a call, and this is the reply; after it so many requests may come
+  pub record Took (asked : Asked) (reply : Reply) (n : ℕ) : Type 0 where
     pub n_is : n ≡ left_after bound asked.head
     pub closing : asked.closing ≡ (n == 0)
     pub is_reply : IsReplyTo g old new asked.moment asked.call reply
 
-  -- a request was answered, and these bytes are unread then; or the stream ended
-  abbrev pub IsTurn : Option (List ℕ) → Turn → Type 0
-  IsTurn unread (Answered n) =
-      (asked : Asked) × (reply : Reply) × (next : List ℕ)
-      × Took asked reply n next × (unread ≡ Some next)
+  -- A request was answered, whatever follows it; or the stream ended. The reader had and has these
+  -- bytes, and the buffer those that belong to no earlier request.
+  abbrev pub IsTurn : Option (List ℕ) → Option (List ℕ) → List ℕ → List ℕ → Turn → Type 0
+  IsTurn remaining remaining' buffer buffer' (Answered n) =
+      (asked : Asked) × (reply : Reply) × (came : List ℕ)
+      × Took asked reply n × Consumes remaining remaining' came
+      × ((later : List ℕ) → Asks Gives callers (buffer ++ (came ++ later)) clock asked
+      (buffer' ++ later) clock')
       × Appends before text (answer_text asked.place asked.closing reply)
-  IsTurn unread (Ended end) = StopsAs rest end × (new ≡ old) × (clock' ≡ clock)
-      × Appends before text (concat (end_texts end))
+  IsTurn remaining remaining' buffer buffer' (Ended end) =
+      (ahead : List ℕ) × IsInput remaining ahead × StopsAs (buffer ++ ahead) end
+      × (new ≡ old) × (clock' ≡ clock) × Appends before text (concat (end_texts end))
 
-  -- the turn was given up: after the call of a request, or without one
-  abbrev pub IsTurnPart : StreamFault → Type 0
-  IsTurnPart fault =
-      ((asked : Asked) × (reply : Reply) × (n : ℕ) × (next : List ℕ) × (size : ℕ)
-      × IsOfAnswering fault × Took asked reply n next
-      × Appends before text (take size (answer_text asked.place asked.closing reply)))
-      ⊎ ((tail : List (List ℕ)) × (size : ℕ)
-      × (IsOfAnswering fault ⊎ (tail ≡ [])) × (new ≡ old)
-      × ClockAfter Gives callers fault rest clock clock'
-      × MayFollow (suc bound) rest tail × Appends before text (take size (concat tail)))
+  -- the turn was given up before a request of the rest was asked
+  pub record StopsUnasked (rest : List ℕ) (fault : StreamFault) : Type 0 where
+    pub fault_is : IsOfAsking fault
+    pub same : new ≡ old
+    pub clock_is : ClockAfter Gives callers fault rest clock clock'
+    pub written : Appends before text []
+
+  -- it was given up in the answer to a request of the rest
+  pub record StopsInAnswer (rest : List ℕ) (fault : StreamFault) : Type 0 where
+    pub fault_is : IsOfAnswering fault
+    pub asked : Asked
+    pub reply : Reply
+    pub n : ℕ
+    pub next : List ℕ
+    pub took : Took asked reply n
+    pub asks : Asks Gives callers rest clock asked next clock'
+    pub size : ℕ
+    pub short : size < length (answer_text asked.place asked.closing reply)
+    pub written : Appends before text (take size (answer_text asked.place asked.closing reply))
+
+  -- it was given up in the text of the rule that the rest breaks
+  pub record StopsInRule (rest : List ℕ) (fault : StreamFault) : Type 0 where
+    pub fault_is : IsOfAnswering fault
+    pub rule : WireRule
+    pub breaks : Breaks rest rule
+    pub same : new ≡ old
+    pub clock_is : clock' ≡ clock
+    pub size : ℕ
+    pub short : size < length (rule_text rule)
+    pub written : Appends before text (take size (rule_text rule))
+
+  -- the turn was given up
+  abbrev pub IsTurnPart : Option (List ℕ) → List ℕ → StreamFault → Type 0
+  IsTurnPart remaining buffer fault =
+      (ahead : List ℕ) × IsInput remaining ahead
+      × (StopsUnasked (buffer ++ ahead) fault ⊎ StopsInAnswer (buffer ++ ahead) fault
+      ⊎ StopsInRule (buffer ++ ahead) fault)

@@ -1,5 +1,5 @@
 -- Which calls the bytes of a stream spell, and what is written for them.
-use Rattle.std.specs.Prelude.{◌≡◌, ◌≤◌, ◌-◌, ◌⊎◌, ◌==◌, ℕ, zero, suc, Bool, if◌then◌else◌, List, [], ◌∷◌, ◌++◌, length, take, drop, map, Option, Ok}
+use Rattle.std.specs.Prelude.{◌≡◌, ◌<◌, ◌≤◌, ◌-◌, ◌⊎◌, ◌==◌, ℕ, zero, suc, Bool, if◌then◌else◌, List, [], ◌∷◌, ◌++◌, length, take, drop, map, Option, Ok}
 use Rattle.std.specs.List.{concat}
 use Rattle.std.specs.Io.KnownBytes.{Appends}
 use Rattle.httparse.specs.Grammar.{RequestHead}
@@ -10,18 +10,18 @@ use Rattle.service_step.specs.declared.reply.Reply.{Reply}
 use Rattle.service_core.specs.Run.{Answered, Timed}
 use Rattle.wire_http.specs.declared.fault.StreamFault.{StreamFault}
 use Rattle.wire_http.specs.declared.fault.StreamFault.TheVariants as faults
-use Rattle.wire_http.specs.declared.rule.WireRule.{WireRule}
-use Rattle.wire_http.specs.Fault.{IsOfAnswering}
+use Rattle.wire_head.specs.declared.rule.WireRule.{WireRule}
+use Rattle.wire_http.specs.Fault.{IsOfAnswering, IsOfAsking}
 use Rattle.wire_http.specs.declared.end.End.{End}
 use Rattle.wire_http.specs.declared.end.End.TheVariants as ends
 use Rattle.wire_http.specs.declared.end.Served.{Served}
 use Rattle.wire_route.specs.declared.place.Place.{Place}
-use Rattle.wire_http.specs.Rest.{IsKind, whole, after}
-use Rattle.wire_http.specs.Length.{length_of}
+use Rattle.wire_head.specs.Rest.{IsKind, whole, after}
+use Rattle.wire_head.specs.Length.{length_of}
 use Rattle.token_conf.specs.TokenFile.{Callers}
 use Rattle.wire_http.specs.Asked.{IsCallOf, fields_of}
 use Rattle.wire_http.specs.Text.{answer_text, rule_text, end_texts}
-use Rattle.wire_http.specs.Close.{closes_by}
+use Rattle.wire_head.specs.Close.{closes_by}
 use Rattle.wire_http.specs.Stop.{Breaks, StopsAs}
 
 -- the rest begins with a whole request: a head, and then as many bytes of a body as its fields tell
@@ -71,14 +71,15 @@ module _ {M : Type 0} (Gives : M → ℕ → M → Type 0) (callers : Callers) w
       × (asked.closing ≡ (left_after bound asked.head == 0))
       × Leads (left_after bound asked.head) next mid more n left later
 
-  -- Where the clock stands after a fault: it gave no moment but those of the requests that were
-  -- asked, or for want of memory one more, for a request that had come whole. Of a clock that
-  -- failed nothing is said.
+  -- Where the clock stands after a fault before the next request was asked: it gave no moment but
+  -- those of the requests that were asked, or for want of memory one more. That one, and a fault of
+  -- the clock, come only for a request that had come whole; of a clock that failed no more is said.
   abbrev pub ClockAfter : StreamFault → List ℕ → M → M → Type 0
   ClockAfter faults.Memory left later clock' =
       (clock' ≡ later) ⊎ ((h : RequestHead) × (body : List ℕ) × (moment : ℕ)
       × IsRequest left h body × Gives later moment clock')
-  ClockAfter faults.Clock left later clock' = Unit {0}
+  ClockAfter faults.Clock left later clock' = (h : RequestHead) × (body : List ℕ)
+      × IsRequest left h body
   ClockAfter faults.Read left later clock' = clock' ≡ later
   ClockAfter faults.Write left later clock' = clock' ≡ later
   ClockAfter faults.Turns left later clock' = clock' ≡ later
@@ -101,15 +102,34 @@ MayFollow zero left texts = texts ≡ []
 MayFollow (suc n) left texts = (texts ≡ []) ⊎ ((rule : WireRule) × Breaks left rule
     × (texts ≡ rule_text rule ∷ []))
 
--- the first bytes of the texts, of which all but the last are whole
+-- the first bytes of the texts: all but the last are whole, and that one is not
 pub record IsFront (texts : List (List ℕ)) (bytes : List ℕ) : Type 0 where
   pub size : ℕ
   pub bytes_are : bytes ≡ take size (concat texts)
   pub others_whole : length (concat (take (length texts - 1) texts)) ≤ size
+  pub last_short : size < length (concat texts)
 
--- only where an answer was not written may the last text not be whole
-abbrev pub MayBePart : StreamFault → List (List ℕ) → List ℕ → Type 0
-MayBePart fault texts bytes = IsOfAnswering fault ⊎ (bytes ≡ concat texts)
+-- The stream was given up before its next request was asked: one may still come, and the answers are
+-- whole.
+pub record GivesUpAsking
+    {M : Type 0} (Gives : M → ℕ → M → Type 0) (callers : Callers)
+    (fault : StreamFault) (n : ℕ) (left : List ℕ) (later clock' : M) (texts : List (List ℕ))
+    (bytes : List ℕ) : Type 0 where
+  pub fault_is : IsOfAsking fault
+  pub more : 0 < n
+  pub clock_is : ClockAfter Gives callers fault left later clock'
+  pub whole : bytes ≡ concat texts
+
+-- It was given up in the last answer, or in the text of the rule that the rest breaks. No moment was
+-- taken since then.
+pub record GivesUpAnswering
+    {M : Type 0} (fault : StreamFault) (n : ℕ) (left : List ℕ) (later clock' : M)
+    (texts : List (List ℕ)) (bytes : List ℕ) : Type 0 where
+  pub fault_is : IsOfAnswering fault
+  pub clock_is : clock' ≡ later
+  pub tail : List (List ℕ)
+  pub follows : MayFollow n left tail
+  pub front : IsFront (texts ++ tail) bytes
 
 -- What was served of an input: the calls of its requests were answered, and the answers were
 -- written, and then the text of the rule of the wire where one ended the stream.
@@ -129,7 +149,7 @@ pub record Serves
   pub written : Appends before text (concat (answers all replies ++ end_texts served.end))
 
 -- What was served before a fault: the first requests, whose answers were written, but for a part of
--- the last text.
+-- the last text where the fault came in it.
 pub record ServesPart
     {S M : Type 0} (g : Ghosts S) (Gives : M → ℕ → M → Type 0) (callers : Callers)
     (bound : ℕ) (input : List ℕ)
@@ -141,11 +161,9 @@ pub record ServesPart
   pub left : List ℕ
   pub later : M
   pub leads : Leads Gives callers bound input clock all n left later
-  pub clock_is : ClockAfter Gives callers fault left later clock'
   pub answered : Answered g old (map timed all) replies new
-  pub tail : List (List ℕ)
-  pub follows : MayFollow n left tail
   pub bytes : List ℕ
-  pub front : IsFront (answers all replies ++ tail) bytes
-  pub whole : MayBePart fault (answers all replies ++ tail) bytes
+  pub gives_up :
+      GivesUpAsking Gives callers fault n left later clock' (answers all replies) bytes
+      ⊎ GivesUpAnswering fault n left later clock' (answers all replies) bytes
   pub written : Appends before text bytes

@@ -3,10 +3,10 @@ ghost use Rattle.std.specs.Prelude.{◌≡◌, IfOk};
 ghost use Rattle.std.specs.String.{string_bytes};
 ghost use Rattle.wire_http.specs.Text.{answer_text, reason_of, rule_field, reply_field, status_line, length_line, close_field, front_of, rule_body, rule_text};
 
-use crate::rule::WireRule;
 use policy_core::rule::Rule;
 use service_step::reply::Reply;
 use std::alloc::{AllocError, Global};
+use wire_head::rule::WireRule;
 use wire_reply::answer::{reply_text, status};
 use wire_route::place::Place;
 

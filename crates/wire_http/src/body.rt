@@ -1,10 +1,10 @@
 //! The body of a request.
 ghost use Rattle.std.specs.Prelude.{◌≡◌, ◌<◌, ◌≤◌, max, length, drop, true, false, OnOk, IfOk, IfErr};
-ghost use Rattle.std.specs.Io.KnownBytes.{Consumes, IsAtEnd, prepend_known};
-ghost use Rattle.wire_http.specs.Counted.{inner_of, calls_of, failures_of};
+ghost use Rattle.std.specs.Io.KnownBytes.{IsAtEnd};
+ghost use Rattle.wire_http.specs.Counted.{inner_of, calls_of, failures_of, has_failed};
 ghost use Rattle.wire_http.specs.Count.{Spends};
 ghost use Rattle.wire_http.specs.Fault.{GaveUpReading};
-ghost use Rattle.wire_http.specs.Body.{Begins};
+ghost use Rattle.wire_http.specs.Input.{Came};
 
 use crate::counted::Counted;
 use crate::fault::StreamFault;
@@ -18,10 +18,8 @@ pub(crate) fn fill<R: Read>(
     buffer: &mut Vec<u8>,
     count: usize,
 ) -> Result<bool, StreamFault>
-    ensures same { OnOk result (Consumes
-        (prepend_known buffer.old.items (R.remaining (inner_of reader.old)))
-        (R.remaining (inner_of reader.new)) buffer.new.items) }
-    ensures begins { OnOk result (Begins buffer.old.items buffer.new.items) }
+    ensures came { OnOk result (Came (R.remaining (inner_of reader.old))
+        (R.remaining (inner_of reader.new)) buffer.old.items buffer.new.items) }
     ensures short { OnOk result (length buffer.new.items ≤ max (length buffer.old.items) count) }
     ensures whole { IfOk result (λ whole. whole ≡ true → count ≤ length buffer.new.items) }
     ensures ended { IfOk result (λ whole. whole ≡ false
@@ -29,7 +27,8 @@ pub(crate) fn fill<R: Read>(
     ensures turns { Spends turns.old turns.new (calls_of reader.old) (calls_of reader.new) }
     ensures good { OnOk result (failures_of reader.new ≡ failures_of reader.old) }
     ensures err { IfErr result (λ e.
-        GaveUpReading e (failures_of reader.old) (failures_of reader.new) turns.new) }
+        GaveUpReading e (failures_of reader.old) (failures_of reader.new) (has_failed reader.new)
+        turns.new) }
 {
     'filling: while buffer.len() < count {
         let missing = count - buffer.len();

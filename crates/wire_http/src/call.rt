@@ -5,14 +5,11 @@ ghost use Rattle.token_conf.specs.TokenFile.{callers_of};
 ghost use Rattle.wire_body.specs.Body.{words_of};
 ghost use Rattle.wire_http.specs.Fault.{GaveUpAsking};
 ghost use Rattle.wire_http.specs.Received.{IsReceived, IsMadeBy};
-ghost use Rattle.wire_http.specs.Close.{closes_by};
+ghost use Rattle.wire_head.specs.Close.{closes_by};
 ghost use Rattle.wire_http.specs.Asked.{caller_of, IsReadAs, IsAsked};
 
-use crate::bearer::token_of;
-use crate::close::closes;
 use crate::fault::StreamFault;
 use crate::moments::Moments;
-use crate::target::path_of;
 use httparse::spans::{HeaderSpan, RequestSpans};
 use policy_core::call::{Call, OpKind, Operation};
 use policy_core::scope::Caller;
@@ -20,6 +17,9 @@ use std::alloc::{AllocError, Global};
 use token_conf::token_table::TokenTable;
 use wire_body::body::{PathWords, read_body};
 use wire_body::body_fault::BodyFault;
+use wire_head::bearer::token_of;
+use wire_head::close::closes;
+use wire_head::target::path_of;
 use wire_route::place::Place;
 use wire_route::routes::{Route, Routes};
 

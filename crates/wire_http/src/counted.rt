@@ -2,7 +2,7 @@
 use std::io;
 use std::io::{Read, Write};
 
-/// A device, with how often it was called and how often it failed.
+/// A device, with how often it was called, how often it failed, and whether its last call did.
 ///
 /// A failure is any error, an interrupted call too, and a write that takes no byte. Both counts
 /// stay at their greatest value. No call here takes memory.
@@ -11,22 +11,25 @@ pub struct Counted<T> {
     inner: T,
     calls: u64,
     failures: u64,
+    failed: bool,
 }
 
 impl<T> Counted<T> {
-    ghost use Rattle.std.specs.Prelude.{◌≡◌};
-    ghost use Rattle.wire_http.specs.Counted.{inner_of, calls_of, failures_of};
+    ghost use Rattle.std.specs.Prelude.{◌≡◌, false};
+    ghost use Rattle.wire_http.specs.Counted.{inner_of, calls_of, failures_of, has_failed};
 
     /// A device that was never called.
     pub fn new(inner: T) -> Counted<T>
         ensures inner { inner_of result ≡ inner }
         ensures calls { calls_of result ≡ 0 }
         ensures failures { failures_of result ≡ 0 }
+        ensures failed { has_failed result ≡ false }
     {
         Counted {
             inner,
             calls: 0,
             failures: 0,
+            failed: false,
         }
     }
 
@@ -52,17 +55,18 @@ impl<T> Counted<T> {
             inner,
             calls: _,
             failures: _,
+            failed: _,
         } = self;
         inner
     }
 }
 
 impl<R: Read> Read for Counted<R> {
-    ghost use Rattle.std.specs.Prelude.{◌≡◌};
+    ghost use Rattle.std.specs.Prelude.{◌≡◌, ◌≤◌};
     ghost use Rattle.std.specs.Io.{ReadsAtMost};
     ghost use Rattle.std.specs.Io.KnownBytes.{ReadConsumes};
-    ghost use Rattle.wire_http.specs.Counted.{inner_of, calls_of, failures_of};
-    ghost use Rattle.wire_http.specs.Count.{one_more, after_read};
+    ghost use Rattle.wire_http.specs.Counted.{inner_of, calls_of, failures_of, has_failed};
+    ghost use Rattle.wire_http.specs.Count.{one_more, after_read, is_failed_read};
 
     ghost remaining = { λ c. R.remaining (inner_of c) };
 
@@ -71,13 +75,17 @@ impl<R: Read> Read for Counted<R> {
         ensures bytes { ReadConsumes (R.remaining (inner_of self.old))
             (R.remaining (inner_of self.new)) result buf.new }
         ensures calls { calls_of self.new ≡ one_more (calls_of self.old) }
+        ensures rises { calls_of self.old ≤ calls_of self.new }
         ensures failures { failures_of self.new ≡ after_read result (failures_of self.old) }
+        ensures failed { has_failed self.new ≡ is_failed_read result }
     {
         self.calls = self.calls.saturating_add(1);
+        self.failed = false;
         match self.inner.read(buf) {
             Ok(n) => Ok(n),
             Err(e) => {
                 self.failures = self.failures.saturating_add(1);
+                self.failed = true;
                 Err(e)
             }
         }
@@ -85,11 +93,12 @@ impl<R: Read> Read for Counted<R> {
 }
 
 impl<W: Write> Write for Counted<W> {
-    ghost use Rattle.std.specs.Prelude.{◌≡◌};
+    ghost use Rattle.std.specs.Prelude.{◌≡◌, ◌≤◌};
     ghost use Rattle.std.specs.Io.{WritesAtMost};
     ghost use Rattle.std.specs.Io.KnownBytes.{WriteAppends, Keeps};
-    ghost use Rattle.wire_http.specs.Counted.{inner_of, calls_of, failures_of};
+    ghost use Rattle.wire_http.specs.Counted.{inner_of, calls_of, failures_of, has_failed};
     ghost use Rattle.wire_http.specs.Count.{one_more, after_write, after_flush};
+    ghost use Rattle.wire_http.specs.Count.{is_failed_write, is_failed_flush};
 
     ghost contents = { λ c. W.contents (inner_of c) };
 
@@ -98,17 +107,22 @@ impl<W: Write> Write for Counted<W> {
         ensures bytes { WriteAppends (W.contents (inner_of self.old))
             (W.contents (inner_of self.new)) result buf.now }
         ensures calls { calls_of self.new ≡ one_more (calls_of self.old) }
+        ensures rises { calls_of self.old ≤ calls_of self.new }
         ensures failures { failures_of self.new ≡ after_write result (failures_of self.old) }
+        ensures failed { has_failed self.new ≡ is_failed_write result }
     {
         self.calls = self.calls.saturating_add(1);
+        self.failed = false;
         match self.inner.write(buf) {
             Ok(0) => {
                 self.failures = self.failures.saturating_add(1);
+                self.failed = true;
                 Ok(0)
             }
             Ok(n) => Ok(n),
             Err(e) => {
                 self.failures = self.failures.saturating_add(1);
+                self.failed = true;
                 Err(e)
             }
         }
@@ -117,13 +131,17 @@ impl<W: Write> Write for Counted<W> {
     fn flush(&mut self) -> io::Result<()>
         ensures bytes { Keeps (W.contents (inner_of self.old)) (W.contents (inner_of self.new)) }
         ensures calls { calls_of self.new ≡ one_more (calls_of self.old) }
+        ensures rises { calls_of self.old ≤ calls_of self.new }
         ensures failures { failures_of self.new ≡ after_flush result (failures_of self.old) }
+        ensures failed { has_failed self.new ≡ is_failed_flush result }
     {
         self.calls = self.calls.saturating_add(1);
+        self.failed = false;
         match self.inner.flush() {
             Ok(()) => Ok(()),
             Err(e) => {
                 self.failures = self.failures.saturating_add(1);
+                self.failed = true;
                 Err(e)
             }
         }

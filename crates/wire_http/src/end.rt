@@ -1,6 +1,6 @@
 //! How a stream ended.
 
-use crate::rule::WireRule;
+use wire_head::rule::WireRule;
 
 /// How a stream ended.
 #[derive(Clone, Copy, Debug, PartialEq, Eq)]

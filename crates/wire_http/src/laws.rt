@@ -6,8 +6,8 @@ ghost use Rattle.token_conf.specs.TokenFile.{Callers};
 ghost use Rattle.wire_http.specs.Asked.{IsCallOf};
 ghost use Rattle.wire_http.specs.Stop.{AreSameEnds};
 ghost use Rattle.wire_http.specs.Wire.{Asked, Finishes, IsRequest, Leads};
-ghost use Rattle.wire_http.specs.Rest.{Kind, IsKind, AreSame};
-ghost use Rattle.wire_http.specs.Target.{path_of};
+ghost use Rattle.wire_head.specs.Rest.{Kind, IsKind, AreSame};
+ghost use Rattle.wire_head.specs.Target.{path_of};
 ghost use Rattle.wire_http.specs.declared.end.End.{End};
 ghost use Rattle.wire_route.specs.declared.place.Place.{Place};
 

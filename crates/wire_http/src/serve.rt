@@ -1,12 +1,14 @@
 //! The service over a stream.
-ghost use Rattle.std.specs.Prelude.{◌≡◌, ◌<◌, ◌≤◌, ◌+◌, ◌-◌, ◌⊎◌, ℕ, true, length, take, Err, OnErr, OnOk, IfErr, IfOk, IfSome};
+ghost use Rattle.std.specs.Prelude.{◌≡◌, ◌<◌, ◌≤◌, ◌+◌, ◌-◌, ◌⊎◌, ℕ, List, true, length, take, Err, OnErr, OnOk, IfErr, IfOk};
 ghost use Rattle.std.specs.List.{concat};
-ghost use Rattle.std.specs.Io.KnownBytes.{Appends, prepend_known};
+ghost use Rattle.std.specs.Io.KnownBytes.{Appends};
 ghost use Rattle.token_conf.specs.TokenFile.{callers_of};
 ghost use Rattle.service_core.specs.Held.{Stays};
-ghost use Rattle.wire_http.specs.Counted.{inner_of, calls_of, failures_of};
-ghost use Rattle.wire_http.specs.Count.{HasRisen, IsGreatest, Spends, most_reads, most_requests};
+ghost use Rattle.wire_http.specs.Counted.{inner_of, calls_of, failures_of, has_failed};
+ghost use Rattle.wire_http.specs.Count.{FailsLast, IsGreatest, Spends, one_more};
+ghost use Rattle.wire_http.specs.Count.{most_reads, most_requests};
 ghost use Rattle.wire_http.specs.Fault.{GaveUpAnswering};
+ghost use Rattle.wire_http.specs.Input.{IsInput};
 ghost use Rattle.wire_http.specs.Reply.{Replies, RepliesPart};
 ghost use Rattle.wire_http.specs.Text.{end_texts};
 ghost use Rattle.wire_http.specs.Turn.{IsTurn, IsTurnPart, MayGoOn};
@@ -18,9 +20,9 @@ use crate::call::{Pending, Received, ask, left_after};
 use crate::counted::Counted;
 use crate::end::{End, Served};
 use crate::fault::StreamFault;
+use crate::head::HEAD_LIMIT;
 use crate::moments::Moments;
 use crate::request::{Next, next_request};
-use crate::rest::HEAD_LIMIT;
 use crate::write::write_whole;
 use httparse::spans::EMPTY_HEADER_SPAN;
 use service_core::service::Service;
@@ -52,7 +54,9 @@ fn answer<S: Space + Drop, W: Write>(
         (W.contents (inner_of writer.old)) (W.contents (inner_of writer.new))) }
     ensures good { OnOk result (failures_of writer.new ≡ failures_of writer.old) }
     ensures err { IfErr result (λ e.
-        GaveUpAnswering e (failures_of writer.old) (failures_of writer.new)) }
+        GaveUpAnswering e (failures_of writer.old) (failures_of writer.new)
+        (has_failed writer.new)) }
+    ensures rises { calls_of writer.old ≤ calls_of writer.new }
     ensures stays { Stays S.Space service.old service.new }
 {
     let reply = service.call(alloc, pending.moment, &pending.call);
@@ -69,11 +73,14 @@ fn answer<S: Space + Drop, W: Write>(
 fn end_with<W: Write>(alloc: Global, writer: &mut Counted<W>, end: End) -> Result<(), StreamFault>
     ensures whole { OnOk result (Appends (W.contents (inner_of writer.old))
         (W.contents (inner_of writer.new)) (concat (end_texts end))) }
-    ensures part { OnErr result ((size : ℕ) × Appends (W.contents (inner_of writer.old))
-        (W.contents (inner_of writer.new)) (take size (concat (end_texts end)))) }
+    ensures part { OnErr result ((size : ℕ) × (size < length (concat (end_texts end)))
+        × Appends (W.contents (inner_of writer.old)) (W.contents (inner_of writer.new))
+        (take size (concat (end_texts end)))) }
     ensures good { OnOk result (failures_of writer.new ≡ failures_of writer.old) }
     ensures err { IfErr result (λ e.
-        GaveUpAnswering e (failures_of writer.old) (failures_of writer.new)) }
+        GaveUpAnswering e (failures_of writer.old) (failures_of writer.new)
+        (has_failed writer.new)) }
+    ensures rises { calls_of writer.old ≤ calls_of writer.new }
 {
     let End::Wire(rule) = end else {
         return Ok(());
@@ -113,24 +120,25 @@ fn serve_one<S: Space + Drop, M: Moments, R: Read, W: Write>(
     requires some { 0 < count }
     requires short { length buffer.old.items ≤ HEAD_LIMIT }
     ensures turn { IfOk result (λ turn.
-        IfSome (prepend_known buffer.old.items (R.remaining (inner_of reader.old))) (λ rest.
-        IsTurn S.Space M.gives (callers_of tokens.now) (count - 1) rest
+        IsTurn S.Space M.gives (callers_of tokens.now) (count - 1)
         service.old service.new moments.old moments.new
         (W.contents (inner_of writer.old)) (W.contents (inner_of writer.new))
-        (prepend_known buffer.new.items (R.remaining (inner_of reader.new))) turn)) }
+        (R.remaining (inner_of reader.old)) (R.remaining (inner_of reader.new))
+        buffer.old.items buffer.new.items turn) }
     ensures part { IfErr result (λ fault.
-        IfSome (prepend_known buffer.old.items (R.remaining (inner_of reader.old))) (λ rest.
-        IsTurnPart S.Space M.gives (callers_of tokens.now) (count - 1) rest
+        IsTurnPart S.Space M.gives (callers_of tokens.now) (count - 1)
         service.old service.new moments.old moments.new
-        (W.contents (inner_of writer.old)) (W.contents (inner_of writer.new)) fault)) }
+        (W.contents (inner_of writer.old)) (W.contents (inner_of writer.new))
+        (R.remaining (inner_of reader.old)) buffer.old.items fault) }
     ensures goes_on { IfOk result (MayGoOn count buffer.new.items) }
 
     ensures read { result ≡ Err StreamFault.Read
-        → HasRisen (failures_of reader.old) (failures_of reader.new) }
+        → FailsLast (failures_of reader.old) (failures_of reader.new) (has_failed reader.new) }
     ensures write { result ≡ Err StreamFault.Write
-        → HasRisen (failures_of writer.old) (failures_of writer.new) }
+        → FailsLast (failures_of writer.old) (failures_of writer.new) (has_failed writer.new) }
     ensures clock { result ≡ Err StreamFault.Clock
-        → HasRisen (M.failures moments.old) (M.failures moments.new) }
+        → M.failures moments.new ≡ one_more (M.failures moments.old) }
+    ensures rises { calls_of writer.old ≤ calls_of writer.new }
     ensures turns { Spends turns.old turns.new (calls_of reader.old) (calls_of reader.new) }
     ensures no_turns { result ≡ Err StreamFault.Turns → turns.new ≡ 0 }
     ensures good_reader { (result ≡ Err StreamFault.Read)
@@ -181,24 +189,27 @@ pub fn serve_stream<S: Space + Drop, M: Moments, R: Read, W: Write>(
     reader: &mut Counted<R>,
     writer: &mut Counted<W>,
 ) -> Result<Served, StreamFault>
-    // Of a reader whose bytes are known, whatever the pieces were in which they came: what the
-    // input spells was asked and answered.
-    ensures serves { IfOk result (λ served. IfSome (R.remaining (inner_of reader.old)) (λ input.
-        Serves S.Space M.gives (callers_of tokens.now) most_requests input
+    // What the input spells was asked and answered, whatever the pieces were in which it came. Where
+    // nobody knows a reader's bytes, as those of a file or a socket, there is an input of which this
+    // holds.
+    ensures serves { IfOk result (λ served. (input : List ℕ)
+        × IsInput (R.remaining (inner_of reader.old)) input
+        × Serves S.Space M.gives (callers_of tokens.now) most_requests input
         service.old service.new moments.old moments.new
-        (W.contents (inner_of writer.old)) (W.contents (inner_of writer.new)) served)) }
-    ensures part { IfErr result (λ fault. IfSome (R.remaining (inner_of reader.old)) (λ input.
-        ServesPart S.Space M.gives (callers_of tokens.now) most_requests input
+        (W.contents (inner_of writer.old)) (W.contents (inner_of writer.new)) served) }
+    ensures part { IfErr result (λ fault. (input : List ℕ)
+        × IsInput (R.remaining (inner_of reader.old)) input
+        × ServesPart S.Space M.gives (callers_of tokens.now) most_requests input
         service.old service.new moments.old moments.new
-        (W.contents (inner_of writer.old)) (W.contents (inner_of writer.new)) fault)) }
+        (W.contents (inner_of writer.old)) (W.contents (inner_of writer.new)) fault) }
 
-    // What is told to have failed did so in this call, or its count stands at its greatest value.
+    // What is told to have failed did so once, and a reader or a writer was not called after it.
     ensures read { result ≡ Err StreamFault.Read
-        → HasRisen (failures_of reader.old) (failures_of reader.new) }
+        → FailsLast (failures_of reader.old) (failures_of reader.new) (has_failed reader.new) }
     ensures write { result ≡ Err StreamFault.Write
-        → HasRisen (failures_of writer.old) (failures_of writer.new) }
+        → FailsLast (failures_of writer.old) (failures_of writer.new) (has_failed writer.new) }
     ensures clock { result ≡ Err StreamFault.Clock
-        → HasRisen (M.failures moments.old) (M.failures moments.new) }
+        → M.failures moments.new ≡ one_more (M.failures moments.old) }
     // And no other count of failures has risen: what failed is told.
     ensures told_reader { (result ≡ Err StreamFault.Read)
         ⊎ (failures_of reader.new ≡ failures_of reader.old) }
@@ -211,6 +222,9 @@ pub fn serve_stream<S: Space + Drop, M: Moments, R: Read, W: Write>(
         (calls_of reader.new) }
     ensures reads { (calls_of reader.new ≤ calls_of reader.old + most_reads)
         ⊎ IsGreatest (calls_of reader.new) }
+    // No count of calls falls.
+    ensures rises_reader { calls_of reader.old ≤ calls_of reader.new }
+    ensures rises_writer { calls_of writer.old ≤ calls_of writer.new }
 
     // What stays, whatever came.
     ensures stays { Stays S.Space service.old service.new }

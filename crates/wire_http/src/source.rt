@@ -1,7 +1,8 @@
 //! Reading within the turns of a stream.
-ghost use Rattle.std.specs.Prelude.{◌≡◌, ◌<◌, ◌≤◌, ◌+◌, ◌++◌, ℕ, List, length, OnOk, OnErr, IfOk, IfErr, false};
-ghost use Rattle.std.specs.Io.KnownBytes.{Consumes, IsAtEnd};
-ghost use Rattle.wire_http.specs.Counted.{inner_of, calls_of, failures_of};
+ghost use Rattle.std.specs.Prelude.{◌≡◌, ◌<◌, ◌≤◌, ◌+◌, length, OnOk, IfOk, IfErr, false};
+ghost use Rattle.std.specs.Io.KnownBytes.{IsAtEnd};
+ghost use Rattle.wire_http.specs.Counted.{inner_of, calls_of, failures_of, has_failed};
+ghost use Rattle.wire_http.specs.Input.{Came};
 ghost use Rattle.wire_http.specs.Count.{Spends};
 ghost use Rattle.wire_http.specs.Fault.{GaveUpReading};
 
@@ -21,16 +22,17 @@ pub(crate) fn read_more<R: Read>(
     room: usize,
 ) -> Result<bool, StreamFault>
     requires { 0 < room }
-    ensures bytes { OnOk result ((more : List ℕ) × (buffer.new.items ≡ buffer.old.items ++ more)
-        × (length more ≤ room)
-        × Consumes (R.remaining (inner_of reader.old)) (R.remaining (inner_of reader.new)) more) }
+    ensures came { OnOk result (Came (R.remaining (inner_of reader.old))
+        (R.remaining (inner_of reader.new)) buffer.old.items buffer.new.items) }
+    ensures short { OnOk result (length buffer.new.items ≤ length buffer.old.items + room) }
     ensures end { IfOk result (λ came. came ≡ false
         → (buffer.new.items ≡ buffer.old.items) × IsAtEnd (R.remaining (inner_of reader.new))) }
     ensures turns { Spends turns.old turns.new (calls_of reader.old) (calls_of reader.new) }
     ensures fewer { OnOk result (turns.new + 1 ≡ turns.old) }
     ensures good { OnOk result (failures_of reader.new ≡ failures_of reader.old) }
     ensures err { IfErr result (λ e.
-        GaveUpReading e (failures_of reader.old) (failures_of reader.new) turns.new) }
+        GaveUpReading e (failures_of reader.old) (failures_of reader.new) (has_failed reader.new)
+        turns.new) }
 {
     if *turns == 0 {
         return Err(StreamFault::Turns);

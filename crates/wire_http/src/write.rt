@@ -1,8 +1,8 @@
 //! Writing, with what was written where a write fails.
-ghost use Rattle.std.specs.Prelude.{◌≡◌, ℕ, take, OnOk, OnErr};
+ghost use Rattle.std.specs.Prelude.{◌≡◌, ◌<◌, ◌≤◌, ℕ, length, take, OnOk, OnErr};
 ghost use Rattle.std.specs.Io.KnownBytes.{Appends};
-ghost use Rattle.wire_http.specs.Counted.{inner_of, failures_of};
-ghost use Rattle.wire_http.specs.Count.{HasRisen};
+ghost use Rattle.wire_http.specs.Count.{FailsLast};
+ghost use Rattle.wire_http.specs.Counted.{inner_of, calls_of, failures_of, has_failed};
 
 use crate::counted::Counted;
 use std::io::Write;
@@ -12,14 +12,17 @@ use std::io::Write;
 pub(crate) struct Unwritten;
 
 /// Writes all of the bytes, or the first of them where a write fails. A write that takes no byte is
-/// a failure, and no failed write is tried again.
+/// a failure. After a failed write there is no other.
 pub(crate) fn write_whole<W: Write>(writer: &mut Counted<W>, bytes: &[u8]) -> Result<(), Unwritten>
     ensures whole { OnOk result (Appends (W.contents (inner_of writer.old))
         (W.contents (inner_of writer.new)) bytes.now) }
     ensures good { OnOk result (failures_of writer.new ≡ failures_of writer.old) }
-    ensures front { OnErr result ((n : ℕ) × Appends (W.contents (inner_of writer.old))
-        (W.contents (inner_of writer.new)) (take n bytes.now)) }
-    ensures failed { OnErr result (HasRisen (failures_of writer.old) (failures_of writer.new)) }
+    ensures front { OnErr result ((n : ℕ) × (n < length bytes.now)
+        × Appends (W.contents (inner_of writer.old)) (W.contents (inner_of writer.new))
+        (take n bytes.now)) }
+    ensures failed { OnErr result (FailsLast (failures_of writer.old) (failures_of writer.new)
+        (has_failed writer.new)) }
+    ensures rises { calls_of writer.old ≤ calls_of writer.new }
 {
     let mut at = 0;
     while at < bytes.len() {

@@ -5,7 +5,7 @@ ghost use Rattle.wire_reply.specs.Built.{state_data, states_data, notify_data, s
 
 use entity_core::entity_id::EntityId;
 use serde_json::{Value, json};
-use service_step::notice::{Notices, Notify, States};
+use service_notices::notice::{Notices, Notify, States};
 use std::alloc::{AllocError, Global};
 
 fn state_json(alloc: Global, state: (EntityId, u64)) -> Result<Value, AllocError>

@@ -3,7 +3,7 @@ use Rattle.std.proofs.lemmas.Result.{IfOk-weaker}
 use Rattle.clap.specs.Simple.{app_of_fields, on_top}
 use Rattle.clap.specs.Words.{App, app_of, new_app, with_subcommand}
 use Rattle.clap.specs.declared.builder.command.Command.TheViews.{out-Command}
-use Rattle.dss_line.specs.Grammar.{cell_app, run_app, self_app, serve_app}
+use Rattle.dss_line.specs.Grammar.{cell_app, report_app, run_app, self_app, serve_app}
 use Rattle.dss_line.proofs.grammar.command.Goals as goal
 
 -- the program's own command
@@ -22,4 +22,6 @@ returns c =
     let local_3 : (out-Command c.in_ok-subcommand-3.field-0).has_globals ≡ false = c.in_ok-subcommand-3.ensures.globals ∙ ap₂ (λ a b. a || b) local_2 c.in_ok-self_command.ensures.1 in
     let with_4 : app_of c.in_ok-subcommand-4.field-0 ≡ with_subcommand (with_subcommand (with_subcommand (with_subcommand (own) run_app.top) serve_app.top) self_app.top) cell_app.top = c.in_ok-subcommand-4.ensures.shape c.in_ok-cell_command.ensures.1 ∙ ap₂ with_subcommand with_3 (ap (λ (a : App). a.top) c.in_ok-cell_command.ensures.0) in
     let local_4 : (out-Command c.in_ok-subcommand-4.field-0).has_globals ≡ false = c.in_ok-subcommand-4.ensures.globals ∙ ap₂ (λ a b. a || b) local_3 c.in_ok-cell_command.ensures.1 in
-    IfOk-weaker c.subcommand-5.result _ _ (λ command h. (h.shape c.in_ok-report_command.ensures.1 ∙ ap₂ with_subcommand with_4 (ap (λ (a : App). a.top) c.in_ok-report_command.ensures.0), h.globals ∙ ap₂ (λ a b. a || b) local_4 c.in_ok-report_command.ensures.1)) c.subcommand-5.ensures
+    let with_5 : app_of c.in_ok-subcommand-5.field-0 ≡ with_subcommand (with_subcommand (with_subcommand (with_subcommand (with_subcommand (own) run_app.top) serve_app.top) self_app.top) cell_app.top) report_app.top = c.in_ok-subcommand-5.ensures.shape c.in_ok-report_command.ensures.1 ∙ ap₂ with_subcommand with_4 (ap (λ (a : App). a.top) c.in_ok-report_command.ensures.0) in
+    let local_5 : (out-Command c.in_ok-subcommand-5.field-0).has_globals ≡ false = c.in_ok-subcommand-5.ensures.globals ∙ ap₂ (λ a b. a || b) local_4 c.in_ok-report_command.ensures.1 in
+    IfOk-weaker c.subcommand-6.result _ _ (λ command h. (h.shape c.in_ok-upgrade_command.ensures.1 ∙ ap₂ with_subcommand with_5 (ap (λ (a : App). a.top) c.in_ok-upgrade_command.ensures.0), h.globals ∙ ap₂ (λ a b. a || b) local_5 c.in_ok-upgrade_command.ensures.1)) c.subcommand-6.ensures

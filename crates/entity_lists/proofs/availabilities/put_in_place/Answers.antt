@@ -5,7 +5,7 @@ use Rattle.entity_core.specs.Airspace.{text_cmp}
 use Rattle.entity_lists.specs.Sorted.{keyed, Hit, Gap}
 use Rattle.entity_lists.specs.Availabilities.{InOrder, pair_of}
 use Rattle.entity_lists.specs.declared.availabilities.Entry.{Entry}
-use Rattle.entity_lists.proofs.Places.{put_hit, put_gap}
+use Rattle.entity_lists.proofs.Places.{not_some, put_hit, put_gap}
 use Rattle.entity_lists.proofs.availabilities.put_in_place.Goals as goal
 
 pub returns-in-Ok-clause-ok : goal.returns-in-Ok-clause-ok
@@ -17,3 +17,8 @@ pub returns-in_ok-insert-in-Err-clause-ok : goal.returns-in_ok-insert-in-Err-cla
 returns-in_ok-insert-in-Err-clause-ok c =
     let gap = subst (λ (es : List Entry). Gap text_cmp pair_of es c.args.entry.uss c.in-Err.i) c.deref.ensures.value (c.in-Err.ensures.gap (subst InOrder (sym c.deref.ensures.value) c.requires)) in
     ap (keyed pair_of) c.in_ok-insert-in-Err.ensures.items ∙ put_gap text_cmp pair_of nat_list_cmp_total c.args.items.now.items c.args.entry c.in-Err.i gap
+
+pub returns-in_err-insert-in-Err-clause-over : goal.returns-in_err-insert-in-Err-clause-over
+returns-in_err-insert-in-Err-clause-over c = λ some.
+    let gap = subst (λ (es : List Entry). Gap text_cmp pair_of es c.args.entry.uss c.in-Err.i) c.deref.ensures.value (c.in-Err.ensures.gap (subst InOrder (sym c.deref.ensures.value) c.requires)) in
+    absurd (not_some text_cmp pair_of nat_list_cmp_total c.args.items.now.items c.args.entry.uss c.in-Err.i gap c.requires some)

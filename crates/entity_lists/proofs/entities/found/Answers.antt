@@ -3,14 +3,17 @@ use Rattle.entity_core.specs.declared.entity.Entity.{Entity}
 use Rattle.entity_core.specs.Airspace.{key_cmp}
 use Rattle.entity_lists.specs.Entities.{pair_of}
 use Rattle.entity_lists.proofs.Keys.{key_total}
-use Rattle.entity_lists.proofs.Places.{found_hit, found_gap, read_hit}
+use Rattle.entity_lists.proofs.Places.{found_hit, found_gap, not_none, read_hit}
 use Rattle.entity_lists.proofs.entities.found.Goals as goal
 
-pub returns-in_ok-clone-in-Ok : goal.returns-in_ok-clone-in-Ok
-returns-in_ok-clone-in-Ok c =
+pub returns-in_ok-clone-in-Ok-clause-found : goal.returns-in_ok-clone-in-Ok-clause-found
+returns-in_ok-clone-in-Ok-clause-found c =
     let hit = c.in-Ok.ensures.hit c.requires in
     ap (λ (e : Entity). Some e) (c.in_ok-clone-in-Ok.ensures ∙ read_hit key_cmp pair_of c.args.items.now (c.args.kind, c.args.id) c.in-Ok.i hit c.index-items-i.result c.index-items-i.is)
     ∙ found_hit key_cmp pair_of key_total c.args.items.now (c.args.kind, c.args.id) c.in-Ok.i hit
 
-pub returns-in-Err : goal.returns-in-Err
-returns-in-Err c = found_gap key_cmp pair_of key_total c.args.items.now (c.args.kind, c.args.id) c.in-Err.field-0 (c.in-Err.ensures.gap c.requires) c.requires
+pub returns-in-Err-clause-found : goal.returns-in-Err-clause-found
+returns-in-Err-clause-found c = found_gap key_cmp pair_of key_total c.args.items.now (c.args.kind, c.args.id) c.in-Err.field-0 (c.in-Err.ensures.gap c.requires) c.requires
+
+pub returns-in_err-clone-in-Ok-clause-none : goal.returns-in_err-clone-in-Ok-clause-none
+returns-in_err-clone-in-Ok-clause-none c = λ none. absurd (not_none key_cmp pair_of key_total c.args.items.now (c.args.kind, c.args.id) c.in-Ok.i (c.in-Ok.ensures.hit c.requires) none)

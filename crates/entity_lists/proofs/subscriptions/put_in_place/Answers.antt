@@ -5,7 +5,7 @@ use Rattle.std.proofs.lemmas.Cmp.{nat_cmp_total}
 use Rattle.entity_core.specs.declared.subscription.Sub.{Sub}
 use Rattle.entity_lists.specs.Sorted.{keyed, Hit, Gap}
 use Rattle.entity_lists.specs.Subscriptions.{InOrder, pair_of}
-use Rattle.entity_lists.proofs.Places.{put_hit, put_gap}
+use Rattle.entity_lists.proofs.Places.{not_some, put_hit, put_gap}
 use Rattle.entity_lists.proofs.subscriptions.put_in_place.Goals as goal
 
 pub returns-in-Ok-clause-ok : goal.returns-in-Ok-clause-ok
@@ -17,3 +17,8 @@ pub returns-in_ok-insert-in-Err-clause-ok : goal.returns-in_ok-insert-in-Err-cla
 returns-in_ok-insert-in-Err-clause-ok c =
     let gap = subst (λ (ss : List Sub). Gap nat_cmp pair_of ss c.args.sub.id c.in-Err.i) c.deref.ensures.value (c.in-Err.ensures.gap (subst InOrder (sym c.deref.ensures.value) c.requires)) in
     ap (keyed pair_of) c.in_ok-insert-in-Err.ensures.items ∙ put_gap nat_cmp pair_of nat_cmp_total c.args.items.now.items c.args.sub c.in-Err.i gap
+
+pub returns-in_err-insert-in-Err-clause-over : goal.returns-in_err-insert-in-Err-clause-over
+returns-in_err-insert-in-Err-clause-over c = λ some.
+    let gap = subst (λ (es : List Sub). Gap nat_cmp pair_of es c.args.sub.id c.in-Err.i) c.deref.ensures.value (c.in-Err.ensures.gap (subst InOrder (sym c.deref.ensures.value) c.requires)) in
+    absurd (not_some nat_cmp pair_of nat_cmp_total c.args.items.now.items c.args.sub.id c.in-Err.i gap c.requires some)

@@ -1,7 +1,7 @@
 use Rattle.std.proofs.Common.{List, map, ap, ◌∙◌}
 use Rattle.entity_core.specs.Search.{subscribers_in}
 use Rattle.entity_core.specs.declared.subscription.Sub.{Sub}
-use Rattle.service_step.specs.Notices.{notices_of}
+use Rattle.service_notices.specs.Notices.{notices_of}
 use Rattle.service_step.proofs.Looked.{looks_as}
 use Rattle.service_step.proofs.Notified.{told_ids}
 use Rattle.service_step.proofs.entity_effects.notified.Goals as goal

@@ -5,7 +5,7 @@ use Rattle.space_tables.specs.Spelling.{availability_number, availability_values
 use Rattle.space_changes.specs.Layout.{Always, Relays, with_availability_row}
 use Rattle.space_changes.proofs.Texts.{insert_availability_text}
 use Rattle.space_changes.proofs.Running.{runs_on}
-use Rattle.space_changes.proofs.Availabilities.{inserts_availability}
+use Rattle.space_changes.proofs.Inserting.{inserts_availability}
 use Rattle.space_changes.proofs.availability.insert_availability.Goals as goal
 
 pub returns-clause-inserts : goal.returns-clause-inserts

@@ -1,13 +1,17 @@
-use Rattle.std.proofs.Common.{◌≡◌, []}
-use Rattle.space_rows.proofs.ReadSoFar.{is_none}
+use Rattle.std.proofs.Common.{[]}
+use Rattle.sqlite.specs.Held.{state}
+use Rattle.space_changes.specs.Statements.{MakesChange}
+use Rattle.space_changes.specs.SubPutting.{Tells}
+use Rattle.space_changes.proofs.Running.{runs_last}
+use Rattle.space_changes.proofs.ToldAll.{changes_told}
 use Rattle.space_changes.proofs.change.write_change.Goals as goal
 
-pub returns-in-Put-clause-changes : goal.returns-in-Put-clause-changes
-returns-in-Put-clause-changes g c =
-    let none : c.args.notify.now ≡ [] = is_none c.args.notify.now _ c.is_empty.ensures c.if-not-is_empty.false in
-    rw (c.in-Put.is, none) c.put_entity.ensures.changes
-
-pub returns-in-Avail-clause-changes : goal.returns-in-Avail-clause-changes
-returns-in-Avail-clause-changes g c =
-    let none : c.args.notify.now ≡ [] = is_none c.args.notify.now _ c.is_empty.ensures c.if-not-is_empty.false in
-    rw (c.in-Avail.is, none) c.set_availability.ensures.changes
+pub returns-clause-changes : goal.returns-clause-changes
+returns-clause-changes g c =
+    let a = state g.S.Store c.args.tx.now.conn.now in
+    let b = state g.S.Store c.write_one.new.tx.conn.now in
+    let d = state g.S.Store c.tell_all.new.tx.conn.now in
+    let change = c.args.change.now in
+    let told = c.args.notify.now in
+    runs_last (λ _. MakesChange change []) (λ _. Tells told) (λ _. MakesChange change told) a b d _ c.tell_all.result
+    (λ _ makes tells. changes_told change told a.now b.now d.now makes tells) c.in_ok-write_one.ensures.changes c.tell_all.ensures.tells

@@ -1,6 +1,5 @@
-use Rattle.std.proofs.Common.{to_z, of_z, w64, ◌≡◌, ◌∙◌, subst, rules}
+use Rattle.std.proofs.Common.{to_z, of_z, w64, ◌≡◌, ◌∙◌, rules}
 use Rattle.sqlite.specs.Held.{state}
-use Rattle.space_rows.specs.Rows.{SpellsEntity}
 use Rattle.space_changes.specs.Layout.{Always, Relays, with_rows}
 use Rattle.space_changes.specs.Putting.{InsertsEntity}
 use Rattle.space_changes.proofs.Running.{runs_weaker}
@@ -14,6 +13,6 @@ returns-clause-inserts g c =
     let volumes = c.in_ok-row.volumes.items in
     let cells = c.in_ok-row.cells.items in
     let own : to_z w64 (of_z w64 c.args.num) ≡ c.args.num = search rules in
-    runs_weaker (λ _. Relays Always (with_rows row volumes cells)) (λ _. InsertsEntity c.args.entity.now c.args.num) old new c.insert_rows.result
-    (λ _ joins. record { row = row; volumes = volumes; cells = cells; number = c.in_ok-row.ensures.num ∙ own; spelt = subst (λ n. SpellsEntity row volumes cells n c.args.entity.now) c.requires.unnamed c.in_ok-row.ensures.spells; relays = joins })
+    runs_weaker (λ _. Relays Always (with_rows row volumes cells c.args.named)) (λ _. InsertsEntity c.args.entity.now c.args.num c.args.named) old new c.insert_rows.result
+    (λ _ joins. record { row = row; volumes = volumes; cells = cells; number = c.in_ok-row.ensures.num ∙ own; spelt = c.in_ok-row.ensures.spells; relays = joins })
     (rw (c.deref.ensures.value, c.deref-2.ensures.value) at c.insert_rows.ensures.inserts)

@@ -2,16 +2,16 @@ use Rattle.std.proofs.Common.{◌≡◌, ◌∙◌, ◌+◌, [], List, ℤ, arit
 use Rattle.std.proofs.lemmas.List.{take_all, take_more}
 use Rattle.sqlite.specs.Held.{state}
 use Rattle.entity_lists.specs.Entities.{entity_map}
-use Rattle.space_reading.proofs.Readings.{reads_then, reads_as}
+use Rattle.space_select.proofs.Readings.{reads_then, reads_as}
 use Rattle.space_finding.specs.Candidates.{ReadsNumbered}
-use Rattle.space_finding.proofs.Counted.{reads_still}
-use Rattle.space_finding.proofs.Found.{none_numbered, no_entities}
+use Rattle.space_single.proofs.Still.{reads_still}
+use Rattle.space_finding.proofs.Numbered.{no_entities, none_read}
 use Rattle.space_finding.proofs.candidates.read_all.Goals as goal
 
 pub loop-num-init : goal.loop-num-init
 loop-num-init g c = record {
   same_reference = refl;
-  so_far = reads_still (λ db _. ReadsNumbered [] db (entity_map c.new-found.result)) (state g.S.Store c.args.tx.now.conn.now) (λ db. none_numbered db _ (no_entities c.new-found.result c.new-found.ensures));
+  so_far = reads_still (λ db _. ReadsNumbered [] db (entity_map c.new-found.result)) (state g.S.Store c.args.tx.now.conn.now) tt (λ db. none_read db _ (no_entities c.new-found.result c.new-found.ensures));
 }
 
 pub loop-num-preserved : goal.loop-num-preserved

@@ -1,7 +1,7 @@
 use Rattle.std.proofs.Common.{◌≡◌, take, Ok}
 use Rattle.sqlite.specs.Held.{state}
 use Rattle.entity_lists.specs.Entities.{entity_map}
-use Rattle.space_reading.specs.Reading.{Reads}
+use Rattle.space_select.specs.Reading.{Reads}
 use Rattle.space_finding.specs.Candidates.{ReadsNumbered}
 use Rattle.space_finding.proofs.candidates.read_all.Given as goal
 

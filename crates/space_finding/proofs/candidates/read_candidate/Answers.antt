@@ -1,10 +1,10 @@
 use Rattle.std.proofs.Common.{Some, None, to_z-of_z}
 use Rattle.sqlite.specs.Held.{state}
 use Rattle.entity_lists.specs.Entities.{entity_map}
-use Rattle.space_reading.specs.Numbered.{FindsNumbered}
-use Rattle.space_reading.proofs.Readings.{reads_as}
+use Rattle.space_single.specs.Numbered.{FindsNumbered}
+use Rattle.space_select.proofs.Readings.{reads_as}
 use Rattle.space_finding.specs.Candidates.{AddsNumbered}
-use Rattle.space_finding.proofs.Found.{adds_none, adds_one}
+use Rattle.space_finding.proofs.Numbered.{adds_entity, adds_no_entity}
 use Rattle.space_finding.proofs.candidates.read_candidate.Goals as goal
 
 pub returns-in_ok-put-in-Some-clause-adds : goal.returns-in_ok-put-in-Some-clause-adds
@@ -13,11 +13,11 @@ returns-in_ok-put-in-Some-clause-adds g c =
     let before = entity_map c.args.found.now in
     let after = entity_map c.put.new.self in
     reads_as (FindsNumbered num) (λ db _. AddsNumbered num db before after) (state g.S.Store c.args.tx.now.conn.now) (state g.S.Store c.read_numbered.new.tx.conn.now) (Some c.in-Some.entity) tt
-    (λ db h. adds_one num db before after c.in-Some.entity c.in_ok-put-in-Some.ensures.ok h) (rw (to_z-of_z c.ranges.num, c.in-Some.is) at c.in_ok-entity.ensures.reads)
+    (λ db h. adds_entity num db before after c.in-Some.entity c.in_ok-put-in-Some.ensures.ok h) (rw (to_z-of_z c.ranges.num, c.in-Some.is) at c.in_ok-entity.ensures.reads)
 
 pub returns-in-None-clause-adds : goal.returns-in-None-clause-adds
 returns-in-None-clause-adds g c =
     let num = c.args.num in
     let before = entity_map c.args.found.now in
     reads_as (FindsNumbered num) (λ db _. AddsNumbered num db before before) (state g.S.Store c.args.tx.now.conn.now) (state g.S.Store c.read_numbered.new.tx.conn.now) None tt
-    (λ db h. adds_none num db before h) (rw (to_z-of_z c.ranges.num, c.in-None.is) at c.in_ok-entity.ensures.reads)
+    (λ db h. adds_no_entity num db before h) (rw (to_z-of_z c.ranges.num, c.in-None.is) at c.in_ok-entity.ensures.reads)

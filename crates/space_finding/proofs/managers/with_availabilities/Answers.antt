@@ -4,9 +4,9 @@ use Rattle.std.specs.Vec.Iter.{into_iter_items}
 use Rattle.sqlite.specs.Held.{state}
 use Rattle.space_core.specs.declared.met.Met.{Met}
 use Rattle.space_core.specs.Met.{met_of}
-use Rattle.space_reading.proofs.Readings.{reads_then, reads_as}
+use Rattle.space_select.proofs.Readings.{reads_then, reads_as}
 use Rattle.space_finding.specs.Met.{AreWithAvailabilities, IsWithAvailability}
-use Rattle.space_finding.proofs.Counted.{reads_still}
+use Rattle.space_single.proofs.Still.{reads_still}
 use Rattle.space_finding.proofs.MetLists.{MakesAll, made_more, made_all}
 use Rattle.space_finding.proofs.managers.with_availabilities.Goals as goal
 
@@ -16,7 +16,7 @@ loop-entity-init g c =
     let given = c.into_iter-entity-iterator.ensures.into_iter_gives in
     record {
       same_reference = refl;
-      so_far = reads_still (λ db _. MakesAll all c.in_ok-met.met.items (into_iter_items c.into_iter-entity-iterator.result) db) (state g.S.Store c.args.tx.now.conn.now) (λ db a s.
+      so_far = reads_still (λ db _. MakesAll all c.in_ok-met.met.items (into_iter_items c.into_iter-entity-iterator.result) db) (state g.S.Store c.args.tx.now.conn.now) tt (λ db a s.
           ap (λ (ys : List Met). ys ++ map (met_of a) (into_iter_items c.into_iter-entity-iterator.result)) c.in_ok-met.ensures.items ∙ ap (map (met_of a)) given.0);
       left = given.1 ∙ (c.args.entities.ok.0 ∙ sym (ap length given.0));
     }

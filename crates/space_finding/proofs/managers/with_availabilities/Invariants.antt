@@ -1,10 +1,7 @@
-use Rattle.std.proofs.Common.{◌≡◌, ◌++◌, length, map, Ok}
+use Rattle.std.proofs.Common.{◌≡◌, length, Ok}
 use Rattle.std.specs.Vec.Iter.{into_iter_items, into_iter_len}
 use Rattle.sqlite.specs.Held.{state}
-use Rattle.entity_core.specs.Airspace.{Airspace}
-use Rattle.space_core.specs.Met.{met_of}
-use Rattle.space_tables.specs.Spelling.{Spells}
-use Rattle.space_reading.specs.Reading.{Reads}
+use Rattle.space_select.specs.Reading.{Reads}
 use Rattle.space_finding.proofs.MetLists.{MakesAll}
 use Rattle.space_finding.proofs.managers.with_availabilities.Given as goal
 

@@ -3,10 +3,10 @@ use Rattle.sqlite.specs.Held.{state}
 use Rattle.entity_core.specs.declared.entity.Entity.{Entity}
 use Rattle.entity_lists.specs.Entities.{entity_map}
 use Rattle.space_core.specs.Met.{met_of}
-use Rattle.space_reading.proofs.Readings.{reads_then}
+use Rattle.space_select.proofs.Readings.{reads_then}
 use Rattle.space_finding.specs.Candidates.{HoldsCandidates}
 use Rattle.space_finding.specs.Met.{AreWithAvailabilities, FindsMet}
-use Rattle.space_finding.proofs.Counted.{reads_weaker}
+use Rattle.space_single.proofs.Still.{reads_weaker}
 use Rattle.space_finding.proofs.Exact.{candidates_meet}
 use Rattle.space_finding.proofs.meeting.find_meeting.Goals as goal
 

@@ -1,5 +1,5 @@
 use Rattle.sqlite.specs.Held.{state}
-use Rattle.space_reading.proofs.OwnEntity.{reads_judged}
+use Rattle.space_select.proofs.Readings.{reads_judged}
 use Rattle.space_finding.specs.Numbers.{HasInterval, ShowsNumbers, HasNumbers}
 use Rattle.space_finding.proofs.Counted.{numbers_told}
 use Rattle.space_finding.proofs.numbers.find_ancestor.Goals as goal
@@ -8,5 +8,5 @@ pub returns-clause-finds : goal.returns-clause-finds
 returns-clause-finds g c =
     let P = HasInterval c.args.ancestor.now in
     let after = c.add_numbers.new.found.items in
-    reads_judged (λ db rows. ShowsNumbers P db rows.items) (λ db _. HasNumbers P db after) (state g.S.Store c.args.tx.now.conn.now) (state g.S.Store c.query_ancestor.new.tx.conn.now) c.in_ok-rows.rows c.add_numbers.result
-    (λ db h. numbers_told P db c.in_ok-rows.rows.items c.as_slice.result.now after c.add_numbers.result c.as_slice.ensures.value c.add_numbers.ensures.each h) c.in_ok-rows.ensures.reads
+    reads_judged (λ db rows. ShowsNumbers c.args.table P db rows.items) (λ db _. HasNumbers c.args.table P db after) (state g.S.Store c.args.tx.now.conn.now) (state g.S.Store c.query_ancestor.new.tx.conn.now) c.in_ok-rows.rows c.add_numbers.result
+    (λ db h. numbers_told c.args.table P db c.in_ok-rows.rows.items c.as_slice.result.now after c.add_numbers.result c.as_slice.ensures.value c.add_numbers.ensures.each h) c.in_ok-rows.ensures.reads

@@ -2,7 +2,7 @@ use Rattle.std.proofs.Common.{◌∙◌, ◌+◌, [], List, arith, subst, take}
 use Rattle.std.specs.List.{AllByRecursion}
 use Rattle.std.proofs.lemmas.List.{take_all, take_more}
 use Rattle.sqlite.specs.Held.{state}
-use Rattle.space_reading.proofs.Readings.{reads_then, reads_as}
+use Rattle.space_select.proofs.Readings.{reads_then, reads_as}
 use Rattle.space_finding.specs.declared.interval.Interval.{Interval}
 use Rattle.space_finding.specs.Numbers.{StartsIn, HasInterval, HasNumbers, FindsNumbers}
 use Rattle.space_finding.proofs.Lists.{each_more}
@@ -20,8 +20,8 @@ loop-range-preserved g c =
     let d = state g.S.Store c.find_in_range.new.tx.conn.now in
     record {
       same_reference = c.find_in_range.ensures.same_reference ∙ c.loop-range.invariant.same_reference;
-      so_far = reads_as _ (λ db _. AllByRecursion (λ i. HasNumbers (StartsIn i) db after) (take (n + 1) ranges)) a d _ tt
-          (λ db h. each_more (λ i. HasNumbers (StartsIn i) db after) (take n ranges) (take (n + 1) ranges) _ (take_more ranges n _ (omega arith)) (numbers_stay StartsIn db before after (take n ranges) c.in_ok-find_in_range.ensures.keeps h.0) h.1)
+      so_far = reads_as _ (λ db _. AllByRecursion (λ i. HasNumbers c.args.table (StartsIn i) db after) (take (n + 1) ranges)) a d _ tt
+          (λ db h. each_more (λ i. HasNumbers c.args.table (StartsIn i) db after) (take n ranges) (take (n + 1) ranges) _ (take_more ranges n _ (omega arith)) (numbers_stay c.args.table StartsIn db before after (take n ranges) c.in_ok-find_in_range.ensures.keeps h.0) h.1)
           (reads_then _ _ a b d tt _ c.loop-range.invariant.so_far c.in_ok-find_in_range.ensures.finds);
     }
 
@@ -33,8 +33,8 @@ loop-ancestor-init g c =
     let b = state g.S.Store c.loop-range.tx.conn.now in
     record {
       same_reference = c.loop-range.invariant.same_reference;
-      so_far = reads_as _ (λ db _. FindsNumbers ranges [] db found) a b tt tt
-          (λ db h. record { in_ranges = subst (λ (l : List Interval). AllByRecursion (λ i. HasNumbers (StartsIn i) db found) l) (take_all c.loop-range.range-index ranges (omega arith)) h; above = tt })
+      so_far = reads_as _ (λ db _. FindsNumbers c.args.table ranges [] db found) a b tt tt
+          (λ db h. record { in_ranges = subst (λ (l : List Interval). AllByRecursion (λ i. HasNumbers c.args.table (StartsIn i) db found) l) (take_all c.loop-range.range-index ranges (omega arith)) h; above = tt })
           c.loop-range.invariant.so_far;
     }
 
@@ -51,10 +51,10 @@ loop-ancestor-preserved g c =
     let d = state g.S.Store c.find_ancestor.new.tx.conn.now in
     record {
       same_reference = c.find_ancestor.ensures.same_reference ∙ c.loop-ancestor.invariant.same_reference;
-      so_far = reads_as _ (λ db _. FindsNumbers ranges (take (n + 1) ancestors) db after) a d _ tt
+      so_far = reads_as _ (λ db _. FindsNumbers c.args.table ranges (take (n + 1) ancestors) db after) a d _ tt
           (λ db h. record {
-            in_ranges = numbers_stay StartsIn db before after ranges keeps h.0.in_ranges;
-            above = each_more (λ i. HasNumbers (HasInterval i) db after) (take n ancestors) (take (n + 1) ancestors) _ (take_more ancestors n _ (omega arith)) (numbers_stay HasInterval db before after (take n ancestors) keeps h.0.above) h.1;
+            in_ranges = numbers_stay c.args.table StartsIn db before after ranges keeps h.0.in_ranges;
+            above = each_more (λ i. HasNumbers c.args.table (HasInterval i) db after) (take n ancestors) (take (n + 1) ancestors) _ (take_more ancestors n _ (omega arith)) (numbers_stay c.args.table HasInterval db before after (take n ancestors) keeps h.0.above) h.1;
           })
           (reads_then _ _ a b d tt _ c.loop-ancestor.invariant.so_far c.in_ok-find_ancestor.ensures.finds);
     }
@@ -68,9 +68,9 @@ returns-clause-finds g c =
     let keeps = c.put_in_order.ensures.keeps in
     let a = state g.S.Store c.args.tx.now.conn.now in
     let b = state g.S.Store c.loop-ancestor.tx.conn.now in
-    reads_as _ (λ db found. FindsNumbers ranges ancestors db found.items) a b tt c.put_in_order.new.numbers
+    reads_as _ (λ db found. FindsNumbers c.args.table ranges ancestors db found.items) a b tt c.put_in_order.new.numbers
     (λ db h. record {
-      in_ranges = numbers_stay StartsIn db before after ranges keeps h.in_ranges;
-      above = numbers_stay HasInterval db before after ancestors keeps (subst (λ (l : List Interval). AllByRecursion (λ i. HasNumbers (HasInterval i) db before) l) (take_all c.loop-ancestor.ancestor-index ancestors (omega arith)) h.above);
+      in_ranges = numbers_stay c.args.table StartsIn db before after ranges keeps h.in_ranges;
+      above = numbers_stay c.args.table HasInterval db before after ancestors keeps (subst (λ (l : List Interval). AllByRecursion (λ i. HasNumbers c.args.table (HasInterval i) db before) l) (take_all c.loop-ancestor.ancestor-index ancestors (omega arith)) h.above);
     })
     c.loop-ancestor.invariant.so_far

@@ -1,20 +1,26 @@
-use Rattle.std.proofs.Common.{◌≡◌, [], ◌∷◌, rules, w64, to_z, of_z}
+use Rattle.std.proofs.Common.{◌≡◌, [], ◌∷◌, refl, rules, subst, sym, w64, to_z, of_z}
 use Rattle.sqlite.specs.Held.{state}
 use Rattle.sqlite.specs.declared.types.Value.TheVariants.{Int}
-use Rattle.space_reading.proofs.Readings.{reads_on}
-use Rattle.space_reading.proofs.Selects.{answers_as}
+use Rattle.space_select.specs.Selecting.{Answers, IsSelect}
+use Rattle.space_select.proofs.Readings.{reads_asked}
+use Rattle.space_finding.specs.CellTable.{interval_text}
 use Rattle.space_finding.specs.Numbers.{HasInterval, ShowsNumbers}
-use Rattle.space_finding.proofs.Shown.{ancestor_read, ancestor_select, ancestor_shown}
+use Rattle.space_single.proofs.Still.{reads_weaker}
+use Rattle.space_finding.proofs.Shown.{interval_select, interval_shown}
 use Rattle.space_finding.proofs.numbers.query_ancestor.Goals as goal
+
+pub query-requires : goal.query-requires
+query-requires g c = subst IsSelect (sym c.interval_text.ensures) (interval_select c.args.table)
 
 pub returns-clause-reads : goal.returns-clause-reads
 returns-clause-reads g c =
     let old = state g.S.Store c.args.tx.now.conn.now in
-    let new = state g.S.Store c.query_all.new.self.conn.now in
+    let new = state g.S.Store c.query.new.tx.conn.now in
     let i = c.args.ancestor.now in
+    let text = interval_text c.args.table in
+    let params = Int i.lo ∷ Int i.hi ∷ [] in
     let lo : to_z w64 (of_z w64 i.lo) ≡ i.lo = search rules in
     let hi : to_z w64 (of_z w64 i.hi) ≡ i.hi = search rules in
-    let ok = rw (c.params-to_sql.ensures, c.params-to_sql-2.ensures, lo, hi) at c.query_all.ensures.ok in
-    let err = rw (c.params-to_sql.ensures, c.params-to_sql-2.ensures, lo, hi) at c.query_all.ensures.err in
-    reads_on ancestor_read ancestor_select.plain (Int i.lo ∷ Int i.hi ∷ []) old new (ShowsNumbers (HasInterval i)) c.query_all.result ok err c.query_all.ensures.survives
-    (λ rows has h. ancestor_shown i old.now rows (answers_as ancestor_read (Int i.lo ∷ Int i.hi ∷ []) old new ancestor_select rows has h))
+    reads_weaker (λ db rows. Answers text params db rows.items) (λ db rows. ShowsNumbers c.args.table (HasInterval i) db rows.items) old new c.query.result
+    (λ db rows h. interval_shown c.args.table i db rows.items h)
+    (reads_asked old new c.query.result _ text _ params c.interval_text.ensures (rw (c.params-to_sql.ensures, c.params-to_sql-2.ensures, lo, hi) refl) c.query.ensures.reads)

@@ -1,5 +1,5 @@
 use Rattle.sqlite.specs.Held.{state}
-use Rattle.space_reading.proofs.Readings.{on_ok}
+use Rattle.space_select.proofs.Readings.{on_ok}
 use Rattle.space_reading.proofs.Judged.{judges_database}
 use Rattle.space_reading.proofs.reading.read_airspace.Goals as goal
 

@@ -3,7 +3,7 @@ use Rattle.space_rows.proofs.ReadSoFar.{front}
 use Rattle.entity_core.specs.Airspace.{text_cmp}
 use Rattle.entity_lists.specs.Availabilities.{availability_map, pair_of}
 use Rattle.entity_lists.proofs.Maps.{map_of_none}
-use Rattle.space_reading.specs.Gathering.{stated_by}
+use Rattle.space_select.specs.Setting.{stated_by}
 use Rattle.space_reading.proofs.Settlings.{settles_start, settles_more, settles_none}
 use Rattle.space_reading.proofs.settings.settings_in.Goals as goal
 

@@ -1,9 +1,9 @@
 use Rattle.sqlite.specs.Held.{state}
-use Rattle.space_reading.specs.Reading.{ShowsCellIds}
+use Rattle.space_reading.specs.Showing.{ShowsCellIds}
 use Rattle.space_reading.proofs.Texts.{cell_ids_read}
 use Rattle.space_reading.proofs.Means.{cell_ids_list}
 use Rattle.space_reading.proofs.Shown.{cell_ids_shown}
-use Rattle.space_reading.proofs.Readings.{reads_on}
+use Rattle.space_select.proofs.Readings.{reads_on}
 use Rattle.space_reading.proofs.tables.read_cell_ids.Goals as goal
 
 pub returns-clause-reads : goal.returns-clause-reads

@@ -1,9 +1,9 @@
 use Rattle.sqlite.specs.Held.{state}
-use Rattle.space_reading.specs.Reading.{ShowsCells}
+use Rattle.space_reading.specs.Showing.{ShowsCells}
 use Rattle.space_reading.proofs.Texts.{cells_read}
 use Rattle.space_reading.proofs.Means.{cells_list}
 use Rattle.space_reading.proofs.Shown.{cells_shown}
-use Rattle.space_reading.proofs.Readings.{reads_on}
+use Rattle.space_select.proofs.Readings.{reads_on}
 use Rattle.space_reading.proofs.tables.read_cells.Goals as goal
 
 pub returns-clause-reads : goal.returns-clause-reads

@@ -1,9 +1,9 @@
 use Rattle.sqlite.specs.Held.{state}
-use Rattle.space_reading.specs.Reading.{ShowsEntities}
+use Rattle.space_reading.specs.Showing.{ShowsEntities}
 use Rattle.space_reading.proofs.Texts.{entities_read}
 use Rattle.space_reading.proofs.Means.{entities_list}
 use Rattle.space_reading.proofs.Shown.{entities_shown}
-use Rattle.space_reading.proofs.Readings.{reads_on}
+use Rattle.space_select.proofs.Readings.{reads_on}
 use Rattle.space_reading.proofs.tables.read_entities.Goals as goal
 
 pub returns-clause-reads : goal.returns-clause-reads

@@ -1,9 +1,9 @@
 use Rattle.sqlite.specs.Held.{state}
-use Rattle.space_reading.specs.Reading.{ShowsMeta}
-use Rattle.space_reading.proofs.Texts.{metas_read}
-use Rattle.space_reading.proofs.Means.{metas_list}
-use Rattle.space_reading.proofs.Shown.{metas_shown}
-use Rattle.space_reading.proofs.Readings.{reads_on}
+use Rattle.space_select.specs.Meta.{ShowsMeta}
+use Rattle.space_select.proofs.Texts.{metas_read}
+use Rattle.space_select.proofs.Means.{metas_list}
+use Rattle.space_select.proofs.Shown.{metas_shown}
+use Rattle.space_select.proofs.Readings.{reads_on}
 use Rattle.space_reading.proofs.tables.read_metas.Goals as goal
 
 pub returns-clause-reads : goal.returns-clause-reads

@@ -1,9 +1,9 @@
 use Rattle.sqlite.specs.Held.{state}
-use Rattle.space_reading.specs.Reading.{ShowsSettingIds}
+use Rattle.space_reading.specs.Showing.{ShowsSettingIds}
 use Rattle.space_reading.proofs.Texts.{setting_ids_read}
 use Rattle.space_reading.proofs.Means.{setting_ids_list}
 use Rattle.space_reading.proofs.Shown.{setting_ids_shown}
-use Rattle.space_reading.proofs.Readings.{reads_on}
+use Rattle.space_select.proofs.Readings.{reads_on}
 use Rattle.space_reading.proofs.tables.read_setting_ids.Goals as goal
 
 pub returns-clause-reads : goal.returns-clause-reads

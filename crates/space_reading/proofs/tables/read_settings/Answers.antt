@@ -1,9 +1,9 @@
 use Rattle.sqlite.specs.Held.{state}
-use Rattle.space_reading.specs.Reading.{ShowsSettings}
+use Rattle.space_reading.specs.Showing.{ShowsSettings}
 use Rattle.space_reading.proofs.Texts.{settings_read}
 use Rattle.space_reading.proofs.Means.{settings_list}
 use Rattle.space_reading.proofs.Shown.{settings_shown}
-use Rattle.space_reading.proofs.Readings.{reads_on}
+use Rattle.space_select.proofs.Readings.{reads_on}
 use Rattle.space_reading.proofs.tables.read_settings.Goals as goal
 
 pub returns-clause-reads : goal.returns-clause-reads

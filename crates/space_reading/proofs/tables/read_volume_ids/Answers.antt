@@ -1,9 +1,9 @@
 use Rattle.sqlite.specs.Held.{state}
-use Rattle.space_reading.specs.Reading.{ShowsVolumeIds}
+use Rattle.space_reading.specs.Showing.{ShowsVolumeIds}
 use Rattle.space_reading.proofs.Texts.{volume_ids_read}
 use Rattle.space_reading.proofs.Means.{volume_ids_list}
 use Rattle.space_reading.proofs.Shown.{volume_ids_shown}
-use Rattle.space_reading.proofs.Readings.{reads_on}
+use Rattle.space_select.proofs.Readings.{reads_on}
 use Rattle.space_reading.proofs.tables.read_volume_ids.Goals as goal
 
 pub returns-clause-reads : goal.returns-clause-reads

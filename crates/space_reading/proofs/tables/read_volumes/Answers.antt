@@ -1,9 +1,9 @@
 use Rattle.sqlite.specs.Held.{state}
-use Rattle.space_reading.specs.Reading.{ShowsVolumes}
+use Rattle.space_reading.specs.Showing.{ShowsVolumes}
 use Rattle.space_reading.proofs.Texts.{volumes_read}
 use Rattle.space_reading.proofs.Means.{volumes_list}
 use Rattle.space_reading.proofs.Shown.{volumes_shown}
-use Rattle.space_reading.proofs.Readings.{reads_on}
+use Rattle.space_select.proofs.Readings.{reads_on}
 use Rattle.space_reading.proofs.tables.read_volumes.Goals as goal
 
 pub returns-clause-reads : goal.returns-clause-reads

@@ -1,13 +1,18 @@
-use Rattle.std.proofs.Common.{◌≡◌, sym}
-use Rattle.std.specs.Prelude.{None}
+use Rattle.std.proofs.Common.{◌≡◌}
 use Rattle.std.specs.FinMap.{get}
-use Rattle.space_tables.proofs.FirstFormat.{spelt_first}
-use Rattle.space_sql.specs.Holding.{kept, with_tables}
-use Rattle.space_sql.specs.Laws.{no_subscription}
-use Rattle.space_sql.proofs.NoSubscriptions.{reads_nothing}
+use Rattle.sqlite.specs.Held.{state}
+use Rattle.space_sql.proofs.Outcomes.{Laws, Rests}
+use Rattle.space_sql.proofs.Readings.{reads_settled}
 use Rattle.space_sql.proofs.subscriptions.subscription.Goals as goal
 
 pub returns-clause-reads : goal.returns-clause-reads
 returns-clause-reads g c =
-    reads_nothing g.S.Store (kept c.args.conn.now c.args.refusals.now c.args.broken.now) None
-    (λ a found. found ≡ get a.subscriptions c.args.id) (λ a db p. sym (no_subscription a (spelt_first (with_tables db) a p).subscriptions c.args.id))
+    let new = state g.S.Store c.settled.new.conn in
+    let rests : Rests (state g.S.Store c.args.conn.now) = record {
+      laws = record { settled = λ db o may. g.met.S.Store.settled _ db o may; stays = λ o. g.met.S.Store.stays _ o };
+      live = c.known.ensures.live;
+      settled = c.known.ensures.settled c.requires.outside;
+    } in
+    let after : Laws new = record { settled = λ db o may. g.met.S.Store.settled _ db o may; stays = λ o. g.met.S.Store.stays _ o } in
+    reads_settled g.S.Store c.args.conn.now c.read_subscription-read.new.conn c.settled.new.conn c.args.refusals.now c.settled.new.refusals c.args.broken.now c.settled.new.broken (λ a found. found ≡ get a.subscriptions c.args.id) rests after (λ clean. c.requires.live clean c.if-broken.false)
+    c.read_subscription-read.result c.settled.result c.read_subscription-read.ensures.reads c.settled.ensures.passes c.settled.ensures.same c.settled.ensures.survives

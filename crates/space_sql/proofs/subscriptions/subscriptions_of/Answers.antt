@@ -1,11 +1,18 @@
-use Rattle.std.proofs.Common.{◌≡◌, ◌∙◌, sym}
+use Rattle.std.proofs.Common.{◌≡◌}
 use Rattle.entity_core.specs.Search.{subscriptions_in}
-use Rattle.space_sql.specs.Holding.{kept}
-use Rattle.space_sql.proofs.NoSubscriptions.{none_of, reads_nothing}
+use Rattle.sqlite.specs.Held.{state}
+use Rattle.space_sql.proofs.Outcomes.{Laws, Rests}
+use Rattle.space_sql.proofs.Readings.{reads_settled}
 use Rattle.space_sql.proofs.subscriptions.subscriptions_of.Goals as goal
 
 pub returns-clause-reads : goal.returns-clause-reads
 returns-clause-reads g c =
-    reads_nothing g.S.Store (kept c.args.conn.now c.args.refusals.now c.args.broken.now) c.new.result
-    (λ a found. found.items ≡ subscriptions_in a.subscriptions c.args.uss.now c.args.area.now)
-    (λ a db p. c.new.ensures.items ∙ sym (none_of a db p c.args.uss.now c.args.area.now))
+    let new = state g.S.Store c.settled.new.conn in
+    let rests : Rests (state g.S.Store c.args.conn.now) = record {
+      laws = record { settled = λ db o may. g.met.S.Store.settled _ db o may; stays = λ o. g.met.S.Store.stays _ o };
+      live = c.known.ensures.live;
+      settled = c.known.ensures.settled c.requires.outside;
+    } in
+    let after : Laws new = record { settled = λ db o may. g.met.S.Store.settled _ db o may; stays = λ o. g.met.S.Store.stays _ o } in
+    reads_settled g.S.Store c.args.conn.now c.find_subscriptions_of-read.new.conn c.settled.new.conn c.args.refusals.now c.settled.new.refusals c.args.broken.now c.settled.new.broken (λ a found. found.items ≡ subscriptions_in a.subscriptions c.args.uss.now c.args.area.now) rests after (λ clean. c.requires.live clean c.if-broken.false)
+    c.find_subscriptions_of-read.result c.settled.result c.find_subscriptions_of-read.ensures.reads c.settled.ensures.passes c.settled.ensures.same c.settled.ensures.survives

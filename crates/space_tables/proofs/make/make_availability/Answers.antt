@@ -1,6 +1,6 @@
 use Rattle.std.proofs.Common.{ap, refl, []}
 use Rattle.sqlite.specs.Held.{state}
-use Rattle.space_tables.specs.Tables.{dss_schema, schema_5, availability}
+use Rattle.space_tables.specs.Tables.{first_schema, schema_5, availability}
 use Rattle.space_tables.proofs.Texts.{availability_text}
 use Rattle.space_tables.specs.Making.{IsBare}
 use Rattle.space_tables.proofs.Steps.{leads_on}
@@ -12,5 +12,5 @@ pub returns-clause-leads : goal.returns-clause-leads
 returns-clause-leads g c =
     let old = state g.S.Store c.args.tx.now.conn.now in
     let new = state g.S.Store c.execute.new.self.conn.now in
-    leads_on old new availability_text _ c.execute.result _ _ (IsBare schema_5) (IsBare dss_schema) c.execute.ensures.ended (λ off. ap (state g.S.Store) (c.execute.ensures.ended off).1) c.execute.ensures.runs c.execute.ensures.survives
-    (makes schema_5 dss_schema (λ _. []) (availability 0) availability_text old new c.execute.result refl availability_made.0 availability_made.1 availability_made.2 availability_is availability_made.3 refl)
+    leads_on old new availability_text _ c.execute.result _ _ (IsBare schema_5) (IsBare first_schema) c.execute.ensures.ended (λ off. ap (state g.S.Store) (c.execute.ensures.ended off).1) c.execute.ensures.runs c.execute.ensures.survives
+    (makes schema_5 first_schema (λ _. []) (availability 0) availability_text old new c.execute.result refl availability_made.0 availability_made.1 availability_made.2 availability_is availability_made.3 refl)

@@ -1,6 +1,6 @@
 use Rattle.std.proofs.Common.{◌∙◌, ap}
 use Rattle.token_conf.specs.TokenFile.{callers_of}
-use Rattle.wire_http.specs.Target.{path_of}
+use Rattle.wire_head.specs.Target.{path_of}
 use Rattle.wire_http.proofs.CallLaws.{call_made}
 use Rattle.wire_http.proofs.call.call_of.Goals as goal
 

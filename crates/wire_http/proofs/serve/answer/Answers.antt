@@ -1,4 +1,4 @@
-use Rattle.wire_http.proofs.Written.{Appends-none}
+use Rattle.wire_http.proofs.Written.{Appends-none, some_message}
 use Rattle.wire_http.proofs.serve.answer.Goals as goal
 
 pub returns-in_default-clause-part : goal.returns-in_default-clause-part
@@ -6,5 +6,6 @@ returns-in_default-clause-part g c = record {
   reply = c.call-reply.result;
   is_reply = c.call-reply.ensures.reply;
   size = 0;
+  short = some_message _ _ _ _;
   written = Appends-none _;
 }

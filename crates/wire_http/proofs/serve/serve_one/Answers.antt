@@ -1,42 +1,48 @@
 use Rattle.std.proofs.Common.{◌-◌, ◌+◌, Err, ap}
 use Rattle.std.proofs.lemmas.Result.{err_from_is_err_and}
 use Rattle.token_conf.specs.TokenFile.{callers_of}
-use Rattle.wire_http.proofs.TurnLaws.{part_none, part_end, part_ask, part_answered, turn_answered, fits_at, fewer_left, short_left}
+use Rattle.wire_http.proofs.TurnLaws.{part_none, part_end, part_ask, part_answered, turn_answered, turn_stopped, fits_at, fewer_left, short_left}
 use Rattle.wire_http.proofs.serve.serve_one.Goals as goal
 
 pub returns-in_err-spans-clause-part : goal.returns-in_err-spans-clause-part
 returns-in_err-spans-clause-part g c = let p = err_from_is_err_and c.from_residual.result c.from_residual.ensures.1 in rw (p.1, p.2) (
     part_none g.S.Space g.M.Moments.gives (callers_of c.args.tokens.now) (c.args.count - 1)
-    _ c.args.service.now c.args.moments.now _ _)
+    _ c.args.buffer.now.items c.args.service.now c.args.moments.now _ _ _ _ _ _ c.in_err-spans.ensures.err)
 
 pub returns-in_err-end_with-in-Stop-clause-part : goal.returns-in_err-end_with-in-Stop-clause-part
 returns-in_err-end_with-in-Stop-clause-part g c = let p = err_from_is_err_and c.from_residual-in_err-end_with-in-Stop.result c.from_residual-in_err-end_with-in-Stop.ensures.1 in rw (p.1, p.2) (
     part_end g.S.Space g.M.Moments.gives (callers_of c.args.tokens.now) (c.args.count - 1)
-    _ c.next_request.new.buffer.items c.next_request.new.fields c.in_ok-spans.field-0 c.in-Stop.end c.args.service.now c.args.moments.now _ _ _ _ _
-    c.in-Stop.is c.in_ok-spans.ensures.next c.in_err-end_with-in-Stop.ensures.err c.in_err-end_with-in-Stop.ensures.part)
+    _ _ c.args.buffer.now.items c.next_request.new.buffer.items c.next_request.new.fields c.in_ok-spans.field-0 c.in-Stop.end c.args.service.now c.args.moments.now _ _ _ _ _ _
+    c.in-Stop.is c.in_ok-spans.ensures.came c.in_ok-spans.ensures.next c.in_err-end_with-in-Stop.ensures.err c.in_err-end_with-in-Stop.ensures.part)
 
 pub returns-in_err-pending-clause-part : goal.returns-in_err-pending-clause-part
 returns-in_err-pending-clause-part g c = let p = err_from_is_err_and c.from_residual-in_err-pending.result c.from_residual-in_err-pending.ensures.1 in rw (p.1, p.2) (
     part_ask g.S.Space g.M.Moments.gives (callers_of c.args.tokens.now) (c.args.count - 1)
-    _ c.next_request.new.buffer.items c.next_request.new.fields c.in_ok-spans.field-0 c.in-Request.spans c.in-Request.size c.args.service.now c.args.moments.now c.ask.new.moments _ _ _ _
-    c.in-Request.is c.in_ok-spans.ensures.next c.in_err-pending.ensures.err (λ e. c.in_err-pending.ensures.taken (ap Err e)))
+    _ _ c.args.buffer.now.items c.next_request.new.buffer.items c.next_request.new.fields c.in_ok-spans.field-0 c.in-Request.spans c.in-Request.size c.args.service.now c.args.moments.now c.ask.new.moments _ _ _ _
+    c.in-Request.is c.in_ok-spans.ensures.came c.in_ok-spans.ensures.next c.in_err-pending.ensures.err (λ e. c.in_err-pending.ensures.taken (ap Err e)))
 
 pub returns-in_err-answer-clause-part : goal.returns-in_err-answer-clause-part
 returns-in_err-answer-clause-part g c = let p = err_from_is_err_and c.from_residual-in_err-answer.result c.from_residual-in_err-answer.ensures.1 in rw (p.1, p.2) (
     part_answered g.S.Space g.M.Moments.gives (callers_of c.args.tokens.now) (c.args.count - 1)
-    _ c.next_request.new.buffer.items c.as_slice.result.now c.next_request.new.fields c.in_ok-spans.field-0 c.in-Request.spans c.in-Request.size
+    _ _ c.args.buffer.now.items c.next_request.new.buffer.items c.as_slice.result.now c.next_request.new.fields c.in_ok-spans.field-0 c.in-Request.spans c.in-Request.size
     c.in_ok-pending.pending.place c.in_ok-pending.pending.moment c.in_ok-pending.pending.call c.left_after-left.result
-    c.args.service.now c.answer.new.service c.args.moments.now c.ask.new.moments _ _ _ _ _
-    c.in-Request.is c.as_slice.ensures.value c.in_err-answer.ensures.err c.in_ok-spans.ensures.next
+    c.args.service.now c.answer.new.service c.args.moments.now c.ask.new.moments _ _ _ _ _ _
+    c.in-Request.is c.as_slice.ensures.value c.in_err-answer.ensures.err c.in_ok-spans.ensures.came c.in_ok-spans.ensures.next
     c.in_ok-pending.ensures.made c.left_after-left.ensures c.in_ok-pending.ensures.moment c.in_err-answer.ensures.part)
+
+pub returns-in-Stop-clause-turn : goal.returns-in-Stop-clause-turn
+returns-in-Stop-clause-turn g c =
+    turn_stopped g.S.Space g.M.Moments.gives (callers_of c.args.tokens.now) (c.args.count - 1)
+    _ _ c.args.buffer.now.items c.next_request.new.buffer.items c.next_request.new.buffer.items c.next_request.new.fields c.in_ok-spans.field-0 c.in-Stop.end c.args.service.now c.args.moments.now _ _
+    c.in-Stop.is c.in_ok-spans.ensures.came c.in_ok-spans.ensures.next c.in_ok-end_with-in-Stop.ensures.whole
 
 pub returns-clause-turn : goal.returns-clause-turn
 returns-clause-turn g c =
     turn_answered g.S.Space g.M.Moments.gives (callers_of c.args.tokens.now) (c.args.count - 1)
-    _ _ c.next_request.new.buffer.items c.as_slice.result.now c.shift.new.buffer.items c.next_request.new.fields c.in_ok-spans.field-0 c.in-Request.spans c.in-Request.size
+    _ _ c.args.buffer.now.items c.next_request.new.buffer.items c.as_slice.result.now c.shift.new.buffer.items c.next_request.new.fields c.in_ok-spans.field-0 c.in-Request.spans c.in-Request.size
     c.in_ok-pending.pending.place c.in_ok-pending.pending.moment c.in_ok-pending.pending.call c.left_after-left.result
     c.args.service.now c.answer.new.service c.args.moments.now c.ask.new.moments _ _
-    c.in-Request.is c.as_slice.ensures.value c.in_ok-spans.ensures.same c.in_ok-spans.ensures.next
+    c.in-Request.is c.as_slice.ensures.value c.in_ok-spans.ensures.came c.in_ok-spans.ensures.next
     (fits_at c.next_request.new.buffer.items c.next_request.new.fields c.in_ok-spans.field-0 c.in-Request.spans c.in-Request.size c.in-Request.is c.in_ok-spans.ensures.within).0 c.shift.ensures
     c.in_ok-pending.ensures.made c.left_after-left.ensures c.in_ok-pending.ensures.moment c.in_ok-answer.ensures.replies
 

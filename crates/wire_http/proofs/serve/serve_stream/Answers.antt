@@ -11,7 +11,7 @@ use Rattle.wire_http.proofs.serve.serve_stream.Goals as goal
 pub returns-in_default-clause-part : goal.returns-in_default-clause-part
 returns-in_default-clause-part g c =
     none_served g.S.Space g.M.Moments.gives (callers_of c.args.tokens.now)
-    _ most_requests c.args.service.now c.args.moments.now _ _
+    _ most_requests c.args.service.now c.args.moments.now _ (omega arith)
 
 pub serving-init : goal.serving-init
 serving-init g c = record {
@@ -23,6 +23,7 @@ serving-init g c = record {
   good_reader = search rules;
   good_writer = search rules;
   good_clock = search rules;
+  rises = omega arith;
   stays = stays_same g.S.Space c.args.service.now;
 }
 
@@ -33,7 +34,7 @@ returns-in_err-then-clause-part g c =
     let some : c.serving.left ≡ suc (c.serving.left - 1) = omega (arith, c.serving-test.true) in
     rw (p.1, p.2) (
     goes_part g.S.Space g.M.Moments.gives (callers_of c.args.tokens.now)
-    _ _ most_requests c.args.service.now c.serving.service c.serve_one.new.service c.args.moments.now c.serving.moments c.serve_one.new.moments
+    _ _ c.serving.buffer.items most_requests c.args.service.now c.serving.service c.serve_one.new.service c.args.moments.now c.serving.moments c.serve_one.new.moments
     _ _ _ c.serving.left (c.serving.left - 1) c.serving.count _
     inv.goes some c.in_err-then.ensures.part)
 
@@ -44,7 +45,7 @@ serving-preserved g c =
     let on = go_on_at c.serving.left c.serve_one.new.buffer.items c.in_ok-then.field-0 c.in-Answered.then c.in-Answered.is c.in_ok-then.ensures.goes_on in
     record {
       goes = goes_more g.S.Space g.M.Moments.gives (callers_of c.args.tokens.now)
-          _ _ _ most_requests c.args.service.now c.serving.service c.serve_one.new.service c.args.moments.now c.serving.moments c.serve_one.new.moments
+          _ _ _ c.serving.buffer.items c.serve_one.new.buffer.items most_requests c.args.service.now c.serving.service c.serve_one.new.service c.args.moments.now c.serving.moments c.serve_one.new.moments
           _ _ _ c.serving.left (c.serving.left - 1) c.serving.count c.in-Answered.then c.in_ok-then.field-0
           inv.goes some c.in-Answered.is c.in_ok-then.ensures.turn;
       short = on.1;
@@ -53,6 +54,7 @@ serving-preserved g c =
       good_reader = ok_told c.in_ok-then.field-0 _ _ c.in_ok-then.ensures.good_reader ∙ inv.good_reader;
       good_writer = ok_told c.in_ok-then.field-0 _ _ c.in_ok-then.ensures.good_writer ∙ inv.good_writer;
       good_clock = ok_told c.in_ok-then.field-0 _ _ c.in_ok-then.ensures.good_clock ∙ inv.good_clock;
+      rises = omega (arith, inv.rises, c.serve_one.ensures.rises);
       stays = stays_then g.S.Space c.args.service.now c.serving.service c.serve_one.new.service inv.stays c.serve_one.ensures.stays;
     }
 
@@ -61,14 +63,14 @@ returns-in-Ended-clause-serves g c =
     let inv = c.serving.invariant in
     let some : c.serving.left ≡ suc (c.serving.left - 1) = omega (arith, c.serving-test.true) in
     goes_stop g.S.Space g.M.Moments.gives (callers_of c.args.tokens.now)
-    _ _ _ most_requests c.args.service.now c.serving.service c.serve_one.new.service c.args.moments.now c.serving.moments c.serve_one.new.moments
+    _ _ _ c.serving.buffer.items c.serve_one.new.buffer.items most_requests c.args.service.now c.serving.service c.serve_one.new.service c.args.moments.now c.serving.moments c.serve_one.new.moments
     _ _ _ c.serving.left (c.serving.left - 1) c.serving.count c.in-Ended.end c.in_ok-then.field-0
     inv.goes some c.in-Ended.is c.in_ok-then.ensures.turn
 
 pub returns-clause-serves : goal.returns-clause-serves
 returns-clause-serves g c =
     goes_close g.S.Space g.M.Moments.gives (callers_of c.args.tokens.now)
-    _ _ most_requests c.args.service.now c.serving.service c.args.moments.now c.serving.moments _ _ c.serving.left c.serving.count
+    _ _ c.serving.buffer.items most_requests c.args.service.now c.serving.service c.args.moments.now c.serving.moments _ _ c.serving.left c.serving.count
     c.serving.invariant.goes (omega (arith, c.serving-test.false))
 
 pub returns-in_default-clause-stays : goal.returns-in_default-clause-stays

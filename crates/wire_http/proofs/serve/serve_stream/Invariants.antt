@@ -1,5 +1,4 @@
-use Rattle.std.proofs.Common.{◌≡◌, ◌+◌, ◌≤◌, length, IfSome}
-use Rattle.std.specs.Io.KnownBytes.{prepend_known}
+use Rattle.std.proofs.Common.{◌≡◌, ◌+◌, ◌≤◌, length}
 use Rattle.token_conf.specs.TokenFile.{callers_of}
 use Rattle.service_core.specs.Held.{Stays}
 use Rattle.wire_http.specs.Counted.{inner_of, calls_of, failures_of}
@@ -9,17 +8,17 @@ use Rattle.wire_http.proofs.serve.serve_stream.Given as goal
 
 abbrev pub invariant-serving : goal.invariant-serving
 invariant-serving g l = record {
-  goes : IfSome (g.R.Read.remaining (inner_of l.fn.reader)) (λ input.
-      GoesOn g.S.Space g.M.Moments.gives (callers_of l.tokens) most_requests input
+  goes : GoesOn g.S.Space g.M.Moments.gives (callers_of l.tokens) most_requests
       l.fn.service l.service l.fn.moments l.moments
       (g.W.Write.contents (inner_of l.fn.writer)) (g.W.Write.contents (inner_of l.writer))
-      (prepend_known l.buffer.items (g.R.Read.remaining (inner_of l.reader))) l.left l.count);
+      (g.R.Read.remaining (inner_of l.fn.reader)) (g.R.Read.remaining (inner_of l.reader)) l.buffer.items l.left l.count;
   short : length l.buffer.items ≤ 8192;
   bounded : l.count + l.left ≤ most_requests;
   turns : Spends most_reads l.turns (calls_of l.fn.reader) (calls_of l.reader);
   good_reader : failures_of l.reader ≡ failures_of l.fn.reader;
   good_writer : failures_of l.writer ≡ failures_of l.fn.writer;
   good_clock : g.M.Moments.failures l.moments ≡ g.M.Moments.failures l.fn.moments;
+  rises : calls_of l.fn.writer ≤ calls_of l.writer;
   stays : Stays g.S.Space l.fn.service l.service;
 }
 

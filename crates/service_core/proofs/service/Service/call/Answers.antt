@@ -1,4 +1,5 @@
-use Rattle.std.proofs.Common.{◌≡◌, ◌∙◌, sym, ap, find, Option, refl, IfSome, subst}
+use Rattle.std.proofs.Common.{◌≡◌, ◌∙◌, sym, ap, find, Option, refl, true, false, IfSome, subst}
+use Rattle.std.specs.Prelude.{IsNone}
 use Rattle.policy_core.specs.Policy.{breaks, early_rules}
 use Rattle.entity_core.specs.Airspace.{empty_at}
 use Rattle.policy_core.specs.Missing.{nothing_missing}
@@ -17,6 +18,7 @@ returns-then-self-clause-reply g c = record {
   shut = λ n. refl;
   shuts = λ n. cc (n, c.if-self.true);
   early = λ n. cc (n, c.if-self.true);
+  broken = λ n. cc (n, c.if-self.true);
   answers = λ n. cc (n, c.if-self.true);
 }
 
@@ -28,6 +30,7 @@ returns-in-Some-clause-reply g c = record {
   early = λ n a t.
       subst (λ (e : Option Rule). IfSome e (λ p. (Denied c.in-Some.broken c.nothing.result ≡ Denied p nothing_missing) × (c.args.self.now ≡ c.args.self.now))) (c.in-Some.ensures a t)
       (ap (Denied c.in-Some.broken) c.nothing.ensures, refl);
+  broken = λ n b a t none. let bad : true ≡ false = subst (λ (e : Option Rule). IsNone e) (sym (c.in-Some.ensures a t)) none in cc;
   answers = λ n.
       early_answers g.S.Space c.args.self.now.salt c.args.now c.args.call.now c.args.self.now.space
       c.in-Some.broken c.nothing.result (λ a. first_early a c.args.now c.args.call.now c.in-Some.broken (sym (c.in-Some.ensures a c.args.now)))
@@ -39,13 +42,14 @@ returns-clause-reply g c = record {
   stays = record {
     salt = refl;
     shut = λ n. cc (n, c.if-self.false);
-    sound = c.answered-reply.ensures.sound;
-    whole = c.answered-reply.ensures.whole;
+    sound = c.answered-reply.ensures.answers.sound;
+    whole = c.answered-reply.ensures.answers.whole;
   };
   shut = λ n. cc (n, c.if-self.false);
   shuts = λ n. c.is_stopped-self.ensures;
   early = λ n a t. some_of_none (find (breaks a t c.args.call.now) early_rules) _ (sym c.in_default.is ∙ c.early.ensures a t);
-  answers = λ n. c.answered-reply.ensures;
+  broken = λ n b a t none. c.answered-reply.ensures.broken b;
+  answers = λ n. c.answered-reply.ensures.answers;
 }
 
 pub unreachable-requires : goal.unreachable-requires
@@ -61,4 +65,4 @@ returns-in-Some-clause-stale g c n s a content kind y is =
 
 pub returns-clause-stale : goal.returns-clause-stale
 returns-clause-stale g c n s a content kind y is =
-    stale_reply g.S.Space c.args.self.now.salt a c.args.now c.args.call.now kind y c.answered-reply.result c.answered-reply.new.space is (c.answered-reply.ensures.step s a content)
+    stale_reply g.S.Space c.args.self.now.salt a c.args.now c.args.call.now kind y c.answered-reply.result c.answered-reply.new.space is (c.answered-reply.ensures.answers.step s a content)

@@ -2,7 +2,7 @@ use Rattle.std.proofs.Common.{arith, ◌≡◌, ◌∙◌, sym, ap, subst, ◌+�
 use Rattle.std.proofs.lemmas.List.{take_more, take_all}
 use Rattle.entity_core.specs.Airspace.{empty_at}
 use Rattle.service_core.specs.Run.{AskedInOrder, Timed}
-use Rattle.service_core.proofs.Awares.{held_aware, held_numbered}
+use Rattle.service_core.proofs.Awares.{held_aware, run_numbered, same_numbered}
 use Rattle.service_core.proofs.Counts.{held_counts}
 use Rattle.service_core.proofs.Runs.{answered, asked_more}
 use Rattle.service_core.proofs.service.Service.run.Goals as goal
@@ -35,9 +35,11 @@ returns-clause-aware g c n s stops serial content a held =
     ((returns-clause-answered g c).runs n s (empty_at serial) content) stops a held
 
 pub returns-clause-numbered : goal.returns-clause-numbered
-returns-clause-numbered g c n s stops serial content a held =
-    held_numbered g.S.Space c.args.self.now.salt serial c.args.calls.now c.loop-entry.replies.items c.loop-entry.self.space
-    ((returns-clause-answered g c).runs n s (empty_at serial) content) stops a held
+returns-clause-numbered g c s serial content a held =
+    run_numbered g.S.Space c.args.self.now c.args.calls.now c.loop-entry.replies.items c.loop-entry.self (returns-clause-answered g c) s serial content a held
+
+pub returns-in_err-replies-clause-numbered : goal.returns-in_err-replies-clause-numbered
+returns-in_err-replies-clause-numbered g c s serial content a held = same_numbered g.S.Space c.args.self.now.salt serial c.args.self.now.space content a held
 
 pub returns-clause-counted : goal.returns-clause-counted
 returns-clause-counted g c n s stops serial content a held =

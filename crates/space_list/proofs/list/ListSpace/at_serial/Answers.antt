@@ -2,8 +2,8 @@ use Rattle.std.proofs.Common.{sym, ◌∙◌}
 use Rattle.space_list.proofs.ListSpaces.{empty_content, none_told}
 use Rattle.space_list.proofs.list.ListSpace.at_serial.Goals as goal
 
-pub returns : goal.returns
-returns c =
+pub returns-clause-content : goal.returns-clause-content
+returns-clause-content c =
     let e = empty_content c.new.result c.new-2.result c.new-3.result c.args.serial c.new.ensures c.new-2.ensures c.new-3.ensures in
     record { held = e; only = λ b h. h ∙ sym e }
 

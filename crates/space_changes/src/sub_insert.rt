@@ -1,0 +1,110 @@
+//! Rows of a subscription are inserted, that of the subscription before those of its cells, or take
+//! the place of older ones.
+ghost use Rattle.std.specs.Prelude.{◌≡◌, [], ◌∷◌};
+ghost use Rattle.sqlite.specs.Held.{state};
+ghost use Rattle.space_changes.specs.Layout.{Always, HasSub, Relays, with_sub_cells, with_sub_row, without_sub_row};
+ghost use Rattle.space_changes.specs.Statements.{Runs};
+
+use space_rows::rows::{SubCellRow, SubRow};
+use sqlite::{Alter, Error, Transaction, params};
+
+/// Inserts the row of a subscription.
+pub(crate) fn insert_sub_row<S: Alter>(
+    tx: &mut Transaction<'_, S>,
+    row: &SubRow,
+) -> Result<usize, Error>
+    ensures same_reference { tx.new.conn.ghost_name ≡ tx.old.conn.ghost_name }
+    ensures inserts { let old = state S.Store tx.old.conn.now in
+        let new = state S.Store tx.new.conn.now in
+        Runs (λ _. Relays Always (with_sub_row row.now)) old new result }
+{
+    tx.execute(
+        "INSERT INTO subscription (num, id, manager, serial, version, notes, url, for_intents, \
+         for_constraints, alt_lower, alt_upper, time_start, time_end) \
+         VALUES (?1, ?2, ?3, ?4, ?5, ?6, ?7, ?8, ?9, ?10, ?11, ?12, ?13)",
+        params![
+            row.num,
+            row.id.text(),
+            row.manager.text(),
+            row.serial,
+            row.version.text(),
+            row.notes,
+            row.url.text(),
+            row.for_intents,
+            row.for_constraints,
+            row.alt_lower,
+            row.alt_upper,
+            row.time_start,
+            row.time_end
+        ],
+    )
+}
+
+/// Puts the row of a subscription in the place of the one of its number.
+pub(crate) fn update_sub_row<S: Alter>(
+    tx: &mut Transaction<'_, S>,
+    row: &SubRow,
+) -> Result<usize, Error>
+    ensures same_reference { tx.new.conn.ghost_name ≡ tx.old.conn.ghost_name }
+    ensures updates { let old = state S.Store tx.old.conn.now in
+        let new = state S.Store tx.new.conn.now in
+        let num = row.now.num in
+        Runs (λ _. Relays (HasSub num) (λ l. with_sub_row row.now (without_sub_row num l)))
+        old new result }
+{
+    tx.execute(
+        "UPDATE subscription SET id = ?2, manager = ?3, serial = ?4, version = ?5, notes = ?6, \
+         url = ?7, for_intents = ?8, for_constraints = ?9, alt_lower = ?10, alt_upper = ?11, \
+         time_start = ?12, time_end = ?13 WHERE num = ?1",
+        params![
+            row.num,
+            row.id.text(),
+            row.manager.text(),
+            row.serial,
+            row.version.text(),
+            row.notes,
+            row.url.text(),
+            row.for_intents,
+            row.for_constraints,
+            row.alt_lower,
+            row.alt_upper,
+            row.time_start,
+            row.time_end
+        ],
+    )
+}
+
+fn insert_sub_cell<S: Alter>(tx: &mut Transaction<'_, S>, row: &SubCellRow) -> Result<usize, Error>
+    ensures same_reference { tx.new.conn.ghost_name ≡ tx.old.conn.ghost_name }
+    ensures inserts { let old = state S.Store tx.old.conn.now in
+        let new = state S.Store tx.new.conn.now in
+        Runs (λ _. Relays Always (with_sub_cells (row.now ∷ []))) old new result }
+{
+    tx.execute(
+        "INSERT INTO subscription_cell (subscription, place, token, lo, hi) \
+         VALUES (?1, ?2, ?3, ?4, ?5)",
+        params![
+            row.subscription,
+            row.place,
+            row.token.text(),
+            row.lo,
+            row.hi
+        ],
+    )
+}
+
+/// Inserts the rows of a subscription's cells.
+pub(crate) fn insert_sub_cells<S: Alter>(
+    tx: &mut Transaction<'_, S>,
+    cells: &[SubCellRow],
+) -> Result<(), Error>
+    ensures same_reference { tx.new.conn.ghost_name ≡ tx.old.conn.ghost_name }
+    ensures inserts { let old = state S.Store tx.old.conn.now in
+        let new = state S.Store tx.new.conn.now in
+        Runs (λ _. Relays Always (with_sub_cells cells.now)) old new result }
+{
+    for cell in cells {
+        insert_sub_cell(tx, cell)?;
+    }
+    Ok(())
+}

@@ -1,0 +1,23 @@
+use Rattle.std.proofs.Common.{Some, None, to_z-of_z}
+use Rattle.sqlite.specs.Held.{state}
+use Rattle.entity_lists.specs.Subscriptions.{subscription_map}
+use Rattle.space_single.specs.SubNumbered.{FindsSubNumbered}
+use Rattle.space_select.proofs.Readings.{reads_as}
+use Rattle.space_finding.specs.Candidates.{AddsSub}
+use Rattle.space_finding.proofs.Numbered.{adds_sub, adds_no_sub}
+use Rattle.space_finding.proofs.sub_candidates.read_sub_candidate.Goals as goal
+
+pub returns-in_ok-put-in-Some-clause-adds : goal.returns-in_ok-put-in-Some-clause-adds
+returns-in_ok-put-in-Some-clause-adds g c =
+    let num = c.args.num in
+    let before = subscription_map c.args.found.now in
+    let after = subscription_map c.put.new.self in
+    reads_as (FindsSubNumbered num) (λ db _. AddsSub num db before after) (state g.S.Store c.args.tx.now.conn.now) (state g.S.Store c.read_sub_numbered.new.tx.conn.now) (Some c.in-Some.sub) tt
+    (λ db h. adds_sub num db before after c.in-Some.sub c.in_ok-put-in-Some.ensures.ok h) (rw (to_z-of_z c.ranges.num, c.in-Some.is) at c.in_ok-sub.ensures.reads)
+
+pub returns-in-None-clause-adds : goal.returns-in-None-clause-adds
+returns-in-None-clause-adds g c =
+    let num = c.args.num in
+    let before = subscription_map c.args.found.now in
+    reads_as (FindsSubNumbered num) (λ db _. AddsSub num db before before) (state g.S.Store c.args.tx.now.conn.now) (state g.S.Store c.read_sub_numbered.new.tx.conn.now) None tt
+    (λ db h. adds_no_sub num db before h) (rw (to_z-of_z c.ranges.num, c.in-None.is) at c.in_ok-sub.ensures.reads)

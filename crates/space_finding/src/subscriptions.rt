@@ -1,0 +1,120 @@
+//! The subscriptions that meet areas, read of a connection.
+ghost use Rattle.std.specs.Prelude.{◌≡◌, false, IfOk, OnOk, IsTrue};
+ghost use Rattle.sqlite.specs.Held.{state};
+ghost use Rattle.sqlite.specs.State.{HasCleanDisk, Survives};
+ghost use Rattle.entity_core.specs.Search.{subscribers_in, subscriptions_in};
+ghost use Rattle.entity_lists.specs.Subscriptions.{subscription_map};
+ghost use Rattle.space_tables.specs.Tables.{dss_schema};
+ghost use Rattle.space_select.specs.Reading.{GoesBack, ReadsTables};
+ghost use Rattle.space_finding.specs.Candidates.{HoldsNear, HoldsSubCandidates};
+
+use crate::asked::{ancestors_of, ranges_of};
+use crate::interval::Interval;
+use crate::sub_candidates::read_sub_candidates;
+use entity_core::nature::Kind;
+use entity_core::subscription::Sub;
+use entity_core::uss_id::UssId;
+use entity_lists::subscriptions::Subscriptions;
+use grid_core::volume::Area;
+use space_select::reading::alive;
+use sqlite::{Alter, Connection, Error};
+use std::alloc::Global;
+
+fn read_alone<S: Alter>(
+    alloc: Global,
+    conn: &mut Connection<S>,
+    ranges: &[Interval],
+    ancestors: &[Interval],
+) -> Result<Subscriptions, Error>
+    requires { conn.old.in_transaction ≡ false }
+    ensures ended { conn.new.in_transaction ≡ false }
+    ensures read { let old = state S.Store conn.old in
+        HasCleanDisk (state S.Store conn.new)
+        → IfOk result (λ found. old.now.schema ≡ dss_schema
+        → HoldsSubCandidates ranges.now ancestors.now old.now (subscription_map found)) }
+    ensures back { let old = state S.Store conn.old in
+        let new = state S.Store conn.new in
+        HasCleanDisk new → IsTrue new.is_open → old.now.schema ≡ dss_schema → GoesBack old new }
+    ensures survives { Survives (state S.Store conn.old) (state S.Store conn.new) (λ _. ⊥) }
+{
+    let mut tx = conn.transaction();
+    let found = read_sub_candidates(alloc, &mut tx, ranges, ancestors)?;
+    tx.rollback();
+    Ok(found)
+}
+
+// Of a store that still works after it.
+fn read_alive<S: Alter>(
+    alloc: Global,
+    conn: &mut Connection<S>,
+    ranges: &[Interval],
+    ancestors: &[Interval],
+) -> Result<Subscriptions, Error>
+    requires { conn.old.in_transaction ≡ false }
+    ensures outside { conn.new.in_transaction ≡ false }
+    ensures read { let old = state S.Store conn.old in
+        HasCleanDisk (state S.Store conn.new)
+        → IfOk result (λ found. old.now.schema ≡ dss_schema
+        → HoldsSubCandidates ranges.now ancestors.now old.now (subscription_map found)) }
+    ensures open { let new = state S.Store conn.new in
+        HasCleanDisk new → OnOk result (IsTrue new.is_open) }
+    ensures survives { Survives (state S.Store conn.old) (state S.Store conn.new) (λ _. ⊥) }
+{
+    let found = read_alone(alloc, conn, ranges, ancestors)?;
+    alive(conn)?;
+    Ok(found)
+}
+
+// Some subscriptions, and all of which the volume meets some area.
+fn read_near<S: Alter>(
+    alloc: Global,
+    conn: &mut Connection<S>,
+    areas: &[Area],
+) -> Result<Subscriptions, Error>
+    requires { conn.old.in_transaction ≡ false }
+    ensures outside { conn.new.in_transaction ≡ false }
+    ensures reads { ReadsTables (state S.Store conn.old) (state S.Store conn.new) result
+        (λ a found. HoldsNear areas.now a.subscriptions (subscription_map found)) }
+{
+    let ranges = ranges_of(alloc, areas)?;
+    let ancestors = ancestors_of(alloc, areas)?;
+    read_alive(alloc, conn, ranges.as_slice(), ancestors.as_slice())
+}
+
+/// The subscriptions of a supplier of which the volume meets an area, by rising ids, as the tables
+/// spell them. Where they spell no airspace, anything may come of it. It reads the rows of
+/// `subscription_cell` that the index on `lo` and `hi` finds, and those of the subscriptions that
+/// have them, all in one transaction. An error is one of the store, or want of memory.
+pub fn find_subscriptions_of<S: Alter>(
+    alloc: Global,
+    conn: &mut Connection<S>,
+    uss: &UssId,
+    area: &Area,
+) -> Result<Vec<Sub>, Error>
+    requires { conn.old.in_transaction ≡ false }
+    ensures outside { conn.new.in_transaction ≡ false }
+    ensures reads { ReadsTables (state S.Store conn.old) (state S.Store conn.new) result
+        (λ a found. found.items ≡ subscriptions_in a.subscriptions uss.now area.now) }
+{
+    let near = read_near(alloc, conn, std::slice::from_ref(area))?;
+    let own = near.own(alloc, uss, area)?;
+    Ok(own)
+}
+
+/// The same of the subscriptions that are for a kind, whoever manages them, and of which the volume
+/// meets some area.
+pub fn find_subscribers<S: Alter>(
+    alloc: Global,
+    conn: &mut Connection<S>,
+    kind: Kind,
+    areas: &[Area],
+) -> Result<Vec<Sub>, Error>
+    requires { conn.old.in_transaction ≡ false }
+    ensures outside { conn.new.in_transaction ≡ false }
+    ensures reads { ReadsTables (state S.Store conn.old) (state S.Store conn.new) result
+        (λ a found. found.items ≡ subscribers_in a.subscriptions kind areas.now) }
+{
+    let near = read_near(alloc, conn, areas)?;
+    let wanting = near.for_kind(alloc, kind, areas)?;
+    Ok(wanting)
+}

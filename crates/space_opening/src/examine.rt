@@ -1,0 +1,86 @@
+//! What a database is found to be, that has all tables of format 2, or only some tables.
+ghost use Rattle.std.specs.Prelude.{◌≡◌, ◌≢◌, false, Err, IfErr, IfOk, IsTrue, OnOk};
+ghost use Rattle.sqlite.specs.Effect.{Database};
+ghost use Rattle.sqlite.specs.Held.{state};
+ghost use Rattle.sqlite.specs.State.{HasCleanDisk, Survives};
+ghost use Rattle.space_tables.specs.Making.{IsSettled};
+ghost use Rattle.space_tables.specs.Tables.{dss_schema};
+ghost use Rattle.space_reading.specs.Judging.{JudgesDatabase};
+ghost use Rattle.space_opening.specs.Opening.{Examines};
+ghost use Rattle.space_opening.specs.declared.open_fault.OpenFault.TheVariants.{Store};
+
+use crate::open_fault::OpenFault;
+use space_reading::reading::read_airspace;
+use space_reading::verdict::Verdict;
+use space_select::meta::has_other_format;
+use space_tables::standing::has_meta;
+use sqlite::{Alter, Connection, Error};
+use std::alloc::Global;
+
+// Whether tables are taken that were found to be this.
+fn found(verdict: &Verdict) -> Result<(), OpenFault>
+    ensures { (db : Database) → JudgesDatabase db verdict.now → Examines db result }
+{
+    match verdict {
+        Verdict::Spelt(_) => Ok(()),
+        Verdict::OtherFormat => Err(OpenFault::Version),
+        Verdict::Unspelt => Err(OpenFault::NotADss),
+    }
+}
+
+/// Whether tables are taken of which this was read.
+pub(crate) fn told(read: &Result<Verdict, Error>) -> Result<(), OpenFault>
+    ensures examines { (db : Database) → IfOk read.now (JudgesDatabase db)
+        → Examines db result }
+    ensures failed { IfErr read.now (λ _. result ≡ Err Store) }
+{
+    match read {
+        Ok(verdict) => found(verdict),
+        Err(_) => Err(OpenFault::Store),
+    }
+}
+
+/// Whether tables of format 2 can be taken as they are; nothing is written.
+pub fn examined<S: Alter>(alloc: Global, conn: &mut Connection<S>) -> Result<(), OpenFault>
+    requires { conn.old.in_transaction ≡ false }
+    ensures outside { conn.new.in_transaction ≡ false }
+    ensures examines { HasCleanDisk (state S.Store conn.new)
+        → (state S.Store conn.old).now.schema ≡ dss_schema
+        → Examines (state S.Store conn.old).now result }
+    ensures open { HasCleanDisk (state S.Store conn.new)
+        → OnOk result (IsTrue (state S.Store conn.new).is_open) }
+    ensures at_rest { HasCleanDisk (state S.Store conn.new)
+        → (state S.Store conn.old).now.schema ≡ dss_schema → result ≢ Err Store
+        → IsSettled (state S.Store conn.new)
+        × ((state S.Store conn.new).now ≡ (state S.Store conn.old).now) }
+    ensures survives { Survives (state S.Store conn.old) (state S.Store conn.new) (λ _. ⊥) }
+{
+    let read = read_airspace(alloc, conn);
+    told(&read)
+}
+
+// The fault for an error of a reading of `meta` in tables that may be no others' than ours: a text
+// that cannot be read under their schema is no fault of the store.
+fn fault_of(error: &Error) -> OpenFault {
+    match error {
+        Error::SqlInputError(_) => OpenFault::NotADss,
+        _ => OpenFault::Store,
+    }
+}
+
+/// Why a database with only some of the tables, or without some of their columns, is not taken:
+/// `meta`, where it is there, may say another format. Nothing is written.
+pub fn partial_fault<S: Alter>(conn: &mut Connection<S>) -> OpenFault
+    requires { conn.old.in_transaction ≡ false }
+    ensures outside { conn.new.in_transaction ≡ false }
+    ensures survives { Survives (state S.Store conn.old) (state S.Store conn.new) (λ _. ⊥) }
+{
+    if !has_meta(conn.schema()) {
+        return OpenFault::NotADss;
+    }
+    match has_other_format(conn) {
+        Ok(true) => OpenFault::Version,
+        Ok(false) => OpenFault::NotADss,
+        Err(error) => fault_of(&error),
+    }
+}

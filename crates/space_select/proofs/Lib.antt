@@ -1,0 +1,11 @@
+pub mod Texts
+pub mod Means
+pub mod Selected
+pub mod Shown
+pub mod Readings
+pub mod Selects
+pub mod Metas
+pub mod Columns
+pub mod TypedRows
+pub mod Written
+pub mod MapEntries

@@ -1,0 +1,5 @@
+-- The statement that reads `meta`.
+use Rattle.std.specs.Prelude.{ℕ, List, codes}
+
+abbrev pub metas_read : List ℕ
+metas_read = codes "SELECT one, format, serial FROM meta"

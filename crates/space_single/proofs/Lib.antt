@@ -1,0 +1,15 @@
+pub mod Texts
+pub mod Still
+pub mod Serials
+pub mod Found
+pub mod OwnRows
+pub mod Heads
+pub mod Commands
+pub mod Picked
+pub mod OwnEntity
+pub mod Namings
+pub mod Entire
+pub mod SubHeads
+pub mod OwnSubs
+pub mod Ids
+pub mod Namers

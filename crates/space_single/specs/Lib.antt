@@ -1,0 +1,9 @@
+pub mod Naming
+pub mod Own
+pub mod OwnSub
+pub mod Numbered
+pub mod SubNumbered
+pub mod Named
+pub mod Subscription
+pub mod Dependents
+pub mod Stated

@@ -1,0 +1,25 @@
+-- The subscription that has a number.
+use Rattle.std.specs.Prelude.{◌≡◌, ℤ, codes, List, [], ◌∷◌, Option, Some, IfSome}
+use Rattle.sqlite_value.specs.Order.{Row}
+use Rattle.sqlite_value.specs.declared.value.Value.TheVariants.{Int}
+use Rattle.sqlite_rules.specs.Lists.{Has}
+use Rattle.sqlite.specs.Effect.{Database}
+use Rattle.entity_core.specs.declared.subscription.Sub.{Sub}
+use Rattle.entity_core.specs.Airspace.{Airspace}
+use Rattle.space_tables.specs.Spelling.{SubGroup, Spells}
+use Rattle.space_select.specs.Selecting.{Answers}
+
+-- the rows of subscription of a number, as they are asked for
+abbrev pub AnswersSubNumber : ℤ → Database → List Row → Type 0
+AnswersSubNumber num db rows =
+    Answers (codes "SELECT num, id, manager, serial, version, notes, url, for_intents, for_constraints, alt_lower, alt_upper, time_start, time_end FROM subscription WHERE num = ?1")
+    (Int num ∷ []) db rows
+
+-- the subscription of the rows that have the number, and none where no rows have it
+pub record IsSubNumbered (num : ℤ) (subs : List SubGroup) (found : Option Sub) : Type 0 where
+  pub own : (g : SubGroup) → Has subs g → g.row.num ≡ num → found ≡ Some g.sub
+  pub kept : IfSome found (λ s. (g : SubGroup) × Has subs g × (g.row.num ≡ num) × (g.sub ≡ s))
+
+-- what is found under a number, in the airspace that the tables spell, if they spell one
+abbrev pub FindsSubNumbered : ℤ → Database → Option Sub → Type 0
+FindsSubNumbered num db found = (a : Airspace) (s : Spells db a) → IsSubNumbered num s.subs found

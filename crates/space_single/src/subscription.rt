@@ -1,0 +1,88 @@
+//! The subscription of an id, read of a connection.
+ghost use Rattle.std.specs.Prelude.{◌≡◌, false, IfOk, OnOk, IsTrue};
+ghost use Rattle.std.specs.FinMap.{get};
+ghost use Rattle.sqlite.specs.Held.{state};
+ghost use Rattle.sqlite.specs.State.{HasCleanDisk, Survives};
+ghost use Rattle.space_tables.specs.Tables.{dss_schema};
+ghost use Rattle.space_select.specs.Reading.{GoesBack, Reads, ReadsTables};
+ghost use Rattle.space_single.specs.Subscription.{AnswersSub, FindsSub};
+
+use crate::own_sub::sub_of_head;
+use entity_core::entity_id::EntityId;
+use entity_core::subscription::Sub;
+use space_select::reading::alive;
+use space_select::select::query;
+use sqlite::{Alter, Connection, Error, Row, Transaction, params};
+use std::alloc::Global;
+
+fn query_head<S: Alter>(
+    alloc: Global,
+    tx: &mut Transaction<'_, S>,
+    id: EntityId,
+) -> Result<Vec<Row>, Error>
+    ensures same_reference { tx.new.conn.ghost_name ≡ tx.old.conn.ghost_name }
+    ensures reads { let old = state S.Store tx.old.conn.now in
+        Reads (λ db rows. AnswersSub id db rows.items)
+        old (state S.Store tx.new.conn.now) result }
+{
+    let text = id.text(alloc)?;
+    query(
+        tx,
+        "SELECT num, id, manager, serial, version, notes, url, for_intents, for_constraints, \
+         alt_lower, alt_upper, time_start, time_end FROM subscription WHERE id = ?1",
+        params![text.as_str()],
+    )
+}
+
+fn find_sub<S: Alter>(
+    alloc: Global,
+    tx: &mut Transaction<'_, S>,
+    id: EntityId,
+) -> Result<Option<Sub>, Error>
+    ensures same_reference { tx.new.conn.ghost_name ≡ tx.old.conn.ghost_name }
+    ensures reads { let old = state S.Store tx.old.conn.now in
+        Reads (FindsSub id) old (state S.Store tx.new.conn.now) result }
+{
+    let _number = id.number();
+    let rows = query_head(alloc, tx, id)?;
+    sub_of_head(alloc, tx, rows.as_slice())
+}
+
+// In a transaction of its own, which is rolled back.
+fn find_alone<S: Alter>(
+    alloc: Global,
+    conn: &mut Connection<S>,
+    id: EntityId,
+) -> Result<Option<Sub>, Error>
+    requires { conn.old.in_transaction ≡ false }
+    ensures ended { conn.new.in_transaction ≡ false }
+    ensures read { let old = state S.Store conn.old in
+        HasCleanDisk (state S.Store conn.new)
+        → IfOk result (λ found. old.now.schema ≡ dss_schema → FindsSub id old.now found) }
+    ensures back { let old = state S.Store conn.old in
+        let new = state S.Store conn.new in
+        HasCleanDisk new → IsTrue new.is_open → old.now.schema ≡ dss_schema → GoesBack old new }
+    ensures survives { Survives (state S.Store conn.old) (state S.Store conn.new) (λ _. ⊥) }
+{
+    let mut tx = conn.transaction();
+    let found = find_sub(alloc, &mut tx, id)?;
+    tx.rollback();
+    Ok(found)
+}
+
+/// The subscription of an id, if there is one, as the tables spell it. Where they spell no
+/// airspace, anything may come of it. An error is one of the store, or want of memory.
+pub fn read_subscription<S: Alter>(
+    alloc: Global,
+    conn: &mut Connection<S>,
+    id: EntityId,
+) -> Result<Option<Sub>, Error>
+    requires { conn.old.in_transaction ≡ false }
+    ensures outside { conn.new.in_transaction ≡ false }
+    ensures reads { ReadsTables (state S.Store conn.old) (state S.Store conn.new) result
+        (λ a found. found ≡ get a.subscriptions id) }
+{
+    let found = find_alone(alloc, conn, id)?;
+    alive(conn)?;
+    Ok(found)
+}

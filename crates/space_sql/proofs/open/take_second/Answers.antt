@@ -1,0 +1,13 @@
+use Rattle.std.proofs.Common.{sym, subst}
+use Rattle.sqlite.specs.Held.{state}
+use Rattle.sqlite.specs.State.{HasCleanDisk}
+use Rattle.space_tables.specs.Spelling.{Spells}
+use Rattle.space_sql.proofs.Openings.{ok_is_no_fault}
+use Rattle.space_sql.proofs.open.take_second.Goals as goal
+
+pub returns-in-Ok-clause-taken : goal.returns-in-Ok-clause-taken
+returns-in-Ok-clause-taken g c = λ sound schema.
+    let clean = subst (λ h. HasCleanDisk (state g.S.Store h)) c.space_over.ensures.same sound.clean in
+    let it = c.in-Ok.ensures.examines clean schema in
+    let rest = c.in-Ok.ensures.at_rest clean schema (ok_is_no_fault _ _) in
+    (it.0, it.1, c.space_over.ensures.content sound rest.0 it.0 (subst (λ d. Spells d it.0) (sym rest.1) it.1))

@@ -1,0 +1,9 @@
+use Rattle.std.proofs.Common.{◌≡◌, length}
+use Rattle.httparse.specs.Grammar.{skip_ows}
+use Rattle.wire_head.proofs.close.skip_front.Given as goal
+
+abbrev pub invariant-skipping : goal.invariant-skipping
+invariant-skipping l = skip_ows l.left ≡ skip_ows l.bytes
+
+abbrev pub decreases-skipping : goal.decreases-skipping
+decreases-skipping l = length l.left

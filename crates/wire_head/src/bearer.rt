@@ -1,0 +1,80 @@
+//! The token that a request bears (RFC 6750, section 2.1).
+ghost use Rattle.std.specs.Prelude.{◌≡◌, ◌≤◌, length, map, All, codes, MatchOption, None, Some};
+ghost use Rattle.std.specs.List.{list_all};
+ghost use Rattle.std.specs.Char.{is_ascii_graphic};
+ghost use Rattle.httparse.specs.Spans.{header_bytes, IsHeaderWithin};
+ghost use Rattle.wire_head.specs.Bearer.{skip_spaces, visible, spaced, borne, token_of};
+
+use crate::fields::{Occurrence, is_same_word, only};
+use httparse::spans::HeaderSpan;
+
+// What follows the spaces at the front.
+fn skip_spaces(bytes: &[u8]) -> &[u8]
+    ensures { result.now ≡ skip_spaces bytes.now }
+{
+    let mut left = bytes;
+    'skipping: while let Some((b, rest)) = left.split_first() {
+        if *b != b' ' {
+            break;
+        }
+        left = rest;
+    }
+    left
+}
+
+// Whether each byte is a visible character of ASCII.
+fn are_visible(text: &[u8]) -> bool
+    ensures { result ≡ list_all is_ascii_graphic text.now }
+{
+    text.iter().all(|b| b.is_ascii_graphic())
+}
+
+// The text, if it can be a token.
+fn visible(text: &[u8]) -> Option<&str>
+    ensures { MatchOption result (visible text.now ≡ None)
+        (λ token. visible text.now ≡ Some token.now) }
+{
+    if text.is_empty() || !are_visible(text) {
+        return None;
+    }
+    let Ok(token) = str::from_utf8(text) else {
+        unreachable!();
+    };
+    Some(token)
+}
+
+// The token that follows one or more spaces.
+fn spaced(bytes: &[u8]) -> Option<&str>
+    ensures { MatchOption result (spaced bytes.now ≡ None)
+        (λ token. spaced bytes.now ≡ Some token.now) }
+{
+    let (b, rest) = bytes.split_first()?;
+    if *b != b' ' {
+        return None;
+    }
+    visible(skip_spaces(rest))
+}
+
+// The token that a field's value bears.
+fn borne(value: &[u8]) -> Option<&str>
+    ensures { MatchOption result (borne value.now ≡ None)
+        (λ token. borne value.now ≡ Some token.now) }
+{
+    if value.len() < 6 || !is_same_word(&value[..6], b"Bearer") {
+        return None;
+    }
+    spaced(&value[6..])
+}
+
+/// The token that the fields bear: exactly one field Authorization, of the scheme `Bearer`.
+pub fn token_of<'b>(buffer: &'b [u8], fields: &[HeaderSpan]) -> Option<&'b str>
+    requires { All (IsHeaderWithin (length buffer.now)) fields.now }
+    ensures { MatchOption result (token_of (map (header_bytes buffer.now) fields.now) ≡ None)
+        (λ token. token_of (map (header_bytes buffer.now) fields.now) ≡ Some token.now) }
+{
+    match only(buffer, fields, b"Authorization") {
+        Occurrence::One(value) => borne(value.of(buffer)),
+        Occurrence::Absent => None,
+        Occurrence::Many => None,
+    }
+}

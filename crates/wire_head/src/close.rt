@@ -1,0 +1,82 @@
+//! What closes a connection (RFC 9112, section 9.6).
+ghost use Rattle.std.specs.Prelude.{◌≡◌, ◌≤◌, length, map, reverse, codes, All};
+ghost use Rattle.std.specs.List.{list_any};
+ghost use Rattle.httparse.specs.Grammar.{skip_ows, trim_ows};
+ghost use Rattle.httparse.specs.Spans.{header_bytes, IsHeaderWithin};
+ghost use Rattle.wire_head.specs.Fields.{values_of};
+ghost use Rattle.wire_head.specs.Close.{is_close, tells_close, closes_by};
+
+use crate::fields::is_same_word;
+use httparse::spans::HeaderSpan;
+
+// What follows the spaces and tabs at the front.
+fn skip_front(bytes: &[u8]) -> &[u8]
+    ensures { result.now ≡ skip_ows bytes.now }
+{
+    let mut left = bytes;
+    'skipping: while let Some((b, rest)) = left.split_first() {
+        if *b != b' ' && *b != b'\t' {
+            break;
+        }
+        left = rest;
+    }
+    left
+}
+
+// What stands before the spaces and tabs at the end.
+fn skip_back(bytes: &[u8]) -> &[u8]
+    ensures { result.now ≡ reverse (skip_ows (reverse bytes.now)) }
+{
+    let mut left = bytes;
+    'skipping: while let Some((b, rest)) = left.split_last() {
+        if *b != b' ' && *b != b'\t' {
+            break;
+        }
+        left = rest;
+    }
+    left
+}
+
+// The bytes without the spaces and tabs at their ends.
+fn trimmed(bytes: &[u8]) -> &[u8]
+    ensures { result.now ≡ trim_ows bytes.now }
+{
+    skip_back(skip_front(bytes))
+}
+
+// Whether a word of a list is `close`.
+fn is_close(word: &[u8]) -> bool
+    ensures { result ≡ is_close word.now }
+{
+    is_same_word(trimmed(word), b"close")
+}
+
+// Whether `close` is one of the words of a list with commas.
+fn tells_close(value: &[u8]) -> bool
+    ensures { result ≡ tells_close value.now }
+{
+    value.split(|b| *b == b',').any(|word| is_close(word))
+}
+
+// Whether one of the fields Connection tells that the connection closes.
+fn fields_close(buffer: &[u8], fields: &[HeaderSpan]) -> bool
+    requires { All (IsHeaderWithin (length buffer.now)) fields.now }
+    ensures { result ≡ list_any tells_close
+        (values_of (codes "connection") (map (header_bytes buffer.now) fields.now)) }
+{
+    let Some((field, rest)) = fields.split_first() else {
+        return false;
+    };
+    if is_same_word(field.name.of(buffer), b"connection") && tells_close(field.value.of(buffer)) {
+        return true;
+    }
+    fields_close(buffer, rest)
+}
+
+/// Whether the connection closes after a request of that minor version and with these fields.
+pub fn closes(buffer: &[u8], minor: u8, fields: &[HeaderSpan]) -> bool
+    requires { All (IsHeaderWithin (length buffer.now)) fields.now }
+    ensures { result ≡ closes_by minor (map (header_bytes buffer.now) fields.now) }
+{
+    minor == 0 || fields_close(buffer, fields)
+}

@@ -1,0 +1,44 @@
+//! The fields of a head.
+ghost use Rattle.std.specs.Prelude.{◌≡◌, ◌≤◌, length, map, All};
+ghost use Rattle.httparse.specs.Spans.{header_bytes, IsHeaderWithin};
+ghost use Rattle.wire_head.specs.Fields.{values_of, IsOccurrence, is_same_word};
+
+use httparse::spans::{HeaderSpan, Span};
+
+/// What a search for the only field of a name finds.
+#[derive(Clone, Copy)]
+pub(crate) enum Occurrence {
+    /// No field of the name.
+    Absent,
+    /// The value of the one field of the name.
+    One(Span),
+    /// Two or more.
+    Many,
+}
+
+/// Whether two texts are one, whatever the case of their letters.
+pub(crate) fn is_same_word(text: &[u8], word: &[u8]) -> bool
+    ensures { result ≡ is_same_word word.now text.now }
+{
+    text.eq_ignore_ascii_case(word)
+}
+
+/// The only field of a name.
+pub(crate) fn only(buffer: &[u8], fields: &[HeaderSpan], name: &[u8]) -> Occurrence
+    requires { All (IsHeaderWithin (length buffer.now)) fields.now }
+    ensures { IsOccurrence buffer.now
+        (values_of name.now (map (header_bytes buffer.now) fields.now)) result }
+{
+    let Some((field, rest)) = fields.split_first() else {
+        return Occurrence::Absent;
+    };
+    let later = only(buffer, rest, name);
+    if !is_same_word(field.name.of(buffer), name) {
+        return later;
+    }
+    match later {
+        Occurrence::Absent => Occurrence::One(field.value),
+        Occurrence::One(_) => Occurrence::Many,
+        Occurrence::Many => Occurrence::Many,
+    }
+}

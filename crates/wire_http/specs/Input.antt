@@ -1,0 +1,18 @@
+-- The bytes that a reader gives, as far as they are known.
+use Rattle.std.specs.Prelude.{◌≡◌, ℕ, List, [], ◌++◌, Option, Some, None}
+use Rattle.std.specs.Io.KnownBytes.{Consumes}
+
+-- the bytes that are known: none of a reader whose bytes nobody knows
+abbrev pub known_bytes : Option (List ℕ) → List ℕ
+known_bytes None = []
+known_bytes (Some bytes) = bytes
+
+-- These are the bytes of a reader. Where nobody knows them, they may be any.
+abbrev pub IsInput : Option (List ℕ) → List ℕ → Type 0
+IsInput None input = Unit {0}
+IsInput (Some bytes) input = input ≡ bytes
+
+-- the buffer grew by bytes that the reader gave
+abbrev pub Came : Option (List ℕ) → Option (List ℕ) → List ℕ → List ℕ → Type 0
+Came remaining remaining' buffer buffer' =
+    (more : List ℕ) × (buffer' ≡ buffer ++ more) × Consumes remaining remaining' more

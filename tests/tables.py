@@ -1,0 +1,116 @@
+"""The tables of a database in both formats, as docs/DATABASE.md has them, and files of SQLite with them."""
+import contextlib
+import re
+import sqlite3
+
+# The tables of format 1, and those that came with format 2, in the order in which the program makes them.
+FIRST = """
+CREATE TABLE meta (one INTEGER PRIMARY KEY NOT NULL CHECK (one = 1), format INTEGER NOT NULL,
+  serial INTEGER NOT NULL CHECK (serial >= 0)) STRICT;
+CREATE TABLE entity (num INTEGER PRIMARY KEY NOT NULL, kind INTEGER NOT NULL CHECK (kind IN (0, 1)),
+  id TEXT NOT NULL, manager TEXT NOT NULL, state INTEGER NOT NULL CHECK (state BETWEEN 0 AND 4),
+  version INTEGER NOT NULL CHECK (version BETWEEN 1 AND 2147483647),
+  serial INTEGER NOT NULL CHECK (serial >= 0), ovn TEXT NOT NULL, url TEXT NOT NULL, UNIQUE (kind, id)) STRICT;
+CREATE TABLE volume (entity INTEGER NOT NULL REFERENCES entity (num) ON DELETE CASCADE, place INTEGER NOT NULL,
+  alt_lower INTEGER NOT NULL, alt_upper INTEGER NOT NULL, time_start INTEGER NOT NULL, time_end INTEGER NOT NULL,
+  PRIMARY KEY (entity, place), CHECK (alt_lower <= alt_upper), CHECK (time_start <= time_end)) STRICT;
+CREATE TABLE cell (entity INTEGER NOT NULL, volume INTEGER NOT NULL, place INTEGER NOT NULL, token TEXT NOT NULL,
+  lo INTEGER NOT NULL, hi INTEGER NOT NULL, PRIMARY KEY (entity, volume, place),
+  FOREIGN KEY (entity, volume) REFERENCES volume (entity, place) ON DELETE CASCADE, CHECK (lo <= hi)) STRICT;
+CREATE INDEX cell_range ON cell (lo, hi);
+CREATE TABLE availability (uss TEXT NOT NULL PRIMARY KEY,
+  state INTEGER NOT NULL CHECK (state BETWEEN 0 AND 2), version TEXT NOT NULL) STRICT;
+"""
+LATER = """
+CREATE TABLE subscription (num INTEGER PRIMARY KEY NOT NULL, id TEXT NOT NULL UNIQUE, manager TEXT NOT NULL,
+  serial INTEGER NOT NULL CHECK (serial >= 0), version TEXT NOT NULL, notes INTEGER NOT NULL CHECK (notes >= 0),
+  url TEXT NOT NULL, for_intents INTEGER NOT NULL CHECK (for_intents IN (0, 1)),
+  for_constraints INTEGER NOT NULL CHECK (for_constraints IN (0, 1)),
+  alt_lower INTEGER NOT NULL, alt_upper INTEGER NOT NULL, time_start INTEGER NOT NULL, time_end INTEGER NOT NULL,
+  CHECK (for_intents = 1 OR for_constraints = 1), CHECK (alt_lower <= alt_upper),
+  CHECK (time_start <= time_end)) STRICT;
+CREATE TABLE subscription_cell (
+  subscription INTEGER NOT NULL REFERENCES subscription (num) ON DELETE CASCADE, place INTEGER NOT NULL,
+  token TEXT NOT NULL, lo INTEGER NOT NULL, hi INTEGER NOT NULL, PRIMARY KEY (subscription, place),
+  CHECK (lo <= hi)) STRICT;
+CREATE INDEX subscription_cell_range ON subscription_cell (lo, hi);
+CREATE TABLE naming (entity INTEGER PRIMARY KEY NOT NULL REFERENCES entity (num) ON DELETE CASCADE,
+  subscription INTEGER NOT NULL REFERENCES subscription (num) ON DELETE RESTRICT) STRICT;
+"""
+
+
+def statements(text):
+    return [it.strip() for it in text.split(";") if it.strip()]
+
+
+def named(text):
+    """The statements that make tables and indexes, by the names of these."""
+    return {re.match(r"CREATE \w+ (\w+)", it)[1]: it for it in statements(text)}
+
+
+def tables_of(text):
+    return [name for name, it in named(text).items() if it.startswith("CREATE TABLE")]
+
+
+FIRST_TABLES, LATER_TABLES = tables_of(FIRST), tables_of(LATER)
+TABLES = FIRST_TABLES + LATER_TABLES
+FORMATS = {1: FIRST, 2: FIRST + LATER}
+
+
+@contextlib.contextmanager
+def opened(file):
+    """A connection of SQLite itself, whose changes are committed and which is closed at the end."""
+    database = sqlite3.connect(file)
+    try:
+        with database:
+            yield database
+    finally:
+        database.close()
+
+
+@contextlib.contextmanager
+def unguarded(file):
+    """The same, with the checks and references of the tables off."""
+    with opened(file) as database:
+        database.execute("PRAGMA foreign_keys = OFF")
+        database.execute("PRAGMA ignore_check_constraints = ON")
+        database.execute("PRAGMA legacy_alter_table = ON")
+        yield database
+
+
+def make(file, number, rows=None):
+    """Makes a file with the tables of a format, and with rows, by their tables, beside that of meta; with a log, as the
+    program makes it."""
+    with opened(file) as database:
+        database.execute("PRAGMA journal_mode = WAL")
+        for statement in statements(FORMATS[number]):
+            database.execute(statement)
+        for table, all_ in ({"meta": [(1, number, 0)]} | (rows or {})).items():
+            for row in all_:
+                database.execute(f"INSERT INTO {table} VALUES ({', '.join('?' * len(row))})", row)
+
+
+def rows_in(file):
+    """The rows of each table, by its name, in one order."""
+    with opened(file) as database:
+        names = [it for (it,) in database.execute("SELECT name FROM sqlite_schema WHERE type = 'table' ORDER BY name")]
+        return {it: sorted(database.execute(f"SELECT * FROM {it}").fetchall()) for it in names}
+
+
+def columns_in(file):
+    """The columns of the tables, each with its table."""
+    with opened(file) as database:
+        return [(table, it) for table in TABLES for (it,) in database.execute(f"SELECT name FROM pragma_table_info('{table}')")]
+
+
+def schema_in(file):
+    """The statements by which SQLite says that tables and indexes were made, without their blanks, by the names."""
+    with opened(file) as database:
+        return {name: "".join(text.split()) for name, text in database.execute("SELECT name, sql FROM sqlite_schema WHERE sql NOT NULL")}
+
+
+def wrong_in(file):
+    """What SQLite finds wrong with a file."""
+    with opened(file) as database:
+        found = [it for statement in ("integrity_check", "foreign_key_check") for it in database.execute(f"PRAGMA {statement}")]
+    return [] if found == [("ok",)] else [f"SQLite: {found}"]

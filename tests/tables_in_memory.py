@@ -1,0 +1,90 @@
+#!/usr/bin/env python3
+"""What the program `tables_in_memory` is given and must print, over tables in memory, which no command of dss has: drawn
+calls with the plain policy's answers, and searches of cells of all levels. The gate runs the program on these files.
+
+  tests/tables_in_memory.py     writes them below crates/tables_in_memory"""
+import drawn_calls
+import plain_policy
+import wire
+from drawn_calls import Draw, Drawn
+from program import TOP
+
+FOLDER = TOP / "crates" / "tables_in_memory"
+SEED, STREAMS = 7, 3
+# streams of creations that need no key, of two volumes each, and the levels of their cells
+CREATIONS, LEVELS = 2, range(7, 17)
+# of levels 0, 6, 13, 13 and 20 where the drawn calls are, and one elsewhere
+CELLS = ("1", "0001", "00000004", "00000304", "000003000004", "9")
+KINDS = (plain_policy.INTENT, plain_policy.CONSTRAINT)
+
+
+def extent(draw, drawn):
+    """A volume of one cell, two of three of which share a height or a time."""
+    lower, start = 100 * draw.below(3), drawn_calls.NOW + 100 * draw.below(3)
+    return {
+        "cells": [drawn.cell(draw.of(LEVELS))],
+        "altitude_lower": lower,
+        "altitude_upper": lower + 150,
+        "time_start": start,
+        "time_end": start + 150,
+    }
+
+
+def creation(draw, drawn, number):
+    """The creation of a contingent intent of this number."""
+    body = {
+        "extents": [extent(draw, drawn), extent(draw, drawn)],
+        "state": "Contingent",
+        "uss_base_url": "https://b.example",
+    }
+    target = f"{wire.INTENTS}/00000000-0000-4000-8000-{number:012x}"
+    return "PUT", target, "Bearer tok-bm", wire.compact(body).encode()
+
+
+def searched(airspace, token):
+    """What is told of a cell."""
+    area = plain_policy.Extent((plain_policy.cell_of(token),), (None, None), (None, None))
+    lines = []
+    for kind in KINDS:
+        entities = [it for it in airspace.entities.values() if it.kind == kind]
+        met = sum(plain_policy.some_meet(it.put.extents, [area]) for it in entities)
+        lines.append(f"{token}: {met} of {len(entities)}, both searches find the same\n")
+    return "".join(lines).encode()
+
+
+def files():
+    """The files of the crate by their names: tokens, streams, words, and what is printed."""
+    draw = Draw(SEED)
+    airspace = plain_policy.Airspace(drawn_calls.NOW, drawn_calls.ALL_TOKENS)
+    drawn = Drawn(draw, airspace)
+    found = {"data/tokens.toml": wire.token_file(drawn_calls.ALL_TOKENS).encode()}
+    words, printed = ["tokens.toml"], b""
+    for number in range(1, STREAMS + CREATIONS + 1):
+        calls = []
+        for at in range(1, wire.MOST_REQUESTS + 1):
+            call = drawn.call() if number <= STREAMS else creation(draw, drawn, 1_000 * number + at)
+            calls.append(wire.request(*call))
+            printed += airspace.ask(*call).text(closes=at == wire.MOST_REQUESTS)
+        words.append(f"{number}.http")
+        found[f"data/{number}.http"] = b"".join(calls)
+    for token in CELLS:
+        words.append(f"cell:{token}")
+        printed += searched(airspace, token)
+    return found | {"args": "".join(f"{it}\n" for it in words).encode(), "stdout": printed}
+
+
+def as_drawn():
+    """The crate's files are these."""
+    return [
+        f"crates/tables_in_memory/{name} is not what is drawn: run tests/tables_in_memory.py"
+        for name, content in files().items()
+        if not (FOLDER / name).is_file() or (FOLDER / name).read_bytes() != content
+    ]
+
+
+CASES = {"tables-in-memory-as-drawn": as_drawn}
+
+if __name__ == "__main__":
+    for name, content in files().items():
+        (FOLDER / name).parent.mkdir(parents=True, exist_ok=True)
+        (FOLDER / name).write_bytes(content)
