@@ -35,8 +35,9 @@ def schema():
 
 
 def rates(program, file, kept):
-    """How many creations, updates, deletions and queries that find ten a second, by their words, while so many intents
-    are kept in a file or in `:memory:`."""
+    """How many a second, by their words, while so many intents are kept in a file or in `:memory:`: creations, updates,
+    deletions and queries that find ten; and where at least 1,000 are kept, queries of 512 cells and such that find 1,000, and
+    creations that look first for 1, 16 and 128."""
     words = [program, file, f"{kept}", f"{CHANGES}", schema()]
     said = subprocess.run(words, capture_output=True, text=True, check=True).stdout
     return dict(line.split() for line in said.splitlines())

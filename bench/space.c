@@ -3,7 +3,8 @@
 //   space FILE SIZE COUNT SCHEMA
 //
 // makes a database of SIZE intents, ten to a cell, in FILE (`:memory:` has none), and then COUNT creations, updates,
-// deletions and queries that find ten. SCHEMA is the text that makes the tables. A
+// deletions and queries that find ten, and of what looks at more: a tenth as many queries of 512 cells and of 100 that find
+// 1,000, and creations that look first for the 1, 16 and 128 which they meet. SCHEMA is the text that makes the tables. A
 // statement is prepared once and kept.
 #include <inttypes.h>
 #include <sqlite3.h>
@@ -12,7 +13,7 @@
 #include <string.h>
 #include <time.h>
 
-enum { SHARING = 10, KEPT_STATEMENTS = 32 };
+enum { SHARING = 10, KEPT_STATEMENTS = 32, MOST_FOUND = 1 << 16 };
 
 static sqlite3 *database;
 
@@ -129,15 +130,19 @@ static void delete(int64_t which) {
     commit();
 }
 
-// The candidates by the interval of a cell of level 13 and of each cell above it, and then the rows of each.
-static int query(int64_t place) {
-    int64_t found[64];
-    run("BEGIN", NULL, 0, NULL, 0);
-    int count = run("SELECT entity FROM cell WHERE lo BETWEEN ?1 AND ?2", (struct value[]){number(place), number(place)}, 2, found, 64);
+// The candidates by the intervals of cells of level 13, one after the other, and of each cell above them, once, and then the
+// rows of each.
+static int find(int64_t first, int64_t places) {
+    static int64_t found[MOST_FOUND];
+    int count = 0;
+    for (int64_t place = first; place < first + places; place++)
+        count += run("SELECT entity FROM cell WHERE lo BETWEEN ?1 AND ?2", (struct value[]){number(place), number(place)}, 2,
+            found + count, MOST_FOUND - count);
     for (int level = 0; level < 13; level++) {
-        int64_t wide = (int64_t)1 << (2 * (13 - level)), lo = place / wide * wide;
-        count += run("SELECT entity FROM cell WHERE lo = ?1 AND hi = ?2", (struct value[]){number(lo), number(lo + wide - 1)}, 2,
-            found + count, 64 - count);
+        int64_t wide = (int64_t)1 << (2 * (13 - level));
+        for (int64_t lo = first / wide * wide; lo < first + places; lo += wide)
+            count += run("SELECT entity FROM cell WHERE lo = ?1 AND hi = ?2", (struct value[]){number(lo), number(lo + wide - 1)}, 2,
+                found + count, MOST_FOUND - count);
     }
     for (int at = 0; at < count; at++) {
         RUN("SELECT num, kind, id, manager, state, version, serial, ovn, url FROM entity WHERE num = ?1", number(found[at]));
@@ -147,14 +152,51 @@ static int query(int64_t place) {
             number(found[at]));
         RUN("SELECT subscription FROM naming WHERE entity = ?1", number(found[at]));
     }
-    run("ROLLBACK", NULL, 0, NULL, 0);
     return count;
+}
+
+static void query(int64_t first, int64_t places, int wanted) {
+    run("BEGIN", NULL, 0, NULL, 0);
+    if (find(first, places) != wanted)
+        stop("a query found another number");
+    run("ROLLBACK", NULL, 0, NULL, 0);
 }
 
 static double now(void) {
     struct timespec time;
     clock_gettime(CLOCK_MONOTONIC, &time);
     return time.tv_sec + time.tv_nsec / 1e9;
+}
+
+// Creations, each of which first looks for those that it meets: so many in its cell.
+static void creations(int meets, int64_t first, int64_t place, int64_t many) {
+    begin();
+    for (int64_t at = 1; at <= meets; at++)
+        put(first + at, first + at, place, 0);
+    commit();
+    double began = now();
+    for (int64_t at = 1; at <= many; at++) {
+        int64_t which = first + meets + at;
+        query(place, 1, meets);
+        // in a cell beside it, so that as many are met the next time
+        create(which, which, place + at % 500 + 1, 1000 + at);
+    }
+    printf("key-%d %.0f\n", meets, many / (now() - began));
+}
+
+// What looks at more cells or finds more, where so many cells have ten intents each.
+static void look_at_more(int64_t first, int64_t places, int64_t many) {
+    double began = now();
+    for (int64_t at = 1; at <= many; at++)
+        query(places - 1, 512, SHARING);
+    printf("wide %.0f\n", many / (now() - began));
+    began = now();
+    for (int64_t at = 1; at <= many; at++)
+        query(at % (places - 99), 100, 100 * SHARING);
+    printf("many %.0f\n", many / (now() - began));
+    creations(1, first, places + 1000, many);
+    creations(16, first + 10 * many, places + 2000, many);
+    creations(128, first + 20 * many, places + 3000, many);
 }
 
 int main(int count, char **words) {
@@ -183,8 +225,9 @@ int main(int count, char **words) {
     printf("delete %.0f\n", many / (now() - began));
     began = now();
     for (int64_t at = 1; at <= many; at++)
-        if (query(at % places) != SHARING)
-            stop("a query found another number");
+        query(at % places, 1, SHARING);
     printf("query %.0f\n", many / (now() - began));
+    if (places >= 100)
+        look_at_more(size + many, places, many / 10);
     sqlite3_close(database);
 }
