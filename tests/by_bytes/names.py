@@ -28,7 +28,7 @@ DECLARED = {
 # What is no name: text of JSON or HTTP, a shell's signs, a rule with its name.
 NO_NAME = re.compile(r"""[{"'=<>|$~!+\\]|^/|:[/ ]|^[PH]\d+( |$)|^\W+$""")
 # Where no name is made: data of cases, and this list.
-OUTSIDE = ("tests/cases/", "tests/names.py")
+OUTSIDE = ("tests/cases/", "tests/by_bytes/names.py")
 # Names of other programs, libraries and formats.
 OTHERS = set(
     """String Vec Option ghost unfolding tactic auto plant wrote

@@ -1,8 +1,6 @@
-#!/usr/bin/env python3
 """What the program `tables_in_memory` is given and must print, over tables in memory, which no command of dss has: drawn
-calls with the plain policy's answers, and searches of cells of all levels. The gate runs the program on these files.
-
-  tests/tables_in_memory.py     writes them below crates/tables_in_memory"""
+calls with the plain policy's answers, and searches of cells of all levels. The gate runs the program on these files, which
+tests/draw_tables writes."""
 import drawn_calls
 import plain_policy
 import wire
@@ -76,15 +74,17 @@ def files():
 def as_drawn():
     """The crate's files are these."""
     return [
-        f"crates/tables_in_memory/{name} is not what is drawn: run tests/tables_in_memory.py"
+        f"crates/tables_in_memory/{name} is not what is drawn: run tests/draw_tables"
         for name, content in files().items()
         if not (FOLDER / name).is_file() or (FOLDER / name).read_bytes() != content
     ]
 
 
-CASES = {"tables-in-memory-as-drawn": as_drawn}
-
-if __name__ == "__main__":
+def write():
+    """Writes the files of the crate."""
     for name, content in files().items():
         (FOLDER / name).parent.mkdir(parents=True, exist_ok=True)
         (FOLDER / name).write_bytes(content)
+
+
+CASES = {"tables-in-memory-as-drawn": as_drawn}

@@ -35,7 +35,7 @@ class Failing(Room):
     def __enter__(self):
         super().__enter__()
         self.library, self.counted = (str(pathlib.Path(self.folder.name, it)) for it in ("fail_files.so", "calls"))
-        built = run(["cc", "-shared", "-fPIC", "-O1", "-o", self.library, str(TOP / "tests" / "fail_files.c")])
+        built = run(["cc", "-shared", "-fPIC", "-O1", "-o", self.library, str(TOP / "tests" / "devices" / "fail_files.c")])
         if built[0]:
             raise OSError(f"cc: {built[2]!r}")
         return self

@@ -24,7 +24,7 @@ def each_refused(command, given=b"", step=1, before=lambda: None):
     Yields the number of the growth, what came, and whether there was such a growth, which is so for all but the last."""
     with tempfile.TemporaryDirectory() as room:
         library, mark = f"{room}/refuse_memory.so", pathlib.Path(room, "refused")
-        built = run(["cc", "-shared", "-fPIC", "-O1", "-o", library, str(TOP / "tests" / "refuse_memory.c")])
+        built = run(["cc", "-shared", "-fPIC", "-O1", "-o", library, str(TOP / "tests" / "devices" / "refuse_memory.c")])
         if built[0]:
             raise OSError(f"cc: {built[2]!r}")
         for at in range(1, MOST_GROWTHS * step, step):

@@ -2,8 +2,8 @@
 have it.
 
 A row begins on an empty airspace with requests that are done, and ends with the one whose whole answer is compared.
-P15 has no row: no stream of a hundred requests comes to the greatest serial or version. Forms (P5) and changes of state
-(P12) are in bodies.py, rows on subscriptions in subscriptions.py."""
+P15 has no row: no stream of a hundred requests comes to the greatest serial or version. Forms (P5) are in
+bodies.py, changes of state (P12) in meanings.py, rows on subscriptions in subscriptions.py."""
 import subscriptions
 import wire
 from connections import ask, volume

@@ -73,7 +73,7 @@ class Machine:
 
     def __init__(self, room, made):
         self.room, self.library = room, f"{room.folder.name}/crash.so"
-        built = run(["cc", "-shared", "-fPIC", "-O1", "-o", self.library, str(TOP / "tests" / "crash.c")])
+        built = run(["cc", "-shared", "-fPIC", "-O1", "-o", self.library, str(TOP / "tests" / "devices" / "crash.c")])
         if built[0]:
             raise OSError(f"cc: {built[2]!r}")
         self.saved = pathlib.Path(room.folder.name, "saved")

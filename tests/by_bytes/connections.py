@@ -1,7 +1,7 @@
 """Connections: requests that come in pieces, devices that fail, and what breaks a rule of the wire.
 
 Standard input and output of the built program are made to give and take few bytes a call, or to fail, by
-tests/devices.c, which is loaded before the C library."""
+tests/devices/devices.c, which is loaded before the C library."""
 import json
 import os
 import pathlib
@@ -29,7 +29,7 @@ class Room:
         self.tokens = pathlib.Path(self.folder.name, "tokens.toml")
         self.tokens.write_text(wire.token_file())
         self.library = f"{self.folder.name}/devices.so"
-        made = run(["cc", "-shared", "-fPIC", "-O1", "-o", self.library, str(TOP / "tests" / "devices.c")])
+        made = run(["cc", "-shared", "-fPIC", "-O1", "-o", self.library, str(TOP / "tests" / "devices" / "devices.c")])
         if made[0]:
             raise OSError(f"cc: {made[2]!r}")
         return self

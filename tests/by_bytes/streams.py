@@ -6,9 +6,12 @@ import json
 
 import bodies
 import drawn_calls
+import meanings
 import wire
+import words
 from plain_policy import AVAILABILITIES, RULES, STATES
 from program import BUILT, TOP, first_difference, run, serve
+from scenes import NOW
 
 CLOSE = b"Connection: close\r\n"
 SEEDS = range(1, 121)
@@ -85,19 +88,19 @@ def answered_as_drawn(name, seeds, least, **how):
 
 
 def said():
-    """Each body and word of the table of bodies is answered as the table says."""
+    """Each request of the tables of bodies and of meanings is answered as they say."""
     found = []
-    for scene in bodies.scenes():
+    for scene in bodies.scenes() + meanings.scenes():
         wanted = [wire.answer(*it) for it in scene.wanted]
-        found += served(scene.name, scene.requests, wanted, bodies.NOW, scene.tokens)
+        found += served(scene.name, scene.requests, wanted, NOW, scene.tokens)
     return found
 
 
 def token_files():
     """Each token file of the table is read, or its fault is told."""
     found = []
-    for text, fault in bodies.TOKEN_FILES:
-        got = serve(b"", bodies.NOW, text)
+    for text, fault in words.TOKEN_FILES:
+        got = serve(b"", NOW, text)
         wanted = (1, b"", f"dss: tokens: fault {fault}\n".encode()) if fault else (0, b"", b"")
         if got != wanted:
             found += [f"{text!r}: wanted {wanted!r}, got {got!r}"]
@@ -107,19 +110,19 @@ def token_files():
 def command_lines():
     """Each command line of the table ends with its status. What a refused one says is not fixed, but is not nothing."""
     found = []
-    for words, status, part in bodies.COMMAND_LINES:
-        got, output, error = run(["dss", *words], program=BUILT)
+    for line, status, part in words.COMMAND_LINES:
+        got, output, error = run(["dss", *line], program=BUILT)
         says = (error if status else output).decode()
         silent = output if status else error
         if got != status or silent or part not in says:
-            found += [f"{words}: wanted {status} and {part!r}, got {got}, {output!r}, {error!r}"]
+            found += [f"{line}: wanted {status} and {part!r}, got {got}, {output!r}, {error!r}"]
     return found
 
 
 def cells():
     """Each token of the table is printed as a cell, or its fault is told."""
     found = []
-    for token, status, text in bodies.CELLS:
+    for token, status, text in words.CELLS:
         wanted = (status, b"" if status else text.encode(), text.encode() if status else b"")
         got = run([BUILT, "cell", token])
         if got != wanted:

@@ -6,7 +6,7 @@ import tempfile
 
 import wire
 
-TOP = pathlib.Path(__file__).resolve().parent.parent
+TOP = pathlib.Path(__file__).resolve().parents[2]
 CASES = TOP / "tests" / "cases"
 DSS = str(TOP / "dss")
 # what ./check says that ./dss runs, which is elsewhere where the repository cannot be written

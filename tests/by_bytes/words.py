@@ -1,0 +1,131 @@
+"""Token files, command lines and tokens of cells, with what is wanted of each."""
+
+# Token files, and the fault that each has.
+TOKEN_FILES = (
+    ("salt = demo", "1 Toml"),
+    ("salt = 1e400", "1 Toml"),
+    ("", "2 Salt"),
+    ("salt = 4", "2 Salt"),
+    ('salt = ""', "2 Salt"),
+    ('salt = "a b"', "2 Salt"),
+    ('salt = "é"', "2 Salt"),
+    (f'salt = "{"s" * 64}"', None),
+    (f'salt = "{"s" * 65}"', "2 Salt"),
+    ('salt = "s"\ntoken = 1', "3 Token"),
+    ('salt = "s"\n[token]\ntext = "t"', "3 Token"),
+    ('salt = "s"\ntoken = [1]', "3 Token"),
+    ('salt = "s"\ntoken = [{uss = "u", scopes = []}]', "3 Token"),
+    ('salt = "s"\ntoken = [{text = "a b", uss = "u", scopes = []}]', "3 Token"),
+    ('salt = "s"\ntoken = [{text = "", uss = "u", scopes = []}]', "3 Token"),
+    ('salt = "s"\ntoken = [{text = "t", scopes = []}]', "4 Uss"),
+    ('salt = "s"\ntoken = [{text = "t", uss = "u/v", scopes = []}]', "4 Uss"),
+    ('salt = "s"\ntoken = [{text = "t", uss = "é", scopes = []}]', "4 Uss"),
+    ('salt = "s"\ntoken = [{text = "t", uss = "u"}]', "5 Scopes"),
+    ('salt = "s"\ntoken = [{text = "t", uss = "u", scopes = "x"}]', "5 Scopes"),
+    ('salt = "s"\ntoken = [{text = "t", uss = "u", scopes = ["x", 1]}]', "5 Scopes"),
+    (
+        'salt = "s"\ntoken = [{text = "t", uss = "u", scopes = []}, {text = "t", uss = "v", scopes = []}]',
+        "6 Repeated",
+    ),
+    # the salt comes first, and then table by table
+    ('token = [{text = "", uss = ""}]', "2 Salt"),
+    ('salt = "s"\ntoken = [{text = "t", uss = "", scopes = []}, {text = ""}]', "4 Uss"),
+    ('salt = "s"\ntoken = [{text = "t", uss = "u", scopes = []}, {text = "t", uss = ""}]', "4 Uss"),
+    ('salt = "s"\ntoken = [{text = "t", uss = "", scopes = 1}]', "4 Uss"),
+    (
+        'salt = "s"\ntoken = [{text = "t", uss = "u", scopes = []}, {text = "t", uss = "u", scopes = 1}]',
+        "5 Scopes",
+    ),
+    ('salt = "s"', None),
+    ('salt = "s"\ntoken = []\nother = 1', None),
+    # texts have up to 255 visible bytes
+    (f'salt = "s"\n[[token]]\ntext = "{"!" * 255}"\nuss = "u"\nscopes = []', None),
+    (f'salt = "s"\n[[token]]\ntext = "{"!" * 255}~"\nuss = "u"\nscopes = []', "3 Token"),
+    ('salt = "s"\ntoken = [{text = "!~", uss = "u", scopes = []}]', None),
+    ('salt = "s"\ntoken = [{text = "\\u007f", uss = "u", scopes = []}]', "3 Token"),
+    ('salt = "s"\ntoken = [{text = "é", uss = "u", scopes = []}]', "3 Token"),
+)
+
+# Command lines after the program's name, the status, and a part of what is said. The files are those of the
+# examples, and standard input is empty.
+RUN = ["run", "--tokens", "examples/tokens.toml", "--now"]
+TOKENS_AND_DB = ["--tokens", "t", "--db", "d"]
+
+
+def serving(port, count):
+    """A command line of `serve`."""
+    return ["serve", *TOKENS_AND_DB, "--port", port, "--count", count]
+
+
+COMMAND_LINES = (
+    ([*RUN, "1000", "-"], 0, ""),
+    (["run", "-", "--now=1000", "--tokens=examples/tokens.toml"], 0, ""),
+    ([*RUN, "0", "-"], 0, ""),
+    (["run", "--now=0", "--tokens=examples/tokens.toml", "-"], 0, ""),
+    ([*RUN, "253402300799", "-"], 0, ""),
+    *(([*RUN, now, "-"], 2, "") for now in ("253402300800", "-1", "18446744073709551616", "", "1.5", "ten")),
+    (["run", "--now=-1", "--tokens=examples/tokens.toml", "-"], 2, ""),
+    ([], 2, ""),
+    (["nothing"], 2, ""),
+    (["cell"], 2, ""),
+    (["cell", "1", "3"], 2, ""),
+    # bytes that are no UTF-8
+    (["cell", "\udcff"], 2, "not UTF-8"),
+    (["\udcc3("], 2, "not UTF-8"),
+    (["cell", "--now", "1", "3"], 2, ""),
+    (["--version"], 2, ""),
+    (["run"], 2, ""),
+    (["run", "--now", "1", "r"], 2, "--tokens <FILE>"),
+    (["run", "--tokens", "examples/tokens.toml", "r"], 2, ""),
+    ([*RUN, "1"], 2, ""),
+    ([*RUN, "1", "-", "s"], 2, ""),
+    ([*RUN, "1", "--tokens", "examples/tokens.toml", "-"], 2, ""),
+    *((serving(port, "1"), 2, "") for port in ("0", "65536", "-1", "", "80.0")),
+    *((serving("1", count), 2, "") for count in ("0", "1000001", "-1", "", "many")),
+    (["serve", *TOKENS_AND_DB, "--port", "1"], 2, ""),
+    (["serve", *TOKENS_AND_DB, "--count", "1"], 2, ""),
+    (["serve", "--tokens", "t", "--port", "1", "--count", "1"], 2, "--db <FILE>"),
+    (["serve", "--db", "d", "--port", "1", "--count", "1"], 2, "--tokens <FILE>"),
+    ([*serving("1", "1"), "-"], 2, ""),
+    (["self", *RUN[1:], "0", "-"], 0, ""),
+    (["self", *RUN[1:], "253402300799", "-"], 0, ""),
+    *((["self", *RUN[1:], now, "-"], 2, "") for now in ("253402300800", "-1", "")),
+    (["self", *RUN[1:], "1"], 2, ""),
+    (["self", *RUN[1:], "1", "--db", "d", "-"], 2, ""),
+    (["report"], 2, "--db <FILE>"),
+    (["report", "--db", "d", "e"], 2, ""),
+    (["upgrade"], 2, "--db <FILE>"),
+    (["upgrade", "--db"], 2, ""),
+    (["upgrade", "--db", "d", "e"], 2, ""),
+    (["upgrade", "--db", "d", "--tokens", "t"], 2, ""),
+    (["--help"], 0, "Usage: dss <COMMAND>"),
+    (["--help"], 0, "  upgrade "),
+    (["serve", "--help"], 0, "--count <NUMBER>"),
+    (["self", "--help"], 0, "REQUEST"),
+    (["report", "--help"], 0, "dss report --db <FILE>"),
+    (["upgrade", "--help"], 0, "dss upgrade --db <FILE>"),
+    (["run", "--help"], 0, "--now <SECONDS>"),
+    (["cell", "--help"], 0, "dss cell <TOKEN>"),
+)
+
+# Tokens of cells, the status, and the line of the cell or of the fault.
+CELLS = (
+    ("89C25904", 0, "89c25904 face=4 level=13 lo=288901920 hi=288901920\n"),
+    ("89c2590400000000", 0, "89c25904 face=4 level=13 lo=288901920 hi=288901920\n"),
+    ("89c25903", 0, "89c25903 face=4 level=14 lo=288901920 hi=288901920\n"),
+    ("89c3", 0, "89c3 face=4 level=6 lo=288899072 hi=288915455\n"),
+    ("1", 0, "1 face=0 level=0 lo=0 hi=67108863\n"),
+    ("89c2591", 0, "89c2591 face=4 level=12 lo=288901920 hi=288901923\n"),
+    ("b", 0, "b face=5 level=0 lo=335544320 hi=402653183\n"),
+    ("B", 0, "b face=5 level=0 lo=335544320 hi=402653183\n"),
+    ("0000000000000001", 0, "0000000000000001 face=0 level=30 lo=0 hi=0\n"),
+    ("", 1, "dss: token: fault 1 Length\n"),
+    ("00000000000000001", 1, "dss: token: fault 1 Length\n"),
+    ("11111111111111111", 1, "dss: token: fault 1 Length\n"),
+    ("XXXXXXXXXXXXXXXXX", 1, "dss: token: fault 1 Length\n"),
+    ("X", 1, "dss: token: fault 2 Digit\n"),
+    ("89c2590g", 1, "dss: token: fault 2 Digit\n"),
+    ("89c25902", 1, "dss: token: fault 3 Invalid\n"),
+    ("d", 1, "dss: token: fault 3 Invalid\n"),
+    ("0", 1, "dss: token: fault 3 Invalid\n"),
+)
