@@ -9,6 +9,7 @@ import json
 import os
 import pathlib
 import re
+import runpy
 
 from program import TOP
 
@@ -144,4 +145,10 @@ def headless():
     return [f"{it.relative_to(TOP)} begins otherwise" for it, text in texts if not text.startswith(begins[it.suffix])]
 
 
-CASES = {"names-in-docs": unknown, "first-lines": headless}
+def picture_is_drawn():
+    """The picture of the crates is of the crates that are there."""
+    drawn = runpy.run_path(str(TOP / "scripts" / "pictures"))["picture"]()
+    return [] if drawn == (TOP / "docs" / "crates.svg").read_text() else ["docs/crates.svg is another: run scripts/pictures"]
+
+
+CASES = {"picture-of-the-crates": picture_is_drawn, "names-in-docs": unknown, "first-lines": headless}
