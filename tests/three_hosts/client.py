@@ -4,8 +4,6 @@ import collections
 import copy
 import dataclasses
 import json
-import subprocess
-import tempfile
 import pathlib
 import threading
 import time
@@ -83,16 +81,17 @@ class Client:
     def airspace(self):
         return self.candidates[0].airspace
 
-    def ask(self, connect, call):
-        """Asks for one call, and keeps what it may have done. Whether its answer came."""
+    def ask(self, connect, call, may_be_old=False):
+        """Asks for one call, and keeps what it may have done. Whether its answer came, which may be an old one where that
+        is said: then it may refuse by what was, and may not do what is not kept."""
         with self.lock:
             before = [it.copied() for it in self.candidates]
             texts = [it.airspace.ask(*call) for it in self.candidates]
             began = time.time()
             got = ask_once(connect, call)
-            return self.judge(call, before, texts, got, began)
+            return self.judge(call, before, texts, got, began, may_be_old)
 
-    def judge(self, call, before, outcomes, got, began):
+    def judge(self, call, before, outcomes, got, began, may_be_old):
         serials = [it.airspace.serial for it in before]
         if not got or got[0] in (500, 502, 503, 504):
             self.answers["not reached" if got is None else "lost" if not got else str(got[0])] += 1
@@ -104,6 +103,10 @@ class Client:
             it for it, outcome in zip(self.candidates, outcomes)
             if (outcome.status, outcome.body.encode()) == got
         ]
+        if not found and may_be_old and (call[0] not in ("PUT", "DELETE") or got[0] not in (200, 201)):
+            self.answers["old"] += 1
+            self.keep(before)
+            return True
         if not found:
             wanted = [(it.status, it.body) for it in outcomes]
             raise Failed(f"{call}: an acknowledged change is lost, or one that was not is there: {got}, wanted {wanted}")
@@ -135,6 +138,13 @@ class Client:
         value = {"old_version": old, "availability": self.draw.of(("Normal", "Down"))}
         return self.ask(connect, ("PUT", MARKED, "Bearer tok-v", json.dumps(value).encode()))
 
+    def old_changes(self, connect, seconds):
+        """Asks a host for drawn calls that may not know yet that it was given up."""
+        end = time.monotonic() + seconds
+        while time.monotonic() < end:
+            self.ask(connect, drawn_calls.Drawn(self.draw, self.airspace, AHEAD).call(), may_be_old=True)
+            time.sleep(PAUSE)
+
     def changes(self, connect, seconds, many=1 << 30):
         """Asks for drawn calls for a time, up to the first that is not answered; so many were answered."""
         end, count = time.monotonic() + seconds, 0
@@ -151,8 +161,8 @@ class Client:
         got = ask_once(connect, READ)
         return bool(got) and got[0] == 200
 
-    def reached(self, ways, limit):
-        """Waits until a change by one of the ways is answered; how long it took."""
+    def sought(self, ways, limit):
+        """Waits until a change by one of the ways is answered: how long it took, or None."""
         began = time.monotonic()
         while time.monotonic() - began < limit:
             for way in ways:
@@ -160,7 +170,14 @@ class Client:
                 if self.reads(way) and self.mark(way):
                     return time.monotonic() - began
             time.sleep(PAUSE)
-        raise Failed(f"after {limit} s no host serves")
+        return None
+
+    def reached(self, ways, limit):
+        """The same where it has to be answered."""
+        took = self.sought(ways, limit)
+        if took is None:
+            raise Failed(f"after {limit} s no host serves: {dict(self.answers)}")
+        return took
 
     # ---- the file
 
@@ -188,7 +205,9 @@ def rows_of(file):
             "serial": ask("SELECT serial FROM meta")[0][0],
             "entities": ask("SELECT kind, id, manager, version, ovn FROM entity"),
             "subscriptions": ask("SELECT id, manager, version, notes FROM subscription"),
-            "names": ask("SELECT e.id, s.id FROM naming n JOIN entity e ON e.num = n.entity JOIN subscription s ON s.num = n.subscription"),
+            "names": ask(
+                "SELECT e.id, s.id FROM naming n JOIN entity e ON e.num = n.entity JOIN subscription s ON s.num = n.subscription"
+            ),
             "availabilities": ask("SELECT uss, version FROM availability"),
         }
 
@@ -222,13 +241,13 @@ class Watch(threading.Thread):
                 self.readings.append((asked, time.time(), json.loads(got[1])["version"]))
             time.sleep(PAUSE)
 
-    def stale(self, marks):
-        """For each reading that was answered by an older mark than one that was acknowledged before it was asked: since when
-        it was old, in seconds."""
+    def old(self, marks):
+        """The readings that were answered by an older mark than one that was acknowledged before they were asked for: when they
+        were answered, and how long the later mark had been acknowledged when they were asked for."""
         places = {version: at for at, (version, _, _) in enumerate(marks)}
         found = []
-        for asked, _, version in self.readings:
+        for asked, answered, version in self.readings:
             later = [it for it in marks[places[version] + 1 :] if it[2] < asked] if version in places else []
             if later:
-                found.append((asked - later[0][2], asked, version))
+                found.append((answered, asked - later[0][2]))
         return found

@@ -14,6 +14,9 @@ import time
 
 # the user of the service, who need not be among those of the machine
 USER = 790
+AS_USER = {"user": USER, "group": USER, "extra_groups": []}
+# seconds between two tries to open the database
+TRY = 3
 GLUSTERD = pathlib.Path("/run/glusterd.pid")
 
 
@@ -32,6 +35,11 @@ def stop_glusterd():
         time.sleep(0.1)
 
 
+def stopped(name):
+    """The file that says that a service was stopped by hand."""
+    return pathlib.Path(f"/run/{name}.stopped")
+
+
 def unit(*files):
     """The values of a unit's settings, in the order in which its files give them; an empty one takes back those before."""
     found = {}
@@ -47,10 +55,7 @@ class Host:
         self.room, self.number, self.deploy = pathlib.Path(room), number, pathlib.Path(deploy)
         self.own = self.room / f"host{number}"
         # where the files of a host stand here
-        self.places = {
-            "/usr/bin/dss": program, "/etc/dss": room, "/usr/local/lib/dss": deploy,
-            "/sys/fs/cgroup/system.slice/dss.service/cgroup.procs": "/run/dss.pids",
-        }
+        self.places = {"/usr/bin/dss": program, "/etc/dss": room, "/usr/local/lib/dss": deploy}
         self.events = (self.own / "events").open("a", buffering=1)
 
     def note(self, name, text):
@@ -89,23 +94,37 @@ class Host:
         """Starts a service, notes what it says, and waits until it ends."""
         if not self.may_start(settings):
             return
-        user = {"user": USER, "group": USER, "extra_groups": []} if settings.get("User") else {}
-        process = subprocess.Popen(
-            self.words(settings["ExecStart"][-1]), stdin=subprocess.DEVNULL, stdout=subprocess.DEVNULL,
-            stderr=subprocess.PIPE, text=True, errors="replace", **user,
-        )
-        pathlib.Path(f"/run/{name}.pids").write_text(f"{process.pid}\n")
+        process = self.begin(self.words(settings["ExecStart"][-1]), AS_USER if settings.get("User") else {})
         for line in process.stderr:
             self.note(name, line.rstrip())
         self.note(name, f"ended {process.wait()}")
 
+    def begin(self, words, user):
+        return subprocess.Popen(
+            words, stdin=subprocess.DEVNULL, stdout=subprocess.DEVNULL, stderr=subprocess.PIPE, text=True, errors="replace",
+            **user,
+        )
+
     def keep(self, name, settings):
         while True:
             try:
-                self.once(name, settings)
+                # what was stopped by hand is not started
+                if not stopped(name).exists():
+                    self.once(name, settings)
             except OSError as error:
                 self.note(name, f"{error}")
             time.sleep(float(settings["RestartSec"][-1]))
+
+    def stand_by(self):
+        """Tries to open the database all the while, past the check of health: the lock alone has to refuse it."""
+        words = self.words("/usr/bin/dss report --db /srv/dss/dss.db")
+        while True:
+            time.sleep(TRY)
+            if os.path.ismount("/srv/dss") and not stopped("dss").exists():
+                began = time.time()
+                process = self.begin(words, AS_USER)
+                said = process.stderr.read().strip()
+                self.note("try", f"{began:.3f} {process.wait()} {said}")
 
     def run(self):
         self.mount()
@@ -114,13 +133,13 @@ class Host:
         package = self.deploy.parents[1] / "scripts" / "debian" / "dss.service"
         services = {
             "dss-volume": unit(self.deploy / "dss-volume.service"),
-            "dss-health": unit(self.deploy / "dss-health.service"),
             "dss": unit(package, self.deploy / "dss.service.d" / "hosts.conf"),
             "haproxy": {"ExecStart": [f"haproxy -db -f {self.deploy / 'haproxy.cfg'}"], "RestartSec": ["1"]},
         }
         self.note("host", "runs")
         for name, settings in services.items():
             threading.Thread(target=self.keep, args=(name, settings)).start()
+        threading.Thread(target=self.stand_by).start()
 
 
 if __name__ == "__main__":

@@ -16,7 +16,7 @@ from program import BUILT, TOP
 
 DEPLOY = TOP / "deploy" / "hosts"
 HOST = pathlib.Path(__file__).with_name("host.py")
-PACKAGES = ("glusterfs-server", "iproute2", "haproxy", "attr", "e2fsprogs")
+PACKAGES = ("glusterfs-server", "iproute2", "haproxy", "e2fsprogs")
 NUMBERS = (1, 2, 3)
 DISK = 192 << 20
 NEW_NETWORK = 0x40000000
@@ -115,12 +115,13 @@ class Host:
                 [*WITH_US, *namespaces, *shell, *map(str, words)], stdin=subprocess.PIPE, stdout=said, stderr=said
             )
         self.pid = child_of(self.process)
-        command("ip", "link", "add", f"v{self.number}", "netns", self.switch, "type", "veth", "peer", "name", "eth0", "netns", self.pid)
+        ends = f"v{self.number} netns {self.switch} type veth peer name eth0 netns {self.pid}"
+        command("ip", "link", "add", *ends.split())
         on_switch = ("nsenter", "-t", self.switch, "-n", "ip", "link", "set", f"v{self.number}")
         command(*on_switch, "master", "bridge")
         self.link("up")
-        for words in ("addr", "add", f"{self.address}/24", "dev", "eth0"), ("link", "set", "eth0", "up"), ("link", "set", "lo", "up"):
-            command("nsenter", "-t", self.pid, "-n", "ip", *words)
+        for words in f"addr add {self.address}/24 dev eth0", "link set eth0 up", "link set lo up":
+            command("nsenter", "-t", self.pid, "-n", "ip", *words.split())
         self.process.stdin.write(b"go\n")
         self.process.stdin.flush()
 
@@ -140,6 +141,8 @@ class Host:
         with contextlib.suppress(ProcessLookupError):
             os.kill(self.pid, signal.SIGKILL)
         self.process.wait()
+        with (self.own / "events").open("a") as events:
+            events.write(f"{time.time():.3f} dss ended with its host\n")
         self.process.stdin.close()
         # sockets that wait for an answer may keep the network, and the cable in it, for some time
         with contextlib.suppress(OSError):
@@ -168,6 +171,32 @@ class Host:
             with contextlib.suppress(ProcessLookupError):
                 os.kill(pid, which)
 
+    def stop_service(self):
+        """As `systemctl stop dss` does it."""
+        self.run("touch", "/run/dss.stopped")
+        self.signal(signal.SIGTERM, "dss-health")
+        until(lambda: not self.pids("dss-health") and not self.pids("dss"), "the service has ended")
+
+    def start_service(self):
+        self.run("rm", "/run/dss.stopped")
+
+    @contextlib.contextmanager
+    def serving_alone(self, file, port=8080):
+        """Serves a file of the host, as one host does it."""
+        words = [BUILT, "serve", "--tokens", self.room / "tokens.toml", "--db", file, "--port", port, "--count", "1000000"]
+        as_user = ["setpriv", "--reuid", "790", "--regid", "790", "--clear-groups", "--pdeathsig", "KILL", "--"]
+        with (self.own / "said").open("ab") as said:
+            process = subprocess.Popen(
+                [str(it) for it in ("nsenter", "-t", self.pid, "-a", *as_user, *words)],
+                stdin=subprocess.DEVNULL, stdout=said, stderr=said,
+            )
+        try:
+            yield
+        finally:
+            # nsenter has the program as its child
+            os.kill(child_of(process), signal.SIGTERM)
+            process.wait()
+
     def run(self, *words, environment=(), limit=MOST):
         """Runs a command on the host."""
         return command("nsenter", "-t", self.pid, "-a", "env", *environment, *words, limit=limit)
@@ -179,6 +208,19 @@ class Host:
         """What a service said, and when."""
         found = [it.split(" ", 2) for it in (self.own / "events").read_text().splitlines()]
         return [(float(at), text) for at, who, text in found if who == name and float(at) >= since]
+
+    def served(self, since=0.0):
+        """From when to when its programs listened, with what ended each, or None."""
+        found = []
+        for at, text in self.events("dss"):
+            if "listening on" in text:
+                found.append([at, float("inf"), None])
+            elif found and found[-1][1] == float("inf"):
+                if "is ended:" in text:
+                    found[-1][2] = text
+                elif "has ended:" in text or text.startswith("ended"):
+                    found[-1][1] = at
+        return [it for it in found if it[1] >= since]
 
 
 class Hosts:
@@ -196,8 +238,8 @@ class Hosts:
             own = os.readlink("/proc/self/ns/net")
             there = f"/proc/{self.outside.pid}/ns/net"
             until(lambda: os.readlink(there) != own, "a network of its own", 10)
-            for words in ("link", "add", "bridge", "type", "bridge"), ("link", "set", "bridge", "up"), ("addr", "add", "10.77.0.254/24", "dev", "bridge"):
-                command("nsenter", "-t", self.outside.pid, "-n", "ip", *words)
+            for words in "link add bridge type bridge", "link set bridge up", "addr add 10.77.0.254/24 dev bridge":
+                command("nsenter", "-t", self.outside.pid, "-n", "ip", *words.split())
             self.hosts = [Host(self.room, it, self.outside.pid) for it in NUMBERS]
             for host in self.hosts:
                 host.start()
@@ -226,10 +268,8 @@ class Hosts:
     def replace(self, host):
         """Takes a host back that has lost its disk and runs again, as docs/HOSTS.md has it."""
         other = self.others(host)[0]
-        lines = [it.split() for it in other.run("gluster", "pool", "list").splitlines()]
-        number = next(it[0] for it in lines if len(it) > 1 and it[1] == host.address)
         environment = [f"{it.upper()}=python3 -B {HOST} {it}" for it in ("stop", "start")]
-        host.run(DEPLOY / "replace-host", host.address, other.address, number, environment=environment)
+        host.run(DEPLOY / "replace-host", host.address, other.address, environment=environment)
 
     def unhealed(self, host):
         """How many entries a copy lacks, or None where that is not told."""

@@ -1,9 +1,7 @@
 """Rounds in which hosts fail, drawn by a seed: what was acknowledged stays, one host serves at a time, tables are sound."""
 import collections
-import contextlib
-import pathlib
-import shutil
 import signal
+import statistics
 import tempfile
 import threading
 import time
@@ -11,16 +9,22 @@ import time
 from client import Client, Watch
 from machines import Failed, Hosts, until
 
-# seconds within which another host serves, and within which a host answers what is no longer true
-TAKEN, OLD = 90, 4.0
+# seconds within which another host serves, and within which it does where a copy is still being healed, or nobody does; how long
+# a program may go on whose lock another one had, until it is ended
+TAKEN, HEALED, BOUND = 120, 40, 4.0
 
 
 class Rounds:
     def __init__(self, hosts, seed):
         self.hosts, self.client = hosts, Client(seed)
         self.draw, self.number = self.client.draw, 0
-        self.took, self.listened, self.stale = (collections.defaultdict(list) for _ in range(3))
-        self.standbys = 0
+        # by kinds of failure: rounds, changes, seconds until clients are served again
+        self.rounds, self.changes = collections.Counter(), collections.Counter()
+        self.took = collections.defaultdict(list)
+        self.kind = None
+        self.tries = self.readings = self.silent = 0
+        # when a host went on that had stood still, and how long after that it answered what was old
+        self.went_on, self.late = {}, []
 
     # ---- ways to the service
 
@@ -32,21 +36,32 @@ class Rounds:
         hosts = [it for it in (hosts or self.hosts.hosts) if it.pid]
         return [lambda it=it: self.hosts.through(it) for it in hosts]
 
-    def serving(self):
+    def serving(self, hosts=None):
         """The host that serves."""
-        return until(lambda: next((it for it in self.hosts.hosts if it.pid and self.client.reads(self.direct(it))), None), "one serves")
+        reads = lambda it: it.pid and self.client.reads(self.direct(it))
+        return until(lambda: next(filter(reads, hosts or self.hosts.hosts), None), "one serves")
 
     def busy(self, hosts=None, many=None):
-        """Some changes over the proxies; all must be answered."""
-        way = self.draw.of(self.ways(hosts))
-        many = many or 20 + self.draw.below(30)
-        count = self.client.changes(way, 60, many)
-        if count < many:
-            raise Failed(f"{count} of {many} calls were answered, while nothing failed: {dict(self.client.answers)}")
+        """Some changes over a proxy that reaches the service; all must be answered, where the check of health ends no program."""
+        way, left, began = self.draw.of(self.ways(hosts)), many or 20 + self.draw.below(30), time.time()
+        for _ in range(4):
+            self.client.reached([way], TAKEN)
+            left -= self.client.changes(way, 120, left)
+            if not left:
+                return
+            if not any("is ended: for" in text for it in self.hosts.hosts for _, text in it.events("dss", began - BOUND)):
+                break
+        raise Failed(f"{left} calls are not answered, while nothing failed: {dict(self.client.answers)}")
+
+    def again(self, hosts=None, since=None):
+        """Waits until clients are served, over the proxies of hosts, and notes how long that took."""
+        since = since or time.time()
+        self.client.reached(self.ways(hosts), TAKEN)
+        self.took[self.kind].append(time.time() - since)
 
     # ---- kinds of failure
 
-    def taken_over(self, kind, fail, old, reachable):
+    def taken_over(self, fail, old, reachable):
         """The host that serves fails under changes: another one serves. What it still answers as done has to last."""
         inside = threading.Thread(target=self.client.changes, args=(self.direct(old), 3))
         inside.start()
@@ -54,21 +69,21 @@ class Rounds:
         began = time.time()
         fail()
         inside.join()
-        since = time.time() - began
-        took = since + self.client.reached(self.ways(reachable), TAKEN)
-        self.took[kind].append(took)
-        listens = [at - began for it in reachable if it.pid for at, text in it.events("dss", began) if "listening" in text]
-        if listens:
-            self.listened[kind].append(min(listens))
+        self.again(reachable, began)
         self.busy(reachable)
 
     def kill_program(self):
         old = self.serving()
-        self.taken_over("the program is killed", lambda: old.signal(signal.SIGKILL, "dss"), old, self.hosts.hosts)
+        self.taken_over(lambda: old.signal(signal.SIGKILL, "dss"), old, self.hosts.hosts)
+
+    def kill_check(self):
+        """The program must not outlive the check of health."""
+        old = self.serving()
+        self.taken_over(lambda: old.signal(signal.SIGKILL, "dss-health"), old, self.hosts.hosts)
 
     def kill_host(self):
         old = self.serving()
-        self.taken_over("all processes of its host are killed", old.end, old, self.hosts.others(old))
+        self.taken_over(old.end, old, self.hosts.others(old))
         old.start()
 
     def stop_power(self):
@@ -78,18 +93,31 @@ class Rounds:
             old.cut()
             old.end()
 
-        self.taken_over("its host is cut off and ends", fail, old, self.hosts.others(old))
+        self.taken_over(fail, old, self.hosts.others(old))
         old.start()
 
     def cut_serving(self):
         old = self.serving()
-        self.taken_over("its host is cut off", old.cut, old, self.hosts.others(old))
+        self.taken_over(old.cut, old, self.hosts.others(old))
         old.join()
 
     def cut_standby(self):
         other = self.draw.of(self.hosts.others(self.serving()))
-        self.taken_over("a standby is cut off", other.cut, other, self.hosts.others(other))
+        self.taken_over(other.cut, other, self.hosts.others(other))
         other.join()
+
+    def kill_after_return(self):
+        """A standby is cut off, comes back, and its copy is whole again; then the host that serves is killed, whose handles
+        have known that copy no more since."""
+        other = self.draw.of(self.hosts.others(self.serving()))
+        other.cut()
+        time.sleep(5)
+        self.client.reached(self.ways(self.hosts.others(other)), TAKEN)
+        self.busy(self.hosts.others(other))
+        other.join()
+        self.settle()
+        self.busy()
+        self.kill_host()
 
     def cut_two(self):
         """Without a majority nothing is acknowledged."""
@@ -108,28 +136,52 @@ class Rounds:
             raise Failed(f"{self.client.acknowledged - acknowledged} changes are acknowledged without a majority")
         for it in others:
             it.join()
-        back = time.time()
-        self.client.reached(self.ways(), TAKEN)
-        self.took["two hosts are cut off, from when they are back"].append(time.time() - back)
+        self.again()
         self.busy()
 
     def cut_in_turn(self):
-        """Each is cut off while the one before it is still being healed."""
+        """Each is cut off while the one before it is still being healed: where the only whole copy is cut off, nobody serves
+        until that is back."""
         for host in self.hosts.hosts:
             host.cut()
             rest = self.hosts.others(host)
-            self.client.reached(self.ways(rest), TAKEN)
-            self.busy(rest)
+            took = self.client.sought(self.ways(rest), HEALED)
+            if took is None:
+                self.silent += 1
+            else:
+                self.took[self.kind].append(took)
+                self.busy(rest)
             host.join()
+        self.client.reached(self.ways(), TAKEN)
+        self.busy()
+
+    def cut_others_in_turn(self):
+        """The program takes its lock while one host is away; then that is back, and the other is cut off and back."""
+        first = self.hosts.others(self.serving())[0]
+        first.cut()
+        rest = self.hosts.others(first)
+        self.serving(rest).signal(signal.SIGKILL, "dss")
+        self.again(rest)
+        self.busy(rest)
+        first.join()
+        old = self.serving()
+        second = next(it for it in rest if it is not old)
+        time.sleep(self.draw.below(8))
+        second.cut()
+        self.client.changes(self.direct(old), 9)
+        second.join()
+        self.client.changes(self.direct(old), 3)
+        self.client.reached(self.ways(), TAKEN)
+        self.busy()
 
     def lose_disk(self):
         host = self.draw.of(self.hosts.hosts)
         rest = self.hosts.others(host)
         if host is self.serving():
-            self.taken_over("all processes of its host are killed", host.end, host, rest)
+            self.taken_over(host.end, host, rest)
         else:
             host.end()
-            self.client.reached(self.ways(rest), TAKEN)
+            self.again(rest)
             self.busy(rest)
         host.lose_disk()
         host.start()
@@ -143,45 +195,82 @@ class Rounds:
         fill = "head -c 1G /dev/zero >/srv/brick/fill 2>/dev/null; sync"
         host.run("bash", "-c", fill)
         for _ in range(4):
-            self.client.reached(self.ways(), TAKEN)
+            self.again()
             self.client.changes(self.draw.of(self.ways()), 30, 40)
         host.run("rm", "/srv/brick/fill")
         self.client.reached(self.ways(), TAKEN)
         self.busy()
 
-    def pause(self):
-        """All processes of the host stand still, as those of a machine that its host does not run; then they go on."""
+    def pause_host(self):
+        """The host stands still, as a machine that its host does not run, and its network with it; then it goes on."""
         old = self.serving()
         self.busy()
         began = time.time()
+        old.cut()
         old.signal(signal.SIGSTOP)
         rest = self.hosts.others(old)
         try:
             if self.draw.one_in(3):
                 time.sleep(1 + self.draw.below(5))
             else:
-                took = self.client.reached(self.ways(rest), TAKEN)
-                self.took["its host stands still"].append(time.time() - began)
+                self.again(rest, began)
                 self.busy(rest)
         finally:
+            old.join()
             old.signal(signal.SIGCONT)
         # at once, before anything there sees that time has passed
-        self.client.changes(self.direct(old), 1)
+        self.went_on[old] = time.time()
+        self.client.old_changes(self.direct(old), BOUND)
         self.client.reached(self.ways(), TAKEN)
         self.busy()
 
-    def blink(self):
-        """The host is cut off for a while in which nothing is asked of it, and is back."""
+    def pause_program(self):
+        """The program alone stands still, with its lock: nobody else serves."""
         old = self.serving()
+        began = time.time()
+        old.signal(signal.SIGSTOP, "dss")
+        time.sleep(1 + self.draw.below(9))
+        if any(self.client.reads(self.direct(it)) for it in self.hosts.others(old)):
+            raise Failed("another serves while the program stands still that has the lock")
+        old.signal(signal.SIGCONT, "dss")
+        self.again(since=began)
+        self.busy()
+
+    def cut_short(self):
+        """The host is cut off for a while, and is back: around the time after which the volume gives up a host."""
+        old = self.serving()
+        inside = threading.Thread(target=self.client.changes, args=(self.direct(old), 12))
+        if self.draw.one_in(2):
+            inside.start()
         old.cut()
-        time.sleep(1 + self.draw.below(100) / 10)
+        time.sleep(2 + self.draw.below(25) / 10 if self.draw.one_in(2) else 1 + self.draw.below(100) / 10)
         old.join()
+        since = time.time()
         self.client.changes(self.direct(old), 1)
+        self.again(since=since)
+        if inside.ident:
+            inside.join()
+        self.busy()
+
+    def move_file(self):
+        """The file goes to one host, is served there, and comes back, as docs/HOSTS.md has it."""
+        for it in self.hosts.hosts:
+            it.stop_service()
+        host = self.draw.of(self.hosts.hosts)
+        host.run("bash", "-c", "install -d -o 790 /srv/single && cp -p /srv/dss/dss.db* /srv/single/ && rm /srv/dss/dss.db*")
+        with host.serving_alone("/srv/single/dss.db"):
+            self.client.reached([self.direct(host)], TAKEN)
+            if self.client.changes(self.direct(host), 60, 30) < 30:
+                raise Failed("the file of one host is not served")
+        host.run("bash", "-c", "cp -p /srv/single/dss.db* /srv/dss/ && rm -r /srv/single")
+        for it in self.hosts.hosts:
+            it.start_service()
         self.client.reached(self.ways(), TAKEN)
         self.busy()
 
     KINDS = (
-        kill_program, cut_serving, kill_host, cut_two, pause, lose_disk, fill_disk, stop_power, cut_in_turn, blink, cut_standby,
+        kill_program, cut_serving, kill_after_return, cut_short, cut_two, kill_host, pause_host, lose_disk, fill_disk, cut_in_turn,
+        cut_others_in_turn, stop_power, kill_check, cut_standby, pause_program, move_file,
     )
 
     # ---- after each
@@ -203,12 +292,46 @@ class Rounds:
             raise Failed("; ".join(wrong))
         until(lambda: len(set(self.hosts.copies())) == 1, "the copies are the same", 60)
 
-    def standing_by(self, since):
-        """How often hosts that are not the serving one tried, and were refused."""
-        return sum("fault 3 Store" in text for it in self.hosts.hosts for _, text in it.events("dss", since))
+    def is_late(self, host, at):
+        """Whether the host has just gone on that had stood still, so that its check of health may not have seen it yet."""
+        return 0 <= at - self.went_on.get(host, 0) < BOUND
+
+    def served(self, since):
+        """From when to when a program listened on a host, but for those of a host that has just gone on."""
+        served = [(*it[:2], host) for host in self.hosts.hosts for it in host.served(since) if not self.is_late(host, it[1])]
+        return sorted(served, key=lambda it: it[:2])
+
+    def look_at_tries(self, since):
+        """How often a try to open the database was refused, all the while; one that was not refused must have been the end of
+        the program that had it before."""
+        tries = [it.split(" ", 3) for host in self.hosts.hosts for _, it in host.events("try", since)]
+        for began in (float(it[0]) for it in tries if it[1] == "0"):
+            for listened, ended, host in self.served(since):
+                if listened < began and began + 2 * BOUND < min(ended, time.time()):
+                    raise Failed(f"host {host.number} went on to serve when another had the lock, at {began}")
+        return sum("fault 3 Store" in " ".join(it) for it in tries)
+
+    def look_at_programs(self, since):
+        """No two programs may serve at once."""
+        served = self.served(since)
+        for (_, ended, one), (listened, _, other) in zip(served, served[1:]):
+            if listened < ended:
+                both = f"hosts {one.number} and {other.number}"
+                raise Failed(f"{both} serve at once, from {listened}, for {min(ended, time.time()) - listened:.2f} s")
+
+    def look_at_readings(self, watches):
+        """No reading may lack what was acknowledged before it was asked for, but for a short time where a host goes on that had
+        stood still."""
+        self.readings += sum(len(it.readings) for it in watches)
+        for watch in watches:
+            for answered, old in watch.old(self.client.marks):
+                if not self.is_late(watch.host, answered):
+                    raise Failed(f"host {watch.host.number} answers at {answered} what is old by {old:.2f} s")
+                self.late.append(answered - self.went_on[watch.host])
 
     def one(self, kind):
-        began, first = time.time(), self.client.acknowledged
+        self.kind = kind.__name__.replace("_", " ")
+        began, acknowledged, took = time.time(), self.client.acknowledged, len(self.took[self.kind])
         watches = [Watch(it) for it in self.hosts.hosts]
         for it in watches:
             it.start()
@@ -219,40 +342,41 @@ class Rounds:
         for it in watches:
             it.join()
         self.look()
-        old = [it for watch in watches for it in watch.stale(self.client.marks)]
-        name = kind.__name__.replace("_", " ")
-        self.stale[name] += [it[0] for it in old]
-        refused = self.standing_by(began)
-        self.standbys += refused
-        count, longest = self.client.acknowledged - first, max((it[0] for it in old), default=0)
+        self.look_at_readings(watches)
+        self.look_at_programs(began)
+        refused = self.look_at_tries(began)
+        self.tries += refused
         self.number += 1
+        self.rounds[self.kind] += 1
+        count = self.client.acknowledged - acknowledged
+        self.changes[self.kind] += count
+        times = ", ".join(f"{it:.1f}" for it in self.took[self.kind][took:])
         print(
-            f"round {self.number}: {name}: {count} changes, {refused} tries refused, {len(old)} readings were old, by"
-            f" {longest:.1f} s at most; {time.time() - began:.0f} s", flush=True,
+            f"round {self.number}: {self.kind}: {count} changes, served again after {times or '-'} s, {refused} tries refused,"
+            f" {time.time() - began:.0f} s", flush=True,
         )
-        if longest > OLD:
-            raise Failed(f"a reading was old by {longest:.1f} s")
         if not refused:
             raise Failed("no standby tried")
 
     def report(self):
-        acknowledged = self.client.acknowledged
-        print(f"{self.number} rounds, {acknowledged} changes acknowledged, {self.standbys} tries of standbys refused")
-        for name, took in sorted(self.took.items()):
-            middle = lambda all_: f"{sorted(all_)[len(all_) // 2]:.1f} s ({min(all_):.1f} to {max(all_):.1f})"
-            listened = f", listens after {middle(self.listened[name])}" if self.listened[name] else ""
-            print(f"{name}, {len(took)} times: clients are served after {middle(took)}{listened}")
-        for name, old in sorted(self.stale.items()):
-            print(f"{name}: {len(old)} readings were old" + (f", by {max(old):.2f} s at most" if old else ""))
+        print(
+            f"{self.number} rounds, {self.client.acknowledged} changes acknowledged, {self.readings} readings by the watches,"
+            f" {len(self.late)} of them old, {max(self.late, default=0):.2f} s at most after a host went on; {self.tries} tries refused;"
+            f" {self.silent} times nobody served while the only whole copy was cut off"
+        )
+        for name, many in sorted(self.rounds.items()):
+            took = sorted(self.took[name])
+            times = f", served again after {statistics.median(took):.1f} s, {took[-1]:.1f} s at most ({len(took)})" if took else ""
+            print(f"{name}: {many} rounds, {self.changes[name]} changes{times}")
 
 
-def run(many, seed):
-    """What is wrong in so many rounds, of which the first have each kind once."""
+def run(many, seed, names):
+    """What is wrong in so many rounds, of which the first have each kind once, or each of those named."""
     passed, wrong = 0, []
     with Hosts() as hosts:
         rounds = Rounds(hosts, seed)
         rounds.client.reached(rounds.ways(), 120)
-        kinds = list(Rounds.KINDS)
+        kinds = [it for it in Rounds.KINDS if not names or it.__name__ in names]
         try:
             for at in range(many):
                 kind = kinds[at] if at < len(kinds) else rounds.draw.of(kinds)
@@ -265,7 +389,7 @@ def run(many, seed):
             wrong.append(str(error))
             print(f"FAILED {error}")
             for host in hosts.hosts:
-                tail = [f"{at:.1f} {text}" for at, text in host.events("dss")[-6:] + host.events("dss-health")[-6:]]
+                tail = [f"{at:.1f} {text}" for at, text in host.events("dss")[-12:]]
                 print(f"host {host.number}:", *tail, sep="\n    ")
         rounds.report()
     return passed, wrong
