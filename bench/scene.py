@@ -8,6 +8,8 @@ import subprocess
 import sys
 import tempfile
 
+from places import cell
+
 TOP = pathlib.Path(__file__).resolve().parent.parent
 NAME = "bench_service"
 USES = "entity_core policy_core space_core space_list space_sql service_core wire_body wire_reply"
@@ -34,11 +36,6 @@ def id_of(number):
     return f"{number * 0x9E3779B97F4A7C15 % 2**64 >> 32:08x}-0000-4000-8000-{number:012x}"
 
 
-def cells_of(place):
-    """The cell of that number of level 13 on the first face."""
-    return [f"{place << 35 | 1 << 34:016x}".rstrip("0")]
-
-
 class Scene:
     """The calls that fill an airspace, ten intents to a cell, and measure it."""
 
@@ -57,7 +54,7 @@ class Scene:
 
     def put(self, asked, id_, second, place, changes=True):
         """A put, with a key that names all that it meets where it is to change something, and else none."""
-        volume = {"cells": cells_of(place), "altitude_lower": 0, "altitude_upper": 1_000}
+        volume = {"cells": [cell(place)], "altitude_lower": 0, "altitude_upper": 1_000}
         volume |= {"time_start": NOW, "time_end": NOW + 3_600}
         key = [ovn(serial) for _, serial in self.places[place]] if changes else []
         self.line(asked, id_, second, {"extents": [volume], "key": key, "state": "Accepted", "uss_base_url": URL})
@@ -68,7 +65,7 @@ class Scene:
         # what is deleted was created by the line before
         self.measured.append(len(self.lines) + (work == "delete"))
         if work == "query":
-            self.line("query", "query", "-", {"area_of_interest": {"cells": cells_of(place)}})
+            self.line("query", "query", "-", {"area_of_interest": {"cells": [cell(place)]}})
         elif work == "update":
             first = self.places[place][0]
             self.put("update", first[0], ovn(first[1]), place)
