@@ -3,8 +3,8 @@ use Rattle.std.specs.Prelude.{ℕ}
 use Rattle.dss.specs.declared.clock.SystemClock.{SystemClock}
 
 -- A reading may be any moment: nothing is claimed of time.
-abbrev pub Reads : SystemClock → ℕ → SystemClock → Type 0
-Reads old moment new = Unit {0}
+abbrev pub GivesMoment : SystemClock → ℕ → SystemClock → Type 0
+GivesMoment old moment new = Unit {0}
 
 -- how often no moment could be told
 abbrev pub failures_of : SystemClock → ℕ

@@ -29,9 +29,9 @@ impl<'a> SystemClock<'a> {
 }
 
 impl<'a> Moments for SystemClock<'a> {
-    ghost use Rattle.dss.specs.Clock.{Reads, failures_of};
+    ghost use Rattle.dss.specs.Clock.{GivesMoment, failures_of};
 
-    ghost gives = { Reads };
+    ghost gives = { GivesMoment };
 
     ghost failures = { failures_of };
 

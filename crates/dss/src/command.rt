@@ -59,7 +59,7 @@ fn done<R: Read, O: Write, E: Write>(
             database,
             requests,
         } => {
-            let given = run::Settings {
+            let given = run::RunLine {
                 tokens,
                 now,
                 database,
@@ -73,7 +73,7 @@ fn done<R: Read, O: Write, E: Write>(
             port,
             count,
         } => {
-            let given = connections::Settings {
+            let given = connections::ServeLine {
                 tokens,
                 database,
                 port,
@@ -86,7 +86,7 @@ fn done<R: Read, O: Write, E: Write>(
             now,
             request,
         } => {
-            let given = loopback::Settings {
+            let given = loopback::LoopbackLine {
                 tokens,
                 now,
                 request,

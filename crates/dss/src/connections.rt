@@ -1,6 +1,6 @@
 //! The command `serve`: connections to a port of this machine, one after the other.
 use crate::clock::SystemClock;
-use crate::database::{Work, over_database};
+use crate::database::{Work, over_copied_database};
 use crate::fault::Fault;
 use crate::patience::Patient;
 use crate::tokens::{salt_of, token_table, unread};
@@ -12,6 +12,7 @@ use std::net::{Ipv4Addr, Shutdown, TcpListener, TcpStream};
 use std::time::Duration;
 use token_conf::token_table::TokenTable;
 use wire_http::{Counted, Served, StreamFault, serve_stream};
+use wire_route::routes::Routes;
 
 // How long a client that sends nothing more is waited for, once its last answer was written.
 const PATIENCE_MILLIS: u64 = 200;
@@ -23,7 +24,7 @@ const PIECE: usize = 16_384;
 
 /// What the command `serve` was given.
 #[derive(Clone, Copy)]
-pub(crate) struct Settings<'a> {
+pub(crate) struct ServeLine<'a> {
     /// The name of the token file.
     pub(crate) tokens: &'a str,
     /// The name of the database's file.
@@ -57,6 +58,7 @@ fn end(mut stream: &TcpStream) {
 // Serves the requests of one connection, whose client is waited for within bounds.
 fn serve_requests<S: Space + Drop>(
     rt: &HostRuntime,
+    routes: &Routes,
     service: &mut Service<S>,
     tokens: &TokenTable,
     stream: &TcpStream,
@@ -69,6 +71,7 @@ fn serve_requests<S: Space + Drop>(
     let mut writer = Counted::new(patient);
     serve_stream(
         rt.alloc(),
+        routes,
         service,
         tokens,
         &mut clock,
@@ -80,13 +83,14 @@ fn serve_requests<S: Space + Drop>(
 // Serves one connection, and tells its fault if it has one.
 fn serve_connection<S: Space + Drop, E: Write>(
     rt: &HostRuntime,
+    routes: &Routes,
     service: &mut Service<S>,
     tokens: &TokenTable,
     stream: &TcpStream,
     error: &mut E,
 ) {
     let _ = stream.set_nodelay(true);
-    if let Err(fault) = serve_requests(rt, service, tokens, stream) {
+    if let Err(fault) = serve_requests(rt, routes, service, tokens, stream) {
         let _ = writeln!(error, "{}", Fault::from(fault));
     }
     end(stream);
@@ -97,9 +101,12 @@ fn serve_port<S: Space + Drop, E: Write>(
     rt: &HostRuntime,
     service: &mut Service<S>,
     tokens: &TokenTable,
-    given: &Settings<'_>,
+    given: &ServeLine<'_>,
     error: &mut E,
 ) -> Result<(), Fault> {
+    let Ok(routes) = Routes::new(rt.alloc()) else {
+        return Err(Fault::Memory);
+    };
     let port = given.port;
     let listener = match TcpListener::bind(rt, (Ipv4Addr::LOCALHOST, port)) {
         Ok(listener) => listener,
@@ -108,7 +115,7 @@ fn serve_port<S: Space + Drop, E: Write>(
     let _ = writeln!(error, "dss: listening on 127.0.0.1:{port}");
     for _ in 0..given.count {
         match listener.accept() {
-            Ok((stream, _)) => serve_connection(rt, service, tokens, &stream, error),
+            Ok((stream, _)) => serve_connection(rt, &routes, service, tokens, &stream, error),
             Err(cause) => return Err(unread(&cause, Fault::Socket)),
         }
     }
@@ -119,7 +126,7 @@ fn serve_port<S: Space + Drop, E: Write>(
 #[derive(Drop)]
 struct Serving<'a, E: Write> {
     rt: &'a HostRuntime,
-    given: &'a Settings<'a>,
+    given: &'a ServeLine<'a>,
     tokens: &'a TokenTable,
     salt: Salt,
     error: &'a mut E,
@@ -143,7 +150,7 @@ impl<'a, E: Write> Work for Serving<'a, E> {
 /// Runs the command over the database, which is closed last.
 pub(crate) fn serve<E: Write>(
     rt: &HostRuntime,
-    given: &Settings<'_>,
+    given: &ServeLine<'_>,
     error: &mut E,
 ) -> Result<(), Fault> {
     let tokens = token_table(rt, given.tokens)?;
@@ -155,5 +162,5 @@ pub(crate) fn serve<E: Write>(
         salt,
         error,
     };
-    over_database(rt, given.database, serving)
+    over_copied_database(rt, given.database, serving)
 }

@@ -15,7 +15,7 @@ const MOST_BYTES: usize = 16_384;
 
 /// What the command `self` was given.
 #[derive(Clone, Copy)]
-pub(crate) struct Settings<'a> {
+pub(crate) struct LoopbackLine<'a> {
     /// The name of the token file.
     pub(crate) tokens: &'a str,
     /// The moment of each request, in seconds since 1970.
@@ -112,7 +112,7 @@ fn answers_to(
 /// Runs the command.
 pub(crate) fn loop_back<R: Read, W: Write>(
     rt: &HostRuntime,
-    given: &Settings<'_>,
+    given: &LoopbackLine<'_>,
     input: &mut R,
     output: &mut W,
 ) -> Result<(), Fault> {

@@ -24,6 +24,7 @@ impl<'a> Patient<'a> {
     /// comes in time.
     pub(crate) fn wait(rt: &'a HostRuntime, stream: &'a TcpStream) -> io::Result<Patient<'a>> {
         stream.set_read_timeout(Some(Duration::from_secs(WAIT)))?;
+        stream.set_write_timeout(Some(Duration::from_secs(WAIT)))?;
         let mut first = [0];
         let _ = stream.peek(&mut first)?;
         match Instant::now(rt)?.checked_add(Duration::from_secs(WHOLE)) {
@@ -32,20 +33,25 @@ impl<'a> Patient<'a> {
         }
     }
 
-    // How long the next reading or writing may wait.
-    fn left(&self) -> io::Result<Duration> {
+    // How long the next reading or writing may wait, where that is less than was set at first.
+    fn shortened(&self) -> io::Result<Option<Duration>> {
         let left = self.until.duration_since(Instant::now(self.rt)?);
         if left.is_zero() {
             return Err(io::Error::from(ErrorKind::TimedOut));
         }
-        Ok(left.min(Duration::from_secs(WAIT)))
+        if left < Duration::from_secs(WAIT) {
+            Ok(Some(left))
+        } else {
+            Ok(None)
+        }
     }
 }
 
 impl<'a> Read for Patient<'a> {
     fn read(&mut self, buf: &mut [u8]) -> io::Result<usize> {
-        let left = self.left()?;
-        self.stream.set_read_timeout(Some(left))?;
+        if let Some(left) = self.shortened()? {
+            self.stream.set_read_timeout(Some(left))?;
+        }
         let mut stream = self.stream;
         stream.read(buf)
     }
@@ -53,8 +59,9 @@ impl<'a> Read for Patient<'a> {
 
 impl<'a> Write for Patient<'a> {
     fn write(&mut self, buf: &[u8]) -> io::Result<usize> {
-        let left = self.left()?;
-        self.stream.set_write_timeout(Some(left))?;
+        if let Some(left) = self.shortened()? {
+            self.stream.set_write_timeout(Some(left))?;
+        }
         let mut stream = self.stream;
         stream.write(buf)
     }

@@ -11,10 +11,11 @@ use std::fs::File;
 use std::io::{Read, Write};
 use token_conf::token_table::TokenTable;
 use wire_http::{Counted, Fixed, serve_stream};
+use wire_route::routes::Routes;
 
 /// What the command `run` was given.
 #[derive(Clone, Copy)]
-pub(crate) struct Settings<'a> {
+pub(crate) struct RunLine<'a> {
     /// The name of the token file.
     pub(crate) tokens: &'a str,
     /// The moment of each request, in seconds since 1970.
@@ -34,10 +35,21 @@ pub(crate) fn serve_at<S: Space + Drop, R: Read, W: Write>(
     input: &mut R,
     output: &mut W,
 ) -> Result<(), Fault> {
+    let Ok(routes) = Routes::new(alloc) else {
+        return Err(Fault::Memory);
+    };
     let mut reader = Counted::new(input);
     let mut writer = Counted::new(output);
     let mut clock = Fixed::new(now);
-    serve_stream(alloc, service, tokens, &mut clock, &mut reader, &mut writer)?;
+    serve_stream(
+        alloc,
+        &routes,
+        service,
+        tokens,
+        &mut clock,
+        &mut reader,
+        &mut writer,
+    )?;
     Ok(())
 }
 
@@ -46,7 +58,7 @@ fn serve_requests<S: Space + Drop, R: Read, W: Write>(
     rt: &HostRuntime,
     service: &mut Service<S>,
     tokens: &TokenTable,
-    given: &Settings<'_>,
+    given: &RunLine<'_>,
     input: &mut R,
     output: &mut W,
 ) -> Result<(), Fault> {
@@ -63,7 +75,7 @@ fn serve_requests<S: Space + Drop, R: Read, W: Write>(
 #[derive(Drop)]
 struct Serving<'a, R: Read, W: Write> {
     rt: &'a HostRuntime,
-    given: &'a Settings<'a>,
+    given: &'a RunLine<'a>,
     tokens: &'a TokenTable,
     salt: Salt,
     input: &'a mut R,
@@ -89,7 +101,7 @@ impl<'a, R: Read, W: Write> Work for Serving<'a, R, W> {
 /// Runs the command.
 pub(crate) fn run<R: Read, W: Write>(
     rt: &HostRuntime,
-    given: &Settings<'_>,
+    given: &RunLine<'_>,
     input: &mut R,
     output: &mut W,
 ) -> Result<(), Fault> {

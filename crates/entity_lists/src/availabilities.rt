@@ -16,7 +16,7 @@ use std::marker::Model;
 
 /// What one supplier has set.
 #[derive(Debug, Drop)]
-pub struct Entry {
+pub struct Setting {
     uss: UssId,
     availability: Availability,
     version: Ovn,
@@ -25,15 +25,15 @@ pub struct Entry {
 /// What suppliers have set, in the order of their ids, each once. Contracts see the list.
 #[derive(Debug, Drop)]
 pub struct Availabilities {
-    items: Vec<Entry>,
+    items: Vec<Setting>,
 }
 
 impl Model for Availabilities {
     ghost use Rattle.std.specs.Prelude.{List};
-    ghost use Rattle.entity_lists.specs.declared.availabilities.Entry.{Entry};
+    ghost use Rattle.entity_lists.specs.declared.availabilities.Setting.{Setting};
     ghost use Rattle.entity_lists.specs.Availabilities.{InOrder};
 
-    ghost Value = { List Entry };
+    ghost Value = { List Setting };
 
     ghost view = { λ a. a.items.items };
 
@@ -46,22 +46,22 @@ fn uss_order(uss: &UssId, other: &UssId) -> Ordering
     uss.text().cmp(other.text())
 }
 
-fn searched(items: &[Entry], uss: &UssId) -> Result<usize, usize>
+fn searched(items: &[Setting], uss: &UssId) -> Result<usize, usize>
     ensures bound { IsSearchInRange result (length items.now) }
     ensures position { IsBinarySearchResult (λ e. text_cmp e.uss uss.now) items.now result }
 {
-    items.binary_search_by(|entry| uss_order(&entry.uss, uss))
+    items.binary_search_by(|setting| uss_order(&setting.uss, uss))
 }
 
-// Where a supplier's entry stands, or would stand.
-fn place_of(items: &[Entry], uss: &UssId) -> Result<usize, usize>
+// Where a supplier's setting stands, or would stand.
+fn place_of(items: &[Setting], uss: &UssId) -> Result<usize, usize>
     ensures hit { InOrder items.now → IfOk result (Hit text_cmp pair_of items.now uss.now) }
     ensures gap { InOrder items.now → IfErr result (Gap text_cmp pair_of items.now uss.now) }
 {
     searched(items, uss)
 }
 
-fn found(items: &[Entry], uss: &UssId) -> Result<Option<(Availability, Ovn)>, AllocError>
+fn found(items: &[Setting], uss: &UssId) -> Result<Option<(Availability, Ovn)>, AllocError>
     requires { InOrder items.now }
     ensures found { IfOk result (λ found.
         found ≡ find text_cmp uss.now (keyed pair_of items.now)) }
@@ -74,7 +74,7 @@ fn found(items: &[Entry], uss: &UssId) -> Result<Option<(Availability, Ovn)>, Al
 }
 
 // The availability alone, without memory; of a supplier that has set none, `Unknown`.
-fn present(items: &[Entry], uss: &UssId) -> Availability
+fn present(items: &[Setting], uss: &UssId) -> Availability
     requires { InOrder items.now }
     ensures { result ≡ (unwrap_or (find text_cmp uss.now (keyed pair_of items.now))
         (Availability.Unknown, [])).0 }
@@ -85,25 +85,25 @@ fn present(items: &[Entry], uss: &UssId) -> Availability
     }
 }
 
-fn put_in_place(items: &mut Vec<Entry>, entry: Entry) -> Result<(), AllocError>
+fn put_in_place(items: &mut Vec<Setting>, setting: Setting) -> Result<(), AllocError>
     requires { InOrder items.old.items }
     ensures ok { OnOk result (keyed pair_of items.new.items
-        ≡ put text_cmp entry.uss (entry.availability, entry.version)
+        ≡ put text_cmp setting.uss (setting.availability, setting.version)
         (keyed pair_of items.old.items)) }
     ensures err { OnErr result (items.new.items ≡ items.old.items) }
-    ensures over { IsSome (find text_cmp entry.uss (keyed pair_of items.old.items))
+    ensures over { IsSome (find text_cmp setting.uss (keyed pair_of items.old.items))
         → IsOk result }
 {
-    match place_of(items, &entry.uss) {
+    match place_of(items, &setting.uss) {
         Ok(i) => {
-            items[i] = entry;
+            items[i] = setting;
             Ok(())
         }
-        Err(i) => Ok(items.insert(i, entry)?),
+        Err(i) => Ok(items.insert(i, setting)?),
     }
 }
 
-impl Entry {
+impl Setting {
     fn stated(&self) -> Result<(Availability, Ovn), AllocError>
         ensures { IfOk result (λ stated. stated ≡ (self.now.availability, self.now.version)) }
     {
@@ -152,11 +152,11 @@ impl Availabilities {
         ensures err { OnErr result (self.new ≡ self.old) }
         ensures over { IsSome (get (availability_map self.old) uss) → IsOk result }
     {
-        let entry = Entry {
+        let setting = Setting {
             uss,
             availability,
             version,
         };
-        put_in_place(&mut self.items, entry)
+        put_in_place(&mut self.items, setting)
     }
 }

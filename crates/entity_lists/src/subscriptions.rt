@@ -64,7 +64,8 @@ fn found(items: &[Sub], id: EntityId) -> Result<Option<Sub>, AllocError>
     }
 }
 
-fn is_own_near(sub: &Sub, uss: &UssId, area: &Area) -> bool
+/// Whether a subscription is a supplier's, and its volume meets an area.
+pub fn is_own_near(sub: &Sub, uss: &UssId, area: &Area) -> bool
     ensures { result ≡ is_own_near uss.now area.now (pair_of sub.now) }
 {
     sub.manager.text() == uss.text() && sub.volume.meets(area)
@@ -83,7 +84,8 @@ fn all_own(alloc: Global, items: &[Sub], uss: &UssId, area: &Area) -> Result<Vec
     Ok(own)
 }
 
-fn is_for_near(sub: &Sub, kind: Kind, areas: &[Area]) -> bool
+/// Whether a subscription is for a kind, and its volume meets some area.
+pub fn is_for_near(sub: &Sub, kind: Kind, areas: &[Area]) -> bool
     ensures { result ≡ is_for_near kind areas.now (pair_of sub.now) }
 {
     sub.interest.wants(kind) && meets_some(&sub.volume, areas)
@@ -161,6 +163,14 @@ impl Subscriptions {
         Subscriptions {
             items: Vec::new(alloc),
         }
+    }
+
+    /// The subscriptions, by rising ids.
+    pub fn items(&self) -> &[Sub]
+        ensures items { result.now ≡ self.now }
+        ensures order { InOrder self.now }
+    {
+        &self.items
     }
 
     /// A copy of the subscription of an id, if there is one. That there is none takes no memory to

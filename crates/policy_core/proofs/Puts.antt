@@ -15,7 +15,6 @@ use Rattle.entity_core.specs.Search.{meeting_in, is_sought}
 use Rattle.entity_core.specs.declared.entity.Entity.{Entity}
 use Rattle.entity_core.specs.declared.nature.Kind.{Kind}
 use Rattle.entity_core.specs.declared.nature.Kind.TheVariants as kinds
-use Rattle.entity_core.specs.declared.nature.State.TheVariants.{Accepted, Activated, Nonconforming, Contingent}
 use Rattle.entity_core.specs.declared.nature.Nature.{Nature}
 use Rattle.entity_core.specs.declared.nature.Nature.TheVariants.{Intent, Constraint}
 use Rattle.entity_core.proofs.Keys.{one_key}
@@ -27,8 +26,8 @@ use Rattle.policy_core.specs.declared.call.Operation.TheVariants.{NoRoute, NoMet
 use Rattle.policy_core.specs.declared.rule.Rule.{Rule}
 use Rattle.policy_core.specs.declared.rule.Rule.TheVariants.{Route, Method, Token, Scope, Form, Area, Found, Fresh, Manager, Version, Role, Change, Ended, Key, Limit, Depended}
 use Rattle.policy_core.specs.declared.reference.Reference.{Reference}
-use Rattle.policy_core.specs.Known.{put_of, is_declared, is_told_of, listed, MayAsk, IsAsked}
-use Rattle.policy_core.specs.Missing.{in_key, is_missing_from, is_spared, key_shown, minds, missing_from, needed, needed_put, needs_key, is_none_of, is_nothing, missing_put, missing_by, missing_for}
+use Rattle.policy_core.specs.Known.{put_of, call_needs, listed, MayDeny, IsDeniedFor}
+use Rattle.policy_core.specs.Missing.{in_key, is_missing_from, is_spared, key_shown, needs_kind, missing_from, needed, needed_put, needs_key, is_none_of, is_nothing, missing_put, missing_for}
 use Rattle.policy_core.specs.Policy.{breaks, breaks_depended, early_rules, standing_rules, last_rules, first_broken}
 use Rattle.policy_core.specs.Rule.{number_of}
 use Rattle.policy_core.specs.Standing.{depended_of, sub_under}
@@ -109,20 +108,20 @@ none_unspared a v key test q y n f s owed =
     none_met a v key (λ e. test e && not (is_spared a e.1)) q y
     (subst (λ (es : List Entity). is_none_of (map v (filter (is_missing_from key) es)) ≡ true) (both_at_once (λ (e : EntityKey × Entity). e.1) (λ e. not (is_spared a e)) test (entries a.entities)) n) f (λ i. s i && not (owed i))
 
--- whether a put is to know of such an entity
-abbrev minded : Airspace → Caller → Put → Nature → Bool
-minded a caller put nature = minds (kind_of nature) (Some caller) (subscription_of put.nature) (sub_under a (subscription_of put.nature))
+-- whether a put needs to know such an entity
+abbrev needed_by : Airspace → Caller → Put → Nature → Bool
+needed_by a caller put nature = needs_kind (kind_of nature) (Some caller) (subscription_of put.nature) (sub_under a (subscription_of put.nature))
 
--- where nothing is missing, the key of a put has the OVN of each other entity that it is to know
+-- where nothing is missing, the key of a put has the OVN of each other entity that it needs to know
 put_knows : (a : Airspace) (caller : Caller) (id : ℕ) (put : Put) (y : Entity) → is_nothing (missing_put a caller id put) ≡ true → get a.entities (key_of y) ≡ Some y
-    → eq_by_cmp key_cmp (key_of y) (kind_of put.nature, id) ≡ false → needs_key put.nature ≡ true → any_meet y.volumes (map region_of put.volumes) ≡ true → minded a caller put y.nature ≡ true → is_spared a y ≡ false
+    → eq_by_cmp key_cmp (key_of y) (kind_of put.nature, id) ≡ false → needs_key put.nature ≡ true → any_meet y.volumes (map region_of put.volumes) ≡ true → needed_by a caller put y.nature ≡ true → is_spared a y ≡ false
     → in_key put.key y.ovn ≡ true
 unfolding missing_from meeting_in
 put_knows a caller id put y none found other needs meet owed unspared =
     let areas : List Region = map region_of put.volumes in
     let parts = both_true (is_none_of (missing_put a caller id put).intents) (is_none_of (missing_put a caller id put).constraints) none in
     let spare : List Entity → List Entity = λ es. filter (λ e. not (is_spared a e)) es in
-    elim (y.nature) as (λ n. y.nature ≡ n → minded a caller put n ≡ true → get a.entities (kind_of n, y.id) ≡ Some y → eq_by_cmp key_cmp (kind_of n, y.id) (kind_of put.nature, id) ≡ false → in_key put.key y.ovn ≡ true) [
+    elim (y.nature) as (λ n. y.nature ≡ n → needed_by a caller put n ≡ true → get a.entities (kind_of n, y.id) ≡ Some y → eq_by_cmp key_cmp (kind_of n, y.id) (kind_of put.nature, id) ≡ false → in_key put.key y.ovn ≡ true) [
       | Intent state named ↦ λ is o f e.
           let none_of = subst (λ (b : Bool). is_none_of (map (view_of a caller.uss) (filter (is_missing_from put.key) (cond b (spare (map (λ x. x.1) (filter (is_sought kinds.Intent areas (Some id)) (entries a.entities)))) []))) ≡ true) (λ i. needs i && o i) parts.0 in
           none_unspared a (view_of a caller.uss) put.key (is_sought kinds.Intent areas (Some id)) (kinds.Intent, y.id) y none_of f (λ i. other_intent y.id id put.nature needs e i && meet i) unspared
@@ -154,22 +153,15 @@ in_list (k ∷ ks) ovn h =
       | false ↦ λ t g. later k ks ovn (in_list ks ovn g)
     ] refl h
 
-declared_needs : (nature : Nature) → is_declared nature ≡ true → needs_key nature ≡ true
-declared_needs (Intent Accepted named) h = refl
-declared_needs (Intent Activated named) h = refl
-declared_needs (Intent Nonconforming named) h = cc
-declared_needs (Intent Contingent named) h = cc
-declared_needs Constraint h = cc
-
-put_knows_of : (a : Airspace) (caller : Caller) (i : ℕ) (p : Put) (id : ℕ) (put : Put) (y : Entity) → ◌≡◌ {A = ℕ × Put} (i, p) (id, put) → is_nothing (missing_put a caller i p) ≡ true → is_declared put.nature ≡ true
-    → get a.entities (key_of y) ≡ Some y → eq_by_cmp key_cmp (key_of y) (kind_of put.nature, id) ≡ false → any_meet y.volumes (map region_of put.volumes) ≡ true → minded a caller p y.nature ≡ true
+put_knows_of : (a : Airspace) (caller : Caller) (i : ℕ) (p : Put) (id : ℕ) (put : Put) (y : Entity) → ◌≡◌ {A = ℕ × Put} (i, p) (id, put) → is_nothing (missing_put a caller i p) ≡ true → needs_key put.nature ≡ true
+    → get a.entities (key_of y) ≡ Some y → eq_by_cmp key_cmp (key_of y) (kind_of put.nature, id) ≡ false → any_meet y.volumes (map region_of put.volumes) ≡ true → needed_by a caller p y.nature ≡ true
     → is_spared a y ≡ false → Contains put.key y.ovn
-put_knows_of a caller i p id put y same none declared found other meet owed unspared =
-    in_list put.key y.ovn (put_knows a caller id put y (subst (λ (q : ℕ × Put). is_nothing (missing_put a caller q.0 q.1) ≡ true) same none) found other (declared_needs put.nature declared) meet (subst (λ (q : ℕ × Put). minded a caller q.1 y.nature ≡ true) same owed) unspared)
+put_knows_of a caller i p id put y same none needs found other meet owed unspared =
+    in_list put.key y.ovn (put_knows a caller id put y (subst (λ (q : ℕ × Put). is_nothing (missing_put a caller q.0 q.1) ≡ true) same none) found other needs meet (subst (λ (q : ℕ × Put). needed_by a caller q.1 y.nature ≡ true) same owed) unspared)
 
 pub puts_know : (a : Airspace) (t : ℕ) (caller : Option Caller) (op : Operation) (id : ℕ) (put : Put) (y : Entity) → put_of op ≡ Some (id, put) → first_broken a t (record { caller = caller; op = op }) ≡ None
-    → is_declared put.nature ≡ true → get a.entities (key_of y) ≡ Some y → eq_by_cmp key_cmp (key_of y) (kind_of put.nature, id) ≡ false → any_meet y.volumes (map region_of put.volumes) ≡ true
-    → is_told_of a (record { caller = caller; op = op }) y.nature ≡ true → is_spared a y ≡ false → Contains put.key y.ovn
+    → needs_key put.nature ≡ true → get a.entities (key_of y) ≡ Some y → eq_by_cmp key_cmp (key_of y) (kind_of put.nature, id) ≡ false → any_meet y.volumes (map region_of put.volumes) ≡ true
+    → call_needs a (record { caller = caller; op = op }) y.nature ≡ true → is_spared a y ≡ false → Contains put.key y.ovn
 puts_know a t None op id put y is h = let some = none_asks a t op in let bad : None ≡ Some some.0 = sym h ∙ some.1 in cc
 puts_know a t (Some caller) NoRoute id put y is h = cc
 puts_know a t (Some caller) NoMethod id put y is h = cc
@@ -220,11 +212,11 @@ put_misses kinds.Constraint a caller id put y h k =
     let c = told_missing_from put.key es y h k in
     (nor (is_none_of (missing_put a caller id put).intents) (is_none_of (missing_put a caller id put).constraints) (some_told v (missing_from put.key es) y c), mapped v (missing_from put.key es) y c)
 
--- ---- it is asked for
+-- ---- the call is denied for it
 
--- a rule of which something needed may be told, but not by listing it
+-- a rule that may deny a call for what is missing, but not by listing it
 abbrev Before : Rule → Type 0
-Before rule = MayAsk rule × (rule ≡ Key → ⊥)
+Before rule = MayDeny rule × (rule ≡ Key → ⊥)
 
 before : (rule : Rule) → number_of rule ≤ 13 → Before rule
 before rule low = (inl (omega (arith, low)), λ is. let same : number_of rule ≡ 14 = ap number_of is in absurd (omega (arith, low, same)))
@@ -293,7 +285,7 @@ not_depended kind a caller (UpdateSub id version put) y h = refl
 not_depended kind a caller (DeleteSub id version) y h = absurd (no_member y h)
 
 call_misses : (kind : Kind) (a : Airspace) (caller : Caller) (op : Operation) (y : Entity) → Contains (needed kind a (Some caller) op) y → in_key (key_shown op) y.ovn ≡ false
-    → (is_nothing (missing_by a caller op) ≡ false) × Contains (listed kind (missing_by a caller op)) (view_of a caller.uss y)
+    → (is_nothing (missing_for a (Some caller) op) ≡ false) × Contains (listed kind (missing_for a (Some caller) op)) (view_of a caller.uss y)
 call_misses kind a caller NoRoute y h k = absurd (no_member y h)
 call_misses kind a caller NoMethod y h k = absurd (no_member y h)
 call_misses kind a caller (Malformed of) y h k = absurd (no_member y h)
@@ -310,12 +302,12 @@ call_misses kind a caller (CreateSub id put) y h k = absurd (no_member y h)
 call_misses kind a caller (UpdateSub id version put) y h k = absurd (no_member y h)
 call_misses kind a caller (DeleteSub id version) y h k = absurd (no_member y h)
 
-asked_by : (a : Airspace) (t : ℕ) (caller : Caller) (op : Operation) (kind : Kind) (y : Entity) → breaks_depended op (depended_of a op) ≡ false → is_nothing (missing_by a caller op) ≡ false → Contains (listed kind (missing_by a caller op)) (view_of a caller.uss y)
-    → IsAsked kind a t (record { caller = Some caller; op = op }) y
+denied_by : (a : Airspace) (t : ℕ) (caller : Caller) (op : Operation) (kind : Kind) (y : Entity) → breaks_depended op (depended_of a op) ≡ false → is_nothing (missing_for a (Some caller) op) ≡ false → Contains (listed kind (missing_for a (Some caller) op)) (view_of a caller.uss y)
+    → IsDeniedFor kind a t (record { caller = Some caller; op = op }) y
 unfolding first_broken
-asked_by a t caller op kind y never some told =
+denied_by a t caller op kind y never some told =
     let c : Call = record { caller = Some caller; op = op } in
-    elim (find (breaks a t c) (early_rules ++ standing_rules)) as (λ o. find (breaks a t c) (early_rules ++ standing_rules) ≡ o → first_broken a t c ≡ or_else o (find (breaks a t c) last_rules) → IsAsked kind a t c y) [
+    elim (find (breaks a t c) (early_rules ++ standing_rules)) as (λ o. find (breaks a t c) (early_rules ++ standing_rules) ≡ o → first_broken a t c ≡ or_else o (find (breaks a t c) last_rules) → IsDeniedFor kind a t c y) [
       | Some p ↦ λ h first.
           let early : Before p = earlier_rule a t c p never h in
           record { rule = p; first = first; number = early.0; listed = λ is. absurd (early.1 is) }
@@ -327,10 +319,10 @@ asked_by a t caller op kind y never some told =
       }
     ] refl (find-append (breaks a t c) (early_rules ++ standing_rules) last_rules)
 
-pub needed_asked : (a : Airspace) (t : ℕ) (caller : Option Caller) (op : Operation) (kind : Kind) (y : Entity) → Contains (needed kind a caller op) y → in_key (key_shown op) y.ovn ≡ false
-    → IsAsked kind a t (record { caller = caller; op = op }) y
-needed_asked a t None op kind y h k =
+pub missing_denied : (a : Airspace) (t : ℕ) (caller : Option Caller) (op : Operation) (kind : Kind) (y : Entity) → Contains (needed kind a caller op) y → in_key (key_shown op) y.ovn ≡ false
+    → IsDeniedFor kind a t (record { caller = caller; op = op }) y
+missing_denied a t None op kind y h k =
     let some = none_asks a t op in
     let low : number_of some.0 ≤ 3 = some.2 in
     record { rule = some.0; first = some.1; number = inl (omega (arith, low)); listed = λ is. let same : number_of some.0 ≡ 14 = ap number_of is in absurd (omega (arith, low, same)) }
-needed_asked a t (Some caller) op kind y h k = let m = call_misses kind a caller op y h k in asked_by a t caller op kind y (not_depended kind a (Some caller) op y h) m.0 m.1
+missing_denied a t (Some caller) op kind y h k = let m = call_misses kind a caller op y h k in denied_by a t caller op kind y (not_depended kind a (Some caller) op y h) m.0 m.1

@@ -18,7 +18,7 @@ use Rattle.policy_core.specs.declared.call.Operation.TheVariants.{NoRoute, NoMet
 use Rattle.policy_core.specs.declared.rule.Rule.{Rule}
 use Rattle.policy_core.specs.declared.rule.Rule.TheVariants.{Manager, Version}
 use Rattle.policy_core.specs.Policy.{breaks, breaks_given, early_rules, standing_rules}
-use Rattle.policy_core.specs.Standing.{Facts, depended_of, facts_of, found_of, is_some_of, kept_of, sub_under}
+use Rattle.policy_core.specs.Standing.{Facts, depended_of, facts_of, found_of, is_some_of, stated_of, sub_under}
 use Rattle.policy_core.specs.Call.{subject_of}
 use Rattle.policy_core.specs.Blind.{veiled, veiled_entry, veiled_sub, veiled_sub_entry, IsLike, is_uss}
 use Rattle.policy_core.proofs.Finds.{or_else, find-append}
@@ -60,22 +60,22 @@ found_like m a b (DeleteSub id version) l = refl
 found_like m a b (ReadAvail uss) l = refl
 found_like m a b (SetAvail uss old availability) l = refl
 
-pub kept_like : (a b : Airspace) (op : Operation) → a.availabilities ≡ b.availabilities → kept_of a op ≡ kept_of b op
-kept_like a b NoRoute l = refl
-kept_like a b NoMethod l = refl
-kept_like a b (Malformed kind) l = refl
-kept_like a b (Query kind area) l = refl
-kept_like a b (Read kind id) l = refl
-kept_like a b (Create id put) l = refl
-kept_like a b (Update id ovn put) l = refl
-kept_like a b (Delete kind id ovn) l = refl
-kept_like a b (QuerySub area) l = refl
-kept_like a b (ReadSub id) l = refl
-kept_like a b (CreateSub id put) l = refl
-kept_like a b (UpdateSub id version put) l = refl
-kept_like a b (DeleteSub id version) l = refl
-kept_like a b (ReadAvail uss) l = ap (λ (x : Availabilities). get x uss) l
-kept_like a b (SetAvail uss old availability) l = ap (λ (x : Availabilities). get x uss) l
+pub stated_like : (a b : Airspace) (op : Operation) → a.availabilities ≡ b.availabilities → stated_of a op ≡ stated_of b op
+stated_like a b NoRoute l = refl
+stated_like a b NoMethod l = refl
+stated_like a b (Malformed kind) l = refl
+stated_like a b (Query kind area) l = refl
+stated_like a b (Read kind id) l = refl
+stated_like a b (Create id put) l = refl
+stated_like a b (Update id ovn put) l = refl
+stated_like a b (Delete kind id ovn) l = refl
+stated_like a b (QuerySub area) l = refl
+stated_like a b (ReadSub id) l = refl
+stated_like a b (CreateSub id put) l = refl
+stated_like a b (UpdateSub id version put) l = refl
+stated_like a b (DeleteSub id version) l = refl
+stated_like a b (ReadAvail uss) l = ap (λ (x : Availabilities). get x uss) l
+stated_like a b (SetAvail uss old availability) l = ap (λ (x : Availabilities). get x uss) l
 
 -- ---- subscriptions
 
@@ -139,45 +139,45 @@ manager_first : (own : Bool) (ovn present : List ℕ) (rest : Option Rule) → c
 manager_first true ovn present rest = refl
 manager_first false ovn present rest = refl
 
-veiled_found : (caller : Caller) (found : Option Entity) (kept : Option Stated) (serial t : ℕ) (sub : Option Sub) (depended : Bool) (op : Operation)
-    → find (breaks_given (record { found = found; kept = kept; serial = serial; sub = sub; depended = depended }) t (record { caller = Some caller; op = op })) standing_rules
-    ≡ find (breaks_given (record { found = option_map (veiled caller.uss) found; kept = kept; serial = serial; sub = sub; depended = depended }) t (record { caller = Some caller; op = op })) standing_rules
-veiled_found caller None kept serial t sub depended op = refl
-veiled_found caller (Some e) kept serial t sub depended NoRoute = refl
-veiled_found caller (Some e) kept serial t sub depended NoMethod = refl
-veiled_found caller (Some e) kept serial t sub depended (Malformed kind) = refl
-veiled_found caller (Some e) kept serial t sub depended (Query kind area) = refl
-veiled_found caller (Some e) kept serial t sub depended (Read kind id) = refl
-veiled_found caller (Some e) kept serial t sub depended (Create id put) = refl
-veiled_found caller (Some e) kept serial t sub depended (Update id ovn put) = manager_first (same_text e.manager caller.uss) ovn e.ovn _
-veiled_found caller (Some e) kept serial t sub depended (Delete kind id ovn) = manager_first (same_text e.manager caller.uss) ovn e.ovn _
-veiled_found caller (Some e) kept serial t sub depended (ReadAvail uss) = refl
-veiled_found caller (Some e) kept serial t sub depended (SetAvail uss old availability) = refl
-veiled_found caller (Some e) kept serial t sub depended (QuerySub area) = refl
-veiled_found caller (Some e) kept serial t sub depended (ReadSub id) = refl
-veiled_found caller (Some e) kept serial t sub depended (CreateSub id put) = refl
-veiled_found caller (Some e) kept serial t sub depended (UpdateSub id version put) = refl
-veiled_found caller (Some e) kept serial t sub depended (DeleteSub id version) = refl
+veiled_found : (caller : Caller) (found : Option Entity) (stated : Option Stated) (serial t : ℕ) (sub : Option Sub) (depended : Bool) (op : Operation)
+    → find (breaks_given (record { found = found; stated = stated; serial = serial; sub = sub; depended = depended }) t (record { caller = Some caller; op = op })) standing_rules
+    ≡ find (breaks_given (record { found = option_map (veiled caller.uss) found; stated = stated; serial = serial; sub = sub; depended = depended }) t (record { caller = Some caller; op = op })) standing_rules
+veiled_found caller None stated serial t sub depended op = refl
+veiled_found caller (Some e) stated serial t sub depended NoRoute = refl
+veiled_found caller (Some e) stated serial t sub depended NoMethod = refl
+veiled_found caller (Some e) stated serial t sub depended (Malformed kind) = refl
+veiled_found caller (Some e) stated serial t sub depended (Query kind area) = refl
+veiled_found caller (Some e) stated serial t sub depended (Read kind id) = refl
+veiled_found caller (Some e) stated serial t sub depended (Create id put) = refl
+veiled_found caller (Some e) stated serial t sub depended (Update id ovn put) = manager_first (same_text e.manager caller.uss) ovn e.ovn _
+veiled_found caller (Some e) stated serial t sub depended (Delete kind id ovn) = manager_first (same_text e.manager caller.uss) ovn e.ovn _
+veiled_found caller (Some e) stated serial t sub depended (ReadAvail uss) = refl
+veiled_found caller (Some e) stated serial t sub depended (SetAvail uss old availability) = refl
+veiled_found caller (Some e) stated serial t sub depended (QuerySub area) = refl
+veiled_found caller (Some e) stated serial t sub depended (ReadSub id) = refl
+veiled_found caller (Some e) stated serial t sub depended (CreateSub id put) = refl
+veiled_found caller (Some e) stated serial t sub depended (UpdateSub id version put) = refl
+veiled_found caller (Some e) stated serial t sub depended (DeleteSub id version) = refl
 
-veiled_subject : (caller : Caller) (found : Option Entity) (kept : Option Stated) (serial t : ℕ) (sub : Option Sub) (depended : Bool) (op : Operation)
-    → find (breaks_given (record { found = found; kept = kept; serial = serial; sub = sub; depended = depended }) t (record { caller = Some caller; op = op })) standing_rules
-    ≡ find (breaks_given (record { found = found; kept = kept; serial = serial; sub = option_map (veiled_sub caller.uss) sub; depended = depended }) t (record { caller = Some caller; op = op })) standing_rules
-veiled_subject caller found kept serial t None depended op = refl
-veiled_subject caller found kept serial t (Some s) depended NoRoute = refl
-veiled_subject caller found kept serial t (Some s) depended NoMethod = refl
-veiled_subject caller found kept serial t (Some s) depended (Malformed kind) = refl
-veiled_subject caller found kept serial t (Some s) depended (Query kind area) = refl
-veiled_subject caller found kept serial t (Some s) depended (Read kind id) = refl
-veiled_subject caller found kept serial t (Some s) depended (Create id put) = refl
-veiled_subject caller found kept serial t (Some s) depended (Update id ovn put) = refl
-veiled_subject caller found kept serial t (Some s) depended (Delete kind id ovn) = refl
-veiled_subject caller found kept serial t (Some s) depended (ReadAvail uss) = refl
-veiled_subject caller found kept serial t (Some s) depended (SetAvail uss old availability) = refl
-veiled_subject caller found kept serial t (Some s) depended (QuerySub area) = refl
-veiled_subject caller found kept serial t (Some s) depended (ReadSub id) = refl
-veiled_subject caller found kept serial t (Some s) depended (CreateSub id put) = refl
-veiled_subject caller found kept serial t (Some s) depended (UpdateSub id version put) = manager_first (same_text s.manager caller.uss) version s.version _
-veiled_subject caller found kept serial t (Some s) depended (DeleteSub id version) = manager_first (same_text s.manager caller.uss) version s.version _
+veiled_subject : (caller : Caller) (found : Option Entity) (stated : Option Stated) (serial t : ℕ) (sub : Option Sub) (depended : Bool) (op : Operation)
+    → find (breaks_given (record { found = found; stated = stated; serial = serial; sub = sub; depended = depended }) t (record { caller = Some caller; op = op })) standing_rules
+    ≡ find (breaks_given (record { found = found; stated = stated; serial = serial; sub = option_map (veiled_sub caller.uss) sub; depended = depended }) t (record { caller = Some caller; op = op })) standing_rules
+veiled_subject caller found stated serial t None depended op = refl
+veiled_subject caller found stated serial t (Some s) depended NoRoute = refl
+veiled_subject caller found stated serial t (Some s) depended NoMethod = refl
+veiled_subject caller found stated serial t (Some s) depended (Malformed kind) = refl
+veiled_subject caller found stated serial t (Some s) depended (Query kind area) = refl
+veiled_subject caller found stated serial t (Some s) depended (Read kind id) = refl
+veiled_subject caller found stated serial t (Some s) depended (Create id put) = refl
+veiled_subject caller found stated serial t (Some s) depended (Update id ovn put) = refl
+veiled_subject caller found stated serial t (Some s) depended (Delete kind id ovn) = refl
+veiled_subject caller found stated serial t (Some s) depended (ReadAvail uss) = refl
+veiled_subject caller found stated serial t (Some s) depended (SetAvail uss old availability) = refl
+veiled_subject caller found stated serial t (Some s) depended (QuerySub area) = refl
+veiled_subject caller found stated serial t (Some s) depended (ReadSub id) = refl
+veiled_subject caller found stated serial t (Some s) depended (CreateSub id put) = refl
+veiled_subject caller found stated serial t (Some s) depended (UpdateSub id version put) = manager_first (same_text s.manager caller.uss) version s.version _
+veiled_subject caller found stated serial t (Some s) depended (DeleteSub id version) = manager_first (same_text s.manager caller.uss) version s.version _
 
 -- the facts with what is behind the veil
 abbrev veiled_facts : List ℕ → Facts → Facts
@@ -186,13 +186,13 @@ veiled_facts m f = record f { found = option_map (veiled m) f.found; sub = optio
 pub standing_veiled : (caller : Caller) (f : Facts) (t : ℕ) (op : Operation)
     → find (breaks_given f t (record { caller = Some caller; op = op })) standing_rules ≡ find (breaks_given (veiled_facts caller.uss f) t (record { caller = Some caller; op = op })) standing_rules
 standing_veiled caller f t op =
-    veiled_found caller f.found f.kept f.serial t f.sub f.depended op
-    ∙ veiled_subject caller (option_map (veiled caller.uss) f.found) f.kept f.serial t f.sub f.depended op
+    veiled_found caller f.found f.stated f.serial t f.sub f.depended op
+    ∙ veiled_subject caller (option_map (veiled caller.uss) f.found) f.stated f.serial t f.sub f.depended op
 
 facts_like : (m : List ℕ) (a b : Airspace) (op : Operation) → IsLike m a b → veiled_facts m (facts_of a op) ≡ veiled_facts m (facts_of b op)
 facts_like m a b op l = λ i. record {
   found = found_like m a b op l i;
-  kept = kept_like a b op l.availabilities i;
+  stated = stated_like a b op l.availabilities i;
   serial = l.serial i;
   sub = under_like m a b (subject_of op) l i;
   depended = depended_like m a b op l i;

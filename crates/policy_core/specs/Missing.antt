@@ -44,26 +44,26 @@ abbrev pub processes_constraints : Option Caller → Bool
 processes_constraints (Some caller) = has_scope caller.scopes ConstraintProcessing
 processes_constraints None = false
 
--- Whether a caller that names a subscription, or none, is to know of constraints: one that names a
+-- Whether a caller that names a subscription, or none, needs to know constraints: one that names a
 -- subscription, exactly where that one is for them; one that names none, where it processes them.
-abbrev pub minds_constraints : Option Caller → Option ℕ → Option Sub → Bool
-minds_constraints caller (Some id) sub = is_for_constraints sub
-minds_constraints caller None sub = processes_constraints caller
+abbrev pub needs_constraints : Option Caller → Option ℕ → Option Sub → Bool
+needs_constraints caller (Some id) sub = is_for_constraints sub
+needs_constraints caller None sub = processes_constraints caller
 
--- whether it is to know of entities of a kind
-abbrev pub minds : Kind → Option Caller → Option ℕ → Option Sub → Bool
-minds kinds.Intent caller named sub = true
-minds kinds.Constraint caller named sub = minds_constraints caller named sub
+-- whether it needs to know entities of a kind
+abbrev pub needs_kind : Kind → Option Caller → Option ℕ → Option Sub → Bool
+needs_kind kinds.Intent caller named sub = true
+needs_kind kinds.Constraint caller named sub = needs_constraints caller named sub
 
--- whether entities of a kind are needed of a put, where this is the subscription that it names
-abbrev pub is_asked : Kind → Option Caller → Put → Option Sub → Bool
-is_asked kind caller put sub =
-    needs_key put.nature && minds kind caller (subscription_of put.nature) sub
+-- whether a put needs to know entities of a kind, where this is the subscription that it names
+abbrev pub put_needs : Kind → Option Caller → Put → Option Sub → Bool
+put_needs kind caller put sub =
+    needs_key put.nature && needs_kind kind caller (subscription_of put.nature) sub
 
--- the id that is left out: an intent does not need itself, but a constraint of the same id
-abbrev pub left_out : Kind → ℕ → Option ℕ
-left_out kinds.Intent id = Some id
-left_out kinds.Constraint id = None
+-- the id that is excepted: an intent does not need itself, but a constraint of the same id
+abbrev pub excepted : Kind → ℕ → Option ℕ
+excepted kinds.Intent id = Some id
+excepted kinds.Constraint id = None
 
 -- an intent that is planned and not flown yet
 abbrev pub is_planned : Nature → Bool
@@ -91,8 +91,8 @@ unspared a es = filter (λ e. not (is_spared a e)) es
 -- subscription that the put names
 abbrev pub needed_with : Kind → Airspace → Option Caller → Option Sub → ℕ → Put → List Entity
 needed_with kind a caller sub id put =
-    if is_asked kind caller put sub
-    then unspared a (meeting_in a.entities kind (map region_of put.volumes) (left_out kind id))
+    if put_needs kind caller put sub
+    then unspared a (meeting_in a.entities kind (map region_of put.volumes) (excepted kind id))
     else []
 
 abbrev pub needed_put : Kind → Airspace → Option Caller → ℕ → Put → List Entity
@@ -137,9 +137,9 @@ nothing_missing = record { intents = []; constraints = [] }
 
 -- what a key does not have of what is needed of each kind, as the caller may see it
 abbrev pub missing_of : Airspace → Caller → List (List ℕ) → (Kind → List Entity) → Missing
-missing_of a caller key asked = record {
-  intents = map (view_of a caller.uss) (missing_from key (asked kinds.Intent));
-  constraints = map (view_of a caller.uss) (missing_from key (asked kinds.Constraint));
+missing_of a caller key needs = record {
+  intents = map (view_of a caller.uss) (missing_from key (needs kinds.Intent));
+  constraints = map (view_of a caller.uss) (missing_from key (needs kinds.Constraint));
 }
 
 -- of a put under an id, where this is the subscription that it names
@@ -152,12 +152,10 @@ missing_put a caller id put =
     missing_with a caller (sub_under a (subscription_of put.nature)) id put
 
 -- What a call needs to know and its key does not have: intents and constraints, each by rising ids.
-abbrev pub missing_by : Airspace → Caller → Operation → Missing
-missing_by a caller op = missing_of a caller (key_shown op) (λ kind. needed kind a (Some caller) op)
-
--- where there is no caller, nobody is to see it
+-- Where there is no caller, nobody is to see it.
 abbrev pub missing_for : Airspace → Option Caller → Operation → Missing
-missing_for a (Some caller) op = missing_by a caller op
+missing_for a (Some caller) op =
+    missing_of a caller (key_shown op) (λ kind. needed kind a (Some caller) op)
 missing_for a None op = nothing_missing
 
 abbrev pub is_none_of : List Reference → Bool

@@ -27,11 +27,11 @@ use Rattle.policy_core.specs.declared.rule.Rule.{Rule}
 use Rattle.policy_core.specs.declared.rule.Rule.TheVariants.{Route, Method, Token, Scope, Form, Area, Found, Fresh, Manager, Version, Role, Change, Ended, Key, Limit, Subscription, Depended}
 use Rattle.policy_core.specs.Scope.{has_scope, is_open}
 use Rattle.policy_core.specs.Call.{kind_of, is_change, covered_of}
-use Rattle.policy_core.specs.Standing.{Facts, depended_of, found_of, kept_of, sub_of}
+use Rattle.policy_core.specs.Standing.{Facts, depended_of, found_of, stated_of, sub_of}
 use Rattle.policy_core.specs.Missing.{is_nothing, missing_for}
 
 -- Each rule in a section of its own. One that speaks of an entity or of a caller is not broken
--- where there is none: `found` is the entity that a call names, `kept` what is kept of the
+-- where there is none: `found` is the entity that a call names, `stated` what is stated of the
 -- supplier, `sub` the subscription that it is about or that its put names.
 
 -- P1 ROUTE
@@ -128,7 +128,7 @@ has_another_ovn None ovn = false
 
 -- the version of a supplier's availability
 abbrev pub availability_version : Option Stated → List ℕ
-availability_version kept = (unwrap_or kept (Unknown, [])).1
+availability_version stated = (unwrap_or stated (Unknown, [])).1
 
 abbrev pub has_another_version : Option Sub → List ℕ → Bool
 has_another_version (Some s) version = not (same_text version s.version)
@@ -137,13 +137,13 @@ has_another_version None version = false
 -- an update or a deletion by another OVN or version than the present one, a setting by another
 -- version
 abbrev pub breaks_version : Operation → Option Entity → Option Stated → Option Sub → Bool
-breaks_version (Update id ovn put) found kept sub = has_another_ovn found ovn
-breaks_version (Delete kind id ovn) found kept sub = has_another_ovn found ovn
-breaks_version (SetAvail uss old availability) found kept sub =
-    not (same_text old (availability_version kept))
-breaks_version (UpdateSub id version put) found kept sub = has_another_version sub version
-breaks_version (DeleteSub id version) found kept sub = has_another_version sub version
-breaks_version op found kept sub = false
+breaks_version (Update id ovn put) found stated sub = has_another_ovn found ovn
+breaks_version (Delete kind id ovn) found stated sub = has_another_ovn found ovn
+breaks_version (SetAvail uss old availability) found stated sub =
+    not (same_text old (availability_version stated))
+breaks_version (UpdateSub id version put) found stated sub = has_another_version sub version
+breaks_version (DeleteSub id version) found stated sub = has_another_version sub version
+breaks_version op found stated sub = false
 
 -- P11 ROLE
 
@@ -277,7 +277,7 @@ breaks a now c Area = breaks_area c.op
 breaks a now c Found = breaks_found c.op (found_of a c.op) (sub_of a c.op)
 breaks a now c Fresh = breaks_fresh c.op (found_of a c.op) (sub_of a c.op)
 breaks a now c Manager = breaks_manager c.caller c.op (found_of a c.op) (sub_of a c.op)
-breaks a now c Version = breaks_version c.op (found_of a c.op) (kept_of a c.op) (sub_of a c.op)
+breaks a now c Version = breaks_version c.op (found_of a c.op) (stated_of a c.op) (sub_of a c.op)
 breaks a now c Role = breaks_role c.caller c.op
 breaks a now c Change = breaks_change c.op (found_of a c.op)
 breaks a now c Ended = breaks_ended now c.op
@@ -291,7 +291,7 @@ abbrev pub breaks_given : Facts → ℕ → Call → Rule → Bool
 breaks_given f now c Found = breaks_found c.op f.found f.sub
 breaks_given f now c Fresh = breaks_fresh c.op f.found f.sub
 breaks_given f now c Manager = breaks_manager c.caller c.op f.found f.sub
-breaks_given f now c Version = breaks_version c.op f.found f.kept f.sub
+breaks_given f now c Version = breaks_version c.op f.found f.stated f.sub
 breaks_given f now c Role = breaks_role c.caller c.op
 breaks_given f now c Change = breaks_change c.op f.found
 breaks_given f now c Ended = breaks_ended now c.op

@@ -10,7 +10,7 @@ use Rattle.entity_core.specs.Airspace.{Airspace, Stated}
 use Rattle.entity_core.specs.Search.{dependents_in}
 use Rattle.policy_core.specs.declared.call.Operation.{Operation}
 use Rattle.policy_core.specs.declared.call.Operation.TheVariants.{Read, Create, Update, Delete, ReadAvail, SetAvail, DeleteSub}
-use Rattle.policy_core.specs.declared.standing.Facts as lent
+use Rattle.policy_core.specs.declared.standing.LentFacts.{LentFacts}
 use Rattle.policy_core.specs.Call.{subject_of}
 
 -- what is kept under the kind and the id that the operation names
@@ -21,11 +21,11 @@ found_of a (Update id ovn put) = get a.entities (kind_of put.nature, id)
 found_of a (Delete kind id ovn) = get a.entities (kind, id)
 found_of a op = None
 
--- what is kept of the supplier whose availability is read or set
-abbrev pub kept_of : Airspace → Operation → Option Stated
-kept_of a (ReadAvail uss) = get a.availabilities uss
-kept_of a (SetAvail uss old availability) = get a.availabilities uss
-kept_of a op = None
+-- what is stated of the supplier whose availability is read or set
+abbrev pub stated_of : Airspace → Operation → Option Stated
+stated_of a (ReadAvail uss) = get a.availabilities uss
+stated_of a (SetAvail uss old availability) = get a.availabilities uss
+stated_of a op = None
 
 -- the subscription of an id
 abbrev pub sub_under : Airspace → Option ℕ → Option Sub
@@ -48,7 +48,7 @@ depended_of a op = false
 -- all that is looked up
 pub record Facts : Type 0 where
   pub found : Option Entity
-  pub kept : Option Stated
+  pub stated : Option Stated
   pub serial : ℕ
   pub sub : Option Sub
   pub depended : Bool
@@ -56,7 +56,7 @@ pub record Facts : Type 0 where
 abbrev pub facts_of : Airspace → Operation → Facts
 facts_of a op = record {
   found = found_of a op;
-  kept = kept_of a op;
+  stated = stated_of a op;
   serial = a.serial;
   sub = sub_of a op;
   depended = depended_of a op;
@@ -72,15 +72,15 @@ abbrev pub lent_entity : Option (Bor Entity) → Option Entity
 lent_entity found = option_map (λ e. e.now) found
 
 abbrev pub lent_stated : Option (Availability × Bor (List ℕ)) → Option Stated
-lent_stated kept = option_map (λ x. (x.0, x.1.now)) kept
+lent_stated stated = option_map (λ x. (x.0, x.1.now)) stated
 
 abbrev pub lent_sub : Option (Bor Sub) → Option Sub
 lent_sub sub = option_map (λ s. s.now) sub
 
-abbrev pub lent_facts : lent.Facts → Facts
+abbrev pub lent_facts : LentFacts → Facts
 lent_facts f = record {
   found = lent_entity f.found;
-  kept = lent_stated f.avail;
+  stated = lent_stated f.stated;
   serial = f.serial;
   sub = lent_sub f.sub;
   depended = f.depended;

@@ -1,6 +1,6 @@
 //! Laws of the policy, each named by a function that does nothing.
 ghost use Rattle.policy_core.specs.Blind.{RulesAreBlind, ViewIsBlind};
-ghost use Rattle.policy_core.specs.Known.{NeededIsAsked, PutsKnow};
+ghost use Rattle.policy_core.specs.Known.{MissingIsDenied, PutsKnow};
 
 /// What a supplier sees of an entity that it does not manage is the same for every OVN.
 pub fn view_is_blind()
@@ -14,13 +14,13 @@ pub fn rules_are_blind()
 {}
 
 /// A put that breaks no rule, of an intent that is planned or flown as planned, had in its key the
-/// OVN of each other entity that it meets, that it is to know of and that is not spared.
+/// OVN of each other entity that it meets, that it needs to know and that is not spared.
 pub fn puts_know()
     ensures { PutsKnow }
 {}
 
-/// What a call needs to know, and whose OVN its key does not have, is asked for: one of P1 to P14 or
-/// P16 is the first that is broken, and where it is P14, it is listed.
-pub fn needed_is_asked()
-    ensures { NeededIsAsked }
+/// A call is denied for what it needs to know and whose OVN its key does not have: one of P1 to P14
+/// or P16 is the first that is broken, and where it is P14, it is listed.
+pub fn missing_is_denied()
+    ensures { MissingIsDenied }
 {}

@@ -21,11 +21,11 @@ use entity_core::version::GREATEST_VERSION;
 
 /// What is looked up for a call, lent.
 #[derive(Clone, Copy, Debug)]
-pub struct Facts<'a> {
+pub struct LentFacts<'a> {
     /// What is kept under the kind and the id that the call names.
     pub found: Option<&'a Entity>,
-    /// What is kept of the supplier whose availability is read or set.
-    pub avail: Option<(Availability, &'a Ovn)>,
+    /// What is stated of the supplier whose availability is read or set.
+    pub stated: Option<(Availability, &'a Ovn)>,
     /// How many changes there were.
     pub serial: u64,
     /// The subscription that the call is about, or that its put names.
@@ -107,15 +107,15 @@ fn is_of_another(caller: &Option<Caller>, found: Option<&Entity>) -> bool
 fn breaks_version(
     op: &Operation,
     found: Option<&Entity>,
-    kept: Option<(Availability, &Ovn)>,
+    stated: Option<(Availability, &Ovn)>,
     sub: Option<&Sub>,
 ) -> bool
-    ensures { result ≡ breaks_version op.now (lent_entity found.entry) (lent_stated kept.entry)
+    ensures { result ≡ breaks_version op.now (lent_entity found.entry) (lent_stated stated.entry)
         (lent_sub sub.entry) }
 {
     match op {
         Operation::Update(_, ovn, _) | Operation::Delete(_, _, ovn) => has_another_ovn(found, ovn),
-        Operation::SetAvail(_, old, _) => !is_present(kept, old),
+        Operation::SetAvail(_, old, _) => !is_present(stated, old),
         Operation::UpdateSub(_, version, _) | Operation::DeleteSub(_, version) => {
             has_another_version(sub, version)
         }
@@ -141,10 +141,10 @@ fn has_another_ovn(found: Option<&Entity>, ovn: &Ovn) -> bool
     }
 }
 
-fn is_present(kept: Option<(Availability, &Ovn)>, old: &Text) -> bool
-    ensures { result ≡ same_text old.now (availability_version (lent_stated kept.entry)) }
+fn is_present(stated: Option<(Availability, &Ovn)>, old: &Text) -> bool
+    ensures { result ≡ same_text old.now (availability_version (lent_stated stated.entry)) }
 {
-    match kept {
+    match stated {
         Some((_, version)) => old.text() == version.text(),
         None => old.text() == "",
     }
@@ -316,7 +316,7 @@ fn has_last_version(found: Option<&Entity>) -> bool
 }
 
 // The first broken rule of P7 to P13, P16 and P17.
-fn first_standing(now: u64, call: &Call, facts: &Facts<'_>) -> Option<Rule>
+fn first_standing(now: u64, call: &Call, facts: &LentFacts<'_>) -> Option<Rule>
     ensures { result ≡ find (breaks_given (lent_facts facts.now) now call.now) standing_rules }
 {
     if breaks_found(&call.op, facts.found, facts.sub) {
@@ -328,7 +328,7 @@ fn first_standing(now: u64, call: &Call, facts: &Facts<'_>) -> Option<Rule>
     if breaks_manager(call, facts.found, facts.sub) {
         return Some(Rule::Manager);
     }
-    if breaks_version(&call.op, facts.found, facts.avail, facts.sub) {
+    if breaks_version(&call.op, facts.found, facts.stated, facts.sub) {
         return Some(Rule::Version);
     }
     if breaks_role(call) {
@@ -351,7 +351,7 @@ fn first_standing(now: u64, call: &Call, facts: &Facts<'_>) -> Option<Rule>
 
 /// What a call at a moment (in seconds since 1970) breaks, where these facts were looked up for it.
 /// It takes no memory.
-pub fn standing(now: u64, call: &Call, facts: &Facts<'_>) -> Findings
+pub fn standing(now: u64, call: &Call, facts: &LentFacts<'_>) -> Findings
     ensures first { result.first
         ≡ find (breaks_given (lent_facts facts.now) now call.now) standing_rules }
     ensures limit { result.limit

@@ -29,7 +29,7 @@ use Rattle.policy_core.specs.declared.rule.Rule.{Rule}
 use Rattle.policy_core.specs.declared.rule.Rule.TheVariants.{Route, Method, Token, Scope, Form, Area, Found, Fresh, Manager, Version, Role, Change, Ended, Key, Limit, Subscription, Depended}
 use Rattle.policy_core.specs.declared.reference.Reference.{Reference}
 use Rattle.policy_core.specs.Blind.{veiled, veiled_entry, veiled_sub, veiled_sub_entry, IsLike, is_uss, known}
-use Rattle.policy_core.specs.Missing.{in_key, is_asked, is_missing_from, is_spared, spared, unspared, left_out, minds, missing_from, needed_put, needs_key, is_none_of, is_nothing, missing_put, missing_by}
+use Rattle.policy_core.specs.Missing.{in_key, put_needs, is_missing_from, is_spared, spared, unspared, excepted, needs_kind, missing_from, needed_put, needs_key, is_none_of, is_nothing, missing_put, missing_for}
 use Rattle.policy_core.specs.Policy.{breaks, breaks_limit, breaks_manager, is_sub_of_another, early_rules, standing_rules, last_rules, first_broken}
 use Rattle.policy_core.specs.Standing.{found_of, sub_of, sub_under}
 use Rattle.policy_core.specs.SubView.{sub_view_of}
@@ -543,25 +543,25 @@ asked_like m true key es fs h = h
 asked_like m false key es fs h = refl
 
 -- what a subscription is for is seen before the veil
-minds-veiled : (m : List ℕ) (kind : Kind) (caller : Option Caller) (named : Option ℕ) (o : Option Sub) → minds kind caller named o ≡ minds kind caller named (option_map (veiled_sub m) o)
-minds-veiled m kinds.Intent caller named o = refl
-minds-veiled m kinds.Constraint caller None o = refl
-minds-veiled m kinds.Constraint caller (Some id) None = refl
-minds-veiled m kinds.Constraint caller (Some id) (Some s) = refl
+needs_kind-veiled : (m : List ℕ) (kind : Kind) (caller : Option Caller) (named : Option ℕ) (o : Option Sub) → needs_kind kind caller named o ≡ needs_kind kind caller named (option_map (veiled_sub m) o)
+needs_kind-veiled m kinds.Intent caller named o = refl
+needs_kind-veiled m kinds.Constraint caller None o = refl
+needs_kind-veiled m kinds.Constraint caller (Some id) None = refl
+needs_kind-veiled m kinds.Constraint caller (Some id) (Some s) = refl
 
-asks_like : (m : List ℕ) (kind : Kind) (a b : Airspace) (caller : Option Caller) (put : Put) → IsLike m a b → is_asked kind caller put (sub_under a (subscription_of put.nature)) ≡ is_asked kind caller put (sub_under b (subscription_of put.nature))
+asks_like : (m : List ℕ) (kind : Kind) (a b : Airspace) (caller : Option Caller) (put : Put) → IsLike m a b → put_needs kind caller put (sub_under a (subscription_of put.nature)) ≡ put_needs kind caller put (sub_under b (subscription_of put.nature))
 asks_like m kind a b caller put l =
     let named : Option ℕ = subscription_of put.nature in
-    ap (λ (b : Bool). needs_key put.nature && b) (minds-veiled m kind caller named (sub_under a named)
-    ∙ (ap (minds kind caller named) (under_like m a b named l) ∙ sym (minds-veiled m kind caller named (sub_under b named))))
+    ap (λ (b : Bool). needs_key put.nature && b) (needs_kind-veiled m kind caller named (sub_under a named)
+    ∙ (ap (needs_kind kind caller named) (under_like m a b named l) ∙ sym (needs_kind-veiled m kind caller named (sub_under b named))))
 
 needed_like : (m : List ℕ) (kind : Kind) (a b : Airspace) (caller : Option Caller) (id : ℕ) (put : Put) → IsLike m a b
     → map (λ e. same_text e.1.manager m || in_key put.key e.1.ovn) (entries a.entities) ≡ map (λ e. same_text e.1.manager m || in_key put.key e.1.ovn) (entries b.entities)
     → map (veiled m) (missing_from put.key (needed_put kind a caller id put)) ≡ map (veiled m) (missing_from put.key (needed_put kind b caller id put))
 needed_like m kind a b caller id put l k =
     let areas : List Region = map region_of put.volumes in
-    let of : Airspace → List Entity = λ x. unspared x (meeting_in x.entities kind areas (left_out kind id)) in
-    asked_like m (is_asked kind caller put (sub_under a (subscription_of put.nature))) put.key (of a) (of b) (met_missing_like m a b kind areas (left_out kind id) put.key l k)
+    let of : Airspace → List Entity = λ x. unspared x (meeting_in x.entities kind areas (excepted kind id)) in
+    asked_like m (put_needs kind caller put (sub_under a (subscription_of put.nature))) put.key (of a) (of b) (met_missing_like m a b kind areas (excepted kind id) put.key l k)
     ∙ ap (λ (asked : Bool). map (veiled m) (missing_from put.key (cond asked (of b) []))) (asks_like m kind a b caller put l)
 
 missing_put_like : (a b : Airspace) (caller : Caller) (id : ℕ) (put : Put) → IsLike caller.uss a b
@@ -574,7 +574,7 @@ missing_put_like a b caller id put l k =
     λ i. record { intents = seen kinds.Intent i; constraints = seen kinds.Constraint i }
 
 -- of the supplier's own call, the same is missing
-missing_like : (a b : Airspace) (caller : Caller) (op : Operation) → IsLike caller.uss a b → known caller.uss op a ≡ known caller.uss op b → missing_by a caller op ≡ missing_by b caller op
+missing_like : (a b : Airspace) (caller : Caller) (op : Operation) → IsLike caller.uss a b → known caller.uss op a ≡ known caller.uss op b → missing_for a (Some caller) op ≡ missing_for b (Some caller) op
 unfolding missing_from
 missing_like a b caller NoRoute l k = refl
 missing_like a b caller NoMethod l k = refl
@@ -608,7 +608,7 @@ nothing_put_like m a b caller id put l k =
     λ kind. none_like m (view_of a caller.uss) (view_of b caller.uss) (of a kind) (of b kind) (needed_like m kind a b (Some caller) id put l k) in
     λ i. none kinds.Intent i && none kinds.Constraint i
 
-nothing_like : (m : List ℕ) (a b : Airspace) (caller : Caller) (op : Operation) → IsLike m a b → known m op a ≡ known m op b → is_nothing (missing_by a caller op) ≡ is_nothing (missing_by b caller op)
+nothing_like : (m : List ℕ) (a b : Airspace) (caller : Caller) (op : Operation) → IsLike m a b → known m op a ≡ known m op b → is_nothing (missing_for a (Some caller) op) ≡ is_nothing (missing_for b (Some caller) op)
 unfolding missing_from
 nothing_like m a b caller NoRoute l k = refl
 nothing_like m a b caller NoMethod l k = refl
@@ -668,7 +668,7 @@ own_first m a b t caller op l is k =
     ∙ ((λ i. or_else (rules_like m a b t (Some caller) op l is i) (last_like m a b t caller op l k i))
     ∙ sym (find-append (breaks b t c) (early_rules ++ standing_rules) last_rules))
 
-told_like : (a b : Airspace) (caller : Caller) (op : Operation) (p : Rule) → missing_by a caller op ≡ missing_by b caller op → told_missing a (record { caller = Some caller; op = op }) p ≡ told_missing b (record { caller = Some caller; op = op }) p
+told_like : (a b : Airspace) (caller : Caller) (op : Operation) (p : Rule) → missing_for a (Some caller) op ≡ missing_for b (Some caller) op → told_missing a (record { caller = Some caller; op = op }) p ≡ told_missing b (record { caller = Some caller; op = op }) p
 told_like a b caller op Route h = refl
 told_like a b caller op Method h = refl
 told_like a b caller op Token h = refl

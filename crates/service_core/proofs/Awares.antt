@@ -20,8 +20,8 @@ use Rattle.policy_core.specs.declared.call.Put.{Put}
 use Rattle.policy_core.specs.declared.call.SubPut.{SubPut}
 use Rattle.policy_core.specs.declared.call.Operation.{Operation}
 use Rattle.policy_core.specs.declared.call.Operation.TheVariants.{NoRoute, NoMethod, Malformed, Query, Read, Create, Update, Delete, ReadAvail, SetAvail, QuerySub, ReadSub, CreateSub, UpdateSub, DeleteSub}
-use Rattle.policy_core.specs.Known.{is_declared, is_told_of, put_of}
-use Rattle.policy_core.specs.Missing.{is_spared, key_shown}
+use Rattle.policy_core.specs.Known.{call_needs, put_of}
+use Rattle.policy_core.specs.Missing.{is_spared, key_shown, needs_key}
 use Rattle.policy_core.specs.Policy.{first_broken}
 use Rattle.policy_core.proofs.Puts.{puts_know}
 use Rattle.entity_core.proofs.Keys.{key_total, key_exact, one_key}
@@ -59,7 +59,7 @@ raised salt serial x n = record { positive = n.positive; within = let w = n.with
 
 -- with an entity that knew the others
 kept_with : (salt : List ℕ) (last : EntityKey → Option MadeCall) (a : Airspace) (c : Call) (e : Entity) → Kept salt last a → e.serial ≡ a.serial + 1 → e.ovn ≡ ovn_text salt e.serial
-    → ((y : Entity) → get a.entities (key_of y) ≡ Some y → eq_by_cmp key_cmp (key_of y) (key_of e) ≡ false → is_declared e.nature ≡ true → any_meet y.volumes (map region_of e.volumes) ≡ true → is_owed (record { before = a; call = c }) y ≡ true → Contains (key_shown c.op) y.ovn)
+    → ((y : Entity) → get a.entities (key_of y) ≡ Some y → eq_by_cmp key_cmp (key_of y) (key_of e) ≡ false → needs_key e.nature ≡ true → any_meet y.volumes (map region_of e.volumes) ≡ true → is_owed (record { before = a; call = c }) y ≡ true → Contains (key_shown c.op) y.ovn)
     → Kept salt (λ k. later_or (cond (eq_by_cmp key_cmp k (key_of e)) (Some (record { before = a; call = c })) None) (last k)) (with_entity a e)
 kept_with salt last a c e s new text knows =
     record {
@@ -95,7 +95,7 @@ kept_with salt last a c e s new text knows =
                 made = record { before = a; call = c };
                 last = ap (λ (b : Bool). later_or (cond b (Some (record { before = a; call = c })) None) (last k)) p.0;
                 stood = ap (get a.entities) at ∙ q.1;
-                knew = knows y (ap (get a.entities) at ∙ q.1) (ap (λ (z : EntityKey). eq_by_cmp key_cmp z (key_of e)) at ∙ q.0) (ap (λ (z : Entity). is_declared z.nature) p.1 ∙ needs) (ap (λ (z : Entity). any_meet y.volumes (map region_of z.volumes)) p.1 ∙ meet);
+                knew = knows y (ap (get a.entities) at ∙ q.1) (ap (λ (z : EntityKey). eq_by_cmp key_cmp z (key_of e)) at ∙ q.0) (ap (λ (z : Entity). needs_key z.nature) p.1 ∙ needs) (ap (λ (z : Entity). any_meet y.volumes (map region_of z.volumes)) p.1 ∙ meet);
               }
         ]
         | inr p ↦ elim (got a.entities (key_of e) e l y hy) [
@@ -155,20 +155,20 @@ kept_telling salt last a test proper s = record { proper = proper; numbered = s.
 abbrev pub last_with : (EntityKey → Option MadeCall) → Airspace → Call → Reply → EntityKey → Option MadeCall
 last_with last a c r = λ k. later_or (put_in k a c r) (last k)
 
--- the key of an operation has the OVN of each other entity that a put of it is to know
+-- the key of an operation has the OVN of each other entity that a put of it needs to know
 abbrev Knows : Airspace → Option Caller → Operation → Type 0
-Knows a caller op = (id : ℕ) (put : Put) (y : Entity) → put_of op ≡ Some (id, put) → is_declared put.nature ≡ true → get a.entities (key_of y) ≡ Some y → eq_by_cmp key_cmp (key_of y) (kind_of put.nature, id) ≡ false
-    → any_meet y.volumes (map region_of put.volumes) ≡ true → is_told_of a (record { caller = caller; op = op }) y.nature ≡ true → is_spared a y ≡ false → Contains put.key y.ovn
+Knows a caller op = (id : ℕ) (put : Put) (y : Entity) → put_of op ≡ Some (id, put) → needs_key put.nature ≡ true → get a.entities (key_of y) ≡ Some y → eq_by_cmp key_cmp (key_of y) (kind_of put.nature, id) ≡ false
+    → any_meet y.volumes (map region_of put.volumes) ≡ true → call_needs a (record { caller = caller; op = op }) y.nature ≡ true → is_spared a y ≡ false → Contains put.key y.ovn
 
 not_true : (b : Bool) → not b ≡ true → b ≡ false
 not_true true h = cc
 not_true false h = refl
 
 -- the same of what a call was to know of, where it was made
-knows_owed : (a : Airspace) (caller : Option Caller) (op : Operation) (id : ℕ) (put : Put) (y : Entity) → Knows a caller op → put_of op ≡ Some (id, put) → is_declared put.nature ≡ true → get a.entities (key_of y) ≡ Some y
+knows_owed : (a : Airspace) (caller : Option Caller) (op : Operation) (id : ℕ) (put : Put) (y : Entity) → Knows a caller op → put_of op ≡ Some (id, put) → needs_key put.nature ≡ true → get a.entities (key_of y) ≡ Some y
     → eq_by_cmp key_cmp (key_of y) (kind_of put.nature, id) ≡ false → any_meet y.volumes (map region_of put.volumes) ≡ true → is_owed (record { before = a; call = record { caller = caller; op = op } }) y ≡ true → Contains put.key y.ovn
 knows_owed a caller op id put y knows is needs found other meet owed =
-    let parts = and_parts (is_told_of a (record { caller = caller; op = op }) y.nature) (not (is_spared a y)) owed in
+    let parts = and_parts (call_needs a (record { caller = caller; op = op }) y.nature) (not (is_spared a y)) owed in
     knows id put y is needs found other meet parts.0 (not_true (is_spared a y) parts.1)
 
 kept_create : (salt : List ℕ) (last : EntityKey → Option MadeCall) (a : Airspace) (caller : Caller) (id : ℕ) (put : Put) → Kept salt last a → Knows a (Some caller) (Create id put)

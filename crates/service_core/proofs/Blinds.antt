@@ -19,7 +19,7 @@ use Rattle.policy_core.specs.declared.rule.Rule.{Rule}
 use Rattle.policy_core.specs.declared.rule.Rule.TheVariants.{Found, Fresh, Manager, Version, Role, Change, Ended, Subscription, Depended}
 use Rattle.policy_core.specs.Blind.{veiled, veiled_entry, veiled_sub, veiled_sub_entry, IsLike, is_by, known, named, named_sub}
 use Rattle.policy_core.specs.Policy.{breaks, early_rules, standing_rules, last_rules, first_broken, breaks_found, breaks_fresh, breaks_manager, breaks_version, breaks_role, breaks_change, breaks_ended, breaks_subscription, breaks_depended, has_another_ovn, has_another_version}
-use Rattle.policy_core.specs.Standing.{depended_of, found_of, kept_of, sub_of}
+use Rattle.policy_core.specs.Standing.{depended_of, found_of, stated_of, sub_of}
 use Rattle.policy_core.proofs.Finds.{or_else, find-append}
 use Rattle.policy_core.proofs.Veils.{found_like, under_like, depended_like}
 use Rattle.service_core.specs.Blind.{AllMadeAlike, replies_to}
@@ -82,7 +82,7 @@ another_sub_like m version a b k l n =
     ∙ (sym (another_sub-veiled m version k (entries b.subscriptions))
     ∙ ap (λ (o : Option Sub). has_another_version o version) (sym (get-entries b.subscriptions k)))))
 
-stale_like : (m : List ℕ) (a b : Airspace) (op : Operation) → IsLike m a b → named m op a ≡ named m op b → named_sub m op a ≡ named_sub m op b → breaks_version op (found_of a op) (kept_of a op) (sub_of a op) ≡ breaks_version op (found_of b op) (kept_of b op) (sub_of b op)
+stale_like : (m : List ℕ) (a b : Airspace) (op : Operation) → IsLike m a b → named m op a ≡ named m op b → named_sub m op a ≡ named_sub m op b → breaks_version op (found_of a op) (stated_of a op) (sub_of a op) ≡ breaks_version op (found_of b op) (stated_of b op) (sub_of b op)
 stale_like m a b NoRoute l n v = refl
 stale_like m a b NoMethod l n v = refl
 stale_like m a b (Malformed kind) l n v = refl
@@ -147,7 +147,7 @@ rules_sub-veiled m caller found (Some s) depended t (DeleteSub id version) stale
 standing_like : (m : List ℕ) (a b : Airspace) (t : ℕ) (caller : Caller) (op : Operation) → IsLike m a b → named m op a ≡ named m op b → named_sub m op a ≡ named_sub m op b
     → find (breaks a t (record { caller = Some caller; op = op })) standing_rules ≡ find (breaks b t (record { caller = Some caller; op = op })) standing_rules
 standing_like m a b t caller op l n v =
-    let stale : Airspace → Bool = λ x. breaks_version op (found_of x op) (kept_of x op) (sub_of x op) in
+    let stale : Airspace → Bool = λ x. breaks_version op (found_of x op) (stated_of x op) (sub_of x op) in
     rules-veiled m caller (found_of a op) (sub_of a op) (depended_of a op) t op (stale a)
     ∙ (rules_sub-veiled m caller (option_map (veiled m) (found_of a op)) (sub_of a op) (depended_of a op) t op (stale a)
     ∙ ((λ i. rules_with (Some caller) (found_like m a b op l i) (under_like m a b (subject_of op) l i) (depended_like m a b op l i) t op (stale_like m a b op l n v i))

@@ -18,15 +18,15 @@ use Rattle.policy_core.specs.declared.rule.Rule.{Rule}
 use Rattle.policy_core.specs.declared.rule.Rule.TheVariants.{Key, Limit}
 use Rattle.policy_core.specs.declared.reference.Missing.{Missing}
 use Rattle.policy_core.specs.declared.reference.Reference.{Reference}
-use Rattle.policy_core.specs.Missing.{is_nothing, missing_from, missing_by, minds, missing_for, missing_put, missing_with, needs_key, nothing_missing, unspared}
+use Rattle.policy_core.specs.Missing.{is_nothing, missing_from, needs_kind, missing_for, missing_put, missing_with, needs_key, nothing_missing, unspared}
 use Rattle.policy_core.specs.Policy.{breaks, breaks_given, early_rules, standing_rules, last_rules, first_broken}
 use Rattle.policy_core.specs.Standing.{Facts, sub_of, sub_under}
 use Rattle.policy_core.specs.View.{view_of}
 use Rattle.policy_core.proofs.Finds.{find_has, find_rest}
-use Rattle.service_step.specs.declared.look.Grounds.{Grounds}
+use Rattle.service_step.specs.declared.look.Facts as own
 use Rattle.service_step.specs.Step.{told_missing}
-use Rattle.service_step.specs.Looks.{facts_in, IsGround}
-use Rattle.service_core.specs.Verdict.{IsFirst}
+use Rattle.service_step.specs.Looks.{facts_in, AreFacts}
+use Rattle.service_core.specs.Decision.{IsFirst}
 
 find_front : {X : Type 0} (p : X → Bool) (xs ys : List X) (x : X) → find p xs ≡ Some x → find p (xs ++ ys) ≡ Some x
 find_front p [] ys x h = cc
@@ -77,27 +77,27 @@ told_standing a t c r h = find_has (λ (p : Rule). told_missing a c p ≡ nothin
 -- ---- what was looked up
 
 -- what is first where what was looked up was lent
-pub lent_first : (g : Grounds) (f : Facts) (t : ℕ) (c : Call) (r : Option Rule) → f ≡ facts_in g → r ≡ find (breaks_given f t c) standing_rules → find (breaks_given (facts_in g) t c) standing_rules ≡ r
+pub lent_first : (g : own.Facts) (f : Facts) (t : ℕ) (c : Call) (r : Option Rule) → f ≡ facts_in g → r ≡ find (breaks_given f t c) standing_rules → find (breaks_given (facts_in g) t c) standing_rules ≡ r
 lent_first g f t c r one is = sym (is ∙ ap (λ (x : Facts). find (breaks_given x t c) standing_rules) one)
 
-pub lent_limit : (g : Grounds) (f : Facts) (t : ℕ) (c : Call) (limit : Bool) → f ≡ facts_in g → limit ≡ breaks_given f t c Limit → limit ≡ breaks_given (facts_in g) t c Limit
+pub lent_limit : (g : own.Facts) (f : Facts) (t : ℕ) (c : Call) (limit : Bool) → f ≡ facts_in g → limit ≡ breaks_given f t c Limit → limit ≡ breaks_given (facts_in g) t c Limit
 lent_limit g f t c limit one is = is ∙ ap (λ (x : Facts). breaks_given x t c Limit) one
 
 -- the subscription that was looked up
-pub ground_sub : (a : Airspace) (op : Operation) (g : Grounds) → IsGround op a g → g.sub ≡ sub_of a op
-ground_sub a op g is = ap (λ (f : Facts). f.sub) is
+pub regards_sub : (a : Airspace) (op : Operation) (g : own.Facts) → AreFacts op a g → g.sub ≡ sub_of a op
+regards_sub a op g is = ap (λ (f : Facts). f.sub) is
 
-pub standing_from : (a : Airspace) (t : ℕ) (c : Call) (g : Grounds) → IsGround c.op a g → find (breaks_given (facts_in g) t c) standing_rules ≡ find (breaks a t c) standing_rules
+pub standing_from : (a : Airspace) (t : ℕ) (c : Call) (g : own.Facts) → AreFacts c.op a g → find (breaks_given (facts_in g) t c) standing_rules ≡ find (breaks a t c) standing_rules
 standing_from a t c g is = ap (λ (f : Facts). find (breaks_given f t c) standing_rules) is
 
 -- the first of P7 to P13, P16 and P17 that is broken is the first of all
-pub judged_standing : (a : Airspace) (t : ℕ) (c : Call) (g : Grounds) (r : Rule) (m : Missing) → find (breaks a t c) early_rules ≡ None → find (breaks_given (facts_in g) t c) standing_rules ≡ Some r → m ≡ nothing_missing → IsGround c.op a g
+pub judged_standing : (a : Airspace) (t : ℕ) (c : Call) (g : own.Facts) (r : Rule) (m : Missing) → find (breaks a t c) early_rules ≡ None → find (breaks_given (facts_in g) t c) standing_rules ≡ Some r → m ≡ nothing_missing → AreFacts c.op a g
     → IsFirst t c a (Some (r, m))
-judged_standing a t c g r m early is none ground =
-    let e : find (breaks a t c) standing_rules ≡ Some r = sym (standing_from a t c g ground) ∙ is in
+judged_standing a t c g r m early is none regards =
+    let e : find (breaks a t c) standing_rules ≡ Some r = sym (standing_from a t c g regards) ∙ is in
     (first_standing a t c r early e, none ∙ sym (told_standing a t c r e))
 
-is_missing_for : (a : Airspace) (c : Call) (caller : Caller) (m : Missing) → c.caller ≡ Some caller → m ≡ missing_by a caller c.op → m ≡ missing_for a c.caller c.op
+is_missing_for : (a : Airspace) (c : Call) (caller : Caller) (m : Missing) → c.caller ≡ Some caller → m ≡ missing_for a (Some caller) c.op → m ≡ missing_for a c.caller c.op
 is_missing_for a c caller m who is = is ∙ ap (λ (o : Option Caller). missing_for a o c.op) (sym who)
 
 key_is : (a : Airspace) (t : ℕ) (c : Call) (m : Missing) (b : Bool) → m ≡ missing_for a c.caller c.op → is_nothing m ≡ b → breaks a t c Key ≡ not b
@@ -112,20 +112,20 @@ lacks_none true h = refl
 lacks_none false h = h
 
 -- where something is missing, the key is the first
-pub judged_key : (a : Airspace) (t : ℕ) (c : Call) (g : Grounds) (caller : Caller) (m : Missing) → find (breaks a t c) early_rules ≡ None → find (breaks_given (facts_in g) t c) standing_rules ≡ None → IsGround c.op a g
-    → c.caller ≡ Some caller → m ≡ missing_by a caller c.op → is_nothing m ≡ false → IsFirst t c a (Some (Key, m))
-judged_key a t c g caller m early is ground who missing some =
-    let e : find (breaks a t c) standing_rules ≡ None = sym (standing_from a t c g ground) ∙ is in
+pub judged_key : (a : Airspace) (t : ℕ) (c : Call) (g : own.Facts) (caller : Caller) (m : Missing) → find (breaks a t c) early_rules ≡ None → find (breaks_given (facts_in g) t c) standing_rules ≡ None → AreFacts c.op a g
+    → c.caller ≡ Some caller → m ≡ missing_for a (Some caller) c.op → is_nothing m ≡ false → IsFirst t c a (Some (Key, m))
+judged_key a t c g caller m early is regards who missing some =
+    let e : find (breaks a t c) standing_rules ≡ None = sym (standing_from a t c g regards) ∙ is in
     let f : m ≡ missing_for a c.caller c.op = is_missing_for a c caller m who missing in
     (first_last a t c early e ∙ ap (λ (b : Bool). cond b (Some Key) (cond (breaks a t c Limit) (Some Limit) None)) (key_is a t c m false f some), f)
 
 -- where nothing is missing, the limit is all that is left
-pub last_limit : (a : Airspace) (t : ℕ) (c : Call) (g : Grounds) (caller : Caller) (m : Missing) (limit : Bool) → find (breaks a t c) early_rules ≡ None → find (breaks_given (facts_in g) t c) standing_rules ≡ None → IsGround c.op a g
-    → c.caller ≡ Some caller → m ≡ missing_by a caller c.op → is_nothing m ≡ true → limit ≡ breaks_given (facts_in g) t c Limit → first_broken a t c ≡ cond limit (Some Limit) None
-last_limit a t c g caller m limit early is ground who missing none l =
-    let e : find (breaks a t c) standing_rules ≡ None = sym (standing_from a t c g ground) ∙ is in
+pub last_limit : (a : Airspace) (t : ℕ) (c : Call) (g : own.Facts) (caller : Caller) (m : Missing) (limit : Bool) → find (breaks a t c) early_rules ≡ None → find (breaks_given (facts_in g) t c) standing_rules ≡ None → AreFacts c.op a g
+    → c.caller ≡ Some caller → m ≡ missing_for a (Some caller) c.op → is_nothing m ≡ true → limit ≡ breaks_given (facts_in g) t c Limit → first_broken a t c ≡ cond limit (Some Limit) None
+last_limit a t c g caller m limit early is regards who missing none l =
+    let e : find (breaks a t c) standing_rules ≡ None = sym (standing_from a t c g regards) ∙ is in
     let f : m ≡ missing_for a c.caller c.op = is_missing_for a c caller m who missing in
-    let n : limit ≡ breaks a t c Limit = l ∙ ap (λ (f : Facts). breaks_given f t c Limit) ground in
+    let n : limit ≡ breaks a t c Limit = l ∙ ap (λ (f : Facts). breaks_given f t c Limit) regards in
     first_last a t c early e ∙ (ap (λ (b : Bool). cond b (Some Key) (cond (breaks a t c Limit) (Some Limit) None)) (key_is a t c m true f none)
     ∙ ap (λ (b : Bool). cond b (Some Limit) None) (sym n))
 
@@ -145,18 +145,18 @@ missing_none f key = refl
 pub needs_nothing : (a : Airspace) (caller : Caller) (sub : Option Sub) (id : ℕ) (put : Put) (m : Missing) → needs_key put.nature ≡ false → m ≡ nothing_missing → m ≡ missing_with a caller sub id put
 needs_nothing a caller sub id put m lacks none =
     let areas : List Region = map region_of put.volumes in
-    let told : Kind → Bool = λ kind. minds kind (Some caller) (subscription_of put.nature) sub in
+    let told : Kind → Bool = λ kind. needs_kind kind (Some caller) (subscription_of put.nature) sub in
     none ∙ both [] _ [] _
     (missing_none (view_of a caller.uss) put.key ∙ ap (λ (b : Bool). map (view_of a caller.uss) (missing_from put.key (cond (b && told kinds.Intent) (unspared a (meeting_in a.entities kinds.Intent areas (Some id))) []))) (sym lacks))
     (missing_none (view_of a caller.uss) put.key ∙ ap (λ (b : Bool). map (view_of a caller.uss) (missing_from put.key (cond (b && told kinds.Constraint) (unspared a (meeting_in a.entities kinds.Constraint areas None)) []))) (sym lacks))
 
 -- of the subscription that is there, what is missing is what the policy says
-pub put_missing : (a : Airspace) (caller : Caller) (op : Operation) (sub : Option Sub) (id : ℕ) (put : Put) (m : Missing) → missing_by a caller op ≡ missing_put a caller id put → sub_of a op ≡ sub_under a (subscription_of put.nature)
-    → m ≡ missing_with a caller sub id put → sub ≡ sub_of a op → m ≡ missing_by a caller op
+pub put_missing : (a : Airspace) (caller : Caller) (op : Operation) (sub : Option Sub) (id : ℕ) (put : Put) (m : Missing) → missing_for a (Some caller) op ≡ missing_put a caller id put → sub_of a op ≡ sub_under a (subscription_of put.nature)
+    → m ≡ missing_with a caller sub id put → sub ≡ sub_of a op → m ≡ missing_for a (Some caller) op
 put_missing a caller op sub id put m one two is h = is ∙ (ap (λ (s : Option Sub). missing_with a caller s id put) (h ∙ two) ∙ sym one)
 
-pub create_missing : (a : Airspace) (caller : Caller) (op : Operation) (sub : Option Sub) (id : ℕ) (put : Put) (m : Missing) → op ≡ Create id put → m ≡ missing_with a caller sub id put → sub ≡ sub_of a op → m ≡ missing_by a caller op
-create_missing a caller op sub id put m is = put_missing a caller op sub id put m (ap (missing_by a caller) is) (ap (sub_of a) is)
+pub create_missing : (a : Airspace) (caller : Caller) (op : Operation) (sub : Option Sub) (id : ℕ) (put : Put) (m : Missing) → op ≡ Create id put → m ≡ missing_with a caller sub id put → sub ≡ sub_of a op → m ≡ missing_for a (Some caller) op
+create_missing a caller op sub id put m is = put_missing a caller op sub id put m (ap (missing_for a (Some caller)) is) (ap (sub_of a) is)
 
-pub update_missing : (a : Airspace) (caller : Caller) (op : Operation) (sub : Option Sub) (id : ℕ) (ovn : List ℕ) (put : Put) (m : Missing) → op ≡ Update id ovn put → m ≡ missing_with a caller sub id put → sub ≡ sub_of a op → m ≡ missing_by a caller op
-update_missing a caller op sub id ovn put m is = put_missing a caller op sub id put m (ap (missing_by a caller) is) (ap (sub_of a) is)
+pub update_missing : (a : Airspace) (caller : Caller) (op : Operation) (sub : Option Sub) (id : ℕ) (ovn : List ℕ) (put : Put) (m : Missing) → op ≡ Update id ovn put → m ≡ missing_with a caller sub id put → sub ≡ sub_of a op → m ≡ missing_for a (Some caller) op
+update_missing a caller op sub id ovn put m is = put_missing a caller op sub id put m (ap (missing_for a (Some caller)) is) (ap (sub_of a) is)

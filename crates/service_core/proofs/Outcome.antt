@@ -13,8 +13,8 @@ use Rattle.policy_core.specs.declared.rule.Rule.{Rule}
 use Rattle.policy_core.specs.declared.reference.Missing.{Missing}
 use Rattle.service_step.specs.declared.halt.Halt.{Halt}
 use Rattle.service_step.specs.declared.halt.Halt.TheVariants.{NoMemory, Space}
-use Rattle.service_step.specs.declared.look.Grounds.{Grounds}
-use Rattle.service_core.specs.declared.decide.Verdict.TheVariants.{Refused, Allowed}
+use Rattle.service_step.specs.declared.look.Facts.{Facts}
+use Rattle.service_core.specs.declared.decide.Decision.TheVariants.{Refused, Allowed}
 use Rattle.service_step.specs.declared.made.Made.{Made}
 use Rattle.service_step.specs.declared.reply.Answer.{Answer}
 use Rattle.service_step.specs.declared.reply.Reply.{Reply}
@@ -22,7 +22,7 @@ use Rattle.service_step.specs.declared.reply.Reply.TheVariants.{Done, Denied}
 use Rattle.policy_core.specs.Policy.{breaks, early_rules, standing_rules, first_broken}
 use Rattle.service_step.specs.Step.{step, step_by, effect, told_missing}
 use Rattle.service_step.specs.Looks.{Looks, Makes, Prepares, changed_by}
-use Rattle.service_core.specs.Verdict.{Judges}
+use Rattle.service_core.specs.Decision.{Decides}
 use Rattle.service_step.specs.Reply.{is_stopped}
 use Rattle.service_core.specs.Service.{Answers, MayFail, reply_of}
 
@@ -44,7 +44,7 @@ fails_from : (a : Airspace) (t : ℕ) (c : Call) (reply : Reply) (n m k : ℕ) �
 fails_from a t c reply n m k e h = subst (λ (x : ℕ). MayFail a t c reply x k) e h
 
 module _ {S : Type 0} (g : Ghosts S) (salt : List ℕ) (t : ℕ) (c : Call) where
-  pub denied_answers : (old new : S) (p : Rule) (m : Missing) → Looks g old new (Ok (Refused p m)) (Judges t c) → Answers g salt t c old new (Denied p m)
+  pub denied_answers : (old new : S) (p : Rule) (m : Missing) → Looks g old new (Ok (Refused p m)) (Decides t c) → Answers g salt t c old new (Denied p m)
   denied_answers old new p m looks = record {
     step = λ s a h. let f = looks.found s a h.held in (step_denied salt a t c p m f.0 f.1, same_content g old new a (looks.stays s) (looks.no_other s) h);
     fails = λ s a h. tt;
@@ -90,9 +90,9 @@ module _ {S : Type 0} (g : Ghosts S) (salt : List ℕ) (t : ℕ) (c : Call) wher
   }
 
   -- a call that changes nothing
-  pub read_answers : (old new : S) (grounds : Grounds) (made : Made) → made.change ≡ None → Looks g old new (Ok made) (Prepares salt t c grounds) → (g.is_sound old → (a : Airspace) → g.holds old a → IsAirspace a) → (g.is_sound old → (a : Airspace) → g.holds old a → Judges t c a (Allowed grounds))
+  pub read_answers : (old new : S) (facts : Facts) (made : Made) → made.change ≡ None → Looks g old new (Ok made) (Prepares salt t c facts) → (g.is_sound old → (a : Airspace) → g.holds old a → IsAirspace a) → (g.is_sound old → (a : Airspace) → g.holds old a → Decides t c a (Allowed facts))
       → Answers g salt t c old new (Done made.answer)
-  read_answers old new grounds made is looks proper given = record {
+  read_answers old new facts made is looks proper given = record {
     step = λ s a h.
         let k = given (looks.sound s) a h.held in
         let e : step salt a t c ≡ (a, Done made.answer) = step_done salt a t c k.0 ∙ ((looks.found s a h.held (proper (looks.sound s) a h.held) k.0 k.1).effect ∙ ap (λ (o : Option Change). (changed_by o made.notify a, Done made.answer)) is) in
@@ -104,10 +104,10 @@ module _ {S : Type 0} (g : Ghosts S) (salt : List ℕ) (t : ℕ) (c : Call) wher
   }
 
   -- a change that was made
-  pub change_done : (old new : S) (grounds : Grounds) (change : Change) (told : List ℕ) (answer : Answer) → Changes {T = Unit {0}} g.holds g.is_sound g.is_whole (g.is_broken old) old new (Ok tt) (changed change told)
+  pub change_done : (old new : S) (facts : Facts) (change : Change) (told : List ℕ) (answer : Answer) → Changes {T = Unit {0}} g.holds g.is_sound g.is_whole (g.is_broken old) old new (Ok tt) (changed change told)
       → Tells {T = Unit {0}} (g.refusals old) (g.refusals new) (g.is_broken old) (g.is_broken new) (Ok tt)
-      → (g.is_sound old → (a : Airspace) → g.holds old a → (first_broken a t c ≡ None) × Makes salt t c grounds a (Some change) told answer) → Answers g salt t c old new (Done answer)
-  change_done old new grounds change told answer changes tells given = record {
+      → (g.is_sound old → (a : Airspace) → g.holds old a → (first_broken a t c ≡ None) × Makes salt t c facts a (Some change) told answer) → Answers g salt t c old new (Done answer)
+  change_done old new facts change told answer changes tells given = record {
     step = λ s a h.
         let k = given (changes.sound s) a h.held in
         let e : step salt a t c ≡ (changed change told a, Done answer) = step_done salt a t c k.0 ∙ k.1.effect in
@@ -119,9 +119,9 @@ module _ {S : Type 0} (g : Ghosts S) (salt : List ℕ) (t : ℕ) (c : Call) wher
   }
 
   -- a change that was not made, or of which nothing is known
-  pub change_failed : (old new : S) (grounds : Grounds) (change : Change) (told : List ℕ) (answer : Answer) (e : SpaceFault) → Changes {T = Unit {0}} g.holds g.is_sound g.is_whole (g.is_broken old) old new (Err e) (changed change told) → Tells {T = Unit {0}} (g.refusals old) (g.refusals new) (g.is_broken old) (g.is_broken new) (Err e)
-      → ((a : Airspace) → find (breaks a t c) early_rules ≡ None) → (g.is_sound old → (a : Airspace) → g.holds old a → (first_broken a t c ≡ None) × Makes salt t c grounds a (Some change) told answer) → Answers g salt t c old new (reply_of (Space e))
-  change_failed old new grounds change told answer Unchanged changes tells early given = record {
+  pub change_failed : (old new : S) (facts : Facts) (change : Change) (told : List ℕ) (answer : Answer) (e : SpaceFault) → Changes {T = Unit {0}} g.holds g.is_sound g.is_whole (g.is_broken old) old new (Err e) (changed change told) → Tells {T = Unit {0}} (g.refusals old) (g.refusals new) (g.is_broken old) (g.is_broken new) (Err e)
+      → ((a : Airspace) → find (breaks a t c) early_rules ≡ None) → (g.is_sound old → (a : Airspace) → g.holds old a → (first_broken a t c ≡ None) × Makes salt t c facts a (Some change) told answer) → Answers g salt t c old new (reply_of (Space e))
+  change_failed old new facts change told answer Unchanged changes tells early given = record {
     step = λ s a h. same_content g old new a (λ b. (changes.refused s refl b).0) (λ b. (changes.refused s refl b).1) h;
     fails = λ s a h. (
       ap is_some (early a),
@@ -134,7 +134,7 @@ module _ {S : Type 0} (g : Ghosts S) (salt : List ℕ) (t : ℕ) (c : Call) wher
     whole = changes.whole;
     breaks = tells.breaks;
   }
-  change_failed old new grounds change told answer Broken changes tells early given = record {
+  change_failed old new facts change told answer Broken changes tells early given = record {
     step = λ s a h b k.
         let m = given (changes.sound s) a h.held in
         let e : step salt a t c ≡ (changed change told a, Done answer) = step_done salt a t c m.0 ∙ m.1.effect in

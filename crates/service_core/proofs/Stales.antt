@@ -20,9 +20,9 @@ use Rattle.policy_core.specs.declared.rule.Rule.{Rule}
 use Rattle.entity_core.specs.Entity.{subscription_of}
 use Rattle.policy_core.specs.Standing.{sub_under}
 use Rattle.policy_core.specs.Known.{IsListed}
-use Rattle.policy_core.specs.Missing.{in_key, is_asked, is_spared, key_shown, left_out, needed, needed_put, unspared}
+use Rattle.policy_core.specs.Missing.{in_key, put_needs, is_spared, key_shown, excepted, needed, needed_put, unspared}
 use Rattle.policy_core.proofs.Members.{contained, no_member}
-use Rattle.policy_core.proofs.Puts.{needed_asked}
+use Rattle.policy_core.proofs.Puts.{missing_denied}
 use Rattle.space_core.specs.declared.space.Space.{Ghosts}
 use Rattle.service_step.specs.declared.reply.Reply.{Reply}
 use Rattle.service_step.specs.declared.reply.Reply.TheVariants.{Done, Denied, Fault, Stopped}
@@ -65,7 +65,7 @@ all_asked P false xs all = tt
 needed_numbered : (salt : List ℕ) (kind : Kind) (a : Airspace) (caller : Option Caller) (id : ℕ) (put : Put) → AllNumbered salt a → AllByRecursion (IsNumbered salt a.serial) (needed_put kind a caller id put)
 unfolding meeting_in
 needed_numbered salt kind a caller id put n =
-    all_asked (IsNumbered salt a.serial) (is_asked kind caller put (sub_under a (subscription_of put.nature))) _ (all_unspared (IsNumbered salt a.serial) a _ (all_sought (IsNumbered salt a.serial) (is_sought kind (map region_of put.volumes) (left_out kind id)) (entries a.entities) n))
+    all_asked (IsNumbered salt a.serial) (put_needs kind caller put (sub_under a (subscription_of put.nature))) _ (all_unspared (IsNumbered salt a.serial) a _ (all_sought (IsNumbered salt a.serial) (is_sought kind (map region_of put.volumes) (excepted kind id)) (entries a.entities) n))
 
 not_known : (salt : List ℕ) (a : Airspace) (y : Entity) (key : List (List ℕ)) → DifferUpTo salt a.serial → IsNumbered salt a.serial y → AllByRecursion (IsOfAnother salt a y) key → in_key key y.ovn ≡ false
 not_known salt a y [] differ n old = refl
@@ -101,7 +101,7 @@ pub stale_step : (salt : List ℕ) (a : Airspace) (t : ℕ) (c : Call) (kind : K
 unfolding step
 stale_step salt a t c kind y s =
     let numbered : IsNumbered salt a.serial y = all_contained (IsNumbered salt a.serial) (needed kind a c.caller c.op) y (call_numbered salt kind a c.caller c.op s.numbered) s.needs in
-    let asked = needed_asked a t c.caller c.op kind y s.needs (not_known salt a y (key_shown c.op) s.differ numbered s.old) in
+    let asked = missing_denied a t c.caller c.op kind y s.needs (not_known salt a y (key_shown c.op) s.differ numbered s.old) in
     subst (λ (r : Option Rule). IsRefusedFor kind a c y (step_by salt a c r).1) (sym asked.first)
     (asked.number, λ is. subst (λ (p : Rule). IsListed kind a c.caller y (told_missing a c p)) (sym is) (asked.listed is))
 

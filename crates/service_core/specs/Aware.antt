@@ -9,8 +9,8 @@ use Rattle.entity_core.specs.declared.entity.Entity.{Entity}
 use Rattle.policy_core.specs.declared.call.Call.{Call}
 use Rattle.policy_core.specs.declared.call.Operation.{Operation}
 use Rattle.policy_core.specs.declared.call.Operation.TheVariants.{Create, Update}
-use Rattle.policy_core.specs.Known.{is_declared, is_told_of}
-use Rattle.policy_core.specs.Missing.{is_spared, key_shown}
+use Rattle.policy_core.specs.Known.{call_needs}
+use Rattle.policy_core.specs.Missing.{is_spared, key_shown, needs_key}
 use Rattle.service_step.specs.declared.reply.Reply.{Reply}
 use Rattle.service_step.specs.declared.reply.Reply.TheVariants.{Done, Denied, Fault, Stopped}
 use Rattle.service_core.specs.Run.{Timed}
@@ -61,7 +61,7 @@ last_writer salt k a (c ∷ cs) (r ∷ rs) =
 -- whether a call was to know of an entity, where it was made: it is told of such entities there, and
 -- this one was not spared then
 abbrev pub is_owed : MadeCall → Entity → Bool
-is_owed made y = is_told_of made.before made.call y.nature && not (is_spared made.before y)
+is_owed made y = call_needs made.before made.call y.nature && not (is_spared made.before y)
 
 -- There is a call that put the one, the other stood there before it as it does now, and if the call
 -- was to know of it, its key had the OVN that it has now.
@@ -75,7 +75,7 @@ pub record Knew (put : Option MadeCall) (y : Entity) : Type 0 where
 -- flown as planned: the last put of that one knew the other.
 abbrev pub KnewOthers : (EntityKey → Option MadeCall) → Airspace → Type 0
 KnewOthers last a = (k l : EntityKey) (x y : Entity) → get a.entities k ≡ Some x
-    → get a.entities l ≡ Some y → y.serial < x.serial → is_declared x.nature ≡ true
+    → get a.entities l ≡ Some y → y.serial < x.serial → needs_key x.nature ≡ true
     → any_meet y.volumes (map region_of x.volumes) ≡ true → Knew (last k) y
 
 -- Which of two is met by the other makes no difference.

@@ -1,4 +1,4 @@
-pub mod Verdict
+pub mod Decision
 pub mod Service
 pub mod Held
 pub mod Run

@@ -8,7 +8,7 @@ use Rattle.entity_core.specs.declared.entity.Entity.{Entity}
 use Rattle.entity_core.specs.declared.nature.Kind.{Kind}
 use Rattle.policy_core.specs.declared.call.Call.{Call}
 use Rattle.policy_core.specs.declared.rule.Rule.TheVariants.{Key}
-use Rattle.policy_core.specs.Known.{IsListed, MayAsk}
+use Rattle.policy_core.specs.Known.{IsListed, MayDeny}
 use Rattle.policy_core.specs.Missing.{key_shown, needed}
 use Rattle.service_step.specs.declared.reply.Reply.{Reply}
 use Rattle.service_step.specs.declared.reply.Reply.TheVariants.{Done, Denied, Fault, Stopped}
@@ -45,7 +45,7 @@ pub record IsOfAnother (salt : List ℕ) (a : Airspace) (y : Entity) (ovn : List
 
 -- A denial by one of P1 to P14 or P16; one by P14 lists the entity.
 abbrev pub IsRefusedFor : Kind → Airspace → Call → Entity → Reply → Type 0
-IsRefusedFor kind a c y (Denied p m) = MayAsk p × (p ≡ Key → IsListed kind a c.caller y m)
+IsRefusedFor kind a c y (Denied p m) = MayDeny p × (p ≡ Key → IsListed kind a c.caller y m)
 IsRefusedFor kind a c y (Done answer) = ⊥
 IsRefusedFor kind a c y Fault = ⊥
 IsRefusedFor kind a c y Stopped = ⊥

@@ -2,12 +2,12 @@
 ghost use Rattle.std.specs.Prelude.{◌≡◌, ℕ, map, not, Ok, Err, Some, None, find, IfOk, IsErrOf, true};
 ghost use Rattle.entity_core.specs.Airspace.{Airspace};
 ghost use Rattle.grid_core.specs.Extent.{region_of};
-ghost use Rattle.policy_core.specs.Missing.{is_nothing, missing_by, missing_from, missing_with, needed_with};
+ghost use Rattle.policy_core.specs.Missing.{is_nothing, missing_for, missing_from, missing_with, needed_with};
 ghost use Rattle.policy_core.specs.Standing.{sub_of};
 ghost use Rattle.policy_core.specs.View.{view_of};
 ghost use Rattle.policy_core.specs.Policy.{breaks, breaks_given, early_rules, standing_rules};
-ghost use Rattle.service_step.specs.Looks.{Looks, facts_in, IsGround, IsReady};
-ghost use Rattle.service_core.specs.Verdict.{IsFirst, IsReadyIfAllowed, Judges, verdict_of};
+ghost use Rattle.service_step.specs.Looks.{Looks, facts_in, AreFacts, IsReady};
+ghost use Rattle.service_core.specs.Decision.{IsFirst, IsReadyIfAllowed, Decides, decision_of};
 
 use entity_core::entity_id::EntityId;
 use entity_core::nature::Kind;
@@ -20,23 +20,23 @@ use policy_core::rule::Rule;
 use policy_core::scope::Caller;
 use policy_core::standing::standing;
 use service_step::halt::Halt;
-use service_step::look::{Grounds, look};
+use service_step::look::{Facts, look};
 use service_step::needed::{missing_from, needed_with};
 use space_core::space::{Space, SpaceFault};
 use std::alloc::Global;
 
 /// What was decided of a call.
 #[derive(Debug, Drop)]
-pub enum Verdict {
+pub enum Decision {
     /// It breaks this rule first; this is what is missing.
     Refused(Rule, Missing),
     /// It breaks no rule; this was looked up for it.
-    Allowed(Grounds),
+    Allowed(Facts),
 }
 
 // All that is missing from the key of an operation, where this is the subscription that it names.
 #[tactic(auto, unfolding(policy_core::specs::Missing::missing_from))]
-fn missing_by<S: Space>(
+fn missing_for<S: Space>(
     space: &mut S,
     alloc: Global,
     caller: &Caller,
@@ -44,17 +44,17 @@ fn missing_by<S: Space>(
     sub: &Option<Sub>,
 ) -> Result<Missing, Halt>
     ensures { Looks S.Space space.old space.new result (λ a missing.
-        sub.now ≡ sub_of a op.now → missing ≡ missing_by a caller.now op.now) }
+        sub.now ≡ sub_of a op.now → missing ≡ missing_for a (Some caller.now) op.now) }
 {
     match op {
-        Operation::Create(id, put) => missing_of(space, alloc, caller, *id, put, sub),
-        Operation::Update(id, _, put) => missing_of(space, alloc, caller, *id, put, sub),
+        Operation::Create(id, put) => missing_with(space, alloc, caller, *id, put, sub),
+        Operation::Update(id, _, put) => missing_with(space, alloc, caller, *id, put, sub),
         _ => Ok(Missing::nothing(alloc)),
     }
 }
 
 // All that is missing from the key of a put.
-fn missing_of<S: Space>(
+fn missing_with<S: Space>(
     space: &mut S,
     alloc: Global,
     caller: &Caller,
@@ -68,11 +68,11 @@ fn missing_of<S: Space>(
     if !needs_key(put.nature) {
         return Ok(Missing::nothing(alloc));
     }
-    missing_with(space, alloc, caller, id, put, sub)
+    missing_kinds(space, alloc, caller, id, put, sub)
 }
 
 // What is missing from the key of a put that needs to know others.
-fn missing_with<S: Space>(
+fn missing_kinds<S: Space>(
     space: &mut S,
     alloc: Global,
     caller: &Caller,
@@ -127,23 +127,23 @@ fn judge<S: Space>(
     now: u64,
     call: &Call,
     caller: &Caller,
-    grounds: &Grounds,
+    facts: &Facts,
 ) -> Result<Option<(Rule, Missing)>, Halt>
     requires caller { call.now.caller ≡ Some caller.now }
     requires early { (a : Airspace) → find (breaks a now call.now) early_rules ≡ None }
     ensures looks { Looks S.Space space.old space.new result
-        (λ a broken. IsGround call.now.op a grounds.now → IsFirst now call.now a broken) }
+        (λ a broken. AreFacts call.now.op a facts.now → IsFirst now call.now a broken) }
     ensures ready { result ≡ Ok None
-        → IsReady call.now.op grounds.now.found grounds.now.sub }
+        → IsReady call.now.op facts.now.found facts.now.sub }
     ensures memory { result ≡ Err Halt.NoMemory
-        → find (breaks_given (facts_in grounds.now) now call.now) standing_rules ≡ None }
+        → find (breaks_given (facts_in facts.now) now call.now) standing_rules ≡ None }
 {
-    let facts = grounds.facts();
-    let findings = standing(now, call, &facts);
+    let lent = facts.lent();
+    let findings = standing(now, call, &lent);
     if let Some(broken) = findings.first {
         return Ok(Some((broken, Missing::nothing(alloc))));
     }
-    let missing = missing_by(space, alloc, caller, &call.op, &grounds.sub)?;
+    let missing = missing_for(space, alloc, caller, &call.op, &facts.sub)?;
     if breaks_key(&missing) {
         return Ok(Some((Rule::Key, missing)));
     }
@@ -153,12 +153,12 @@ fn judge<S: Space>(
     Ok(None)
 }
 
-fn settled(grounds: Grounds, judged: Option<(Rule, Missing)>) -> Verdict
-    ensures { result ≡ verdict_of grounds judged }
+fn settled(facts: Facts, judged: Option<(Rule, Missing)>) -> Decision
+    ensures { result ≡ decision_of facts judged }
 {
     match judged {
-        Some((broken, missing)) => Verdict::Refused(broken, missing),
-        None => Verdict::Allowed(grounds),
+        Some((broken, missing)) => Decision::Refused(broken, missing),
+        None => Decision::Allowed(facts),
     }
 }
 
@@ -170,17 +170,17 @@ pub fn decide<S: Space>(
     now: u64,
     call: &Call,
     caller: &Caller,
-) -> Result<Verdict, Halt>
+) -> Result<Decision, Halt>
     requires caller { call.now.caller ≡ Some caller.now }
     requires early { (a : Airspace) → find (breaks a now call.now) early_rules ≡ None }
-    ensures looks { Looks S.Space space.old space.new result (Judges now call.now) }
+    ensures looks { Looks S.Space space.old space.new result (Decides now call.now) }
     ensures ready { IfOk result (IsReadyIfAllowed call.now.op) }
     ensures memory { result ≡ Err Halt.NoMemory → S.is_sound space.new → (a : Airspace)
         → S.holds space.old a → find (breaks a now call.now) standing_rules ≡ None }
     ensures broken { S.is_broken space.old ≡ true
         → IsErrOf result (Halt.Space SpaceFault.Broken) }
 {
-    let grounds = look(space, &call.op)?;
-    let judged = judge(space, alloc, now, call, caller, &grounds)?;
-    Ok(settled(grounds, judged))
+    let facts = look(space, &call.op)?;
+    let judged = judge(space, alloc, now, call, caller, &facts)?;
+    Ok(settled(facts, judged))
 }

@@ -8,7 +8,7 @@ ghost use Rattle.policy_core.specs.Policy.{breaks, early_rules, first_broken};
 ghost use Rattle.space_core.specs.Space.{IsContent};
 ghost use Rattle.service_core.specs.contracts.service.Service.{the_row};
 ghost use Rattle.service_step.specs.Looks.{IsReady, Makes};
-ghost use Rattle.service_core.specs.Verdict.{Judges};
+ghost use Rattle.service_core.specs.Decision.{Decides};
 ghost use Rattle.service_step.specs.Reply.{is_stopped};
 ghost use Rattle.service_core.specs.Service.{Answers, reply_of};
 ghost use Rattle.policy_core.specs.Missing.{nothing_missing};
@@ -18,7 +18,7 @@ ghost use Rattle.service_core.specs.Count.{Counts};
 ghost use Rattle.service_core.specs.Stale.{AllNumbered, IsStale, FailsOrIsRefused};
 ghost use Rattle.service_core.specs.Held.{space_of, salt_of, is_shut, with_space};
 
-use crate::decide::{Verdict, decide};
+use crate::decide::{Decision, decide};
 use entity_core::salt::Salt;
 use policy_core::call::Call;
 use policy_core::early::early;
@@ -27,7 +27,7 @@ use policy_core::scope::Caller;
 use policy_core::sub_view::Ids;
 use service_step::effects::prepared;
 use service_step::halt::Halt;
-use service_step::look::Grounds;
+use service_step::look::Facts;
 use service_step::made::Made;
 use service_step::reply::{Answer, Reply};
 use space_core::space::{Change, Space, SpaceFault};
@@ -59,8 +59,8 @@ fn answered<S: Space>(
     ensures broken { S.is_broken space.old ≡ true → result ≡ Reply.Stopped }
 {
     match decide(space, alloc, now, call, caller) {
-        Ok(Verdict::Refused(broken, missing)) => Reply::Denied(broken, missing),
-        Ok(Verdict::Allowed(grounds)) => allowed(space, alloc, salt, now, call, caller, &grounds),
+        Ok(Decision::Refused(broken, missing)) => Reply::Denied(broken, missing),
+        Ok(Decision::Allowed(facts)) => allowed(space, alloc, salt, now, call, caller, &facts),
         Err(halt) => gave_up(halt),
     }
 }
@@ -73,25 +73,25 @@ fn allowed<S: Space>(
     now: u64,
     call: &Call,
     caller: &Caller,
-    grounds: &Grounds,
+    facts: &Facts,
 ) -> Reply
     requires caller { call.now.caller ≡ Some caller.now }
     requires early { (a : Airspace) → find (breaks a now call.now) early_rules ≡ None }
-    requires ready { IsReady call.now.op grounds.now.found grounds.now.sub }
+    requires ready { IsReady call.now.op facts.now.found facts.now.sub }
     requires given { S.is_sound space.old → (a : Airspace) → S.holds space.old a
-        → Judges now call.now a (Verdict.Allowed grounds.now) }
+        → Decides now call.now a (Decision.Allowed facts.now) }
     ensures { Answers S.Space salt.now now call.now space.old space.new result }
 {
     let Made {
         change,
         notify,
         answer,
-    } = match prepared(space, alloc, salt, now, call, caller, grounds) {
+    } = match prepared(space, alloc, salt, now, call, caller, facts) {
         Ok(made) => made,
         Err(halt) => return gave_up(halt),
     };
     match change {
-        Some(change) => changed(space, salt, now, call, grounds, change, &notify, answer),
+        Some(change) => changed(space, salt, now, call, facts, change, &notify, answer),
         None => Reply::Done(answer),
     }
 }
@@ -102,7 +102,7 @@ fn changed<S: Space>(
     salt: &Salt,
     now: u64,
     call: &Call,
-    grounds: &Grounds,
+    facts: &Facts,
     change: Change,
     notify: &Ids,
     answer: Answer,
@@ -110,10 +110,10 @@ fn changed<S: Space>(
     requires early { (a : Airspace) → find (breaks a now call.now) early_rules ≡ None }
     requires given { S.is_sound space.old → (a : Airspace) → S.holds space.old a
         → (first_broken a now call.now ≡ None)
-        × Makes salt.now now call.now grounds.now a (Some change) notify.now answer }
+        × Makes salt.now now call.now facts.now a (Some change) notify.now answer }
     ensures { Answers S.Space salt.now now call.now space.old space.new result }
 {
-    let (_salt, _now, _call, _grounds) = (salt, now, call, grounds);
+    let (_salt, _now, _call, _facts) = (salt, now, call, facts);
     match space.apply(change, notify.items()) {
         Ok(()) => Reply::Done(answer),
         Err(fault) => gave_up(Halt::Space(fault)),

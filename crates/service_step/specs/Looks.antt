@@ -19,7 +19,7 @@ use Rattle.entity_core.specs.declared.entity.Entity.{Entity}
 use Rattle.entity_core.specs.declared.subscription.Sub.{Sub}
 use Rattle.service_step.specs.declared.halt.Halt.{Halt}
 use Rattle.service_step.specs.declared.halt.Halt.TheVariants.{NoMemory, Space}
-use Rattle.service_step.specs.declared.look.Grounds.{Grounds}
+use Rattle.service_step.specs.declared.look.Facts as own
 use Rattle.service_step.specs.declared.made.Made.{Made}
 use Rattle.service_step.specs.declared.reply.Answer.{Answer}
 use Rattle.service_step.specs.declared.reply.Answer.TheVariants.{SubStored}
@@ -55,18 +55,18 @@ pub record Looks {S T : Type 0} (g : Ghosts S) (old new : S) (result : Result T 
       (λ _. (g.refusals new ≡ g.refusals old) × (g.is_broken new ≡ g.is_broken old))
       (λ h. ToldBy h (g.refusals old) (g.refusals new) (g.is_broken old) (g.is_broken new))
 
-abbrev pub facts_in : Grounds → Facts
+abbrev pub facts_in : own.Facts → Facts
 facts_in g = record {
   found = g.found;
-  kept = g.kept;
+  stated = g.stated;
   serial = g.serial;
   sub = g.sub;
   depended = g.depended;
 }
 
 -- what was looked up is what the airspace has for the operation
-abbrev pub IsGround : Operation → Airspace → Grounds → Type 0
-IsGround op a g = Regards a op (facts_in g)
+abbrev pub AreFacts : Operation → Airspace → own.Facts → Type 0
+AreFacts op a g = Regards a op (facts_in g)
 
 -- what is to be read, updated or deleted was found
 abbrev pub IsReady : Operation → Option Entity → Option Sub → Type 0
@@ -83,14 +83,14 @@ changed_by None told a = a
 changed_by (Some change) told a = changed change told a
 
 -- A change and an answer are the effect of a call that breaks no rule, and the change can be made.
-pub record Makes (salt : List ℕ) (now : ℕ) (c : Call) (g : Grounds) (a : Airspace)
+pub record Makes (salt : List ℕ) (now : ℕ) (c : Call) (g : own.Facts) (a : Airspace)
     (change : Option Change) (told : List ℕ) (answer : Answer) : Type 0 where
   pub effect : effect salt a c.caller c.op ≡ (changed_by change told a, Done answer)
   pub fits : IfSome change (λ change. Fits change told a)
 
 -- for each airspace that may be kept in which the call breaks no rule
-abbrev pub Prepares : List ℕ → ℕ → Call → Grounds → Airspace → Made → Type 0
-Prepares salt now c g a made = IsAirspace a → first_broken a now c ≡ None → IsGround c.op a g
+abbrev pub Prepares : List ℕ → ℕ → Call → own.Facts → Airspace → Made → Type 0
+Prepares salt now c g a made = IsAirspace a → first_broken a now c ≡ None → AreFacts c.op a g
     → Makes salt now c g a made.change made.notify made.answer
 
 -- A change puts a subscription and notifies nobody, and its answer is what a supplier sees of it and

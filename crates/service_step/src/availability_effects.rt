@@ -40,14 +40,14 @@ pub fn setting(
 pub fn told(
     alloc: Global,
     uss: &UssId,
-    kept: &Option<(Availability, Ovn)>,
+    stated: &Option<(Availability, Ovn)>,
 ) -> Result<Made, AllocError>
     ensures { IfOk result (λ made. (made.change ≡ None)
-        × (made.answer ≡ Answer.Avail uss.now (unwrap_or kept.now (Availability.Unknown, [])).0
-        (unwrap_or kept.now (Availability.Unknown, [])).1)) }
+        × (made.answer ≡ Answer.Avail uss.now (unwrap_or stated.now (Availability.Unknown, [])).0
+        (unwrap_or stated.now (Availability.Unknown, [])).1)) }
 {
     let uss = uss.clone()?;
-    match kept {
+    match stated {
         Some((availability, version)) => {
             let shown = version.clone()?.into_text();
             Ok(Made::reading(alloc, Answer::Avail(uss, *availability, shown)))

@@ -9,7 +9,7 @@ ghost use Rattle.service_step.specs.Looks.{Looks, IsReady, Prepares};
 use crate::availability_effects::{setting, told};
 use crate::entity_effects::{creation, listing, next_serial, reading, removal, update};
 use crate::halt::Halt;
-use crate::look::Grounds;
+use crate::look::Facts;
 use crate::made::Made;
 use crate::sub_effects::{sub_creation, sub_listing, sub_reading, sub_removal, sub_update};
 use entity_core::salt::Salt;
@@ -41,20 +41,20 @@ fn prepared_sub<S: Space>(
     now: u64,
     call: &Call,
     caller: &Caller,
-    grounds: &Grounds,
+    facts: &Facts,
 ) -> Result<Made, Halt>
     requires caller { call.now.caller ≡ Some caller.now }
-    requires ready { IsReady call.now.op grounds.now.found grounds.now.sub }
+    requires ready { IsReady call.now.op facts.now.found facts.now.sub }
     requires about { is_about_sub call.now.op ≡ true }
-    requires serial { grounds.now.serial < greatest_serial → serial ≡ grounds.now.serial + 1 }
+    requires serial { facts.now.serial < greatest_serial → serial ≡ facts.now.serial + 1 }
     ensures { Looks S.Space space.old space.new result
-        (Prepares salt.now now call.now grounds.now) }
+        (Prepares salt.now now call.now facts.now) }
 {
     let _now = now;
     match &call.op {
         Operation::QuerySub(area) => sub_listing(space, alloc, &caller.uss, area),
         Operation::ReadSub(_) => {
-            let Some(sub) = &grounds.sub else {
+            let Some(sub) = &facts.sub else {
                 unreachable!();
             };
             sub_reading(space, alloc, sub)
@@ -63,13 +63,13 @@ fn prepared_sub<S: Space>(
             sub_creation(space, alloc, salt, serial, &caller.uss, *id, put)
         }
         Operation::UpdateSub(id, _, put) => {
-            let Some(sub) = &grounds.sub else {
+            let Some(sub) = &facts.sub else {
                 unreachable!();
             };
             sub_update(space, alloc, salt, serial, &caller.uss, *id, put, sub)
         }
         Operation::DeleteSub(id, _) => {
-            let Some(sub) = &grounds.sub else {
+            let Some(sub) = &facts.sub else {
                 unreachable!();
             };
             sub_removal(space, alloc, *id, sub)
@@ -87,22 +87,22 @@ pub fn prepared<S: Space>(
     now: u64,
     call: &Call,
     caller: &Caller,
-    grounds: &Grounds,
+    facts: &Facts,
 ) -> Result<Made, Halt>
     requires caller { call.now.caller ≡ Some caller.now }
     requires early { (a : Airspace) → find (breaks a now call.now) early_rules ≡ None }
-    requires ready { IsReady call.now.op grounds.now.found grounds.now.sub }
+    requires ready { IsReady call.now.op facts.now.found facts.now.sub }
     ensures { Looks S.Space space.old space.new result
-        (Prepares salt.now now call.now grounds.now) }
+        (Prepares salt.now now call.now facts.now) }
 {
-    let serial = next_serial(grounds.serial);
+    let serial = next_serial(facts.serial);
     if is_about_sub(&call.op) {
-        return prepared_sub(space, alloc, salt, serial, now, call, caller, grounds);
+        return prepared_sub(space, alloc, salt, serial, now, call, caller, facts);
     }
     match &call.op {
         Operation::Query(kind, area) => listing(space, alloc, &caller.uss, *kind, area),
         Operation::Read(_, _) => {
-            let Some(entity) = &grounds.found else {
+            let Some(entity) = &facts.found else {
                 unreachable!();
             };
             reading(space, alloc, &caller.uss, entity)
@@ -111,18 +111,18 @@ pub fn prepared<S: Space>(
             creation(space, alloc, salt, serial, &caller.uss, *id, put)
         }
         Operation::Update(id, _, put) => {
-            let Some(entity) = &grounds.found else {
+            let Some(entity) = &facts.found else {
                 unreachable!();
             };
             update(space, alloc, salt, serial, &caller.uss, *id, put, entity)
         }
         Operation::Delete(kind, id, _) => {
-            let Some(entity) = &grounds.found else {
+            let Some(entity) = &facts.found else {
                 unreachable!();
             };
             removal(space, alloc, &caller.uss, *kind, *id, entity)
         }
-        Operation::ReadAvail(uss) => Ok(told(alloc, uss, &grounds.kept)?),
+        Operation::ReadAvail(uss) => Ok(told(alloc, uss, &facts.stated)?),
         Operation::SetAvail(uss, _, availability) => {
             Ok(setting(alloc, salt, serial, uss, *availability)?)
         }

@@ -5,10 +5,10 @@ ghost use Rattle.entity_core.specs.Airspace.{Airspace, availability_of};
 ghost use Rattle.entity_core.specs.Search.{subscribers_in};
 ghost use Rattle.entity_core.specs.declared.entity.Entity.{Entity};
 ghost use Rattle.policy_core.specs.Call.{subject_of};
-ghost use Rattle.policy_core.specs.Standing.{depended_of, found_of, is_some_of, kept_of, lent_entity, lent_facts, lent_stated, lent_sub, sub_under};
+ghost use Rattle.policy_core.specs.Standing.{depended_of, found_of, is_some_of, stated_of, lent_entity, lent_facts, lent_stated, lent_sub, sub_under};
 ghost use Rattle.policy_core.specs.View.{view_of};
 ghost use Rattle.space_core.specs.Met.{met_in, met_of};
-ghost use Rattle.service_step.specs.Looks.{Looks, IsGround, facts_in};
+ghost use Rattle.service_step.specs.Looks.{Looks, AreFacts, facts_in};
 
 use crate::halt::Halt;
 use entity_core::availability::Availability;
@@ -21,29 +21,29 @@ use entity_core::uss_id::UssId;
 use grid_core::volume::Area;
 use policy_core::call::Operation;
 use policy_core::reference::{Reference, References, view};
-use policy_core::standing::Facts;
+use policy_core::standing::LentFacts;
 use space_core::met::Met;
 use space_core::space::{Space, SpaceFault};
 use std::alloc::{AllocError, Global};
 
 /// What was looked up for an operation.
 #[derive(Debug, Drop)]
-pub struct Grounds {
+pub struct Facts {
     pub found: Option<Entity>,
-    pub kept: Option<(Availability, Ovn)>,
+    pub stated: Option<(Availability, Ovn)>,
     pub serial: u64,
     pub sub: Option<Sub>,
     pub depended: bool,
 }
 
-impl Grounds {
+impl Facts {
     /// All of it, lent.
-    pub fn facts(&self) -> Facts<'_>
+    pub fn lent(&self) -> LentFacts<'_>
         ensures { lent_facts result ≡ facts_in self.now }
     {
-        Facts {
+        LentFacts {
             found: self.entity(),
-            avail: self.stated(),
+            stated: self.stated(),
             serial: self.serial,
             sub: self.subscription(),
             depended: self.depended,
@@ -60,9 +60,9 @@ impl Grounds {
     }
 
     fn stated(&self) -> Option<(Availability, &Ovn)>
-        ensures { lent_stated result ≡ self.now.kept }
+        ensures { lent_stated result ≡ self.now.stated }
     {
-        match &self.kept {
+        match &self.stated {
             Some((availability, version)) => Some((*availability, version)),
             None => None,
         }
@@ -92,8 +92,9 @@ fn look_found<S: Space>(space: &mut S, op: &Operation) -> Result<Option<Entity>,
     }
 }
 
-fn look_kept<S: Space>(space: &mut S, op: &Operation) -> Result<Option<(Availability, Ovn)>, Halt>
-    ensures looks { Looks S.Space space.old space.new result (λ a kept. kept ≡ kept_of a op.now) }
+fn look_stated<S: Space>(space: &mut S, op: &Operation) -> Result<Option<(Availability, Ovn)>, Halt>
+    ensures looks { Looks S.Space space.old space.new result
+        (λ a stated. stated ≡ stated_of a op.now) }
     ensures memory { result ≢ Err Halt.NoMemory }
 {
     match op {
@@ -158,20 +159,20 @@ fn look_depended<S: Space>(space: &mut S, op: &Operation) -> Result<bool, Halt>
 
 /// Looks up what the rules and the effect of an operation need. It takes no memory of its own. The
 /// serial comes first, since each operation asks for it: so a space that is broken is told at once.
-pub fn look<S: Space>(space: &mut S, op: &Operation) -> Result<Grounds, Halt>
-    ensures looks { Looks S.Space space.old space.new result (IsGround op.now) }
+pub fn look<S: Space>(space: &mut S, op: &Operation) -> Result<Facts, Halt>
+    ensures looks { Looks S.Space space.old space.new result (AreFacts op.now) }
     ensures memory { result ≢ Err Halt.NoMemory }
     ensures broken { S.is_broken space.old ≡ true
         → IsErrOf result (Halt.Space SpaceFault.Broken) }
 {
     let serial = look_serial(space)?;
     let found = look_found(space, op)?;
-    let kept = look_kept(space, op)?;
+    let stated = look_stated(space, op)?;
     let sub = look_sub(space, subject_of(op))?;
     let depended = look_depended(space, op)?;
-    Ok(Grounds {
+    Ok(Facts {
         found,
-        kept,
+        stated,
         serial,
         sub,
         depended,
@@ -204,10 +205,10 @@ pub fn look_subscribers<S: Space>(
     Ok(space.subscribers(kind, areas)?)
 }
 
-fn availability_in(kept: Option<(Availability, Ovn)>) -> Availability
-    ensures { result ≡ (unwrap_or kept (Availability.Unknown, [])).0 }
+fn availability_in(stated: Option<(Availability, Ovn)>) -> Availability
+    ensures { result ≡ (unwrap_or stated (Availability.Unknown, [])).0 }
 {
-    match kept {
+    match stated {
         Some((availability, _)) => availability,
         None => Availability::Unknown,
     }

@@ -5,7 +5,7 @@ ghost use Rattle.grid_core.specs.Extent.{region_of};
 ghost use Rattle.entity_core.specs.Airspace.{Airspace};
 ghost use Rattle.entity_core.specs.Entity.{subscription_of};
 ghost use Rattle.entity_core.specs.declared.entity.Entity.{Entity};
-ghost use Rattle.policy_core.specs.Missing.{is_asked, is_for_constraints, left_out, minds_constraints, missing_from, needed_with, unspared};
+ghost use Rattle.policy_core.specs.Missing.{put_needs, is_for_constraints, excepted, needs_constraints, missing_from, needed_with, unspared};
 ghost use Rattle.policy_core.specs.View.{view_of};
 ghost use Rattle.space_core.specs.Met.{met_of};
 ghost use Rattle.service_step.specs.Looks.{Looks};
@@ -58,10 +58,10 @@ fn is_for_constraints(sub: &Option<Sub>) -> bool
     }
 }
 
-// Whether a put is to know of constraints: as the subscription says that it names, or as its caller
+// Whether a put needs to know constraints: as the subscription says that it names, or as its caller
 // does where it names none.
-fn minds_constraints(caller: &Caller, put: &Put, sub: &Option<Sub>) -> bool
-    ensures { result ≡ minds_constraints (Some caller.now) (subscription_of put.now.nature)
+fn needs_constraints(caller: &Caller, put: &Put, sub: &Option<Sub>) -> bool
+    ensures { result ≡ needs_constraints (Some caller.now) (subscription_of put.now.nature)
         sub.now }
 {
     match put.nature.subscription() {
@@ -71,18 +71,18 @@ fn minds_constraints(caller: &Caller, put: &Put, sub: &Option<Sub>) -> bool
 }
 
 // Whether entities of a kind are needed.
-fn is_asked(kind: Kind, caller: &Caller, put: &Put, sub: &Option<Sub>) -> bool
-    ensures { result ≡ is_asked kind (Some caller.now) put.now sub.now }
+fn put_needs(kind: Kind, caller: &Caller, put: &Put, sub: &Option<Sub>) -> bool
+    ensures { result ≡ put_needs kind (Some caller.now) put.now sub.now }
 {
     match kind {
         Kind::Intent => needs_key(put.nature),
-        Kind::Constraint => needs_key(put.nature) && minds_constraints(caller, put, sub),
+        Kind::Constraint => needs_key(put.nature) && needs_constraints(caller, put, sub),
     }
 }
 
 // The id that is left out of a kind.
-fn left_out(kind: Kind, id: EntityId) -> Option<EntityId>
-    ensures { result ≡ left_out kind id }
+fn excepted(kind: Kind, id: EntityId) -> Option<EntityId>
+    ensures { result ≡ excepted kind id }
 {
     match kind {
         Kind::Intent => Some(id),
@@ -133,10 +133,10 @@ pub fn needed_with<S: Space>(
         × ArePresent a needed) }
     ensures paired { IfOk result IsPaired }
 {
-    if !is_asked(kind, caller, put, sub) {
+    if !put_needs(kind, caller, put, sub) {
         return Ok(Needed::nothing(alloc));
     }
-    let met = look_meeting(space, kind, areas, left_out(kind, id))?;
+    let met = look_meeting(space, kind, areas, excepted(kind, id))?;
     Ok(unspared(alloc, met)?)
 }
 

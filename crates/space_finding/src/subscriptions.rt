@@ -101,8 +101,8 @@ pub fn find_subscriptions_of<S: Alter>(
     Ok(own)
 }
 
-/// The same of the subscriptions that are for a kind, whoever manages them, and of which the volume
-/// meets some area.
+/// The subscriptions that are for a kind and of which the volume meets some area, by rising ids,
+/// whoever manages them. All else is as of those of a supplier.
 pub fn find_subscribers<S: Alter>(
     alloc: Global,
     conn: &mut Connection<S>,

@@ -9,19 +9,19 @@ use Rattle.grid_core.specs.Extent.{Extent, Region, Meet, any_meet, region_of}
 use Rattle.grid_core.proofs.Meets.{any_meet_test}
 use Rattle.grid_core.proofs.IndexLaws.{found_by_index_lem}
 use Rattle.entity_core.specs.declared.entity.Entity.{Entity}
-use Rattle.space_list.specs.CellIndex.{Mark, Span, Grows, IsMarked, IsAsked, AllAsked, GathersAll, HasMeeting, exactly, inside_of, mark_cmp, mark_of, place_of, span_cmp}
+use Rattle.space_list.specs.CellIndex.{Holder, Mark, Span, Grows, AllMarked, IsMarked, HasSpansOf, HasAllSpans, GathersAll, HasMeeting, exactly, holder_of, inside_of, mark_cmp, mark_of, place_of, span_cmp}
 
-pub marked_more : (e : Entity) (old new : BTreeSet Mark) → Grows mark_cmp old new → (c : Cell) → IsMarked old e c → IsMarked new e c
-marked_more e old new g c m = record { cell = m.cell; narrow = m.narrow; mark = g (mark_of e c) m.mark }
+pub marked_more : (h : Holder) (old new : BTreeSet Mark) → Grows mark_cmp old new → (c : Cell) → IsMarked old h c → IsMarked new h c
+marked_more h old new g c m = record { cell = m.cell; narrow = m.narrow; mark = g (mark_of h c) m.mark }
 
-pub asked_more : (old new : BTreeSet Span) → Grows span_cmp old new → (c : Cell) → IsAsked old c → IsAsked new c
+pub asked_more : (old new : BTreeSet Span) → Grows span_cmp old new → (c : Cell) → HasSpansOf old c → HasSpansOf new c
 asked_more old new g c a = record { cell = a.cell; inside = g (inside_of c) a.inside; above = λ k l m. g (exactly (parent_of c k)) (a.above k l m) }
 
 both : {X : Type 0} (P Q : X → Type 0) (xs : List X) → All P xs → Any Q xs → (x : X) × P x × Q x
 both P Q xs a n = (n.1, subst P n.3 (a n.0 n.1 n.2), n.4)
 
--- one cell of an entity that touches one of an area
-found_cell : (marks : BTreeSet Mark) (spans : BTreeSet Span) (ids : BTreeSet ℕ) → GathersAll marks spans ids → (e : Entity) (c d : Cell) → IsMarked marks e c → IsAsked spans d → Touch c d → contains nat_cmp ids e.id ≡ true
+-- one cell of a holder that touches one of an area
+found_cell : (marks : BTreeSet Mark) (spans : BTreeSet Span) (ids : BTreeSet ℕ) → GathersAll marks spans ids → (e : Holder) (c d : Cell) → IsMarked marks e c → HasSpansOf spans d → Touch c d → contains nat_cmp ids e.1 ≡ true
 found_cell marks spans ids g e c d m a t = elim ((found_by_index_lem d c a.cell m.cell).0 t) [
   | inl h ↦
       let low : lo_of d ≤ lo_of c = h.0 in
@@ -39,14 +39,19 @@ found_cell marks spans ids g e c d m a t = elim ((found_by_index_lem d c a.cell 
       g (exactly (parent_of d h.0)) (a.above h.0 h.1 h.2) (mark_of e c) m.mark from to
 ]
 
-pub has_meeting : (marks : BTreeSet Mark) (spans : BTreeSet Span) (ids : BTreeSet ℕ) (areas : List Region) → GathersAll marks spans ids → AllAsked spans areas → HasMeeting marks areas ids
-has_meeting marks spans ids areas g asked e marked meets =
-    let v = both (λ (x : Extent). All (IsMarked marks e) x.cells) (λ x. Any (λ r. Meet (region_of x) r) areas) e.volumes marked ((any_meet_test e.volumes areas (any_meet e.volumes areas) refl).0 meets) in
-    let r = both (λ (x : Region). All (IsAsked spans) x.cells) (λ x. Meet (region_of v.0) x) areas asked v.2 in
-    let c = both (IsMarked marks e) (λ x. Any (λ y. Touch x y) r.0.cells) v.0.cells v.1 r.2.cells in
-    let d = both (IsAsked spans) (λ y. Touch c.0 y) r.0.cells r.1 c.2 in
+pub has_meeting : (marks : BTreeSet Mark) (spans : BTreeSet Span) (ids : BTreeSet ℕ) (areas : List Region) → GathersAll marks spans ids → HasAllSpans spans areas → HasMeeting marks areas ids
+has_meeting marks spans ids areas g asked e v marked meets =
+    let r = both (λ (x : Region). All (HasSpansOf spans) x.cells) (λ x. Meet (region_of v) x) areas asked meets in
+    let c = both (IsMarked marks e) (λ x. Any (λ y. Touch x y) r.0.cells) v.cells marked r.2.cells in
+    let d = both (HasSpansOf spans) (λ y. Touch c.0 y) r.0.cells r.1 c.2 in
     found_cell marks spans ids g e c.0 d.0 c.1 d.1 d.2
 
-pub near_answers : {E : Type 0} (r : Result (BTreeSet ℕ) E) (marks : BTreeSet Mark) (spans : BTreeSet Span) (areas : List Region) → IfOk r (λ ids. GathersAll marks spans ids) → AllAsked spans areas → IfOk r (λ ids. HasMeeting marks areas ids)
+-- an entity of which some volume meets some area
+pub entity_found : (marks : BTreeSet Mark) (ids : BTreeSet ℕ) (areas : List Region) → HasMeeting marks areas ids → (e : Entity) → AllMarked marks e → any_meet e.volumes areas ≡ true → contains nat_cmp ids e.id ≡ true
+entity_found marks ids areas has e marked meets =
+    let v = both (λ (x : Extent). All (IsMarked marks (holder_of e)) x.cells) (λ x. Any (λ r. Meet (region_of x) r) areas) e.volumes marked ((any_meet_test e.volumes areas (any_meet e.volumes areas) refl).0 meets) in
+    has (holder_of e) v.0 v.1 v.2
+
+pub near_answers : {E : Type 0} (r : Result (BTreeSet ℕ) E) (marks : BTreeSet Mark) (spans : BTreeSet Span) (areas : List Region) → IfOk r (λ ids. GathersAll marks spans ids) → HasAllSpans spans areas → IfOk r (λ ids. HasMeeting marks areas ids)
 near_answers (Ok ids) marks spans areas g asked = has_meeting marks spans ids areas g asked
 near_answers (Err x) marks spans areas g asked = tt

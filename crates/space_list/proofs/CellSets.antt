@@ -12,8 +12,7 @@ use Rattle.std.proofs.lemmas.Map.Lookups.{CmpEqualImpliesEq, exact_unsigned, exa
 use Rattle.std.proofs.lemmas.List.{take_all}
 use Rattle.std.proofs.lemmas.List.Elements.{All-more, All-weaker}
 use Rattle.std.proofs.lemmas.Bool.Decides.{nat_tests}
-use Rattle.space_list.specs.CellIndex.{Mark, Span, Grows, KeepsOthers, mark_cmp, span_cmp, tag_of}
-use Rattle.entity_core.specs.declared.entity.Entity.{Entity}
+use Rattle.space_list.specs.CellIndex.{Holder, Mark, Span, Grows, KeepsOthers, mark_cmp, span_cmp}
 
 either : (c b : Bool) → b ≡ true → cond c true b ≡ true
 either true b h = refl
@@ -41,8 +40,8 @@ mark_exact x y e =
 pub span_exact : CmpEqualImpliesEq span_cmp
 span_exact = exact_pairs nat_cmp nat_cmp exact_unsigned exact_unsigned
 
--- what is not of a put stays where a mark of it is taken out
-pub removed_keeps : (e : Entity) (old mid new : BTreeSet Mark) (k : Mark) → k.1 ≡ tag_of e → k.2 ≡ e.id → KeepsOthers e old mid → Updates mark_cmp mid new k false → KeepsOthers e old new
+-- what is not of a holder stays where a mark of it is taken out
+pub removed_keeps : (e : Holder) (old mid new : BTreeSet Mark) (k : Mark) → k.1 ≡ e.0 → k.2 ≡ e.1 → KeepsOthers e old mid → Updates mark_cmp mid new k false → KeepsOthers e old new
 removed_keeps e old mid new k tag id h u = λ q other there.
     let apart : is_eq (mark_cmp k q) ≡ false = elim (is_eq (mark_cmp k q)) as (λ b. is_eq (mark_cmp k q) ≡ b → b ≡ false) [
       | true ↦ λ is. let one = mark_exact k q (equal_is (mark_cmp k q) is) in absurd (other (ap (λ (m : Mark). m.1) (sym one) ∙ tag) (ap (λ (m : Mark). m.2) (sym one) ∙ id))

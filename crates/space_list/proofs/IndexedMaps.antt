@@ -1,12 +1,13 @@
 -- An index of the entities of a map, as entities come and go.
-use Rattle.std.specs.Prelude.{◌≡◌, ℕ, ◌+◌, ◌*◌, ◌≤◌, true, false, cond, List, [], Option, Some, None, nat_eq, refl}
+use Rattle.std.specs.Prelude.{◌≡◌, ℕ, ◌+◌, ◌*◌, ◌≤◌, true, false, cond, List, [], ◌∷◌, ◌++◌, Option, Some, None, nat_eq, refl}
 use Rattle.std.proofs.Common.{arith, sym, ap, ◌∙◌, subst}
 use Rattle.std.proofs.lemmas.Bool.Decides.{nat_tests}
 use Rattle.std.proofs.lemmas.Option.{same_Some}
-use Rattle.std.proofs.lemmas.List.Elements.{All-weaker}
+use Rattle.std.proofs.lemmas.List.Elements.{All-head, All-push, All-tail, All-weaker}
 use Rattle.std.specs.List.{All}
 use Rattle.std.specs.Ordering.{eq_by_cmp}
 use Rattle.std.specs.BTreeSet.{BTreeSet}
+use Rattle.std.specs.FinMap as maps
 use Rattle.std.specs.FinMap.{get, insert, remove, get-insert, get-remove, get-from_entries}
 use Rattle.grid_core.specs.Cell.{Cell}
 use Rattle.grid_core.specs.Extent.{Extent}
@@ -15,18 +16,21 @@ use Rattle.entity_core.specs.declared.nature.Kind.{Kind}
 use Rattle.entity_core.specs.declared.nature.Kind.TheVariants.{Intent, Constraint}
 use Rattle.entity_core.specs.Entity.{kind_index, kind_of}
 use Rattle.entity_core.specs.Airspace.{Entities, EntityKey, key_cmp, key_of}
-use Rattle.space_list.specs.CellIndex.{AllMarked, Grows, IsIndexOf, IsMarked, KeepsOthers, Mark, mark_cmp, mark_of, tag_of}
-use Rattle.entity_lists.specs.Entities.{entity_map, pair_of, was_put_at}
-use Rattle.space_list.specs.Proper.{own_key}
+use Rattle.space_list.specs.CellIndex.{AllMarked, Grows, IsIndexOf, IsMarked, KeepsOthers, Mark, holder_of, mark_cmp, mark_of}
+use Rattle.entity_lists.specs.Entities.{entity_map, pair_of}
+use Rattle.entity_lists.specs.Entities.{was_put_at}
+use Rattle.entity_tree.specs.OwnKeys.{own_key}
 use Rattle.entity_lists.specs.Sorted.{keyed}
 use Rattle.space_list.proofs.CellMeetings.{marked_more}
 use Rattle.entity_core.proofs.Keys.{key_total}
 
-all_marked : (marks marks' : BTreeSet Mark) (e : Entity) → ((c : Cell) → IsMarked marks e c → IsMarked marks' e c) → AllMarked marks e → AllMarked marks' e
-all_marked marks marks' e f h = All-weaker (λ (v : Extent). All (IsMarked marks e) v.cells) (λ (v : Extent). All (IsMarked marks' e) v.cells) (λ v g. All-weaker (IsMarked marks e) (IsMarked marks' e) f v.cells g) e.volumes h
+all_marked : (marks marks' : BTreeSet Mark) (e : Entity) → ((c : Cell) → IsMarked marks (holder_of e) c → IsMarked marks' (holder_of e) c) → AllMarked marks e → AllMarked marks' e
+all_marked marks marks' e f h =
+    let o = holder_of e in
+    All-weaker (λ (v : Extent). All (IsMarked marks o) v.cells) (λ (v : Extent). All (IsMarked marks' o) v.cells) (λ v g. All-weaker (IsMarked marks o) (IsMarked marks' o) f v.cells g) e.volumes h
 
 pub grown_index : (m : Entities) (old new : BTreeSet Mark) → Grows mark_cmp old new → IsIndexOf m old → IsIndexOf m new
-grown_index m old new g h = λ k x at. all_marked old new x (marked_more x old new g) (h k x at)
+grown_index m old new g h = λ k x at. all_marked old new x (marked_more (holder_of x) old new g) (h k x at)
 
 pub none_there : (es : List Entity) → es ≡ [] → (k : EntityKey) (x : Entity) → get (entity_map es) k ≡ Some x → ⊥
 none_there es e k x at = let bad : None ≡ Some x = sym (ap (λ (l : List Entity). get (entity_map l) k) e ∙ get-from_entries key_total (keyed pair_of []) k) ∙ at in cc
@@ -75,13 +79,50 @@ not_put x serial there other at same =
     let bad : true ≡ false = sym put ∙ not in cc
 
 -- what is taken out is of no entity that is kept
-pub forgotten_indexed : (es : List Entity) (g : Entity) (old new : BTreeSet Mark) → KeepsOthers g old new
+pub forgotten_indexed : (es : List Entity) (g : Entity) (old new : BTreeSet Mark) → KeepsOthers (holder_of g) old new
     → was_put_at g.serial (get (entity_map es) (key_of g)) ≡ false → IsIndexOf (entity_map es) old → IsIndexOf (entity_map es) new
 forgotten_indexed es g old new keeps gone h = λ k x at.
-    let other : tag_of x ≡ tag_of g → x.id ≡ g.id → ⊥ = λ tag id.
+    let other : (holder_of x).0 ≡ (holder_of g).0 → x.id ≡ g.id → ⊥ = λ tag id.
     let same = same_tag x.serial g.serial (kind_index (kind_of x.nature)) (kind_index (kind_of g.nature)) (small_kind (kind_of x.nature)) (small_kind (kind_of g.nature)) tag in
     let kind : kind_of x.nature ≡ kind_of g.nature = same_kind (kind_of x.nature) (kind_of g.nature) same.1 in
     let keys : key_of x ≡ key_of g = λ i. (kind i, id i) in
     let own : key_of x ≡ k = own_key es k x (sym (get-from_entries key_total (keyed pair_of es) k) ∙ at) in
     not_put x g.serial (get (entity_map es) (key_of g)) gone (ap (λ (q : EntityKey). get (entity_map es) q) (sym keys ∙ own) ∙ at) same.0 in
-    all_marked old new x (λ c m. record { cell = m.cell; narrow = m.narrow; mark = keeps (mark_of x c) other m.mark }) (h k x at)
+    all_marked old new x (λ c m. record { cell = m.cell; narrow = m.narrow; mark = keeps (mark_of (holder_of x) c) other m.mark }) (h k x at)
+
+-- ---- a list of entities that are marked one after another
+
+-- of a list, these are left, and each of the others is marked
+pub record HasMarked (marks : BTreeSet Mark) (all left : List Entity) : Type 0 where
+  pub seen : List Entity
+  pub split : seen ++ left ≡ all
+  pub marked : All (AllMarked marks) seen
+
+after_last : {X : Type 0} (xs : List X) (x : X) (ys : List X) → (xs ++ (x ∷ [])) ++ ys ≡ xs ++ (x ∷ ys)
+after_last [] x ys = refl
+after_last (z ∷ xs) x ys = ap (λ l. z ∷ l) (after_last xs x ys)
+
+and_none : {X : Type 0} (xs : List X) → xs ++ [] ≡ xs
+and_none [] = refl
+and_none (x ∷ xs) = ap (λ l. x ∷ l) (and_none xs)
+
+pub mark_first : (all left rest : List Entity) (x : Entity) (old new : BTreeSet Mark) → left ≡ x ∷ rest → Grows mark_cmp old new → AllMarked new x → HasMarked old all left → HasMarked new all rest
+mark_first all left rest x old new is g marked h = record {
+  seen = h.seen ++ (x ∷ []);
+  split = after_last h.seen x rest ∙ (ap (λ (l : List Entity). h.seen ++ l) (sym is) ∙ h.split);
+  marked = All-push (AllMarked new) h.seen x (All-weaker (AllMarked old) (AllMarked new) (λ e m. all_marked old new e (marked_more (holder_of e) old new g) m) h.seen h.marked) marked;
+}
+
+-- what is marked of a whole list is marked of each that is found
+listed : (marks : BTreeSet Mark) (es : List Entity) (k : EntityKey) (x : Entity) → maps.find key_cmp k (keyed pair_of es) ≡ Some x → All (AllMarked marks) es → AllMarked marks x
+listed marks [] k x at h = cc
+listed marks (e ∷ es) k x at h =
+    elim (eq_by_cmp key_cmp k (key_of e)) as (λ b. cond b (Some e) (maps.find key_cmp k (keyed pair_of es)) ≡ Some x → AllMarked marks x) [
+      | true ↦ λ g. subst (AllMarked marks) (same_Some e x g) (All-head (AllMarked marks) e es h)
+      | false ↦ λ g. listed marks es k x g (All-tail (AllMarked marks) e es h)
+    ] at
+
+pub all_indexed : (es left : List Entity) (marks : BTreeSet Mark) → left ≡ [] → HasMarked marks es left → IsIndexOf (entity_map es) marks
+all_indexed es left marks none h =
+    let whole : h.seen ≡ es = sym (and_none h.seen) ∙ (ap (λ (l : List Entity). h.seen ++ l) (sym none) ∙ h.split) in
+    λ k x at. listed marks es k x (sym (get-from_entries key_total (keyed pair_of es) k) ∙ at) (subst (All (AllMarked marks)) whole h.marked)

@@ -8,7 +8,7 @@ use Rattle.entity_core.specs.declared.subscription.Sub.{Sub}
 use Rattle.entity_core.specs.Airspace.{Airspace, empty_at, is_one_of, IsAirspace, key_cmp, Subscriptions, text_cmp}
 use Rattle.entity_core.proofs.Changes.{proper_with_told, proper_without_told, proper_stated, proper_sub, proper_without_sub}
 use Rattle.entity_core.specs.Serial.{greatest_serial}
-use Rattle.entity_lists.specs.declared.availabilities.Entry.{Entry}
+use Rattle.entity_lists.specs.declared.availabilities.Setting.{Setting}
 use Rattle.entity_lists.specs.Entities.{entity_map}
 use Rattle.entity_lists.specs.Entities.{pair_of as entity_pair}
 use Rattle.entity_lists.specs.Availabilities.{availability_map}
@@ -17,15 +17,16 @@ use Rattle.entity_lists.specs.Subscriptions.{pair_of as sub_pair}
 use Rattle.space_core.specs.Space.{Fits, changed}
 use Rattle.space_core.specs.declared.space.Change.{Change}
 use Rattle.space_core.specs.declared.space.Change.TheVariants.{Put, Remove, Avail, PutSub, RemoveSub}
-use Rattle.entity_lists.specs.Availabilities.{pair_of as entry_pair}
+use Rattle.entity_lists.specs.Availabilities.{pair_of as setting_pair}
 use Rattle.entity_lists.specs.Lists.{airspace_of}
+use Rattle.space_list.specs.List.{CanFollow}
 use Rattle.entity_lists.proofs.Maps.{map_of_none}
 
-pub empty_content : (es : List Entity) (ss : List Sub) (entries : List Entry) (n : ℕ) → es ≡ [] → ss ≡ [] → entries ≡ [] → empty_at n ≡ airspace_of es ss entries n
-empty_content es ss entries n p r q = λ i. record {
+pub empty_content : (es : List Entity) (ss : List Sub) (settings : List Setting) (n : ℕ) → es ≡ [] → ss ≡ [] → settings ≡ [] → empty_at n ≡ airspace_of es ss settings n
+empty_content es ss settings n p r q = λ i. record {
   entities = (sym (ap entity_map p ∙ map_of_none key_cmp entity_pair)) i;
   subscriptions = (sym (ap subscription_map r ∙ map_of_none nat_cmp sub_pair)) i;
-  availabilities = (sym (ap availability_map q ∙ map_of_none text_cmp entry_pair)) i;
+  availabilities = (sym (ap availability_map q ∙ map_of_none text_cmp setting_pair)) i;
   serial = n;
 }
 
@@ -34,17 +35,25 @@ pub none_told : (ss : List Sub) (n : ℕ) → ss ≡ [] → AllTold ss n
 none_told ss n e id s h =
     let none : None ≡ Some s = sym (get-empty nat_cmp id) ∙ (ap (λ (m : Subscriptions). get m id) (sym (ap subscription_map e ∙ map_of_none nat_cmp sub_pair)) ∙ h) in cc
 
--- a change that fits leaves an airspace that may be kept
-pub proper_changed : (change : Change) (told : List ℕ) (a : Airspace) → Fits change told a → IsAirspace a → IsAirspace (changed change told a)
-proper_changed (Put e) told a fits proper = proper_with_told a e (is_one_of told) proper
-proper_changed (Remove kind id) told a fits proper = proper_without_told a (kind, id) (is_one_of told) proper
-proper_changed (Avail uss availability version) told a fits proper = proper_stated a uss (availability, version) proper
-proper_changed (PutSub s) told a fits proper = proper_sub a s fits.due.1 proper
-proper_changed (RemoveSub id) told a fits proper = proper_without_sub a id proper
+-- lists can follow a change that fits
+pub can_follow : (change : Change) (told : List ℕ) (a : Airspace) → Fits change told a → CanFollow change a
+can_follow (Put e) told a fits = record { room = fits.room; within = tt }
+can_follow (Remove kind id) told a fits = record { room = fits.room; within = tt }
+can_follow (Avail uss availability version) told a fits = record { room = fits.room; within = tt }
+can_follow (PutSub s) told a fits = record { room = fits.room; within = fits.due.1 }
+can_follow (RemoveSub id) told a fits = record { room = fits.room; within = tt }
+
+-- a change that lists can follow leaves an airspace that may be kept
+pub proper_changed : (change : Change) (told : List ℕ) (a : Airspace) → CanFollow change a → IsAirspace a → IsAirspace (changed change told a)
+proper_changed (Put e) told a can proper = proper_with_told a e (is_one_of told) proper
+proper_changed (Remove kind id) told a can proper = proper_without_told a (kind, id) (is_one_of told) proper
+proper_changed (Avail uss availability version) told a can proper = proper_stated a uss (availability, version) proper
+proper_changed (PutSub s) told a can proper = proper_sub a s can.within proper
+proper_changed (RemoveSub id) told a can proper = proper_without_sub a id proper
 
 -- and so the indexes of a space in memory stay within its serial
-pub told_after : (change : Change) (told : List ℕ) (a : Airspace) (es : List Entity) (ss : List Sub) (entries : List Entry) (n : ℕ) → Fits change told a → IsAirspace a → airspace_of es ss entries n ≡ changed change told a → AllTold ss n
-told_after change told a es ss entries n fits proper is = (subst IsAirspace (sym is) (proper_changed change told a fits proper)).told
+pub told_after : (change : Change) (told : List ℕ) (a : Airspace) (es : List Entity) (ss : List Sub) (settings : List Setting) (n : ℕ) → CanFollow change a → IsAirspace a → airspace_of es ss settings n ≡ changed change told a → AllTold ss n
+told_after change told a es ss settings n can proper is = (subst IsAirspace (sym is) (proper_changed change told a can proper)).told
 
 -- below the greatest serial each index can rise
 pub can_rise : (ss : List Sub) (n : ℕ) → AllTold ss n → n < greatest_serial → CanRise ss

@@ -1,14 +1,12 @@
 -- Maps of what is sought.
-use Rattle.std.specs.Prelude.{◌≡◌, ℕ, ◌&&◌, ◌⊎◌, Bool, true, false, cond, T, List, [], ◌∷◌, map, filter, nat_eq, Option, Some, None, Result, Ok, Err, OnOk, refl}
+use Rattle.std.specs.Prelude.{◌≡◌, ℕ, ◌&&◌, ◌⊎◌, Bool, true, false, cond, List, [], ◌∷◌, map, nat_eq, Option, Some, None, Result, Ok, Err, OnOk, refl}
 use Rattle.std.proofs.Common.{arith, sym, ap, ◌∙◌, subst, inl, inr}
 use Rattle.std.proofs.lemmas.Option.{same_Some}
 use Rattle.std.proofs.lemmas.Bool.Decides.{nat_tests}
 use Rattle.std.proofs.lemmas.Cmp.{eq_by_cmp_equiv}
 use Rattle.std.specs.Ordering.{eq_by_cmp, nat_cmp}
 use Rattle.std.specs.BTreeSet.{BTreeSet, contains}
-use Rattle.std.specs.FinMap as maps
-use Rattle.std.specs.FinMap.{entries, entries_sorted, entries-from_sorted, from_sorted, get, get-entries, get-from_entries, get-from_sorted, get-insert, insert, same_map}
-use Rattle.std.specs.FinMap.Entries.{below_all, is_sorted}
+use Rattle.std.specs.FinMap.{get, get-from_entries, get-insert, insert}
 use Rattle.grid_core.specs.Extent.{Region, any_meet}
 use Rattle.entity_core.specs.declared.entity.Entity.{Entity}
 use Rattle.entity_core.specs.declared.nature.Kind.{Kind}
@@ -17,58 +15,16 @@ use Rattle.entity_core.specs.Entity.{kind_index}
 use Rattle.entity_core.specs.Search.{has_kind, is_not, is_sought, meeting_in}
 use Rattle.entity_core.proofs.Keys.{key_total, key_exact, one_key}
 use Rattle.space_list.specs.CellIndex.{AddsSought, FindsSoughtAmong, HasMeeting, IsIndexOf, Mark}
-use Rattle.entity_lists.specs.Entities.{FindsSought, InOrder, entity_map, pair_of}
-use Rattle.space_list.specs.Proper.{own_key}
+use Rattle.entity_lists.specs.Entities.{InOrder, entity_map, pair_of}
+use Rattle.entity_lists.specs.Entities.{FindsSought}
+use Rattle.entity_tree.specs.OwnKeys.{own_key}
 use Rattle.entity_lists.specs.Sorted.{keyed}
+use Rattle.space_list.proofs.CellMeetings.{entity_found}
+use Rattle.space_list.proofs.KeptEntries.{entries_kept}
 use Rattle.space_list.proofs.IndexedMaps.{same_kind}
-use Rattle.entity_core.proofs.Entries.{first, second, sorted_kept}
 use Rattle.entity_lists.proofs.Maps.{entries_of}
-use Rattle.space_core.proofs.Risings.{none_below}
 
--- ---- what passes a test
-
-abbrev Pairs : Type 0
-Pairs = List (EntityKey × Entity)
-
-pub found_kept : (p : EntityKey × Entity → Bool) (q : EntityKey) (x : Entity) (es : Pairs) → maps.find key_cmp q es ≡ Some x → p (q, x) ≡ true → maps.find key_cmp q (filter p es) ≡ Some x
-found_kept p q x [] h t = h
-found_kept p q x (e ∷ es) h t =
-    elim (eq_by_cmp key_cmp q e.0) as (λ b. eq_by_cmp key_cmp q e.0 ≡ b → cond b (Some e.1) (maps.find key_cmp q es) ≡ Some x → maps.find key_cmp q (cond (p e) (e ∷ filter p es) (filter p es)) ≡ Some x) [
-      | true ↦ λ is g.
-          let key : e.0 ≡ q = sym (one_key q e.0 is) in
-          let own : e ≡ (q, x) = λ i. (key i, same_Some e.1 x g i) in
-          subst (λ b. maps.find key_cmp q (cond b (e ∷ filter p es) (filter p es)) ≡ Some x) (sym (ap p own ∙ t)) (ap (λ b. cond b (Some e.1) (maps.find key_cmp q (filter p es))) is ∙ g)
-      | false ↦ λ is g. elim (p e) as (λ b. maps.find key_cmp q (cond b (e ∷ filter p es) (filter p es)) ≡ Some x) [
-        | true ↦ ap (λ b. cond b (Some e.1) (maps.find key_cmp q (filter p es))) is ∙ found_kept p q x es g t
-        | false ↦ found_kept p q x es g t
-      ]
-    ] refl h
-
-pub kept_found : (p : EntityKey × Entity → Bool) (q : EntityKey) (x : Entity) (es : Pairs) → T (is_sorted key_cmp es) → maps.find key_cmp q (filter p es) ≡ Some x → (maps.find key_cmp q es ≡ Some x) × (p (q, x) ≡ true)
-kept_found p q x [] s h = (h, cc)
-kept_found p q x (e ∷ es) s h =
-    let rest = kept_found p q x es (second (below_all key_cmp e.0 es) _ s) in
-    elim (p e) as (λ b. p e ≡ b → maps.find key_cmp q (cond b (e ∷ filter p es) (filter p es)) ≡ Some x → (maps.find key_cmp q (e ∷ es) ≡ Some x) × (p (q, x) ≡ true)) [
-      | true ↦ λ t g. elim (eq_by_cmp key_cmp q e.0) as (λ b. eq_by_cmp key_cmp q e.0 ≡ b → cond b (Some e.1) (maps.find key_cmp q (filter p es)) ≡ Some x → (cond b (Some e.1) (maps.find key_cmp q es) ≡ Some x) × (p (q, x) ≡ true)) [
-        | true ↦ λ is f.
-            let key : e.0 ≡ q = sym (one_key q e.0 is) in
-            let own : e ≡ (q, x) = λ i. (key i, same_Some e.1 x f i) in
-            (f, ap p (sym own) ∙ t)
-        | false ↦ λ is f. rest f
-      ] refl g
-      | false ↦ λ t g.
-          let r = rest g in
-          elim (eq_by_cmp key_cmp q e.0) as (λ b. eq_by_cmp key_cmp q e.0 ≡ b → (cond b (Some e.1) (maps.find key_cmp q es) ≡ Some x) × (p (q, x) ≡ true)) [
-            | true ↦ λ is. let bad : None ≡ Some x = sym (none_below e.0 es (first _ _ s)) ∙ (ap (λ (k : EntityKey). maps.find key_cmp k es) (sym (one_key q e.0 is)) ∙ r.0) in cc
-            | false ↦ λ is. r
-          ] refl
-    ] refl h
-
--- two look-ups that find the same find the same
-one_answer : (a b : Option Entity) → ((x : Entity) → a ≡ Some x → b ≡ Some x) → ((x : Entity) → b ≡ Some x → a ≡ Some x) → a ≡ b
-one_answer None None f g = refl
-one_answer None (Some y) f g = g y refl
-one_answer (Some x) b f g = sym (f x refl)
+-- ---- a list of all that is sought
 
 values_of : (es : List Entity) → map (λ e. e.1) (keyed pair_of es) ≡ es
 values_of [] = refl
@@ -82,14 +38,7 @@ pub sub_meeting : (m : Entities) (kind : Kind) (areas : List Region) (except : O
 unfolding meeting_in
 sub_meeting m kind areas except es s only all =
     let p = is_sought kind areas except in
-    let kept : Pairs = filter p (entries m) in
-    let sorted = sorted_kept key_cmp p (entries m) (entries_sorted m) in
-    let one : entity_map es ≡ from_sorted kept = same_map key_total key_exact (entity_map es) (from_sorted kept) (λ k.
-    one_answer (get (entity_map es) k) (get (from_sorted kept) k)
-    (λ x at. let o = only k x at in get-from_sorted key_cmp kept k sorted ∙ found_kept p k x (entries m) (sym (get-entries m k) ∙ o.0) o.1)
-    (λ x at. let f = kept_found p k x (entries m) (entries_sorted m) (sym (get-from_sorted key_cmp kept k sorted) ∙ at) in all k x (get-entries m k ∙ f.0) f.1)) in
-    let pairs : keyed pair_of es ≡ kept = sym (entries_of key_cmp pair_of key_total es s) ∙ (ap (λ (n : Entities). entries n) one ∙ entries-from_sorted key_cmp kept sorted) in
-    sym (values_of es) ∙ ap (λ (l : Pairs). map (λ e. e.1) l) pairs
+    sym (values_of es) ∙ ap (map (λ (e : EntityKey × Entity). e.1)) (sym (entries_of key_cmp pair_of key_total es s) ∙ entries_kept key_cmp key_total key_exact p m (entity_map es) only all)
 
 -- ---- a search by ids
 
@@ -177,4 +126,4 @@ pub meeting_found : (es found : List Entity) (marks : BTreeSet Mark) (ids : BTre
     → FindsSoughtAmong (entity_map es) ids kind areas except (entity_map found) → found ≡ meeting_in (entity_map es) kind areas except
 meeting_found es found marks ids kind areas except index has s f = sub_meeting (entity_map es) kind areas except found s f.only (λ k x at sought.
     let own : key_of x ≡ k = own_key es k x (sym (get-from_entries key_total (keyed pair_of es) k) ∙ at) in
-    f.all k x at sought (subst (λ (i : ℕ). contains nat_cmp ids i ≡ true) (ap (λ (q : EntityKey). q.1) own) (has x (index k x at) (meets_too kind areas except k x sought))))
+    f.all k x at sought (subst (λ (i : ℕ). contains nat_cmp ids i ≡ true) (ap (λ (q : EntityKey). q.1) own) (entity_found marks ids areas has x (index k x at) (meets_too kind areas except k x sought))))

@@ -1,19 +1,23 @@
--- An index of entities by the cells of their volumes.
+-- An index by the cells of volumes.
 use Rattle.std.specs.Prelude.{◌≡◌, ℕ, ◌+◌, ◌*◌, ◌<◌, ◌≤◌, ◌⊎◌, true, List, length, Option, Some}
-use Rattle.std.specs.List.{All}
+use Rattle.std.specs.List.{All, Any}
 use Rattle.std.specs.Ordering.{nat_cmp, ordering_then}
 use Rattle.std.specs.declared.cmp.Ordering.{Ordering}
 use Rattle.std.specs.BTreeSet.{BTreeSet, contains}
 use Rattle.std.specs.FinMap.{get}
 use Rattle.grid_core.specs.Cell.{Cell, IsCell, lo_of, hi_of, parent_of}
-use Rattle.grid_core.specs.Extent.{Region, any_meet}
+use Rattle.grid_core.specs.Extent.{Extent, Region, Meet, region_of}
 use Rattle.entity_core.specs.Airspace.{Entities, EntityKey}
 use Rattle.entity_core.specs.declared.entity.Entity.{Entity}
 use Rattle.entity_core.specs.declared.nature.Kind.{Kind}
 use Rattle.entity_core.specs.Entity.{kind_index, kind_of}
 use Rattle.entity_core.specs.Search.{is_sought}
 
--- the place of a cell, the put of the entity that has the cell, and that entity's id
+-- what has cells, as a number of its put and its id
+abbrev pub Holder : Type 0
+Holder = ℕ × ℕ
+
+-- the place of a cell, and the holder of the cell
 abbrev pub Mark : Type 0
 Mark = ℕ × ℕ × ℕ
 
@@ -24,22 +28,22 @@ mark_cmp a b = ordering_then (ordering_then (nat_cmp a.0 b.0) (nat_cmp a.1 b.1))
 abbrev pub place_of : Cell → ℕ
 place_of c = lo_of c * 4294967296 + hi_of c
 
--- the serial of an entity and its kind as one number
-abbrev pub tag_of : Entity → ℕ
-tag_of e = 2 * e.serial + kind_index (kind_of e.nature)
+abbrev pub mark_of : Holder → Cell → Mark
+mark_of h c = (place_of c, h.0, h.1)
 
-abbrev pub mark_of : Entity → Cell → Mark
-mark_of e c = (place_of c, tag_of e, e.id)
-
--- a cell of an entity stands in an index
-pub record IsMarked (marks : BTreeSet Mark) (e : Entity) (c : Cell) : Type 0 where
+-- a cell of a holder stands in an index
+pub record IsMarked (marks : BTreeSet Mark) (h : Holder) (c : Cell) : Type 0 where
   pub cell : IsCell c
   pub narrow : hi_of c < 4294967296
-  pub mark : contains mark_cmp marks (mark_of e c) ≡ true
+  pub mark : contains mark_cmp marks (mark_of h c) ≡ true
 
--- and so does each cell of its volumes
+-- an entity as a holder; the number of its put is its serial and its kind
+abbrev pub holder_of : Entity → Holder
+holder_of e = (2 * e.serial + kind_index (kind_of e.nature), e.id)
+
+-- each cell of its volumes stands in an index
 abbrev pub AllMarked : BTreeSet Mark → Entity → Type 0
-AllMarked marks e = All (λ v. All (IsMarked marks e) v.cells) e.volumes
+AllMarked marks e = All (λ v. All (IsMarked marks (holder_of e)) v.cells) e.volumes
 
 -- each entity of a map stands in an index, which may have other marks, too
 abbrev pub IsIndexOf : Entities → BTreeSet Mark → Type 0
@@ -49,9 +53,9 @@ IsIndexOf m marks = (k : EntityKey) (x : Entity) → get m k ≡ Some x → AllM
 abbrev pub Grows : {K : Type 0} → (K → K → Ordering) → BTreeSet K → BTreeSet K → Type 0
 Grows cmp old new = (q : _) → contains cmp old q ≡ true → contains cmp new q ≡ true
 
--- what is not of a put of an entity stays
-abbrev pub KeepsOthers : Entity → BTreeSet Mark → BTreeSet Mark → Type 0
-KeepsOthers e old new = (q : Mark) → (q.1 ≡ tag_of e → q.2 ≡ e.id → ⊥)
+-- the marks of other holders stay
+abbrev pub KeepsOthers : Holder → BTreeSet Mark → BTreeSet Mark → Type 0
+KeepsOthers h old new = (q : Mark) → (q.1 ≡ h.0 → q.2 ≡ h.1 → ⊥)
     → contains mark_cmp old q ≡ true → contains mark_cmp new q ≡ true
 
 -- ---- what is asked of an index
@@ -71,20 +75,20 @@ inside_of c = (lo_of c * 4294967296, (hi_of c + 1) * 4294967296)
 abbrev pub exactly : Cell → Span
 exactly c = (place_of c, place_of c + 1)
 
--- it is asked for the cells of coarser levels, below level 13, that hold a cell
-abbrev pub IsAskedAbove : BTreeSet Span → Cell → Type 0
-IsAskedAbove spans c = (k : ℕ) → k < length c.digits → k < 13
+-- the spans of the cells of coarser levels, below level 13, that hold a cell are there
+abbrev pub HasSpansAbove : BTreeSet Span → Cell → Type 0
+HasSpansAbove spans c = (k : ℕ) → k < length c.digits → k < 13
     → contains span_cmp spans (exactly (parent_of c k)) ≡ true
 
--- it is asked for all cells that touch a cell
-pub record IsAsked (spans : BTreeSet Span) (c : Cell) : Type 0 where
+-- the spans of all cells that touch a cell are there
+pub record HasSpansOf (spans : BTreeSet Span) (c : Cell) : Type 0 where
   pub cell : IsCell c
   pub inside : contains span_cmp spans (inside_of c) ≡ true
-  pub above : IsAskedAbove spans c
+  pub above : HasSpansAbove spans c
 
 -- and so for each cell of some areas
-abbrev pub AllAsked : BTreeSet Span → List Region → Type 0
-AllAsked spans areas = All (λ a. All (IsAsked spans) a.cells) areas
+abbrev pub HasAllSpans : BTreeSet Span → List Region → Type 0
+HasAllSpans spans areas = All (λ a. All (HasSpansOf spans) a.cells) areas
 
 -- the ids of the marks whose places are in a span are among some ids
 abbrev pub Gathers : BTreeSet Mark → Span → BTreeSet ℕ → Type 0
@@ -94,10 +98,11 @@ Gathers marks span ids = (q : Mark) → contains mark_cmp marks q ≡ true → s
 abbrev pub GathersAll : BTreeSet Mark → BTreeSet Span → BTreeSet ℕ → Type 0
 GathersAll marks spans ids = (r : Span) → contains span_cmp spans r ≡ true → Gathers marks r ids
 
--- the ids of the entities that stand in an index and meet some area are among some ids
+-- the ids of the holders of which a volume stands in an index and meets some area are among some
+-- ids
 abbrev pub HasMeeting : BTreeSet Mark → List Region → BTreeSet ℕ → Type 0
-HasMeeting marks areas ids = (e : Entity) → AllMarked marks e → any_meet e.volumes areas ≡ true
-    → contains nat_cmp ids e.id ≡ true
+HasMeeting marks areas ids = (h : Holder) (v : Extent) → All (IsMarked marks h) v.cells
+    → Any (λ a. Meet (region_of v) a) areas → contains nat_cmp ids h.1 ≡ true
 
 -- what a map has under a key is added to some entities, where it is sought
 pub record AddsSought (m : Entities) (kind : Kind) (areas : List Region) (except : Option ℕ)

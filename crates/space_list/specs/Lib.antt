@@ -1,3 +1,4 @@
 pub mod List
 pub mod Proper
 pub mod CellIndex
+pub mod IndexedSubscriptions

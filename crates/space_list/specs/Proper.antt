@@ -12,19 +12,12 @@ use Rattle.entity_core.specs.declared.entity.Entity.{Entity}
 use Rattle.entity_core.specs.declared.subscription.Sub.{Sub}
 use Rattle.entity_core.proofs.Changes.{one_id}
 use Rattle.entity_core.proofs.Keys.{key_total, one_key}
+use Rattle.entity_tree.specs.OwnKeys.{own_key}
 use Rattle.space_list.specs.declared.list.ListSpace.{ListSpace}
 use Rattle.entity_lists.specs.Entities.{pair_of}
 use Rattle.entity_lists.specs.Subscriptions.{pair_of as sub_pair}
 use Rattle.space_list.specs.List.{content_of}
 use Rattle.entity_lists.specs.Sorted.{keyed}
-
-pub own_key : (es : List Entity) (k : EntityKey) (x : Entity) → maps.find key_cmp k (keyed pair_of es) ≡ Some x → key_of x ≡ k
-own_key [] k x h = cc
-own_key (e ∷ es) k x h =
-    elim (eq_by_cmp key_cmp k (key_of e)) as (λ b. eq_by_cmp key_cmp k (key_of e) ≡ b → cond b (Some e) (maps.find key_cmp k (keyed pair_of es)) ≡ Some x → key_of x ≡ k) [
-      | true ↦ λ t s. ap key_of (sym (same_Some e x s)) ∙ sym (one_key k (key_of e) t)
-      | false ↦ λ t s. own_key es k x s
-    ] refl h
 
 pub own_id : (ss : List Sub) (id : ℕ) (s : Sub) → maps.find nat_cmp id (keyed sub_pair ss) ≡ Some s → s.id ≡ id
 own_id [] id s h = cc

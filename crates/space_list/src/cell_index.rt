@@ -1,11 +1,11 @@
-//! An index of entities by the cells of their volumes: what goes in, what goes out, and which
-//! entities may meet some area.
+//! An index by the cells of volumes: what goes in, what goes out, and what may meet some area. It is
+//! of entities or of subscriptions, its holders.
 ghost use Rattle.std.specs.Prelude.{◌≡◌, ◌<◌, true, OnOk, IfOk};
 ghost use Rattle.std.specs.BTreeSet.{contains};
 ghost use Rattle.std.specs.List.{All};
 ghost use Rattle.std.specs.Ordering.{nat_cmp};
 ghost use Rattle.grid_core.specs.Cell.{IsCell, lo_of, hi_of};
-ghost use Rattle.space_list.specs.CellIndex.{mark_cmp, mark_of, tag_of, span_cmp, exactly, Grows, KeepsOthers, IsMarked, AllMarked, IsAsked, IsAskedAbove, AllAsked, Gathers, GathersAll, HasMeeting, inside_of};
+ghost use Rattle.space_list.specs.CellIndex.{mark_cmp, holder_of, mark_of, span_cmp, exactly, Grows, KeepsOthers, IsMarked, AllMarked, HasSpansOf, HasSpansAbove, HasAllSpans, Gathers, GathersAll, HasMeeting, inside_of};
 
 use entity_core::entity::Entity;
 use entity_lists::entities::kind_index;
@@ -14,7 +14,10 @@ use grid_core::volume::Area;
 use std::alloc::{AllocError, Global};
 use std::collections::BTreeSet;
 
-/// The place of a cell, the put of the entity that has the cell, and that entity's id.
+/// What has cells, as a number of its put and its id.
+pub(crate) type Holder = (u64, u128);
+
+/// The place of a cell, and the holder of the cell.
 pub(crate) type Mark = (u64, u64, u128);
 
 /// From a place on, up to but not with another.
@@ -37,33 +40,45 @@ fn interval(cell: CellId) -> (u64, u64)
 
 // ---- what goes in and out
 
-fn tag(entity: &Entity) -> u64
-    ensures { result ≡ tag_of entity.now }
-{
-    2 * entity.serial.number() + u64::from(kind_index(entity.nature.kind()))
-}
-
-fn mark(entity: &Entity, cell: CellId) -> Mark
+fn mark(holder: Holder, cell: CellId) -> Mark
     ensures valid { IsCell cell }
-    ensures mark { result ≡ mark_of entity.now cell }
+    ensures mark { result ≡ mark_of holder cell }
     ensures narrow { hi_of cell < 4294967296 }
 {
     let (lo, hi) = interval(cell);
-    (lo * STEP + hi, tag(entity), entity.id.number())
+    (lo * STEP + hi, holder.0, holder.1)
 }
 
-fn mark_cells(
+/// Marks some cells of a holder. On an error some of them may be marked.
+pub(crate) fn mark_cells(
     marks: &mut BTreeSet<Mark>,
-    entity: &Entity,
+    holder: Holder,
     cells: &[CellId],
 ) -> Result<(), AllocError>
     ensures kept { Grows mark_cmp marks.old marks.new }
-    ensures marked { OnOk result (All (IsMarked marks.new entity.now) cells.now) }
+    ensures marked { OnOk result (All (IsMarked marks.new holder) cells.now) }
 {
     for cell in cells {
-        marks.insert(mark(entity, *cell))?;
+        marks.insert(mark(holder, *cell))?;
     }
     Ok(())
+}
+
+/// Takes the marks of some cells of a holder out.
+pub(crate) fn unmark_cells(marks: &mut BTreeSet<Mark>, holder: Holder, cells: &[CellId])
+    ensures { KeepsOthers holder marks.old marks.new }
+{
+    for cell in cells {
+        marks.remove(&mark(holder, *cell));
+    }
+}
+
+// The number is the serial and the kind.
+fn holder(entity: &Entity) -> Holder
+    ensures { result ≡ holder_of entity.now }
+{
+    let kind = u64::from(kind_index(entity.nature.kind()));
+    (2 * entity.serial.number() + kind, entity.id.number())
 }
 
 /// Marks the cells of an entity. On an error some of them may be marked.
@@ -72,25 +87,17 @@ pub(crate) fn mark_entity(marks: &mut BTreeSet<Mark>, entity: &Entity) -> Result
     ensures marked { OnOk result (AllMarked marks.new entity.now) }
 {
     for volume in entity.volumes.items() {
-        mark_cells(marks, entity, volume.cells())?;
+        mark_cells(marks, holder(entity), volume.cells())?;
     }
     Ok(())
 }
 
-fn unmark_cells(marks: &mut BTreeSet<Mark>, entity: &Entity, cells: &[CellId])
-    ensures { KeepsOthers entity.now marks.old marks.new }
-{
-    for cell in cells {
-        marks.remove(&mark(entity, *cell));
-    }
-}
-
 /// Takes the marks of an entity out.
 pub(crate) fn unmark_entity(marks: &mut BTreeSet<Mark>, entity: &Entity)
-    ensures { KeepsOthers entity.now marks.old marks.new }
+    ensures { KeepsOthers (holder_of entity.now) marks.old marks.new }
 {
     for volume in entity.volumes.items() {
-        unmark_cells(marks, entity, volume.cells());
+        unmark_cells(marks, holder(entity), volume.cells());
     }
 }
 
@@ -108,7 +115,7 @@ fn ask_exactly(spans: &mut BTreeSet<Span>, cell: CellId) -> Result<(), AllocErro
 
 fn ask_above(spans: &mut BTreeSet<Span>, cell: CellId) -> Result<(), AllocError>
     ensures kept { Grows span_cmp spans.old spans.new }
-    ensures asked { OnOk result (IsAskedAbove spans.new cell) }
+    ensures asked { OnOk result (HasSpansAbove spans.new cell) }
 {
     let own = cell.level();
     let levels = if own < 13 { own } else { 13 };
@@ -130,7 +137,7 @@ fn ask_inside(spans: &mut BTreeSet<Span>, cell: CellId) -> Result<(), AllocError
 
 fn ask_cell(spans: &mut BTreeSet<Span>, cell: CellId) -> Result<(), AllocError>
     ensures kept { Grows span_cmp spans.old spans.new }
-    ensures asked { OnOk result (IsAsked spans.new cell) }
+    ensures asked { OnOk result (HasSpansOf spans.new cell) }
 {
     ask_inside(spans, cell)?;
     ask_above(spans, cell)
@@ -138,7 +145,7 @@ fn ask_cell(spans: &mut BTreeSet<Span>, cell: CellId) -> Result<(), AllocError>
 
 fn ask_cells(spans: &mut BTreeSet<Span>, cells: &[CellId]) -> Result<(), AllocError>
     ensures kept { Grows span_cmp spans.old spans.new }
-    ensures asked { OnOk result (All (IsAsked spans.new) cells.now) }
+    ensures asked { OnOk result (All (HasSpansOf spans.new) cells.now) }
 {
     for cell in cells {
         ask_cell(spans, *cell)?;
@@ -148,7 +155,7 @@ fn ask_cells(spans: &mut BTreeSet<Span>, cells: &[CellId]) -> Result<(), AllocEr
 
 // What may touch a cell of some area lies in these spans, each of which is there once.
 fn spans_of(alloc: Global, areas: &[Area]) -> Result<BTreeSet<Span>, AllocError>
-    ensures { IfOk result (λ spans. AllAsked spans areas.now) }
+    ensures { IfOk result (λ spans. HasAllSpans spans areas.now) }
 {
     let mut spans = BTreeSet::new(alloc);
     for area in areas {
@@ -186,7 +193,7 @@ fn gather_all(
     Ok(ids)
 }
 
-/// The ids of the entities of an index that may meet some area: of all that do, and of some that
+/// The ids of the holders in an index that may meet some area: of all that do, and of some that
 /// touch it and are at other altitudes or times.
 pub(crate) fn near(
     alloc: Global,

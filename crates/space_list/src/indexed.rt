@@ -11,6 +11,7 @@ use entity_core::entity::Entity;
 use entity_core::entity_id::EntityId;
 use entity_core::nature::Kind;
 use entity_lists::entities::Entities;
+use entity_tree::tree::EntityTree;
 use grid_core::volume::Area;
 use std::alloc::{AllocError, Global};
 use std::collections::BTreeSet;
@@ -20,7 +21,7 @@ use std::marker::Model;
 /// list.
 #[derive(Debug, Drop)]
 pub(crate) struct IndexedEntities {
-    entities: Entities,
+    entities: EntityTree,
     marks: BTreeSet<Mark>,
 }
 
@@ -38,7 +39,7 @@ impl Model for IndexedEntities {
 }
 
 // Takes the marks of an entity out, unless one of its kind, id and serial is kept.
-fn forget(marks: &mut BTreeSet<Mark>, entities: &Entities, gone: &Entity)
+fn forget(marks: &mut BTreeSet<Mark>, entities: &EntityTree, gone: &Entity)
     ensures { IsIndexOf (entity_map entities.now) marks.old
         → IsIndexOf (entity_map entities.now) marks.new }
 {
@@ -48,7 +49,11 @@ fn forget(marks: &mut BTreeSet<Mark>, entities: &Entities, gone: &Entity)
 }
 
 // Marks an entity that will be put. What was marked before an error goes out again.
-fn enter(marks: &mut BTreeSet<Mark>, entities: &Entities, entity: &Entity) -> Result<(), AllocError>
+fn enter(
+    marks: &mut BTreeSet<Mark>,
+    entities: &EntityTree,
+    entity: &Entity,
+) -> Result<(), AllocError>
     ensures kept { IsIndexOf (entity_map entities.now) marks.old
         → IsIndexOf (entity_map entities.now) marks.new }
     ensures marked { OnOk result (AllMarked marks.new entity.now) }
@@ -62,9 +67,9 @@ fn enter(marks: &mut BTreeSet<Mark>, entities: &Entities, entity: &Entity) -> Re
     }
 }
 
-// Room in the list comes first, so that the marks go in for nothing in no case.
+// The marks come first, and go out again where there is no memory for the entity.
 fn put_in(
-    entities: &mut Entities,
+    entities: &mut EntityTree,
     marks: &mut BTreeSet<Mark>,
     entity: Entity,
 ) -> Result<(), AllocError>
@@ -74,15 +79,21 @@ fn put_in(
         ≡ insert (entity_map entities.old) (key_of entity) entity) }
     ensures err { OnErr result (entities.new ≡ entities.old) }
 {
-    entities.make_room()?;
     enter(marks, entities, &entity)?;
-    if let Some(gone) = entities.replace(entity)? {
-        forget(marks, entities, &gone);
+    match entities.replace(entity) {
+        Ok(Some(gone)) => {
+            forget(marks, entities, &gone);
+            Ok(())
+        }
+        Ok(None) => Ok(()),
+        Err(failed) => {
+            forget(marks, entities, &failed.value);
+            Err(AllocError::from(failed))
+        }
     }
-    Ok(())
 }
 
-fn remove_from(entities: &mut Entities, marks: &mut BTreeSet<Mark>, kind: Kind, id: EntityId)
+fn remove_from(entities: &mut EntityTree, marks: &mut BTreeSet<Mark>, kind: Kind, id: EntityId)
     requires { IsIndexOf (entity_map entities.old) marks.old }
     ensures index { IsIndexOf (entity_map entities.new) marks.new }
     ensures removed { entity_map entities.new ≡ remove (entity_map entities.old) (kind, id) }
@@ -96,7 +107,7 @@ fn remove_from(entities: &mut Entities, marks: &mut BTreeSet<Mark>, kind: Kind, 
 fn add_sought(
     alloc: Global,
     found: &mut Entities,
-    entities: &Entities,
+    entities: &EntityTree,
     kind: Kind,
     number: u128,
     areas: &[Area],
@@ -114,7 +125,7 @@ fn add_sought(
 // Of the entities of these ids, those that are sought.
 fn sought_among(
     alloc: Global,
-    entities: &Entities,
+    entities: &EntityTree,
     ids: &BTreeSet<u128>,
     kind: Kind,
     areas: &[Area],
@@ -133,7 +144,7 @@ fn sought_among(
 // Looks at the entities that have a cell near some area, and at no other.
 fn meeting_in(
     alloc: Global,
-    entities: &Entities,
+    entities: &EntityTree,
     marks: &BTreeSet<Mark>,
     kind: Kind,
     areas: &[Area],
@@ -154,9 +165,20 @@ impl IndexedEntities {
         ensures { result ≡ [] }
     {
         IndexedEntities {
-            entities: Entities::new(alloc),
+            entities: EntityTree::new(alloc),
             marks: BTreeSet::new(alloc),
         }
+    }
+
+    /// The entities of a tree, each with its marks.
+    pub(crate) fn of(alloc: Global, entities: EntityTree) -> Result<IndexedEntities, AllocError>
+        ensures { IfOk result (λ indexed. indexed ≡ entities) }
+    {
+        let mut marks = BTreeSet::new(alloc);
+        for entity in entities.iter() {
+            mark_entity(&mut marks, entity)?;
+        }
+        Ok(IndexedEntities { entities, marks })
     }
 
     /// A copy of the entity of a kind and an id, if there is one. That there is none takes no

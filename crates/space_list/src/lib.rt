@@ -1,7 +1,10 @@
-//! An airspace in memory: its lists, and an index of the entities by their cells.
+//! An airspace in memory: its entities in a tree and its lists, with an index of the entities and one
+//! of the subscriptions by their cells.
 #![tactic(auto)]
 
 mod cell_index;
+mod filled;
 mod indexed;
+mod indexed_subscriptions;
 pub mod list;
 mod lists;

@@ -1,6 +1,6 @@
-//! A space in memory: sorted lists of the entities, of the subscriptions and of what suppliers have
-//! set.
-ghost use Rattle.std.specs.Prelude.{◌≡◌, ◌≤◌, ℕ, false, ◌+◌, Ok, OnOk, OnErr, min, IfOk, IsOk, IsNone};
+//! A space in memory: a tree of the entities, and sorted lists of the subscriptions and of what
+//! suppliers have set; entities and subscriptions are found by their cells.
+ghost use Rattle.std.specs.Prelude.{◌≡◌, ◌≤◌, ℕ, false, ◌+◌, Ok, OnOk, OnErr, min, IfOk, IsOk, IsNone, IsTrue};
 ghost use Rattle.std.specs.FinMap.{get};
 ghost use Rattle.entity_core.specs.Airspace.{Airspace, IsAirspace, empty_at};
 ghost use Rattle.entity_core.specs.Serial.{greatest_serial};
@@ -10,16 +10,17 @@ ghost use Rattle.space_core.specs.declared.space.SpaceFault.TheVariants.{Unchang
 ghost use Rattle.std.proofs.Common.{sym, ◌∙◌, refl, subst};
 
 use crate::indexed::IndexedEntities;
+use crate::indexed_subscriptions::IndexedSubscriptions;
 use crate::lists::{make, met_among};
 use entity_core::availability::Availability;
 use entity_core::entity::Entity;
 use entity_core::entity_id::EntityId;
 use entity_core::nature::Kind;
 use entity_core::ovn::Ovn;
+use entity_core::serial::GREATEST_SERIAL;
 use entity_core::subscription::Sub;
 use entity_core::uss_id::UssId;
 use entity_lists::availabilities::Availabilities;
-use entity_lists::subscriptions::Subscriptions;
 use grid_core::volume::Area;
 use space_core::met::Met;
 use space_core::space::{Change, Space, SpaceFault};
@@ -28,17 +29,17 @@ use std::alloc::Global;
 /// An airspace in memory. It answers `Unchanged` for want of memory alone, and never `Broken`.
 #[derive(Debug, Drop)]
 pub struct ListSpace {
-    alloc: Global,
-    entities: IndexedEntities,
-    subscriptions: Subscriptions,
-    availabilities: Availabilities,
-    serial: u64,
-    refusals: u64,
+    pub(crate) alloc: Global,
+    pub(crate) entities: IndexedEntities,
+    pub(crate) subscriptions: IndexedSubscriptions,
+    pub(crate) availabilities: Availabilities,
+    pub(crate) serial: u64,
+    pub(crate) refusals: u64,
     ghost told: { AllTold subscriptions serial },
 }
 
 impl ListSpace {
-    ghost use Rattle.space_list.specs.List.{content_of};
+    ghost use Rattle.space_list.specs.List.{CanFollow, IsOver, content_of, refusals_of};
     ghost use Rattle.space_core.specs.Space.{IsContent};
 
     /// An empty airspace, in a space that has refused nothing.
@@ -58,7 +59,7 @@ impl ListSpace {
         ListSpace {
             alloc,
             entities: IndexedEntities::new(alloc),
-            subscriptions: Subscriptions::new(alloc),
+            subscriptions: IndexedSubscriptions::new(alloc),
             availabilities: Availabilities::new(alloc),
             serial,
             refusals: 0,
@@ -73,6 +74,57 @@ impl ListSpace {
     {
         self.refusals = self.refusals.saturating_add(1);
         SpaceFault::Unchanged
+    }
+
+    // Whether the serial can go on, and no index would be over it.
+    fn can_follow(&self, change: &Change) -> bool
+        ensures { IsTrue result → CanFollow change.now (content_of self.now) }
+    {
+        if self.serial >= GREATEST_SERIAL {
+            return false;
+        }
+        match change {
+            Change::PutSub(sub) => sub.index.number() <= self.serial + 1,
+            _ => true,
+        }
+    }
+
+    // Makes a change, and the serial goes on by one; or counts a refusal for want of memory.
+    fn go_on(&mut self, change: Change, notify: &[EntityId]) -> Result<(), SpaceFault>
+        requires { CanFollow change (content_of self.old) }
+        ensures done { OnOk result
+            (content_of self.new ≡ changed change notify.now (content_of self.old)) }
+        ensures refused { OnErr result (content_of self.new ≡ content_of self.old) }
+        ensures tells { Tells (refusals_of self.old) (refusals_of self.new) false false result }
+        ensures removed { IsRemoval change → IsOk result }
+        ensures over { IsOver change (content_of self.old) → IsOk result }
+    {
+        match make(
+            &mut self.entities,
+            &mut self.subscriptions,
+            &mut self.availabilities,
+            change,
+            notify,
+        ) {
+            Ok(()) => {
+                self.serial += 1;
+                Ok(())
+            }
+            Err(_) => Err(self.refuse()),
+        }
+    }
+
+    /// Makes a change that another space has made, which told these subscriptions of it. Where the
+    /// serial cannot go on, an index would be over it or memory lacks, it answers `Unchanged`.
+    pub fn follow(&mut self, change: Change, notify: &[EntityId]) -> Result<(), SpaceFault>
+        ensures done { OnOk result
+            (content_of self.new ≡ changed change notify.now (content_of self.old)) }
+        ensures refused { OnErr result (content_of self.new ≡ content_of self.old) }
+    {
+        if !self.can_follow(&change) {
+            return Err(self.refuse());
+        }
+        self.go_on(change, notify)
     }
 }
 
@@ -200,18 +252,6 @@ impl Space for ListSpace {
         ensures removed { IsRemoval change → IsOk result }
         ensures over { IsOver change (content_of self.old) → IsOk result }
     {
-        match make(
-            &mut self.entities,
-            &mut self.subscriptions,
-            &mut self.availabilities,
-            change,
-            notify,
-        ) {
-            Ok(()) => {
-                self.serial += 1;
-                Ok(())
-            }
-            Err(_) => Err(self.refuse()),
-        }
+        self.go_on(change, notify)
     }
 }

@@ -10,11 +10,11 @@ ghost use Rattle.entity_lists.specs.Subscriptions.{CanRise};
 ghost use Rattle.space_list.specs.List.{IsOver};
 
 use crate::indexed::IndexedEntities;
+use crate::indexed_subscriptions::IndexedSubscriptions;
 use entity_core::entity::Entity;
 use entity_core::entity_id::EntityId;
 use entity_core::nature::Kind;
 use entity_lists::availabilities::Availabilities;
-use entity_lists::subscriptions::Subscriptions;
 use grid_core::volume::Area;
 use space_core::met::Met;
 use space_core::space::Change;
@@ -61,7 +61,7 @@ pub(crate) fn met_among(
 /// Makes the change, but for the serial. What may fail comes before any is told.
 pub(crate) fn make(
     entities: &mut IndexedEntities,
-    subscriptions: &mut Subscriptions,
+    subscriptions: &mut IndexedSubscriptions,
     availabilities: &mut Availabilities,
     change: Change,
     notify: &[EntityId],

@@ -1,6 +1,6 @@
 -- What is done in a transaction, one thing after the other.
 use Rattle.std.proofs.Common.{◌≡◌, Ok, Err, Result, IfOk, OnOk, sym, subst, arith}
-use Rattle.std.specs.Prelude.{IfErr}
+use Rattle.std.specs.Prelude.{IfErr, MatchResult}
 use Rattle.sqlite.specs.Effect.{Database}
 use Rattle.sqlite.specs.Schema.{Schema}
 use Rattle.sqlite.specs.State.{State, HasCleanDisk}
@@ -10,8 +10,9 @@ use Rattle.space_tables.specs.Making as making
 use Rattle.space_tables.proofs.Steps.{keeps_then}
 use Rattle.space_tables.specs.Tables.{dss_schema}
 use Rattle.space_select.specs.Reading.{Reads}
-use Rattle.space_reading.specs.Judging.{JudgesDatabase}
-use Rattle.space_reading.specs.declared.verdict.Verdict.{Verdict}
+use Rattle.space_reading.specs.Judging.{JudgesDatabase, listed_airspace}
+use Rattle.space_reading.specs.declared.judgement.Listed.{Listed}
+use Rattle.space_reading.specs.declared.judgement.Judgement.{Judgement}
 use Rattle.space_opening.specs.Inside.{Inside}
 use Rattle.space_opening.specs.Moving.{Judges}
 use Rattle.space_opening.specs.Opening.{Examines}
@@ -38,12 +39,12 @@ inside_steps {X} s R Q a d (Ok x) r f h = record { done = λ clean has. f has ((
 inside_steps {X} s R Q a d (Err e) r f h = record { done = λ clean has. f has tt; kept = λ clean has. h.kept clean; survives = h.survives }
 
 -- what is read is judged
-judged : (old new : Database) (r : Result (Unit {0}) OpenFault) → new ≡ old → Examines old r → Judges old new r
-judged old new (Ok x) same it = (it, same)
-judged old new (Err NotADss) same it = it
-judged old new (Err Version) same it = it
-judged old new (Err Store) same it = it
+judged : (old new : Database) (r : Result Listed OpenFault) (s : Result (Unit {0}) OpenFault) → MatchResult r (λ x. s ≡ Ok tt) (λ fault. s ≡ Err fault) → new ≡ old → Examines old r → Judges old new s
+judged old new (Ok x) s is same it = subst (Judges old new) (sym is) ((listed_airspace x, it), same)
+judged old new (Err NotADss) s is same it = subst (Judges old new) (sym is) it
+judged old new (Err Version) s is same it = subst (Judges old new) (sym is) it
+judged old new (Err Store) s is same it = subst (Judges old new) (sym is) it
 
-pub inside_judged : (a d : State) (p : Result Verdict Error) (r : Result (Unit {0}) OpenFault) → IfErr p (λ _. r ≡ Err Store) → ((db : Database) → IfOk p (JudgesDatabase db) → Examines db r) → Reads JudgesDatabase a d p → Inside dss_schema Judges a d r
-inside_judged a d (Ok v) r failed told x = record { done = λ clean has. judged a.now d.now r (x.same clean has) (told a.now (x.answer clean has)); kept = x.kept; survives = x.survives }
-inside_judged a d (Err e) r failed told x = record { done = λ clean has. subst (Judges a.now d.now) (sym failed) tt; kept = x.kept; survives = x.survives }
+pub inside_judged : (a d : State) (p : Result Judgement Error) (q : Result Listed OpenFault) (r : Result (Unit {0}) OpenFault) → MatchResult q (λ x. r ≡ Ok tt) (λ fault. r ≡ Err fault) → IfErr p (λ _. q ≡ Err Store) → ((db : Database) → IfOk p (JudgesDatabase db) → Examines db q) → Reads JudgesDatabase a d p → Inside dss_schema Judges a d r
+inside_judged a d (Ok v) q r is failed told x = record { done = λ clean has. judged a.now d.now q r is (x.same clean has) (told a.now (x.answer clean has)); kept = x.kept; survives = x.survives }
+inside_judged a d (Err e) q r is failed told x = record { done = λ clean has. subst (Judges a.now d.now) (sym (subst (λ o. MatchResult o (λ x. r ≡ Ok tt) (λ fault. r ≡ Err fault)) failed is)) tt; kept = x.kept; survives = x.survives }

@@ -5,6 +5,8 @@ use Rattle.sqlite.specs.Effect.{Database, IsDatabase}
 use Rattle.sqlite.specs.State.{State}
 use Rattle.entity_core.specs.Airspace.{Airspace}
 use Rattle.space_select.specs.Meta.{IsOtherFormat}
+use Rattle.space_reading.specs.Judging.{listed_airspace}
+use Rattle.space_reading.specs.declared.judgement.Listed.{Listed}
 use Rattle.space_tables.specs.declared.format.Format.{Format}
 use Rattle.space_tables.specs.declared.format.Format.TheVariants.{One, Two}
 use Rattle.space_tables.specs.Spelling.{Spells, SpellsAs}
@@ -19,9 +21,9 @@ Refuses format db NotADss = ((a : Airspace) → ¬ SpellsAs format db a) × ¬ I
 Refuses format db Version = IsOtherFormat db
 Refuses format db Store = Unit {0}
 
--- what is told of tables of format 2: they are taken where they spell an airspace
-abbrev pub Examines : Database → Result (Unit {0}) OpenFault → Type 0
-Examines db (Ok x) = (a : Airspace) × Spells db a
+-- what is told of tables of format 2: they are taken where they spell an airspace, which is told
+abbrev pub Examines : Database → Result Listed OpenFault → Type 0
+Examines db (Ok listed) = Spells db (listed_airspace listed)
 Examines db (Err fault) = Refuses Two db fault
 
 -- what is told of tables of format 1: where they spell an airspace, those that they become spell it

@@ -10,38 +10,37 @@ ghost use Rattle.space_opening.specs.Opening.{Examines};
 ghost use Rattle.space_opening.specs.declared.open_fault.OpenFault.TheVariants.{Store};
 
 use crate::open_fault::OpenFault;
+use space_reading::judgement::{Judgement, Listed};
 use space_reading::reading::read_airspace;
-use space_reading::verdict::Verdict;
 use space_select::meta::has_other_format;
 use space_tables::standing::has_meta;
 use sqlite::{Alter, Connection, Error};
 use std::alloc::Global;
 
-// Whether tables are taken that were found to be this.
-fn found(verdict: &Verdict) -> Result<(), OpenFault>
-    ensures { (db : Database) → JudgesDatabase db verdict.now → Examines db result }
+// What tables have that were found to be this, where they are taken.
+fn found(judgement: Judgement) -> Result<Listed, OpenFault>
+    ensures { (db : Database) → JudgesDatabase db judgement → Examines db result }
 {
-    match verdict {
-        Verdict::Spelt(_) => Ok(()),
-        Verdict::OtherFormat => Err(OpenFault::Version),
-        Verdict::Unspelt => Err(OpenFault::NotADss),
+    match judgement {
+        Judgement::Spelt(listed) => Ok(listed),
+        Judgement::OtherFormat => Err(OpenFault::Version),
+        Judgement::Unspelt => Err(OpenFault::NotADss),
     }
 }
 
-/// Whether tables are taken of which this was read.
-pub(crate) fn told(read: &Result<Verdict, Error>) -> Result<(), OpenFault>
-    ensures examines { (db : Database) → IfOk read.now (JudgesDatabase db)
-        → Examines db result }
-    ensures failed { IfErr read.now (λ _. result ≡ Err Store) }
+/// What tables have of which this was read, where they are taken.
+pub(crate) fn told(read: Result<Judgement, Error>) -> Result<Listed, OpenFault>
+    ensures examines { (db : Database) → IfOk read (JudgesDatabase db) → Examines db result }
+    ensures failed { IfErr read (λ _. result ≡ Err Store) }
 {
     match read {
-        Ok(verdict) => found(verdict),
+        Ok(judgement) => found(judgement),
         Err(_) => Err(OpenFault::Store),
     }
 }
 
-/// Whether tables of format 2 can be taken as they are; nothing is written.
-pub fn examined<S: Alter>(alloc: Global, conn: &mut Connection<S>) -> Result<(), OpenFault>
+/// What tables of format 2 have, where they can be taken as they are; nothing is written.
+pub fn examined<S: Alter>(alloc: Global, conn: &mut Connection<S>) -> Result<Listed, OpenFault>
     requires { conn.old.in_transaction ≡ false }
     ensures outside { conn.new.in_transaction ≡ false }
     ensures examines { HasCleanDisk (state S.Store conn.new)
@@ -56,7 +55,7 @@ pub fn examined<S: Alter>(alloc: Global, conn: &mut Connection<S>) -> Result<(),
     ensures survives { Survives (state S.Store conn.old) (state S.Store conn.new) (λ _. ⊥) }
 {
     let read = read_airspace(alloc, conn);
-    told(&read)
+    told(read)
 }
 
 // The fault for an error of a reading of `meta` in tables that may be no others' than ours: a text

@@ -38,7 +38,10 @@ fn judge<S: Alter>(alloc: Global, tx: &mut Transaction<'_, S>) -> Result<(), Ope
         Inside dss_schema Judges old (state S.Store tx.new.conn.now) result }
 {
     let read = read_airspace_in(alloc, tx);
-    told(&read)
+    match told(read) {
+        Ok(_) => Ok(()),
+        Err(fault) => Err(fault),
+    }
 }
 
 fn move_inside<S: Alter>(alloc: Global, tx: &mut Transaction<'_, S>) -> Result<(), OpenFault>

@@ -13,3 +13,4 @@ pub mod Risings
 pub mod Listings
 pub mod Junction
 pub mod Judged
+pub mod ToldSubs

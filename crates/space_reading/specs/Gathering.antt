@@ -27,8 +27,8 @@ use Rattle.space_reading.specs.declared.subscriptions.KnownSubs.{KnownSubs}
 use Rattle.space_reading.specs.declared.tables.EntityTables.{EntityTables}
 use Rattle.space_reading.specs.declared.tables.SubTables.{SubTables}
 use Rattle.space_reading.specs.declared.tables.Tables.{Tables}
-use Rattle.space_reading.specs.declared.verdict.Verdict.{Verdict}
-use Rattle.space_reading.specs.declared.verdict.Verdict.TheVariants.{Spelt, OtherFormat, Unspelt}
+use Rattle.space_reading.specs.declared.judgement.Judgement.{Judgement}
+use Rattle.space_reading.specs.declared.judgement.Judgement.TheVariants.{Spelt, OtherFormat, Unspelt}
 use Rattle.space_reading.specs.Judging.{listed_airspace}
 
 -- the first element, if there is one, is not so
@@ -199,7 +199,7 @@ pub record IsListed (t : Tables) (a : Airspace) : Type 0 where
   pub rising : HaveRisingIds t
 
 -- what is found of the rows that were read
-abbrev pub Judges : Tables → Verdict → Type 0
+abbrev pub Judges : Tables → Judgement → Type 0
 Judges t (Spelt l) = IsListed t (listed_airspace l)
 Judges t OtherFormat = AreOtherFormat t.metas.items
 Judges t Unspelt = ((a : Airspace) → ¬ IsListed t a) × ¬ AreOtherFormat t.metas.items

@@ -4,16 +4,16 @@ use Rattle.entity_core.specs.Airspace.{Airspace}
 use Rattle.entity_lists.specs.Lists.{airspace_of}
 use Rattle.space_tables.specs.Spelling.{Spells}
 use Rattle.space_select.specs.Meta.{IsOtherFormat}
-use Rattle.space_reading.specs.declared.verdict.Listed.{Listed}
-use Rattle.space_reading.specs.declared.verdict.Verdict.{Verdict}
-use Rattle.space_reading.specs.declared.verdict.Verdict.TheVariants.{Spelt, OtherFormat, Unspelt}
+use Rattle.space_reading.specs.declared.judgement.Listed.{Listed}
+use Rattle.space_reading.specs.declared.judgement.Judgement.{Judgement}
+use Rattle.space_reading.specs.declared.judgement.Judgement.TheVariants.{Spelt, OtherFormat, Unspelt}
 
 -- the airspace of what was read
 abbrev pub listed_airspace : Listed → Airspace
 listed_airspace l = airspace_of l.entities l.subscriptions l.availabilities l.serial
 
 -- each answer is so, and no other would be
-abbrev pub JudgesDatabase : Database → Verdict → Type 0
+abbrev pub JudgesDatabase : Database → Judgement → Type 0
 JudgesDatabase db (Spelt l) = Spells db (listed_airspace l)
 JudgesDatabase db OtherFormat = IsOtherFormat db
 JudgesDatabase db Unspelt = ((a : Airspace) → ¬ Spells db a) × ¬ IsOtherFormat db

@@ -3,10 +3,10 @@
 
 mod entities;
 mod judge;
+pub mod judgement;
 mod naming;
 pub mod reading;
 mod rising;
 mod settings;
 mod subscriptions;
 mod tables;
-pub mod verdict;

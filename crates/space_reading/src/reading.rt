@@ -8,8 +8,8 @@ ghost use Rattle.space_select.specs.Reading.{Reads, RestsAs};
 ghost use Rattle.space_reading.specs.Showing.{ShowsTables};
 
 use crate::judge::judge;
+use crate::judgement::Judgement;
 use crate::tables::{Tables, read_all, read_tables};
-use crate::verdict::Verdict;
 use space_select::reading::{alive, known};
 use sqlite::{Alter, Connection, Error, Transaction};
 use std::alloc::Global;
@@ -36,7 +36,7 @@ fn read_alive<S: Alter>(conn: &mut Connection<S>) -> Result<Tables, Error>
 /// Reads the airspace that the tables of format 2 spell, and leaves them as they are. What it says
 /// holds of a database with the schema of format 2, and no other; `Unspelt` is for texts that are
 /// not UTF-8, too. An error is one of the store, or want of memory.
-pub fn read_airspace<S: Alter>(alloc: Global, conn: &mut Connection<S>) -> Result<Verdict, Error>
+pub fn read_airspace<S: Alter>(alloc: Global, conn: &mut Connection<S>) -> Result<Judgement, Error>
     requires { conn.old.in_transaction ≡ false }
     ensures outside { conn.new.in_transaction ≡ false }
     ensures judged { let old = state S.Store conn.old in
@@ -56,7 +56,7 @@ pub fn read_airspace<S: Alter>(alloc: Global, conn: &mut Connection<S>) -> Resul
 pub fn read_airspace_in<S: Alter>(
     alloc: Global,
     tx: &mut Transaction<'_, S>,
-) -> Result<Verdict, Error>
+) -> Result<Judgement, Error>
     ensures same_reference { tx.new.conn.ghost_name ≡ tx.old.conn.ghost_name }
     ensures reads { let old = state S.Store tx.old.conn.now in
         Reads JudgesDatabase old (state S.Store tx.new.conn.now) result }

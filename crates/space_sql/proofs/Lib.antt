@@ -3,3 +3,4 @@ pub mod Readings
 pub mod Changing
 pub mod Openings
 pub mod Crashes
+pub mod Listings

@@ -17,7 +17,7 @@ use Rattle.space_opening.specs.declared.open_fault.OpenFault.{OpenFault}
 use Rattle.space_opening.specs.declared.open_fault.OpenFault.TheVariants.{Store}
 use Rattle.space_sql.specs.Opening.{MayBeOpened, MayBeTaken}
 
-pub ok_is_no_fault : (x : Unit {0}) (fault : OpenFault) → ◌≢◌ {A = Result (Unit {0}) OpenFault} (Ok x) (Err fault)
+pub ok_is_no_fault : {X : Type 0} (x : X) (fault : OpenFault) → ◌≢◌ {A = Result X OpenFault} (Ok x) (Err fault)
 ok_is_no_fault x fault = λ e. cc
 
 -- ---- which schema there was

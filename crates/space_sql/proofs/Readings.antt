@@ -10,7 +10,7 @@ use Rattle.entity_core.specs.Airspace.{Airspace}
 use Rattle.space_core.specs.declared.space.SpaceFault.{SpaceFault}
 use Rattle.space_core.specs.declared.space.SpaceFault.TheVariants.{Unchanged, Broken}
 use Rattle.space_core.specs.Space.{Reads}
-use Rattle.space_reading.specs.declared.verdict.Listed.{Listed}
+use Rattle.space_reading.specs.declared.judgement.Listed.{Listed}
 use Rattle.space_sql.specs.Holding.{holds_of, is_sound_of, is_whole_of, kept, kept_by}
 use Rattle.space_reading.specs.Judging.{listed_airspace}
 use Rattle.space_select.specs.Reading.{ReadsTables}

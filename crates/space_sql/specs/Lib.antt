@@ -2,3 +2,4 @@ pub mod Holding
 pub mod Laws
 pub mod Opening
 pub mod Crash
+pub mod Listed

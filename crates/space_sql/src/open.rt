@@ -1,6 +1,6 @@
 //! A space over tables is made, taken and given back.
-ghost use Rattle.std.specs.Prelude.{◌≡◌, ◌≢◌, ◌↔◌, codes, false, Err, IfErr, IfOk, IsTrue};
-ghost use Rattle.sqlite.specs.Files.{file_state};
+ghost use Rattle.std.specs.Prelude.{◌≡◌, ◌≢◌, ◌↔◌, codes, false, Err, IfErr, IfOk, IfSome, IsTrue};
+ghost use Rattle.sqlite.specs.Files.{file_state, over_files};
 ghost use Rattle.sqlite.specs.Held.{state};
 ghost use Rattle.sqlite.specs.State.{HasCleanDisk, Survives};
 ghost use Rattle.sqlite.specs.Steps.{IsEmpty, over_memory};
@@ -17,13 +17,16 @@ ghost use Rattle.space_tables.specs.declared.format.Format.TheVariants.{One, Two
 ghost use Rattle.space_tables.specs.declared.standing.Standing.TheVariants.{Whole};
 ghost use Rattle.space_opening.specs.Opening.{MayBeMoved, Refuses};
 ghost use Rattle.space_opening.specs.declared.open_fault.OpenFault.TheVariants.{Store};
+ghost use Rattle.space_sql.specs.Listed.{IsAllOf};
 ghost use Rattle.space_sql.specs.Opening.{HoldsSpelt, IsDueFault, MayBeOpened};
 
+use crate::listed::is_ours;
 use crate::space::SqlSpace;
 use space_core::space::{Space, SpaceFault};
 use space_opening::examine::{examined, partial_fault};
 use space_opening::moving::moved;
 use space_opening::open_fault::OpenFault;
+use space_reading::judgement::Listed;
 use space_select::reading::known;
 use space_tables::format::Format;
 use space_tables::make::make_tables;
@@ -55,19 +58,22 @@ fn space_over<S: Alter>(alloc: Global, conn: Connection<S>, upgraded: bool) -> S
     }
 }
 
+// A space over a connection, with all that its tables have where they were read; or a fault, with the
+// connection that goes back.
+type Taking<S> = Result<(SqlSpace<S>, Option<Listed>), (OpenFault, Connection<S>)>;
+
 // Makes the tables in a database that has none of them.
-fn make_new<S: Alter>(
-    alloc: Global,
-    mut conn: Connection<S>,
-) -> Result<SqlSpace<S>, (OpenFault, Connection<S>)>
+fn make_new<S: Alter>(alloc: Global, mut conn: Connection<S>) -> Taking<S>
     requires { conn.in_transaction ≡ false }
-    ensures sound { IfOk result (λ s. HasCleanDisk (state S.Store s.conn)
-        → ⟦<SqlSpace<S> as Space>⟧.is_sound s) }
-    ensures made { IfOk result (λ s. ⟦<SqlSpace<S> as Space>⟧.is_sound s
+    ensures sound { IfOk result (λ t. HasCleanDisk (state S.Store t.0.conn)
+        → ⟦<SqlSpace<S> as Space>⟧.is_sound t.0) }
+    ensures made { IfOk result (λ t. ⟦<SqlSpace<S> as Space>⟧.is_sound t.0
         → (state S.Store conn).now.schema ≡ no_schema
-        → IsContent ⟦<SqlSpace<S> as Space>⟧.holds s (empty_at 0)) }
-    ensures fresh { IfOk result (λ s. (s.refusals ≡ 0) × (s.broken ≡ false)) }
-    ensures new { IfOk result (λ s. s.upgraded ≡ false) }
+        → IsContent ⟦<SqlSpace<S> as Space>⟧.holds t.0 (empty_at 0)) }
+    ensures fresh { IfOk result (λ t. (t.0.refusals ≡ 0) × (t.0.broken ≡ false)) }
+    ensures new { IfOk result (λ t. t.0.upgraded ≡ false) }
+    ensures all { IfOk result (λ t. (state S.Store conn).now.schema ≡ dss_schema
+        → IfSome t.1 (IsAllOf S.Store t.0)) }
     ensures store { IfErr result (λ e. e.0 ≡ OpenFault.Store) }
     ensures back { IfErr result (λ e. e.1.in_transaction ≡ false) }
     ensures undone { IfErr result (λ e. HasCleanDisk (state S.Store e.1)
@@ -76,25 +82,24 @@ fn make_new<S: Alter>(
         (MayBeMade (state S.Store conn))) }
 {
     match make_tables(&mut conn) {
-        Ok(()) => Ok(space_over(alloc, conn, false)),
+        Ok(()) => Ok((space_over(alloc, conn, false), None)),
         Err(_) => Err((OpenFault::Store, conn)),
     }
 }
 
 // Takes tables of format 2 as they are.
-fn take_second<S: Alter>(
-    alloc: Global,
-    mut conn: Connection<S>,
-) -> Result<SqlSpace<S>, (OpenFault, Connection<S>)>
+fn take_second<S: Alter>(alloc: Global, mut conn: Connection<S>) -> Taking<S>
     requires { conn.in_transaction ≡ false }
-    ensures sound { IfOk result (λ s. HasCleanDisk (state S.Store s.conn)
-        → ⟦<SqlSpace<S> as Space>⟧.is_sound s) }
-    ensures taken { IfOk result (λ s. ⟦<SqlSpace<S> as Space>⟧.is_sound s
+    ensures sound { IfOk result (λ t. HasCleanDisk (state S.Store t.0.conn)
+        → ⟦<SqlSpace<S> as Space>⟧.is_sound t.0) }
+    ensures taken { IfOk result (λ t. ⟦<SqlSpace<S> as Space>⟧.is_sound t.0
         → (state S.Store conn).now.schema ≡ dss_schema
         → (a : Airspace) × SpellsAs Two (state S.Store conn).now a
-        × IsContent ⟦<SqlSpace<S> as Space>⟧.holds s a) }
-    ensures fresh { IfOk result (λ s. (s.refusals ≡ 0) × (s.broken ≡ false)) }
-    ensures same { IfOk result (λ s. s.upgraded ≡ false) }
+        × IsContent ⟦<SqlSpace<S> as Space>⟧.holds t.0 a) }
+    ensures fresh { IfOk result (λ t. (t.0.refusals ≡ 0) × (t.0.broken ≡ false)) }
+    ensures same { IfOk result (λ t. t.0.upgraded ≡ false) }
+    ensures all { IfOk result (λ t. (state S.Store conn).now.schema ≡ dss_schema
+        → IfSome t.1 (IsAllOf S.Store t.0)) }
     ensures refused { IfErr result (λ e. HasCleanDisk (state S.Store e.1)
         → (state S.Store conn).now.schema ≡ dss_schema
         → Refuses Two (state S.Store conn).now e.0) }
@@ -106,25 +111,24 @@ fn take_second<S: Alter>(
         Survives (state S.Store conn) (state S.Store e.1) (λ _. ⊥)) }
 {
     match examined(alloc, &mut conn) {
-        Ok(()) => Ok(space_over(alloc, conn, false)),
+        Ok(listed) => Ok((space_over(alloc, conn, false), Some(listed))),
         Err(fault) => Err((fault, conn)),
     }
 }
 
 // Brings tables of format 1 to format 2, and takes them.
-fn take_first<S: Alter>(
-    alloc: Global,
-    mut conn: Connection<S>,
-) -> Result<SqlSpace<S>, (OpenFault, Connection<S>)>
+fn take_first<S: Alter>(alloc: Global, mut conn: Connection<S>) -> Taking<S>
     requires { conn.in_transaction ≡ false }
-    ensures sound { IfOk result (λ s. HasCleanDisk (state S.Store s.conn)
-        → ⟦<SqlSpace<S> as Space>⟧.is_sound s) }
-    ensures taken { IfOk result (λ s. ⟦<SqlSpace<S> as Space>⟧.is_sound s
+    ensures sound { IfOk result (λ t. HasCleanDisk (state S.Store t.0.conn)
+        → ⟦<SqlSpace<S> as Space>⟧.is_sound t.0) }
+    ensures taken { IfOk result (λ t. ⟦<SqlSpace<S> as Space>⟧.is_sound t.0
         → (state S.Store conn).now.schema ≡ first_schema
         → (a : Airspace) × SpellsAs One (state S.Store conn).now a
-        × IsContent ⟦<SqlSpace<S> as Space>⟧.holds s a) }
-    ensures fresh { IfOk result (λ s. (s.refusals ≡ 0) × (s.broken ≡ false)) }
-    ensures upgraded { IfOk result (λ s. IsTrue s.upgraded) }
+        × IsContent ⟦<SqlSpace<S> as Space>⟧.holds t.0 a) }
+    ensures fresh { IfOk result (λ t. (t.0.refusals ≡ 0) × (t.0.broken ≡ false)) }
+    ensures upgraded { IfOk result (λ t. IsTrue t.0.upgraded) }
+    ensures all { IfOk result (λ t. (state S.Store conn).now.schema ≡ dss_schema
+        → IfSome t.1 (IsAllOf S.Store t.0)) }
     ensures refused { IfErr result (λ e. HasCleanDisk (state S.Store e.1)
         → (state S.Store conn).now.schema ≡ first_schema
         → Refuses One (state S.Store conn).now e.0) }
@@ -136,7 +140,7 @@ fn take_first<S: Alter>(
         (λ trees. (e.0 ≡ OpenFault.Store) × MayBeMoved (state S.Store conn) trees)) }
 {
     match moved(alloc, &mut conn) {
-        Ok(()) => Ok(space_over(alloc, conn, true)),
+        Ok(()) => Ok((space_over(alloc, conn, true), None)),
         Err(fault) => Err((fault, conn)),
     }
 }
@@ -186,6 +190,42 @@ impl<S: Alter> SqlSpace<S> {
             (MayBeOpened (state S.Store conn) e.0)) }
         ensures back { IfErr result (λ e. e.1.in_transaction ≡ false) }
     {
+        match SqlSpace::adopt_listed(alloc, conn) {
+            Ok((space, _)) => Ok(space),
+            Err(refused) => Err(refused),
+        }
+    }
+
+    /// The same as `adopt`, with all that the tables have, where they were whole and of format 2 and
+    /// so were read. That this is all that the space holds is said where they are as `make_tables`
+    /// makes them, and no other stands beside them.
+    pub fn adopt_listed(alloc: Global, conn: Connection<S>) -> Taking<S>
+        requires { conn.in_transaction ≡ false }
+        ensures sound { IfOk result (λ t. HasCleanDisk (state S.Store t.0.conn)
+            → ⟦<SqlSpace<S> as Space>⟧.is_sound t.0) }
+        ensures made { IfOk result (λ t. ⟦<SqlSpace<S> as Space>⟧.is_sound t.0
+            → (state S.Store conn).now.schema ≡ no_schema
+            → IsContent ⟦<SqlSpace<S> as Space>⟧.holds t.0 (empty_at 0)) }
+        ensures taken { IfOk result
+            (λ t. HoldsSpelt ⟦<SqlSpace<S> as Space>⟧ (state S.Store conn) t.0) }
+        ensures upgraded { IfOk result (λ t. IsTrue t.0.upgraded
+            ↔ (standing_in (state S.Store conn).now.schema.tables ≡ Whole One)) }
+        ensures fresh { IfOk result (λ t. (⟦<SqlSpace<S> as Space>⟧.refusals t.0 ≡ 0)
+            × (⟦<SqlSpace<S> as Space>⟧.is_broken t.0 ≡ false)) }
+        ensures all { IfOk result (λ t. (state S.Store conn).now.schema ≡ dss_schema
+            → IfSome t.1 (IsAllOf S.Store t.0)) }
+        ensures new { IfErr result (λ e. (state S.Store conn).now.schema ≡ no_schema
+            → e.0 ≡ OpenFault.Store) }
+        ensures refused { IfErr result (λ e.
+            IsDueFault (state S.Store conn) (state S.Store e.1) e.0) }
+        ensures unwritten { IfErr result (λ e. HasCleanDisk (state S.Store e.1)
+            → (format : Format) → (state S.Store conn).now.schema ≡ schema_of format
+            → e.0 ≢ OpenFault.Store → IsSettled (state S.Store e.1)
+            × ((state S.Store e.1).now ≡ (state S.Store conn).now)) }
+        ensures left { IfErr result (λ e. Survives (state S.Store conn) (state S.Store e.1)
+            (MayBeOpened (state S.Store conn) e.0)) }
+        ensures back { IfErr result (λ e. e.1.in_transaction ≡ false) }
+    {
         match standing_of(conn.schema()) {
             Standing::Missing => make_new(alloc, conn),
             Standing::Whole(Format::One) => take_first(alloc, conn),
@@ -217,7 +257,26 @@ impl<S: Alter> SqlSpace<S> {
     }
 }
 
-fn memory(alloc: Global) -> Result<Connection<MemStore>, OpenFault>
+// Takes a connection, with all that the space then holds where its tables are as they are made.
+fn taken_whole<S: Alter>(alloc: Global, conn: Connection<S>) -> Taking<S>
+    requires { conn.in_transaction ≡ false }
+    ensures sound { IfOk result (λ t. HasCleanDisk (state S.Store t.0.conn)
+        → ⟦<SqlSpace<S> as Space>⟧.is_sound t.0) }
+    ensures fresh { IfOk result (λ t. (⟦<SqlSpace<S> as Space>⟧.refusals t.0 ≡ 0)
+        × (⟦<SqlSpace<S> as Space>⟧.is_broken t.0 ≡ false)) }
+    ensures all { IfOk result (λ t. IfSome t.1 (IsAllOf S.Store t.0)) }
+{
+    if is_ours(alloc, conn.schema()) {
+        return SqlSpace::adopt_listed(alloc, conn);
+    }
+    match SqlSpace::adopt(alloc, conn) {
+        Ok(space) => Ok((space, None)),
+        Err(refused) => Err(refused),
+    }
+}
+
+// A database in memory, with no table.
+pub(crate) fn memory(alloc: Global) -> Result<Connection<MemStore>, OpenFault>
     ensures empty { IfOk result (λ conn. IsEmpty (state over_memory conn)) }
     ensures store { IfErr result (λ fault. fault ≡ OpenFault.Store) }
 {
@@ -238,7 +297,7 @@ impl SqlSpace<MemStore> {
         ensures store { IfErr result (λ fault. fault ≡ OpenFault.Store) }
     {
         match make_new(alloc, memory(alloc)?) {
-            Ok(space) => Ok(space),
+            Ok((space, _)) => Ok(space),
             Err((fault, _)) => Err(fault),
         }
     }
@@ -289,6 +348,28 @@ impl SqlSpace<FileStore<File>> {
     {
         match SqlSpace::adopt(rt.alloc(), file(rt, path)?) {
             Ok(space) => Ok(space),
+            Err((fault, conn)) => {
+                let _ = conn.close();
+                Err(fault)
+            }
+        }
+    }
+
+    /// Opens a file, or makes it, as `open` does, with all that the space then holds. That is not
+    /// told where the tables were made or moved, or are not as they are made.
+    pub fn open_listed(
+        rt: &HostRuntime,
+        path: &str,
+    ) -> Result<(SqlSpace<FileStore<File>>, Option<Listed>), OpenFault>
+        ensures sound { IfOk result (λ t. HasCleanDisk (file_state t.0.conn)
+            → ⟦<SqlSpace<FileStore<File>> as Space>⟧.is_sound t.0) }
+        ensures fresh { IfOk result (λ t. (⟦<SqlSpace<FileStore<File>> as Space>⟧.refusals t.0 ≡ 0)
+            × (⟦<SqlSpace<FileStore<File>> as Space>⟧.is_broken t.0 ≡ false)) }
+        ensures all { IfOk result (λ t. IfSome t.1 (IsAllOf over_files t.0)) }
+        ensures memory { path.now ≡ codes ":memory:" → result ≡ Err OpenFault.Store }
+    {
+        match taken_whole(rt.alloc(), file(rt, path)?) {
+            Ok(taken) => Ok(taken),
             Err((fault, conn)) => {
                 let _ = conn.close();
                 Err(fault)

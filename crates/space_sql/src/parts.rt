@@ -8,8 +8,8 @@ ghost use Rattle.space_core.specs.Met.{met_in};
 ghost use Rattle.space_core.specs.Space.{Changes, Fits, Reads, Tells, changed};
 ghost use Rattle.space_sql.specs.Holding.{IsKeeping, IsSound, holds_in, holds_of, is_sound_of, is_whole_of, kept};
 
-use crate::answer::settled;
 use crate::reading::read_all;
+use crate::told::settled;
 use entity_core::availability::Availability;
 use entity_core::entity::Entity;
 use entity_core::entity_id::EntityId;

@@ -7,8 +7,8 @@ ghost use Rattle.space_select.specs.Reading.{ReadsTables};
 
 use entity_core::entity::Entity;
 use entity_core::nature::Kind;
+use space_reading::judgement::{Judgement, Listed};
 use space_reading::reading::read_airspace;
-use space_reading::verdict::{Listed, Verdict};
 use sqlite::{Alter, Connection, Error, ErrorCode};
 use std::alloc::Global;
 
@@ -20,7 +20,7 @@ fn read_listed<S: Alter>(alloc: Global, conn: &mut Connection<S>) -> Result<List
         (λ a found. listed_airspace found ≡ a) }
 {
     match read_airspace(alloc, conn) {
-        Ok(Verdict::Spelt(listed)) => Ok(listed),
+        Ok(Judgement::Spelt(listed)) => Ok(listed),
         Ok(_) => Err(Error::SqliteFailure(ErrorCode::DatabaseCorrupt)),
         Err(error) => Err(error),
     }

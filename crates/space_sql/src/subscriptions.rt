@@ -6,7 +6,7 @@ ghost use Rattle.entity_core.specs.Search.{dependents_in, subscribers_in, subscr
 ghost use Rattle.space_core.specs.Space.{Reads, Tells};
 ghost use Rattle.space_sql.specs.Holding.{IsKeeping, holds_of, is_sound_of, is_whole_of, kept};
 
-use crate::answer::settled;
+use crate::told::settled;
 use entity_core::entity_id::EntityId;
 use entity_core::nature::Kind;
 use entity_core::subscription::Sub;

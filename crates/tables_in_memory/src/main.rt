@@ -21,6 +21,7 @@ use std::process::ExitCode;
 use std::{env, fs};
 use token_conf::token_table::TokenTable;
 use wire_http::{Counted, Fixed, serve_stream};
+use wire_route::routes::Routes;
 
 /// The moment of each request, in seconds since 1970.
 const NOW: u64 = 5_000;
@@ -28,6 +29,7 @@ const NOW: u64 = 5_000;
 // Answers the requests of a file.
 fn serve_file(
     rt: &HostRuntime,
+    routes: &Routes,
     service: &mut Service<SqlSpace<MemStore>>,
     tokens: &TokenTable,
     name: &str,
@@ -37,6 +39,7 @@ fn serve_file(
     let mut clock = Fixed::new(NOW);
     serve_stream(
         rt.alloc(),
+        routes,
         service,
         tokens,
         &mut clock,
@@ -78,12 +81,13 @@ fn compare_searches(
 
 fn answer(
     rt: &HostRuntime,
+    routes: &Routes,
     service: &mut Service<SqlSpace<MemStore>>,
     tokens: &TokenTable,
     word: &str,
 ) -> Option<()> {
     let Some(token) = word.strip_prefix("cell:") else {
-        return serve_file(rt, service, tokens, word);
+        return serve_file(rt, routes, service, tokens, word);
     };
     compare_searches(rt, service.space(), Kind::Intent, token)?;
     compare_searches(rt, service.space(), Kind::Constraint, token)
@@ -98,9 +102,10 @@ fn answer_all(rt: &HostRuntime) -> Option<()> {
     let text = fs::read_to_string(rt, name.as_str()).ok()?;
     let tokens = TokenTable::read(rt.alloc(), text.as_str()).ok()?;
     let salt = tokens.salt().clone().ok()?;
+    let routes = Routes::new(rt.alloc()).ok()?;
     let mut service = Service::new(SqlSpace::create(rt.alloc()).ok()?, salt);
     for word in words {
-        answer(rt, &mut service, &tokens, word.as_str())?;
+        answer(rt, &routes, &mut service, &tokens, word.as_str())?;
     }
     Some(())
 }

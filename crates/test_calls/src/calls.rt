@@ -9,7 +9,7 @@ use entity_core::version::{GREATEST_VERSION, Version};
 use policy_core::call::{Call, OpKind, Operation};
 use policy_core::rule::Rule;
 use policy_core::scope::{Caller, Scope, ScopeSet};
-use policy_core::standing::{Facts, Findings, standing};
+use policy_core::standing::{Findings, LentFacts, standing};
 use service_core::service::Service;
 use service_step::reply::{Answer, Reply};
 use space_core::space::Space;
@@ -71,9 +71,9 @@ fn update(alloc: Global) -> Option<Call> {
 // What it breaks where the intent is there at that version, at a serial that is not the greatest.
 fn found_at(alloc: Global, update: &Call, number: u32) -> Option<Findings> {
     let entity = kept(alloc, &update.op, number)?;
-    let facts = Facts {
+    let facts = LentFacts {
         found: Some(&entity),
-        avail: None,
+        stated: None,
         serial: 7,
         sub: None,
         depended: false,

@@ -127,5 +127,5 @@ Gives view (Ok x) said = said ≡ Ok (view x)
 Gives view (Err e) said = Fails e said
 
 -- a reader of files answers what the file says
-abbrev pub Reads : Result TokenFile ConfFault → Result TokenFile ConfFault → Type 0
-Reads said result = Gives (λ file. file) result said
+abbrev pub ReadsFile : Result TokenFile ConfFault → Result TokenFile ConfFault → Type 0
+ReadsFile said result = Gives (λ file. file) result said

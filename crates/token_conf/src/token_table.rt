@@ -3,7 +3,7 @@ ghost use Rattle.std.specs.Prelude.{◌≡◌, codes, option_map, option_copied}
 ghost use Rattle.std.specs.FinMap.{get};
 ghost use Rattle.entity_core.specs.IdTexts.{name_fault};
 ghost use Rattle.toml.specs.View.{view};
-ghost use Rattle.token_conf.specs.TokenFile.{Gives, Reads, callers_at, callers_in, callers_of, file_of, or_fault, salt_of, text_at};
+ghost use Rattle.token_conf.specs.TokenFile.{Gives, ReadsFile, callers_at, callers_in, callers_of, file_of, or_fault, salt_of, text_at};
 
 use crate::conf_fault::ConfFault;
 use crate::entry::{caller_of, read_tokens};
@@ -71,7 +71,7 @@ impl TokenTable {
     /// the number of tokens.
     #[tactic(auto, unfolding(crate::specs::TokenFile::file_of))]
     pub fn read(alloc: Global, text: &str) -> Result<TokenTable, ConfFault>
-        ensures { Reads (file_of text.now) result }
+        ensures { ReadsFile (file_of text.now) result }
     {
         let document = match toml::table_from_str(alloc, text) {
             Ok(table) => Value::Table(table),

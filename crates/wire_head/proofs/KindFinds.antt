@@ -7,26 +7,26 @@ use Rattle.httparse.specs.declared.spans.RequestSpans.{RequestSpans}
 use Rattle.httparse.specs.Grammar.{ReadsRequest}
 use Rattle.httparse.proofs.GrammarLemmas.{ReadsRequest-append}
 use Rattle.wire_head.specs.Found.{Finds}
-use Rattle.wire_head.specs.declared.rest.Verdict.TheVariants.{More, Head, Bad, Large}
+use Rattle.wire_head.specs.declared.rest.HeadSoFar.TheVariants.{More, Head, Bad, Large}
 use Rattle.wire_head.specs.declared.rest.Found.{Found}
 use Rattle.wire_head.specs.declared.rest.Found.TheVariants as found
 use Rattle.wire_head.proofs.WindowLaws.{window_of, has_line-append, Never-append, Exceeds-append}
 use Rattle.std.proofs.lemmas.Bool.{cases_lt}
-use Rattle.wire_head.specs.Rest.{has_line, has_feed, window, feeds, skip_ends, Decides, EndsAs, IsKind, IsOpen, HasNoWhole, HasManyLines, cut, large}
+use Rattle.wire_head.specs.Rest.{has_line, has_feed, window, feeds, skip_ends, IsSoFar, EndsAs, IsKind, IsOpen, HasNoWhole, HasManyLines, cut, large}
 use Rattle.wire_head.proofs.KindLaws.{feeds-append}
 use Rattle.wire_head.proofs.TargetLaws.{whole_line, not_never}
 
 -- no whole head, and it is still open
-no_whole : (x : List ℕ) (fields : List HeaderSpan) (rest : List ℕ) → window rest ≡ x → Decides x fields More → HasNoWhole rest
+no_whole : (x : List ℕ) (fields : List HeaderSpan) (rest : List ℕ) → window rest ≡ x → IsSoFar x fields More → HasNoWhole rest
 no_whole x fields rest e (inl line) h (r, reads, few) =
     let yes : has_line x ≡ true = whole_line x h r (rw e at reads) in let bad : true ≡ false = sym yes ∙ line in cc
 no_whole x fields rest e (inr (line, none, may)) h (r, reads, few) = none h r (rw e at reads)
 
-still_open : (x : List ℕ) (fields : List HeaderSpan) → (HasManyLines x → ⊥) → Decides x fields More → IsOpen x
+still_open : (x : List ℕ) (fields : List HeaderSpan) → (HasManyLines x → ⊥) → IsSoFar x fields More → IsOpen x
 still_open x fields few (inl line) = inl line
 still_open x fields few (inr (line, none, may)) = inr (not_never x line may, few)
 
-full_large : (x : List ℕ) (fields : List HeaderSpan) (rest : List ℕ) → window rest ≡ x → 8192 ≤ length rest → Decides x fields More
+full_large : (x : List ℕ) (fields : List HeaderSpan) (rest : List ℕ) → window rest ≡ x → 8192 ≤ length rest → IsSoFar x fields More
     → IsKind rest large
 full_large x fields rest e le (inl line) = (no_whole x fields rest e (inl line), inl (le, inl (rw e line)))
 full_large x fields rest e le (inr (line, none, may)) =
@@ -36,7 +36,7 @@ full_large x fields rest e le (inr (line, none, may)) =
     ]
 
 pub kind_head : (x : List ℕ) (fields : List HeaderSpan) (spans : RequestSpans) (ahead : List ℕ)
-    → length x ≤ 8192 → Decides x fields (Head spans) → Finds ahead x fields (found.Head spans)
+    → length x ≤ 8192 → IsSoFar x fields (Head spans) → Finds ahead x fields (found.Head spans)
 kind_head x fields spans ahead le ((h, at, few), within) = (
   h,
   λ later.
@@ -52,16 +52,16 @@ kind_head x fields spans ahead le ((h, at, few), within) = (
   },
 )
 
-pub kind_bad : (x : List ℕ) (fields : List HeaderSpan) (ahead : List ℕ) → length x ≤ 8192 → Decides x fields Bad → Finds ahead x fields found.Bad
+pub kind_bad : (x : List ℕ) (fields : List HeaderSpan) (ahead : List ℕ) → length x ≤ 8192 → IsSoFar x fields Bad → Finds ahead x fields found.Bad
 kind_bad x fields ahead le (line, never) = rw (window_of x ahead le) (has_line-append x _ line, Never-append x _ never)
 
-pub kind_large : (x : List ℕ) (fields : List HeaderSpan) (ahead : List ℕ) → length x ≤ 8192 → Decides x fields Large → Finds ahead x fields found.Large
+pub kind_large : (x : List ℕ) (fields : List HeaderSpan) (ahead : List ℕ) → length x ≤ 8192 → IsSoFar x fields Large → Finds ahead x fields found.Large
 kind_large x fields ahead le (line, over, none) = (
   λ h w. let many : 64 < length h.fields = none (take (8192 - length x) ahead) h w.0 (rw (window_of x ahead le) at w.1) in omega (arith, many, w.2),
   inr (rw (window_of x ahead le) (has_line-append x _ line, inl (Exceeds-append x _ over))),
 )
 
-pub kind_full : (x : List ℕ) (fields : List HeaderSpan) (ahead : List ℕ) → length x ≤ 8192 → 8192 ≤ length x → Decides x fields More → Finds ahead x fields found.Large
+pub kind_full : (x : List ℕ) (fields : List HeaderSpan) (ahead : List ℕ) → length x ≤ 8192 → 8192 ≤ length x → IsSoFar x fields More → Finds ahead x fields found.Large
 kind_full x fields ahead le ge part = full_large x fields (x ++ ahead) window_full (omega (arith, length-append x ahead)) part
   where
     window_full : window (x ++ ahead) ≡ x
@@ -92,7 +92,7 @@ line_feeds (b ∷ x) e =
       ] refl h
     ] e
 
-ended : (x : List ℕ) (fields : List HeaderSpan) (f : Found) (ahead : List ℕ) → x ++ ahead ≡ x → length x < 8192 → Decides x fields More → EndsAs x f → Finds ahead x fields f
+ended : (x : List ℕ) (fields : List HeaderSpan) (f : Found) (ahead : List ℕ) → x ++ ahead ≡ x → length x < 8192 → IsSoFar x fields More → EndsAs x f → Finds ahead x fields f
 ended x fields found.Nothing ahead same lt part e = same ∙ e
 ended x fields found.Part ahead same lt part (some, few) =
     let w : window x ≡ x = take_all 8192 x (omega arith) in
@@ -105,6 +105,6 @@ ended x fields found.Bad ahead same lt part e = absurd e
 ended x fields (found.Head spans) ahead same lt part e = absurd e
 
 pub kind_end : (x y : List ℕ) (fields : List HeaderSpan) (f : Found) (ahead : List ℕ)
-    → y ≡ x → ahead ≡ [] → length x < 8192 → Decides x fields More → EndsAs y f → Finds ahead y fields f
+    → y ≡ x → ahead ≡ [] → length x < 8192 → IsSoFar x fields More → EndsAs y f → Finds ahead y fields f
 kind_end x y fields f ahead same none short part e =
     ended y fields f ahead (ap (λ v. y ++ v) none ∙ append-nil y) (rw same short) (rw same part) e

@@ -4,8 +4,8 @@ use Rattle.std.specs.List.{list_any}
 use Rattle.httparse.specs.declared.spans.HeaderSpan.{HeaderSpan}
 use Rattle.httparse.specs.Grammar.{RequestHead, ReadsRequest, NeverHasRequest, HasNoRequest, MayBecomeRequest, print_request}
 use Rattle.httparse.specs.Spans.{RequestExceeds, RequestOverflows, IsRequestAt, IsRequestWithin}
-use Rattle.wire_head.specs.declared.rest.Verdict.{Verdict}
-use Rattle.wire_head.specs.declared.rest.Verdict.TheVariants.{More, Head, Bad, Large}
+use Rattle.wire_head.specs.declared.rest.HeadSoFar.{HeadSoFar}
+use Rattle.wire_head.specs.declared.rest.HeadSoFar.TheVariants.{More, Head, Bad, Large}
 use Rattle.wire_head.specs.declared.rest.Found.{Found}
 use Rattle.wire_head.specs.declared.rest.Found.TheVariants as found
 
@@ -87,14 +87,14 @@ AreSame rest large cut = ⊥
 AreSame rest large (whole h) = ⊥
 
 -- what the bytes so far say, with room for 64 fields
-abbrev pub Decides : List ℕ → List HeaderSpan → Verdict → Type 0
-Decides w fields More = (has_line w ≡ false) ⊎ ((has_line w ≡ true) × HasNoRequest w
+abbrev pub IsSoFar : List ℕ → List HeaderSpan → HeadSoFar → Type 0
+IsSoFar w fields More = (has_line w ≡ false) ⊎ ((has_line w ≡ true) × HasNoRequest w
     × MayBecomeRequest w)
-Decides w fields (Head spans) =
+IsSoFar w fields (Head spans) =
     ((h : RequestHead) × IsRequestAt w fields spans h × (length h.fields ≤ 64))
     × IsRequestWithin w fields spans
-Decides w fields Bad = (has_line w ≡ true) × NeverHasRequest w
-Decides w fields Large = (has_line w ≡ true) × RequestExceeds 64 w × RequestOverflows 64 w
+IsSoFar w fields Bad = (has_line w ≡ true) × NeverHasRequest w
+IsSoFar w fields Large = (has_line w ≡ true) × RequestExceeds 64 w × RequestOverflows 64 w
 
 -- the bytes at the end of the input
 abbrev pub EndsAs : List ℕ → Found → Type 0

@@ -1,6 +1,6 @@
 //! What the bytes so far say of a head, and what an input begins with.
 ghost use Rattle.std.specs.Prelude.{◌≡◌, length};
-ghost use Rattle.wire_head.specs.Rest.{has_feed, has_line, skip_ends, feeds, Decides, EndsAs};
+ghost use Rattle.wire_head.specs.Rest.{has_feed, has_line, skip_ends, feeds, IsSoFar, EndsAs};
 
 use httparse::spans::{HeaderSpan, RequestSpans, parse_request};
 use httparse::{Error, Status};
@@ -10,7 +10,7 @@ pub const FIELD_LIMIT: usize = 64;
 
 /// What the bytes so far say of a head.
 #[derive(Clone, Copy)]
-pub enum Verdict {
+pub enum HeadSoFar {
     /// Nothing yet.
     More,
     /// A whole head.
@@ -80,18 +80,18 @@ fn feeds_in(bytes: &[u8]) -> usize
 }
 
 /// What the bytes so far say. Nothing is judged before a request line has ended.
-pub fn decide(bytes: &[u8], fields: &mut [HeaderSpan]) -> Verdict
+pub fn head_so_far(bytes: &[u8], fields: &mut [HeaderSpan]) -> HeadSoFar
     requires { length fields.old ≡ FIELD_LIMIT }
-    ensures { Decides bytes.now fields.new result }
+    ensures { IsSoFar bytes.now fields.new result }
 {
     if !line_in(bytes) {
-        return Verdict::More;
+        return HeadSoFar::More;
     }
     match parse_request(bytes, fields) {
-        Ok(Status::Complete(head)) => Verdict::Head(head),
-        Ok(Status::Partial) => Verdict::More,
-        Err(Error::TooManyHeaders) => Verdict::Large,
-        Err(_) => Verdict::Bad,
+        Ok(Status::Complete(head)) => HeadSoFar::Head(head),
+        Ok(Status::Partial) => HeadSoFar::More,
+        Err(Error::TooManyHeaders) => HeadSoFar::Large,
+        Err(_) => HeadSoFar::Bad,
     }
 }
 

@@ -283,27 +283,3 @@ module _ {S M : Type 0} (sp : Ghosts S) (Gives : M → ℕ → M → Type 0) (ca
       | inr (inr p) ↦ part_in_rule bound (g.came ++ ahead) old now new clock later mid w0 w1 w2 n k (buffer ++ ahead) fault g.all g.replies (g.leads ahead) g.in_order g.written e p
     ],
   )
-
-  pub none_served : (a : Option (List ℕ)) (bound : ℕ) (s : Service S) (clock : M) (w : Option (List ℕ)) → 0 < bound
-      → ServesPartOf bound a s s clock clock w w faults.Memory
-  none_served a bound s clock w some = (
-    known_bytes a,
-    input_known a,
-    record {
-      all = [];
-      replies = [];
-      n = bound;
-      left = known_bytes a;
-      later = clock;
-      leads = (refl, refl, refl);
-      answered = answered sp s [] [] s refl;
-      bytes = [];
-      gives_up = inl (record {
-        fault_is = tt;
-        more = some;
-        clock_is = inl refl;
-        whole = refl;
-      });
-      written = Appends_nil w;
-    },
-  )

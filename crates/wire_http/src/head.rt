@@ -11,7 +11,7 @@ use crate::fault::StreamFault;
 use crate::source::read_more;
 use httparse::spans::HeaderSpan;
 use std::io::Read;
-use wire_head::rest::{FIELD_LIMIT, Found, Verdict, at_end, decide};
+use wire_head::rest::{FIELD_LIMIT, Found, HeadSoFar, at_end, head_so_far};
 
 /// The most bytes of a head, the empty lines before it among them.
 pub(crate) const HEAD_LIMIT: usize = 8192;
@@ -40,11 +40,11 @@ pub(crate) fn find_head<R: Read>(
         turns.new) }
 {
     'reading: loop {
-        match decide(buffer.as_slice(), fields) {
-            Verdict::Head(spans) => return Ok(Found::Head(spans)),
-            Verdict::Bad => return Ok(Found::Bad),
-            Verdict::Large => return Ok(Found::Large),
-            Verdict::More => {}
+        match head_so_far(buffer.as_slice(), fields) {
+            HeadSoFar::Head(spans) => return Ok(Found::Head(spans)),
+            HeadSoFar::Bad => return Ok(Found::Bad),
+            HeadSoFar::Large => return Ok(Found::Large),
+            HeadSoFar::More => {}
         }
         if buffer.len() >= HEAD_LIMIT {
             return Ok(Found::Large);

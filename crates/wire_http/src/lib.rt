@@ -1,7 +1,6 @@
 //! A stream of HTTP/1.x requests over a reader and a writer, answered by a service.
 #![tactic(auto)]
 
-mod answer;
 mod body;
 mod call;
 mod counted;
@@ -13,6 +12,7 @@ mod moments;
 mod request;
 mod serve;
 mod source;
+mod text;
 mod write;
 
 pub use counted::Counted;

@@ -14,7 +14,6 @@ ghost use Rattle.wire_http.specs.Text.{end_texts};
 ghost use Rattle.wire_http.specs.Turn.{IsTurn, IsTurnPart, MayGoOn};
 ghost use Rattle.wire_http.specs.Wire.{Serves, ServesPart};
 
-use crate::answer::{answer_text, rule_text};
 use crate::body::shift;
 use crate::call::{Pending, Received, ask, left_after};
 use crate::counted::Counted;
@@ -23,6 +22,7 @@ use crate::fault::StreamFault;
 use crate::head::HEAD_LIMIT;
 use crate::moments::Moments;
 use crate::request::{Next, next_request};
+use crate::text::{answer_text, rule_text};
 use crate::write::write_whole;
 use httparse::spans::EMPTY_HEADER_SPAN;
 use service_core::service::Service;
@@ -172,7 +172,7 @@ fn serve_one<S: Space + Drop, M: Moments, R: Read, W: Write>(
 }
 
 /// Serves the requests of a stream: reads them from the reader, asks the service each of them once,
-/// at the next moment, and writes the answers.
+/// at the next moment, and writes the answers. The routes are the same for every stream.
 ///
 /// A stream has at most 100 requests. Its connection closes after the last of them, and after one
 /// of version 1.0 or with the word `close` in a field Connection. A request that breaks a rule of
@@ -183,6 +183,7 @@ fn serve_one<S: Space + Drop, M: Moments, R: Read, W: Write>(
 /// that stream; the service may be used for the next.
 pub fn serve_stream<S: Space + Drop, M: Moments, R: Read, W: Write>(
     alloc: Global,
+    routes: &Routes,
     service: &mut Service<S>,
     tokens: &TokenTable,
     moments: &mut M,
@@ -229,9 +230,6 @@ pub fn serve_stream<S: Space + Drop, M: Moments, R: Read, W: Write>(
     // What stays, whatever came.
     ensures stays { Stays S.Space service.old service.new }
 {
-    let Ok(routes) = Routes::new(alloc) else {
-        return Err(StreamFault::Memory);
-    };
     let mut turns = TURNS;
     let mut buffer = Vec::new(alloc);
     let mut left = REQUESTS;
@@ -239,7 +237,7 @@ pub fn serve_stream<S: Space + Drop, M: Moments, R: Read, W: Write>(
     'serving: while left > 0 {
         match serve_one(
             alloc,
-            &routes,
+            routes,
             service,
             tokens,
             moments,

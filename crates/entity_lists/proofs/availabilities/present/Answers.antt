@@ -4,16 +4,16 @@ use Rattle.std.proofs.lemmas.Cmp.{nat_list_cmp_total}
 use Rattle.entity_core.specs.Airspace.{Stated, text_cmp}
 use Rattle.entity_core.specs.declared.availability.Availability.TheVariants.{Unknown}
 use Rattle.entity_lists.specs.Availabilities.{pair_of}
-use Rattle.entity_lists.specs.declared.availabilities.Entry.{Entry}
+use Rattle.entity_lists.specs.declared.availabilities.Setting.{Setting}
 use Rattle.entity_lists.proofs.Places.{found_hit, found_gap, read_hit}
 use Rattle.entity_lists.proofs.availabilities.present.Goals as goal
 
 pub returns-in-Ok : goal.returns-in-Ok
 returns-in-Ok c =
     let hit = c.in-Ok.ensures.hit c.requires in
-    ap (λ (e : Entry). e.availability) (sym c.index-items-i.is)
+    ap (λ (e : Setting). e.availability) (sym c.index-items-i.is)
     ∙ ap (λ (o : Option Stated). (unwrap_or o (Unknown, [])).0)
-    (ap (λ (e : Entry). Some (pair_of e).1) (read_hit text_cmp pair_of c.args.items.now c.args.uss.now c.in-Ok.i hit c.index-items-i.result c.index-items-i.is)
+    (ap (λ (e : Setting). Some (pair_of e).1) (read_hit text_cmp pair_of c.args.items.now c.args.uss.now c.in-Ok.i hit c.index-items-i.result c.index-items-i.is)
     ∙ found_hit text_cmp pair_of nat_list_cmp_total c.args.items.now c.args.uss.now c.in-Ok.i hit)
 
 pub returns-in-Err : goal.returns-in-Err

@@ -14,4 +14,4 @@ returns-in-Err g c =
 pub returns : goal.returns
 returns g c =
     read_answers g.S.Space c.args.salt.now c.args.now c.args.call.now c.args.space.now c.prepared.new.space
-    c.args.grounds.now c.in-Ok.made c.in-None.is c.in-Ok.ensures (λ s a h. g.met.S.Space.proper c.args.space.now a s h) c.requires.given
+    c.args.facts.now c.in-Ok.made c.in-None.is c.in-Ok.ensures (λ s a h. g.met.S.Space.proper c.args.space.now a s h) c.requires.given

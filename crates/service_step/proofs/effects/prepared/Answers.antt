@@ -12,20 +12,20 @@ unreachable-requires-in_default g c =
 pub returns-in-Create : goal.returns-in-Create
 returns-in-Create g c =
     looks_map g.S.Space c.args.space.now c.creation.new.space c.creation.result _ _ c.creation.ensures
-    (λ a made h. makes_create c.args.salt.now c.args.now c.args.call.now c.args.grounds.now a c.args.caller.now c.in-Create.id c.in-Create.put c.next_serial-serial.result made c.requires.caller c.in-Create.is c.next_serial-serial.ensures h)
+    (λ a made h. makes_create c.args.salt.now c.args.now c.args.call.now c.args.facts.now a c.args.caller.now c.in-Create.id c.in-Create.put c.next_serial-serial.result made c.requires.caller c.in-Create.is c.next_serial-serial.ensures h)
 
 pub returns-in-Some-found : goal.returns-in-Some-found
 returns-in-Some-found g c =
     looks_map g.S.Space c.args.space.now c.update.new.space c.update.result _ _ c.update.ensures
-    (λ a made h. makes_update c.args.salt.now c.args.now c.args.call.now c.args.grounds.now a c.args.caller.now c.in-Update.id c.in-Update.field-1 c.in-Update.put c.in-Some-found.entity c.next_serial-serial.result made c.requires.caller c.in-Update.is c.in-Some-found.is c.next_serial-serial.ensures h)
+    (λ a made h. makes_update c.args.salt.now c.args.now c.args.call.now c.args.facts.now a c.args.caller.now c.in-Update.id c.in-Update.field-1 c.in-Update.put c.in-Some-found.entity c.next_serial-serial.result made c.requires.caller c.in-Update.is c.in-Some-found.is c.next_serial-serial.ensures h)
 
 pub returns-in-Some-found-2 : goal.returns-in-Some-found-2
 returns-in-Some-found-2 g c =
     looks_map g.S.Space c.args.space.now c.removal.new.space c.removal.result _ _ c.removal.ensures
-    (λ a made h. makes_delete c.args.salt.now c.args.now c.args.call.now c.args.grounds.now a c.args.caller.now c.in-Delete.kind c.in-Delete.id c.in-Delete.field-2 c.in-Some-found-2.entity made c.requires.caller c.in-Delete.is c.in-Some-found-2.is h)
+    (λ a made h. makes_delete c.args.salt.now c.args.now c.args.call.now c.args.facts.now a c.args.caller.now c.in-Delete.kind c.in-Delete.id c.in-Delete.field-2 c.in-Some-found-2.entity made c.requires.caller c.in-Delete.is c.in-Some-found-2.is h)
 
 pub returns-in_ok-setting-in-SetAvail : goal.returns-in_ok-setting-in-SetAvail
 returns-in_ok-setting-in-SetAvail g c =
     looks_none g.S.Space c.args.space.now c.in_ok-setting-in-SetAvail.field-0 _
-    (λ a. makes_set c.args.salt.now c.args.now c.args.call.now c.args.grounds.now a c.args.caller.now c.in-SetAvail.uss c.in-SetAvail.field-1 c.in-SetAvail.availability c.next_serial-serial.result c.in_ok-setting-in-SetAvail.field-0 c.requires.caller c.in-SetAvail.is c.next_serial-serial.ensures
+    (λ a. makes_set c.args.salt.now c.args.now c.args.call.now c.args.facts.now a c.args.caller.now c.in-SetAvail.uss c.in-SetAvail.field-1 c.in-SetAvail.availability c.next_serial-serial.result c.in_ok-setting-in-SetAvail.field-0 c.requires.caller c.in-SetAvail.is c.next_serial-serial.ensures
     c.in_ok-setting-in-SetAvail.ensures.0 c.in_ok-setting-in-SetAvail.ensures.1 c.in_ok-setting-in-SetAvail.ensures.2)

@@ -1,7 +1,7 @@
 use Rattle.std.specs.List.{All}
 use Rattle.grid_core.specs.Extent.{Region}
 use Rattle.std.proofs.lemmas.List.Elements.{All-weaker}
-use Rattle.space_list.specs.CellIndex.{IsAsked}
+use Rattle.space_list.specs.CellIndex.{HasSpansOf}
 use Rattle.space_list.proofs.CellSets.{more_done, all_done}
 use Rattle.space_list.proofs.CellMeetings.{asked_more}
 use Rattle.std.proofs.Common.{subst}
@@ -11,9 +11,9 @@ pub loop-area-preserved : goal.loop-area-preserved
 loop-area-preserved c =
     let old = c.loop-area.spans in
     let new = c.ask_cells.new.spans in
-    more_done (λ (a : Region). All (IsAsked old) a.cells) (λ (a : Region). All (IsAsked new) a.cells) c.args.areas.now c.loop-area.area-index c.area-item.result c.loop-area-test.true c.area-item.is
-    (λ a h. All-weaker (IsAsked old) (IsAsked new) (asked_more old new c.ask_cells.ensures.kept) a.cells h)
-    (subst (All (IsAsked new)) c.cells.ensures c.in_ok-ask_cells.ensures.asked) c.loop-area.invariant
+    more_done (λ (a : Region). All (HasSpansOf old) a.cells) (λ (a : Region). All (HasSpansOf new) a.cells) c.args.areas.now c.loop-area.area-index c.area-item.result c.loop-area-test.true c.area-item.is
+    (λ a h. All-weaker (HasSpansOf old) (HasSpansOf new) (asked_more old new c.ask_cells.ensures.kept) a.cells h)
+    (subst (All (HasSpansOf new)) c.cells.ensures c.in_ok-ask_cells.ensures.asked) c.loop-area.invariant
 
 pub returns : goal.returns
-returns c = all_done (λ (a : Region). All (IsAsked c.loop-area.spans) a.cells) c.args.areas.now c.loop-area.area-index c.loop-area-test.false c.loop-area.invariant
+returns c = all_done (λ (a : Region). All (HasSpansOf c.loop-area.spans) a.cells) c.args.areas.now c.loop-area.area-index c.loop-area-test.false c.loop-area.invariant

@@ -3,7 +3,8 @@ use Rattle.std.specs.FinMap.{get, insert}
 use Rattle.entity_core.specs.declared.entity.Entity.{Entity}
 use Rattle.entity_core.specs.Airspace.{EntityKey, key_of}
 use Rattle.space_list.specs.CellIndex.{AddsSought}
-use Rattle.entity_lists.specs.Entities.{FindsSought, entity_map}
+use Rattle.entity_lists.specs.Entities.{entity_map}
+use Rattle.entity_lists.specs.Entities.{FindsSought}
 use Rattle.space_list.proofs.SoughtMaps.{on_ok, one_added}
 use Rattle.space_list.proofs.indexed.add_sought.Goals as goal
 

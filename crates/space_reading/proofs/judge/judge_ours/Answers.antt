@@ -4,6 +4,7 @@ use Rattle.space_select.proofs.Metas.{one_serial, not_other}
 use Rattle.space_reading.specs.declared.naming.Numbered.{Numbered}
 use Rattle.space_reading.specs.Gathering.{ListsEntities, ListsSubs, Subs, subs_of}
 use Rattle.space_reading.proofs.Listings.{one_listed}
+use Rattle.space_reading.proofs.ToldSubs.{listed_told}
 use Rattle.space_reading.proofs.judge.judge_ours.Goals as goal
 
 pub returns-in_default : goal.returns-in_default
@@ -25,3 +26,8 @@ returns-in_default-2 c = (
       (rw c.in_default-2.is at c.in_ok-entities.ensures) a.entities (subst (λ (n : List Numbered). ListsEntities c.args.serial n c.args.tables.now.entities a.entities) (ap (λ (s : Subs). s.1) same ∙ sym c.as_slice-numbers.ensures.value) listed)),
   not_other c.args.tables.now.metas.items c.args.serial c.requires.meta,
 )
+
+pub invariant_of-result : goal.invariant_of-result
+invariant_of-result c =
+    let mine : ListsSubs c.args.serial c.args.tables.now.subscriptions (subs_of c.in-Some.known) = rw c.in-Some.is at c.in_ok-known.ensures.lists in
+    record { told = listed_told c.args.serial c.args.tables.now.subscriptions (subs_of c.in-Some.known) mine }

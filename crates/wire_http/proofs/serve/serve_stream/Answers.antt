@@ -4,14 +4,9 @@ use Rattle.service_core.proofs.Runs.{stays_same, stays_then}
 use Rattle.token_conf.specs.TokenFile.{callers_of}
 use Rattle.wire_http.specs.Count.{most_requests}
 use Rattle.wire_http.proofs.CountLaws.{Spends_more}
-use Rattle.wire_http.proofs.StreamLaws.{none_served, goes_init, goes_more, goes_stop, goes_close, goes_part}
+use Rattle.wire_http.proofs.StreamLaws.{goes_init, goes_more, goes_stop, goes_close, goes_part}
 use Rattle.wire_http.proofs.TurnLaws.{go_on_at, ok_told}
 use Rattle.wire_http.proofs.serve.serve_stream.Goals as goal
-
-pub returns-in_default-clause-part : goal.returns-in_default-clause-part
-returns-in_default-clause-part g c =
-    none_served g.S.Space g.M.Moments.gives (callers_of c.args.tokens.now)
-    _ most_requests c.args.service.now c.args.moments.now _ (omega arith)
 
 pub serving-init : goal.serving-init
 serving-init g c = record {
@@ -72,9 +67,6 @@ returns-clause-serves g c =
     goes_close g.S.Space g.M.Moments.gives (callers_of c.args.tokens.now)
     _ _ c.serving.buffer.items most_requests c.args.service.now c.serving.service c.args.moments.now c.serving.moments _ _ c.serving.left c.serving.count
     c.serving.invariant.goes (omega (arith, c.serving-test.false))
-
-pub returns-in_default-clause-stays : goal.returns-in_default-clause-stays
-returns-in_default-clause-stays g c = stays_same g.S.Space c.args.service.now
 
 pub returns-in_err-then-clause-stays : goal.returns-in_err-then-clause-stays
 returns-in_err-then-clause-stays g c = stays_then g.S.Space c.args.service.now c.serving.service c.serve_one.new.service c.serving.invariant.stays c.in_err-then.ensures.stays

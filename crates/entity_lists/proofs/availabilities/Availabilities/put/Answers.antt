@@ -2,19 +2,19 @@ use Rattle.std.specs.Prelude.{IsSome}
 use Rattle.std.proofs.lemmas.Cmp.{nat_list_cmp_total}
 use Rattle.entity_core.specs.Airspace.{text_cmp}
 use Rattle.entity_lists.specs.Availabilities.{pair_of}
-use Rattle.entity_lists.specs.declared.availabilities.Entry.{Entry}
+use Rattle.entity_lists.specs.declared.availabilities.Setting.{Setting}
 use Rattle.entity_lists.proofs.Places.{get_says, put_order, put_map}
 use Rattle.entity_lists.proofs.availabilities.Availabilities.put.Goals as goal
 
 pub invariant_of-self : goal.invariant_of-self
 invariant_of-self c =
-    let entry : Entry = record { uss = c.args.uss; availability = c.args.availability; version = c.args.version } in
-    put_order text_cmp pair_of nat_list_cmp_total c.put_in_place.result c.self.inside.items.items c.put_in_place.new.items.items entry c.self.invariant c.put_in_place.ensures.ok c.put_in_place.ensures.err
+    let setting : Setting = record { uss = c.args.uss; availability = c.args.availability; version = c.args.version } in
+    put_order text_cmp pair_of nat_list_cmp_total c.put_in_place.result c.self.inside.items.items c.put_in_place.new.items.items setting c.self.invariant c.put_in_place.ensures.ok c.put_in_place.ensures.err
 
 pub returns-clause-ok : goal.returns-clause-ok
 returns-clause-ok c =
-    let entry : Entry = record { uss = c.args.uss; availability = c.args.availability; version = c.args.version } in
-    put_map text_cmp pair_of nat_list_cmp_total c.put_in_place.result c.self.inside.items.items c.put_in_place.new.items.items c.args.self.now entry c.self.view_is c.self.invariant c.put_in_place.ensures.ok
+    let setting : Setting = record { uss = c.args.uss; availability = c.args.availability; version = c.args.version } in
+    put_map text_cmp pair_of nat_list_cmp_total c.put_in_place.result c.self.inside.items.items c.put_in_place.new.items.items c.args.self.now setting c.self.view_is c.self.invariant c.put_in_place.ensures.ok
 
 pub returns-clause-over : goal.returns-clause-over
 returns-clause-over c = λ some. c.put_in_place.ensures.over (get_says text_cmp pair_of nat_list_cmp_total IsSome c.self.inside.items.items c.args.self.now c.args.uss c.self.view_is some)

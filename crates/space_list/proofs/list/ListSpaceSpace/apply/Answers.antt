@@ -1,17 +1,7 @@
-use Rattle.std.proofs.Common.{arith, refl}
+use Rattle.std.proofs.Common.{refl}
 use Rattle.space_list.specs.List.{content_of}
-use Rattle.space_list.specs.Proper.{content_is_proper}
-use Rattle.space_list.proofs.ListSpaces.{can_rise, told_after}
+use Rattle.space_list.proofs.ListSpaces.{can_follow}
 use Rattle.space_list.proofs.list.ListSpaceSpace.apply.Goals as goal
 
-pub overflow_add-self : goal.overflow_add-self
-overflow_add-self c = omega (arith, (c.requires.fits (content_of c.args.self.now) refl).room)
-
-pub make-requires : goal.make-requires
-make-requires c = can_rise c.args.self.now.subscriptions c.args.self.now.serial (content_is_proper c.args.self.now).told (c.requires.fits (content_of c.args.self.now) refl).room
-
-pub invariant_of-self : goal.invariant_of-self
-invariant_of-self c = record {
-  told = told_after c.args.change c.args.notify.now (content_of c.args.self.now) c.make.new.entities c.make.new.subscriptions c.make.new.availabilities _
-      (c.requires.fits (content_of c.args.self.now) refl) (content_is_proper c.args.self.now) (c.in-Ok.ensures.ok c.args.self.now.serial);
-}
+pub go_on-requires : goal.go_on-requires
+go_on-requires c = can_follow c.args.change c.args.notify.now _ (c.requires.fits (content_of c.args.self.now) refl)

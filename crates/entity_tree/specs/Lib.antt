@@ -1,0 +1,2 @@
+pub mod EntityTree
+pub mod OwnKeys

@@ -1,0 +1,50 @@
+//! Whether two lists are one, element by element.
+ghost use Rattle.std.specs.Prelude.{◌≡◌, IsTrue};
+
+use sqlite_items::Items;
+use sqlite_value::value::Bytes;
+
+/// What can be found to be one.
+pub(crate) trait Same {
+    /// Whether the two are one. It may say no of two that are.
+    fn same(&self, other: &Self) -> bool
+        ensures { IsTrue result → self.now ≡ other.now };
+}
+
+fn all_same<T: Same>(a: &[T], b: &[T]) -> bool
+    ensures { IsTrue result → a.now ≡ b.now }
+{
+    if a.len() != b.len() {
+        return false;
+    }
+    for i in 0..a.len() {
+        if !a[i].same(&b[i]) {
+            return false;
+        }
+    }
+    true
+}
+
+impl<T: Same> Same for Items<T> {
+    fn same(&self, other: &Self) -> bool {
+        all_same(self.as_slice(), other.as_slice())
+    }
+}
+
+impl Same for u8 {
+    fn same(&self, other: &Self) -> bool {
+        *self == *other
+    }
+}
+
+impl Same for usize {
+    fn same(&self, other: &Self) -> bool {
+        *self == *other
+    }
+}
+
+impl Same for Bytes {
+    fn same(&self, other: &Self) -> bool {
+        all_same(self.as_slice(), other.as_slice())
+    }
+}

@@ -1,0 +1,40 @@
+//! A space in memory is made of lists that were read.
+ghost use Rattle.std.specs.Prelude.{◌≡◌, IfOk};
+ghost use Rattle.entity_lists.specs.Lists.{airspace_of};
+ghost use Rattle.entity_lists.specs.Subscriptions.{AllTold};
+ghost use Rattle.space_list.specs.List.{content_of};
+
+use crate::indexed::IndexedEntities;
+use crate::indexed_subscriptions::IndexedSubscriptions;
+use crate::list::ListSpace;
+use entity_lists::availabilities::Availabilities;
+use entity_lists::subscriptions::Subscriptions;
+use entity_tree::tree::EntityTree;
+use std::alloc::{AllocError, Global};
+
+impl ListSpace {
+    /// The airspace of this tree and these lists, whose serial has gone on so far, in a space that
+    /// has refused nothing.
+    pub fn of(
+        alloc: Global,
+        entities: EntityTree,
+        subscriptions: Subscriptions,
+        availabilities: Availabilities,
+        serial: u64,
+    ) -> Result<ListSpace, AllocError>
+        requires { AllTold subscriptions serial }
+        ensures { IfOk result (λ list.
+            content_of list ≡ airspace_of entities subscriptions availabilities serial) }
+    {
+        let entities = IndexedEntities::of(alloc, entities)?;
+        let subscriptions = IndexedSubscriptions::of(alloc, subscriptions)?;
+        Ok(ListSpace {
+            alloc,
+            entities,
+            subscriptions,
+            availabilities,
+            serial,
+            refusals: 0,
+        })
+    }
+}

@@ -1,0 +1,337 @@
+//! Subscriptions with an index by the cells of their volumes, so that a search costs what it finds.
+ghost use Rattle.std.specs.Prelude.{◌≡◌, [], length, is_some, OnOk, OnErr, IfOk, IsOk, IsNone, IsSome};
+ghost use Rattle.std.specs.FinMap.{get, insert, remove};
+ghost use Rattle.std.specs.BTreeSet.{IsOrdered, keys};
+ghost use Rattle.std.specs.List.Sorted.{IsBinarySearchResult, IsSearchInRange};
+ghost use Rattle.std.specs.Option.{option_copied};
+ghost use Rattle.std.specs.Ordering.{nat_cmp};
+ghost use Rattle.entity_core.specs.Airspace.{is_one_of, told_where};
+ghost use Rattle.entity_core.specs.Search.{is_for_near, is_own_near, subscribers_in, subscriptions_in};
+ghost use Rattle.entity_lists.specs.Subscriptions.{CanRise, InOrder, subscription_map};
+ghost use Rattle.space_list.specs.IndexedSubscriptions.{AllMarked, IsIndexBut, IsIndexIfAny, IsIndexOf, holder_of, passing_of};
+ghost use Rattle.space_list.specs.CellIndex.{Grows, mark_cmp};
+
+use crate::cell_index::{Holder, Mark, mark_cells, near, unmark_cells};
+use entity_core::entity_id::EntityId;
+use entity_core::nature::Kind;
+use entity_core::subscription::Sub;
+use entity_core::uss_id::UssId;
+use entity_lists::subscriptions::{Subscriptions, is_for_near, is_own_near};
+use grid_core::volume::Area;
+use std::alloc::{AllocError, Global};
+use std::collections::BTreeSet;
+use std::marker::Model;
+use std::slice::from_ref;
+
+/// Subscriptions in the order of their ids, each once, and where their cells are. There is no index
+/// where one found no memory for what could not be refused. Contracts see their list.
+#[derive(Debug, Drop)]
+pub(crate) struct IndexedSubscriptions {
+    subscriptions: Subscriptions,
+    marks: Option<BTreeSet<Mark>>,
+}
+
+impl Model for IndexedSubscriptions {
+    ghost use Rattle.std.specs.Prelude.{List};
+    ghost use Rattle.entity_core.specs.declared.subscription.Sub.{Sub};
+    ghost use Rattle.entity_lists.specs.Subscriptions.{subscription_map};
+    ghost use Rattle.space_list.specs.IndexedSubscriptions.{IsIndexIfAny};
+
+    ghost Value = { List Sub };
+
+    ghost view = { λ a. a.subscriptions };
+
+    ghost invariant = { λ a. IsIndexIfAny (subscription_map a.subscriptions) a.marks };
+}
+
+// ---- one subscription
+
+fn searched(items: &[Sub], number: u128) -> Result<usize, usize>
+    ensures bound { IsSearchInRange result (length items.now) }
+    ensures position { IsBinarySearchResult (λ s. nat_cmp s.id number) items.now result }
+{
+    items.binary_search_by(|sub| sub.id.number().cmp(&number))
+}
+
+// The subscription of the number of an id, which is all that an index has of it.
+fn at(subscriptions: &Subscriptions, number: u128) -> Option<&Sub>
+    ensures { option_copied result ≡ get (subscription_map subscriptions.now) number }
+{
+    let items = subscriptions.items();
+    match searched(items, number) {
+        Ok(i) => Some(&items[i]),
+        Err(_) => None,
+    }
+}
+
+fn holder(sub: &Sub) -> Holder
+    ensures { result ≡ holder_of sub.now }
+{
+    (sub.serial.number(), sub.id.number())
+}
+
+fn mark_sub(marks: &mut BTreeSet<Mark>, sub: &Sub) -> Result<(), AllocError>
+    ensures kept { Grows mark_cmp marks.old marks.new }
+    ensures marked { OnOk result (AllMarked marks.new sub.now) }
+{
+    mark_cells(marks, holder(sub), sub.volume.cells())
+}
+
+// ---- what goes in and out
+
+// Marks the subscription of an id, if there is one. On an error some of its cells may be marked.
+fn enter(
+    marks: &mut Option<BTreeSet<Mark>>,
+    subscriptions: &Subscriptions,
+    id: EntityId,
+) -> Result<(), AllocError>
+    ensures kept { IsIndexBut id (subscription_map subscriptions.now) marks.old
+        → IsIndexBut id (subscription_map subscriptions.now) marks.new }
+    ensures marked { OnOk result (IsIndexBut id (subscription_map subscriptions.now) marks.old
+        → IsIndexIfAny (subscription_map subscriptions.now) marks.new) }
+{
+    match marks {
+        Some(marks) => match at(subscriptions, id.number()) {
+            Some(sub) => mark_sub(marks, sub),
+            None => Ok(()),
+        },
+        None => Ok(()),
+    }
+}
+
+// Takes the marks of the subscription of an id out, if there is one. Whether there is.
+fn forget(marks: &mut Option<BTreeSet<Mark>>, subscriptions: &Subscriptions, id: EntityId) -> bool
+    ensures there { result ≡ is_some (get (subscription_map subscriptions.now) id) }
+    ensures kept { IsIndexBut id (subscription_map subscriptions.now) marks.old
+        → IsIndexBut id (subscription_map subscriptions.now) marks.new }
+{
+    match at(subscriptions, id.number()) {
+        Some(sub) => {
+            if let Some(marks) = marks {
+                unmark_cells(marks, holder(sub), sub.volume.cells());
+            }
+            true
+        }
+        None => false,
+    }
+}
+
+fn remove_from(subscriptions: &mut Subscriptions, marks: &mut Option<BTreeSet<Mark>>, id: EntityId)
+    requires { IsIndexBut id (subscription_map subscriptions.old) marks.old }
+    ensures index { IsIndexIfAny (subscription_map subscriptions.new) marks.new }
+    ensures removed { subscription_map subscriptions.new
+        ≡ remove (subscription_map subscriptions.old) id }
+    ensures order { InOrder subscriptions.new }
+{
+    forget(marks, subscriptions, id);
+    subscriptions.remove(id);
+    let _left = subscriptions.items();
+}
+
+// The new marks are made of what was put, so that they can go out again. Where they find no memory,
+// a new subscription goes, too; over one that was there, which may not be refused, the index goes.
+fn put_in(
+    subscriptions: &mut Subscriptions,
+    marks: &mut Option<BTreeSet<Mark>>,
+    sub: Sub,
+) -> Result<(), AllocError>
+    requires { IsIndexIfAny (subscription_map subscriptions.old) marks.old }
+    ensures index { IsIndexIfAny (subscription_map subscriptions.new) marks.new }
+    ensures ok { OnOk result (subscription_map subscriptions.new
+        ≡ insert (subscription_map subscriptions.old) sub.id sub) }
+    ensures err { OnErr result (subscriptions.new ≡ subscriptions.old) }
+    ensures over { IsSome (get (subscription_map subscriptions.old) sub.id) → IsOk result }
+{
+    let _before = subscriptions.items();
+    let id = sub.id;
+    let is_over = forget(marks, subscriptions, id);
+    subscriptions.put(sub)?;
+    match enter(marks, subscriptions, id) {
+        Ok(()) => Ok(()),
+        Err(fault) => {
+            if is_over {
+                *marks = None;
+                Ok(())
+            } else {
+                remove_from(subscriptions, marks, id);
+                Err(fault)
+            }
+        }
+    }
+}
+
+// ---- what is found
+
+fn own_among(
+    alloc: Global,
+    subscriptions: &Subscriptions,
+    ids: &BTreeSet<u128>,
+    uss: &UssId,
+    area: &Area,
+) -> Result<Vec<Sub>, AllocError>
+    ensures found { IfOk result (λ own. own.items ≡ passing_of (is_own_near uss.now area.now)
+        (subscription_map subscriptions.now) (keys ids.now)) }
+    ensures rise { IsOrdered nat_cmp ids.now }
+{
+    let mut own = Vec::new(alloc);
+    for id in ids {
+        if let Some(sub) = at(subscriptions, *id) {
+            if is_own_near(sub, uss, area) {
+                own.push(sub.clone()?)?;
+            }
+        }
+    }
+    Ok(own)
+}
+
+fn wanted_among(
+    alloc: Global,
+    subscriptions: &Subscriptions,
+    ids: &BTreeSet<u128>,
+    kind: Kind,
+    areas: &[Area],
+) -> Result<Vec<Sub>, AllocError>
+    ensures found { IfOk result (λ wanted. wanted.items ≡ passing_of (is_for_near kind areas.now)
+        (subscription_map subscriptions.now) (keys ids.now)) }
+    ensures rise { IsOrdered nat_cmp ids.now }
+{
+    let mut wanted = Vec::new(alloc);
+    for id in ids {
+        if let Some(sub) = at(subscriptions, *id) {
+            if is_for_near(sub, kind, areas) {
+                wanted.push(sub.clone()?)?;
+            }
+        }
+    }
+    Ok(wanted)
+}
+
+// Looks at the subscriptions that have a cell near the area, and at no other.
+fn own_by_index(
+    alloc: Global,
+    subscriptions: &Subscriptions,
+    marks: &BTreeSet<Mark>,
+    uss: &UssId,
+    area: &Area,
+) -> Result<Vec<Sub>, AllocError>
+    requires { IsIndexOf (subscription_map subscriptions.now) marks.now }
+    ensures { IfOk result (λ found. found.items
+        ≡ subscriptions_in (subscription_map subscriptions.now) uss.now area.now) }
+{
+    let ids = near(alloc, marks, from_ref(area))?;
+    own_among(alloc, subscriptions, &ids, uss, area)
+}
+
+fn wanted_by_index(
+    alloc: Global,
+    subscriptions: &Subscriptions,
+    marks: &BTreeSet<Mark>,
+    kind: Kind,
+    areas: &[Area],
+) -> Result<Vec<Sub>, AllocError>
+    requires { IsIndexOf (subscription_map subscriptions.now) marks.now }
+    ensures { IfOk result (λ found. found.items
+        ≡ subscribers_in (subscription_map subscriptions.now) kind areas.now) }
+{
+    let ids = near(alloc, marks, areas)?;
+    wanted_among(alloc, subscriptions, &ids, kind, areas)
+}
+
+impl IndexedSubscriptions {
+    /// No subscriptions. It takes no memory.
+    pub(crate) fn new(alloc: Global) -> IndexedSubscriptions
+        ensures { result ≡ [] }
+    {
+        IndexedSubscriptions {
+            subscriptions: Subscriptions::new(alloc),
+            marks: Some(BTreeSet::new(alloc)),
+        }
+    }
+
+    /// The subscriptions of a list, each with its marks.
+    pub(crate) fn of(
+        alloc: Global,
+        subscriptions: Subscriptions,
+    ) -> Result<IndexedSubscriptions, AllocError>
+        ensures { IfOk result (λ indexed. indexed ≡ subscriptions) }
+    {
+        let mut marks = BTreeSet::new(alloc);
+        for sub in subscriptions.items() {
+            mark_sub(&mut marks, sub)?;
+        }
+        Ok(IndexedSubscriptions {
+            subscriptions,
+            marks: Some(marks),
+        })
+    }
+
+    /// A copy of the subscription of an id, if there is one. That there is none takes no memory to
+    /// tell.
+    pub(crate) fn subscription(&self, id: EntityId) -> Result<Option<Sub>, AllocError>
+        ensures found { IfOk result (λ found. found ≡ get (subscription_map self.now) id) }
+        ensures none { IsNone (get (subscription_map self.now) id) → IsOk result }
+    {
+        self.subscriptions.subscription(id)
+    }
+
+    /// Copies of the subscriptions of a supplier whose volumes meet an area, by rising ids.
+    pub(crate) fn own(
+        &self,
+        alloc: Global,
+        uss: &UssId,
+        area: &Area,
+    ) -> Result<Vec<Sub>, AllocError>
+        ensures { IfOk result (λ found. found.items
+            ≡ subscriptions_in (subscription_map self.now) uss.now area.now) }
+    {
+        match &self.marks {
+            Some(marks) => own_by_index(alloc, &self.subscriptions, marks, uss, area),
+            None => self.subscriptions.own(alloc, uss, area),
+        }
+    }
+
+    /// Copies of the subscriptions that are for a kind and whose volumes meet some area, by rising
+    /// ids.
+    pub(crate) fn for_kind(
+        &self,
+        alloc: Global,
+        kind: Kind,
+        areas: &[Area],
+    ) -> Result<Vec<Sub>, AllocError>
+        ensures { IfOk result (λ found. found.items
+            ≡ subscribers_in (subscription_map self.now) kind areas.now) }
+    {
+        match &self.marks {
+            Some(marks) => wanted_by_index(alloc, &self.subscriptions, marks, kind, areas),
+            None => self.subscriptions.for_kind(alloc, kind, areas),
+        }
+    }
+
+    /// Tells each subscription whose id is among these of one more change. It takes no memory. The
+    /// index of each can rise.
+    pub(crate) fn tell(&mut self, ids: &[EntityId])
+        requires { CanRise self.old }
+        ensures { subscription_map self.new
+            ≡ told_where (is_one_of ids.now) (subscription_map self.old) }
+    {
+        self.subscriptions.tell(ids)
+    }
+
+    /// Puts a subscription in the place of the one that has its id, or among the others where its
+    /// place is. On an error nothing is changed; over one that has its id, none comes.
+    pub(crate) fn put(&mut self, sub: Sub) -> Result<(), AllocError>
+        ensures ok { OnOk result (subscription_map self.new
+            ≡ insert (subscription_map self.old) sub.id sub) }
+        ensures err { OnErr result (self.new ≡ self.old) }
+        ensures over { IsSome (get (subscription_map self.old) sub.id) → IsOk result }
+    {
+        put_in(&mut self.subscriptions, &mut self.marks, sub)
+    }
+
+    /// Removes the subscription of an id; where there is none, nothing is changed.
+    pub(crate) fn remove(&mut self, id: EntityId)
+        ensures { subscription_map self.new ≡ remove (subscription_map self.old) id }
+    {
+        remove_from(&mut self.subscriptions, &mut self.marks, id)
+    }
+}

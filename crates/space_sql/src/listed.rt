@@ -1,0 +1,95 @@
+//! All that a space over tables holds is read at once.
+ghost use Rattle.std.specs.Prelude.{◌≡◌, false, IfOk, IsTrue};
+ghost use Rattle.sqlite.specs.Held.{state};
+ghost use Rattle.sqlite.specs.State.{HasCleanDisk};
+ghost use Rattle.space_core.specs.Space.{Reads, Tells};
+ghost use Rattle.space_reading.specs.Judging.{listed_airspace};
+ghost use Rattle.space_select.specs.Reading.{ReadsTables};
+ghost use Rattle.space_sql.specs.Holding.{IsKeeping, holds_of, is_sound_of, is_whole_of, kept};
+ghost use Rattle.space_sql.specs.Listed.{IsAllOf};
+ghost use Rattle.space_tables.specs.Spelling.{Spells};
+ghost use Rattle.space_tables.specs.Tables.{dss_schema};
+
+use crate::open::memory;
+use crate::space::SqlSpace;
+use crate::told::settled;
+use same_schema::schema::same_schema;
+use space_core::space::SpaceFault;
+use space_reading::judgement::{Judgement, Listed};
+use space_reading::reading::read_airspace;
+use space_select::reading::known;
+use space_tables::make::make_tables;
+use sqlite::{Alter, Connection, Error, ErrorCode};
+use sqlite_schema::schema::Schema;
+use std::alloc::Global;
+
+/// Whether these are the tables of format 2 and no other, as they are made in memory.
+pub(crate) fn is_ours(alloc: Global, schema: &Schema) -> bool
+    ensures { IsTrue result → schema.now ≡ dss_schema }
+{
+    let Ok(mut made) = memory(alloc) else {
+        return false;
+    };
+    match make_tables(&mut made) {
+        Ok(()) => same_schema(schema, made.schema()),
+        Err(_) => false,
+    }
+}
+
+// Reads all tables, where they are those of format 2 and no other. Others are told as corrupt, and so
+// are those that spell no airspace.
+fn read_ours<S: Alter>(alloc: Global, conn: &mut Connection<S>) -> Result<Listed, Error>
+    requires { conn.old.in_transaction ≡ false }
+    ensures outside { conn.new.in_transaction ≡ false }
+    ensures reads { ReadsTables (state S.Store conn.old) (state S.Store conn.new) result
+        (λ a found. listed_airspace found ≡ a) }
+    ensures spelt { HasCleanDisk (state S.Store conn.new) → IfOk result
+        (λ found. Spells (state S.Store conn.new).now (listed_airspace found)) }
+{
+    if !is_ours(alloc, conn.schema()) {
+        return Err(Error::SqliteFailure(ErrorCode::DatabaseCorrupt));
+    }
+    match read_airspace(alloc, conn) {
+        Ok(Judgement::Spelt(listed)) => Ok(listed),
+        Ok(_) => Err(Error::SqliteFailure(ErrorCode::DatabaseCorrupt)),
+        Err(error) => Err(error),
+    }
+}
+
+fn all_listed<S: Alter>(
+    alloc: Global,
+    conn: &mut Connection<S>,
+    refusals: &mut u64,
+    broken: &mut bool,
+) -> Result<Listed, SpaceFault>
+    requires { IsKeeping (state S.Store conn.old) broken.old }
+    ensures keeping { IsKeeping (state S.Store conn.new) broken.new }
+    ensures tells { Tells refusals.old refusals.new broken.old broken.new result }
+    ensures reads { Reads (holds_of S.Store) (is_sound_of S.Store) (is_whole_of S.Store)
+        (kept conn.old refusals.old broken.old) (kept conn.new refusals.new broken.new) result
+        (λ a found. listed_airspace found ≡ a) }
+    ensures all { IfOk result (IsAllOf S.Store (kept conn.new refusals.new broken.new)) }
+{
+    if *broken {
+        return Err(SpaceFault::Broken);
+    }
+    known(conn);
+    let read = read_ours(alloc, conn);
+    known(conn);
+    settled(conn, refusals, broken, read)
+}
+
+impl<S: Alter> SqlSpace<S> {
+    /// All that it holds, read at once, as sorted lists. Where the database has other tables than
+    /// those of format 2, beside them or in their place, the answer is `Unchanged`.
+    pub fn listed(&mut self) -> Result<Listed, SpaceFault>
+        ensures tells { Tells self.old.refusals self.new.refusals self.old.broken self.new.broken
+            result }
+        ensures reads { Reads (holds_of S.Store) (is_sound_of S.Store) (is_whole_of S.Store)
+            self.old self.new result (λ a found. listed_airspace found ≡ a) }
+        ensures all { IfOk result (IsAllOf S.Store self.new) }
+    {
+        let alloc = self.alloc;
+        all_listed(alloc, &mut self.conn, &mut self.refusals, &mut self.broken)
+    }
+}
