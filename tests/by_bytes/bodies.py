@@ -1,4 +1,4 @@
-"""Bodies at their limits and beyond them, with what is wanted of each."""
+"""Which bodies are taken, at their limits, and which are refused, beyond them: each with what is wanted of it."""
 import json
 
 import wire

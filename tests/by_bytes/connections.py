@@ -1,4 +1,5 @@
-"""Connections: requests that come in pieces, devices that fail, and what breaks a rule of the wire.
+"""Connections: requests that come in pieces are answered as whole ones, devices that fail are told, and so is what breaks a
+rule of the wire.
 
 Standard input and output of the built program are made to give and take few bytes a call, or to fail, by
 tests/devices/devices.c, which is loaded before the C library."""

@@ -1,4 +1,4 @@
-"""What meets what, what is shown to whom, changes of state and of versions, and whom a token names."""
+"""That the rules are meant so: what meets what, what is shown to whom, changes of state and of versions, whom a token names."""
 import wire
 from scenes import ID, NOTHING_LISTED, NO_SUBSCRIPTION, Scene, area, cells, put, volume
 from wire import CONSTRAINTS, INTENTS

@@ -1,4 +1,5 @@
-"""Each name of code in the documents is one of the repository's.
+"""Each name of code in the documents is one of the repository's, the pictures are of what is there, and the first line of each
+source, definition, script and test says what it has.
 
 What stands in backquotes is looked at word by word: a file must be there, the parts of `crate::item` must be made in
 that crate and those of `Type::call` in one file, an edit must stand among the edits of its crate, and any other name
@@ -99,8 +100,18 @@ def is_word(word, folder=""):
 
 
 def is_member(name, member):
-    """Whether a file of code makes both names."""
-    return any({name, member} <= names_of(path) for path in files() if path.endswith((".rt", ".antt")))
+    """Whether a file of code makes both names, or the second in an `impl` of the first."""
+    return any(
+        {name, member} <= names_of(path) or member in names_of(path) and name in impls_in(path)
+        for path in files() if path.endswith((".rt", ".antt"))
+    )
+
+
+@functools.cache
+def impls_in(path):
+    """The words of the lines of a file that begin an `impl`."""
+    lines = re.findall(r"(?m)^impl\b.*$", (TOP / path).read_text(errors="replace"))
+    return frozenset(re.findall(r"\w+", " ".join(lines)))
 
 
 def is_name(word):
@@ -138,17 +149,22 @@ def unknown():
 
 
 def headless():
-    """The sources and definitions whose first line does not say what they have."""
-    begins = {".rt": "//! ", ".antt": "-- "}
-    files = [*TOP.glob("crates/*/src/*.rt"), *TOP.glob("crates/*/specs/*.antt")]
-    texts = ((it, it.read_text()) for it in sorted(files) if it.name != "Lib.antt")
+    """The sources, definitions, scripts and tests whose first line, after that of what runs them, does not say what they have."""
+    begins = {".rt": "//! ", ".antt": "-- ", ".py": '"""', ".c": "/* ", ".bash": "# ", "": ('"""', "# ")}
+    folders = "crates/*/src/*.rt", "crates/*/specs/*.antt", "scripts/*", "tests/*", "tests/*/*.py", "tests/devices/*"
+    files = [it for folder in folders for it in sorted(TOP.glob(folder)) if it.is_file() and it.suffix in begins]
+    texts = ((it, re.sub(r"^#!.*\n", "", it.read_text())) for it in files if it.name != "Lib.antt")
     return [f"{it.relative_to(TOP)} begins otherwise" for it, text in texts if not text.startswith(begins[it.suffix])]
 
 
-def picture_is_drawn():
-    """The picture of the crates is of the crates that are there."""
-    drawn = runpy.run_path(str(TOP / "scripts" / "pictures"))["picture"]()
-    return [] if drawn == (TOP / "docs" / "crates.svg").read_text() else ["docs/crates.svg is another: run scripts/pictures"]
+def pictures_are_drawn():
+    """The pictures are of the crates, the functions and the calls that are there."""
+    drawn = runpy.run_path(str(TOP / "scripts" / "pictures"))
+    old = [name for name, picture in drawn["PICTURES"].items() if picture() != (TOP / "docs" / name).read_text()]
+    found = [f"docs/{name} is another: run scripts/pictures" for name in old]
+    # what asks no space calls no change of one
+    is_blind = drawn["picture_of_a_put"].calls("early::early", "change::make_change")
+    return found + (["a call is seen where there is none"] if is_blind else [])
 
 
-CASES = {"picture-of-the-crates": picture_is_drawn, "names-in-docs": unknown, "first-lines": headless}
+CASES = {"pictures": pictures_are_drawn, "names-in-docs": unknown, "first-lines": headless}

@@ -47,18 +47,32 @@ def manual(root):
     return difference("man", (status, error), (0, b"")) + [f"the manual page lacks {it}" for it in wanted if it not in text]
 
 
-def unit(root):
-    """What systemd says of the unit, with the program where it was unpacked."""
+def units(root):
+    """What systemd says of the unit, alone and with those of three hosts, with the programs where they stand here."""
     if not shutil.which("systemd-analyze"):
         return []
-    file = root / "dss.service"
-    text = (root / "usr/lib/systemd/system/dss.service").read_text()
-    file.write_text(text.replace("/usr/bin/dss", f"{root}/usr/bin/dss"))
-    status, output, error = run(["systemd-analyze", "verify", "--man=no", str(file)])
-    file.unlink()
-    # systemd looks at units of the machine, too
-    said = [it for it in (output + error).decode().splitlines() if "dss.service" in it]
-    return difference("systemd-analyze", (status, said), (0, []))
+    hosts, folder, settings = TOP / "deploy" / "hosts", root / "units", "dss.service.d/hosts.conf"
+    places = {"/usr/bin/dss": f"{root}/usr/bin/dss", "/usr/local/lib/dss": f"{hosts}", "/usr/sbin/glusterfs": "/bin/true"}
+    files = {
+        "dss.service": root / "usr/lib/systemd/system/dss.service",
+        "dss-volume.service": hosts / "dss-volume.service",
+        settings: hosts / settings,
+    }
+    found = []
+    for names in ["dss.service"], list(files):
+        for name in names:
+            text = files[name].read_text()
+            for there, here in places.items():
+                text = text.replace(there, here)
+            (folder / name).parent.mkdir(parents=True, exist_ok=True)
+            (folder / name).write_text(text)
+        asked = [str(folder / it) for it in names if it != settings]
+        status, output, error = run(["systemd-analyze", "verify", "--man=no", *asked])
+        # systemd looks at units of the machine, too
+        said = [it for it in (output + error).decode().splitlines() if "dss" in it]
+        found += difference(f"systemd-analyze, {names}", (status, said), (0, []))
+    shutil.rmtree(folder)
+    return found
 
 
 def completed(root, *words):
@@ -96,7 +110,7 @@ def package():
         fields = told("-f", packages[0], "Package", "Version", "Architecture")
         found = difference("fields", fields, ["Package: dss", f"Version: {version}", "Architecture: amd64"])
         found += difference("owners", {line.split()[1] for line in told("-c", packages[0])}, {"root/root"})
-        found += paths(root) + manual(root) + unit(root) + completions(root)
+        found += paths(root) + manual(root) + units(root) + completions(root)
         program = root / "usr/bin/dss"
         words = [str(program), "run", "--tokens", str(TOP / "examples" / "tokens.toml"), "--now", "1000", "-"]
         found += difference("program", program.read_bytes() == pathlib.Path(BUILT).read_bytes(), True)

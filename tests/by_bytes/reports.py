@@ -1,4 +1,4 @@
-"""The report of a database, of references that the program itself made. The lines are laid out here once more."""
+"""The report of a database is to the letter what is laid out here once more, of references that the program itself made."""
 import json
 import pathlib
 import tempfile

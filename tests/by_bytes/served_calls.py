@@ -1,4 +1,5 @@
-"""Drawn calls over `serve` and its database: by one service, and by one that is started anew between any two of them."""
+"""Drawn calls over `serve` and its database are answered as in memory: by one service, and by one that ends, or is killed, and is
+started anew between any two of them."""
 import time
 
 import drawn_calls

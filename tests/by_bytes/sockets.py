@@ -1,4 +1,5 @@
-"""The program behind sockets: `serve` on a free port of this machine, and `self`."""
+"""The program behind sockets, `serve` on a free port of this machine, and `self`: each connection is served and ended so that its
+last answer is read, whatever its client does."""
 import json
 import pathlib
 import socket

@@ -1,4 +1,5 @@
-"""Runs of the built program in which one growth of memory is refused, each in turn."""
+"""One growth of memory is refused, each in turn: each answer is the one that is due, or a fault that changed nothing, or the stream
+ends with `dss: memory`."""
 import collections
 import gzip
 import json
@@ -19,22 +20,29 @@ STEP = 61
 NOW = 1000
 
 
-def each_refused(command, given=b"", step=1, before=lambda: None):
-    """Runs a command with each growth of its memory refused in turn, or one of each few, after something was done.
-    Yields the number of the growth, what came, and whether there was such a growth, which is so for all but the last."""
+def each_environment(step=1):
+    """The environments in which each growth of memory is refused in turn, or one of each few, as long as there is such a
+    growth: the number of the growth, the environment, and a file that is there once it was refused."""
     with tempfile.TemporaryDirectory() as room:
         library, mark = f"{room}/refuse_memory.so", pathlib.Path(room, "refused")
         built = run(["cc", "-shared", "-fPIC", "-O1", "-o", library, str(TOP / "tests" / "devices" / "refuse_memory.c")])
         if built[0]:
             raise OSError(f"cc: {built[2]!r}")
         for at in range(1, MOST_GROWTHS * step, step):
-            before()
             mark.unlink(missing_ok=True)
-            got = run(command, given, more={"LD_PRELOAD": library, "REFUSE_AT": str(at), "REFUSED": str(mark)})
-            yield at, got, mark.exists()
+            yield at, {"LD_PRELOAD": library, "REFUSE_AT": str(at), "REFUSED": str(mark)}, mark
             if not mark.exists():
                 return
     raise ValueError(f"over {MOST_GROWTHS} growths of memory")
+
+
+def each_refused(command, given=b"", step=1, before=lambda: None):
+    """Runs a command with each growth of its memory refused in turn, or one of each few, after something was done.
+    Yields the number of the growth, what came, and whether there was such a growth, which is so for all but the last."""
+    for at, environment, mark in each_environment(step):
+        before()
+        got = run(command, given, more=environment)
+        yield at, got, mark.exists()
 
 
 def case(name):
@@ -53,9 +61,14 @@ def case(name):
             return [f"growth {at} refused: {got!r}"]
 
 
-def eight_calls():
+def hour_of(start):
+    """The extents of the calls below: a cell for an hour."""
+    return {"cells": ["89c25904"], "altitude_lower": 0, "altitude_upper": 1200, "time_start": start, "time_end": start + 3600}
+
+
+def eight_calls(start=NOW):
     """Calls that create, lack a key, update, query, delete and set, each of them with an effect or a denial."""
-    volume = {"cells": ["89c25904"], "altitude_lower": 0, "altitude_upper": 1200, "time_start": 1000, "time_end": 4600}
+    volume = hour_of(start)
     put = {"extents": [volume], "uss_base_url": "https://uss.example"}
 
     def intent(*serials):
@@ -75,10 +88,10 @@ def eight_calls():
     ]
 
 
-def notifying_calls():
+def notifying_calls(start=NOW):
     """Subscriptions of two addresses, a creation that names one, an update and a deletion that notify them, an update and
     a deletion of each of them, and what the index is of the one that is left."""
-    volume = {"cells": ["89c25904"], "altitude_lower": 0, "altitude_upper": 1200, "time_start": 1000, "time_end": 4600}
+    volume = hour_of(start)
     moved = {**volume, "cells": ["89c2590c"]}
     a1, d1, d2 = (f"00000000-0000-4000-8000-0000000000{it}" for it in ("a1", "d1", "d2"))
 

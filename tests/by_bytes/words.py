@@ -1,4 +1,4 @@
-"""Token files, command lines and tokens of cells, with what is wanted of each."""
+"""Which token files, command lines and tokens of cells are taken: each with what is wanted of it."""
 
 # Token files, and the fault that each has.
 TOKEN_FILES = (

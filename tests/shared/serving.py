@@ -19,6 +19,9 @@ def words(folder, port, count):
 class Service:
     """`dss serve` on a free port, for so many connections at most, with more in its environment."""
 
+    # the seconds in which it has to listen
+    patience = SECONDS
+
     def __init__(self, tokens=None, count=1_000_000, disk=None, more=None):
         self.room = tempfile.TemporaryDirectory(dir=disk)
         self.folder, self.count = pathlib.Path(self.room.name), count
@@ -33,6 +36,10 @@ class Service:
         self.kill()
         self.room.cleanup()
 
+    def command(self):
+        """The command line of the program."""
+        return words(self.folder, self.port, self.count)
+
     def start(self):
         """Starts the program, and waits until it listens."""
         with socket.create_server(("127.0.0.1", 0)) as free:
@@ -41,10 +48,9 @@ class Service:
         output, errors = self.folder / "output", self.folder / "errors"
         with output.open("wb") as stdout, errors.open("wb") as stderr:
             self.program = subprocess.Popen(
-                words(self.folder, self.port, self.count), stdin=subprocess.DEVNULL, stdout=stdout, stderr=stderr,
-                env=self.environment,
+                self.command(), stdin=subprocess.DEVNULL, stdout=stdout, stderr=stderr, env=self.environment
             )
-        until = time.monotonic() + SECONDS
+        until = time.monotonic() + self.patience
         while not errors.read_bytes().startswith(self.listening):
             if self.program.poll() is not None or time.monotonic() > until:
                 self.program.kill()

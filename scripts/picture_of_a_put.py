@@ -1,0 +1,190 @@
+"""The way of a PUT of an operational intent over a database, as a text of SVG, read from the sources.
+
+What is drawn is a list of functions, each below one that calls it. Where a function stands, and what is said of it, is read from the
+sources; that the one calls the other, itself or by functions of its crate, is looked for there. Where it is not so, nothing is drawn."""
+import functools
+import html
+import pathlib
+import re
+import textwrap
+
+TOP = pathlib.Path(__file__).resolve().parent.parent
+# each a step in, below a function that calls it: the file and the function
+WAY = """
+serve::serve_stream
+  serve::serve_one
+    request::next_request
+      head::find_head
+        rest::head_so_far
+      request::take_body
+    call::ask
+      routes::find
+      place::kind
+      body::read_body
+      token_table::caller
+    serve::answer
+      service::call
+        early::early
+        decide::decide
+          look::look
+            single::read_entity
+            subscription::read_subscription
+          standing::standing
+          needed::needed_with
+            meeting::read_meeting
+          needed::missing_from
+            missing::missing
+        effects::prepared
+          ovn::ovn_of
+          subscriptions::find_subscribers
+          notice::notices_of
+        change::make_change
+          put::put_entity
+          tell::tell_all
+      text::answer_text
+        answer::reply_text
+      write::write_whole
+"""
+# where a part of the way begins, and what it is
+PARTS = {
+    "serve::serve_stream": "the bytes of a connection",
+    "request::next_request": "a whole request",
+    "call::ask": "the call that it makes",
+    "early::early": "the rules that look at the call alone",
+    "look::look": "what the call names",
+    "standing::standing": "the rules on what was found",
+    "needed::needed_with": "the key",
+    "effects::prepared": "the change and the answer, made",
+    "change::make_change": "one transaction",
+    "text::answer_text": "the answer, written",
+}
+# the columns: the crates of each, by how their names begin
+LANES = {"the wire": ("wire_", "token_conf"), "the service": ("service_",), "the rules": ("policy_", "entity_"), "tables": ("space_",)}
+FUNCTION = re.compile(r"^( *)(?:pub(?:\(\w+\))? )?fn (\w+)", re.M)
+COMMENT = re.compile(r"((?:^ *//.*\n)+)(?: *#.*\n)*\Z", re.M)
+# a row, a column, a step within a column, a box, and what stands beside
+HIGH, LANE, STEP, WIDE, BOX, MARGIN, SAID = 38, 170, 12, 152, 30, 12, 640
+
+
+@functools.cache
+def functions():
+    """The functions of the sources: of the crate, the file and the name their texts, each with the comment above it."""
+    found = {}
+    for path in sorted(TOP.glob("crates/*/src/*.rt")):
+        text = path.read_text()
+        begins = list(FUNCTION.finditer(text))
+        for at, it in enumerate(begins):
+            end = begins[at + 1].start() if at + 1 < len(begins) else len(text)
+            said = COMMENT.search(text[: it.start()])
+            key = path.parent.parent.name, path.stem, it[2]
+            found.setdefault(key, []).append((said[1] if said else "", text[it.start() : end]))
+    return found
+
+
+def place(step):
+    """The one place of a function in the sources: its crate, its file, its name."""
+    file, name = step.split("::")
+    found = [it for it in functions() if it[1:] == (file, name)]
+    if len(found) != 1:
+        raise ValueError(f"{len(found)} crates have a function {step}")
+    return found[0]
+
+
+def said_of(step):
+    """The first sentence of what the source says of a function."""
+    comment = " ".join(it.strip().lstrip("/").strip() for it in functions()[place(step)][0][0].splitlines())
+    return re.split(r"(?<=[.]) ", comment)[0]
+
+
+@functools.cache
+def named(crate, name):
+    """The functions of a crate of a name."""
+    return [it for it in functions() if (it[0], it[2]) == (crate, name)]
+
+
+@functools.cache
+def spaces():
+    """The calls of the trait of spaces, and the crate of the space over tables."""
+    calls = [name for crate, file, name in functions() if (crate, file) == ("space_core", "space")]
+    over = [it for it in TOP.glob("crates/*/src/*.rt") if "Space for SqlSpace" in it.read_text()]
+    return calls, over[0].parent.parent.name
+
+
+def calls(above, below):
+    """Whether a function calls another one, itself or by others of its crate; a call of a space goes to the one over tables."""
+    of_space, over = spaces()
+    seen, open_ = set(), [place(above)]
+    while open_:
+        at = open_.pop()
+        if at in seen:
+            continue
+        seen.add(at)
+        for _, text in functions()[at]:
+            for name in re.findall(r"\b(\w+)(?:::<[^>]*>)?\(", text.partition("{\n")[2]):
+                if name == place(below)[2]:
+                    return True
+                open_ += named(at[0], name) + (named(over, name) if name in of_space else [])
+    return False
+
+
+def way():
+    """The steps of the way, each with its depth and the place of the step above it."""
+    found, above = [], []
+    for line in WAY.strip().splitlines():
+        depth, step = (len(line) - len(line.lstrip())) // 2, line.strip()
+        above[depth:] = [len(found)]
+        found.append((step, above[depth - 1] if depth else None))
+    return found
+
+
+def lane_of(crate):
+    return next(at for at, begins in enumerate(LANES.values()) if crate.startswith(begins))
+
+
+def laid():
+    """Of each step where its box begins: below what calls it, and in its own column."""
+    x, inner = [], []
+    for step, above in way():
+        lane = lane_of(place(step)[0])
+        same = above is not None and lane_of(place(way()[above][0])[0]) == lane
+        inner.append(inner[above] + 1 if same else 0)
+        x.append(MARGIN + lane * LANE + inner[-1] * STEP)
+    return x
+
+
+def picture():
+    """The text of the picture."""
+    steps, x = way(), laid()
+    for step, above in steps:
+        if above is not None and not calls(steps[above][0], step):
+            raise ValueError(f"{steps[above][0]} does not call {step}")
+    y, top = [], MARGIN + 34
+    for step, _ in steps:
+        top += 22 if step in PARTS else 0
+        y.append(top)
+        top += HIGH
+    beside = MARGIN + len(LANES) * LANE + 16
+    wide = beside + SAID
+    lines = [
+        f'<svg xmlns="http://www.w3.org/2000/svg" width="{wide}" height="{top + MARGIN}" font-family="sans-serif" font-size="12">',
+        f'<rect width="{wide}" height="{top + MARGIN}" fill="white"/>',
+    ]
+    for at, name in enumerate(LANES):
+        left = MARGIN + at * LANE
+        lines += [f'<rect x="{left - 4}" y="{MARGIN}" width="{LANE - 8}" height="{top - MARGIN}" fill="#f5f7f9"/>']
+        lines += [f'<text x="{left + LANE / 2 - 8:.0f}" y="{MARGIN + 16}" text-anchor="middle" font-weight="bold">{name}</text>']
+    for at, (_, above) in enumerate(steps):
+        if above is not None:
+            down = f"M{x[above] + 5} {y[above] + BOX}V{y[at] + BOX // 2}H{x[at]}"
+            lines += [f'<path d="{down}" fill="none" stroke="#9aa7b4"/>']
+    for at, (step, _) in enumerate(steps):
+        crate, _, name = place(step)
+        if step in PARTS:
+            lines += [f'<text x="{beside}" y="{y[at] - 6}" font-weight="bold">{PARTS[step]}</text>']
+        size = WIDE - (x[at] - MARGIN) % LANE
+        lines += [f'<rect x="{x[at]}" y="{y[at]}" width="{size}" height="{BOX}" rx="4" fill="#e6eef6" stroke="#2b5c8a"/>']
+        lines += [f'<text x="{x[at] + 6}" y="{y[at] + 13}">{name}</text>']
+        lines += [f'<text x="{x[at] + 6}" y="{y[at] + 25}" font-size="9" fill="#56687a">{crate}</text>']
+        for row, text in enumerate(textwrap.wrap(said_of(step), 100, max_lines=2, placeholder=" ..")):
+            lines += [f'<text x="{beside}" y="{y[at] + 13 + row * 14}">{html.escape(text, quote=False)}</text>']
+    return "\n".join([*lines, "</svg>", ""])

@@ -1,0 +1,86 @@
+"""The copy in memory from which `serve` answers what is read: without memory for it, and of tables that get none."""
+import collections
+import sqlite3
+
+import served_calls
+import tables
+import wire
+import without_memory
+from program import first_difference
+from serving import Service
+
+AHEAD = served_calls.AHEAD
+# of the growths of memory of the service, one in so many is refused
+STEP = 97
+# lines of a service that did not start for want of memory
+ENDS = (b"dss: memory\n", b"dss: db: fault 3 Store\n", b"dss: db: fault\n")
+FAULT, STOPPED = wire.answer(*without_memory.FAULT), wire.answer(*without_memory.STOPPED)
+
+
+def answers_without(calls, environment):
+    """The answers of a service to calls over one connection, in this environment, what it wrote to standard error, and
+    what is wrong with what it keeps."""
+    service = Service(more=environment)
+    try:
+        try:
+            service.start()
+            found = service.ask([wire.request(*it) for it in calls])
+        except OSError:
+            found = []
+        service.kill()
+        said = (service.folder / "errors").read_bytes().removeprefix(service.listening)
+        database = service.folder / "dss.db"
+        # a file that the first start did not make whole is made by the next
+        wrong = without_memory.lost(database, calls, found, True) if found else []
+        return found, said, wrong
+    finally:
+        service.kill()
+        service.room.cleanup()
+
+
+def refused(name, calls):
+    """Refuses growths of memory of the service in turn: each answer is the one that is due, or a fault that changed
+    nothing, or the service is stopped or the connection ends; what was acknowledged is kept. Where the copy lacked
+    memory, all answers come."""
+    ends = collections.Counter()
+    for at, environment, mark in without_memory.each_environment(STEP):
+        found, said, wrong = answers_without(calls, environment)
+        faulted = found.index(FAULT) if FAULT in found else None
+        wanted = without_memory.answers(calls, {faulted})
+        if STOPPED in found:
+            first = found.index(STOPPED)
+            wanted[first:] = [STOPPED] * (len(calls) - first)
+        is_whole = len(found) == len(calls)
+        if found != wanted[: len(found)] or wrong or said not in (b"", *ENDS) or is_whole != (said == b""):
+            why = first_difference(wanted, found)
+            return [f"{name}, growth {at}, refused: {mark.exists()}: {said!r}, {wrong}, {why}"]
+        ended = "stopped" if STOPPED in found else "fault" if faulted is not None else "done" if is_whole else "ended"
+        if not mark.exists() and ended != "done":
+            return [f"{name}: {found}"]
+        ends[ended] += mark.exists()
+    print(f"{name} over serve: of {at} growths of memory one in {STEP} refused: {dict(ends)}")
+    return [] if ends["done"] > 10 else [f"{name}: {dict(ends)}"]
+
+
+def without_memory_for_it():
+    """Of calls of each kind, and of changes that notify subscriptions."""
+    found = refused("eight calls", without_memory.eight_calls(AHEAD))
+    return found + refused("calls that notify", without_memory.notifying_calls(AHEAD))
+
+
+def of_other_tables():
+    """A file that SQLite wrote anew, and one with a table more, are served as others are, also after a restart."""
+    asked, found = served_calls.Asked(served_calls.SEED + 2), []
+    with Service(served_calls.drawn_calls.ALL_TOKENS) as service:
+        for statement in "SELECT 1", "VACUUM", "CREATE TABLE another (number INTEGER) STRICT", "DROP TABLE another":
+            service.kill()
+            connection = sqlite3.connect(service.folder / "dss.db", isolation_level=None)
+            connection.execute(statement)
+            connection.close()
+            service.start()
+            found += [f"after {statement}: {it}" for it in asked.differs(service, wire.MOST_REQUESTS)]
+        service.kill()
+        return found + tables.wrong_in(service.folder / "dss.db")
+
+
+CASES = {"serve-without-memory-for-a-copy": without_memory_for_it, "serve-of-other-tables": of_other_tables}
