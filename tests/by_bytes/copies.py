@@ -1,4 +1,4 @@
-"""The copy in memory from which `serve` answers what is read: without memory for it, and of tables that get none."""
+"""The copy in memory from which `serve` answers what is read: that it does, without memory for it, and of tables that get none."""
 import collections
 import sqlite3
 
@@ -10,6 +10,8 @@ from program import first_difference
 from serving import Service
 
 AHEAD = served_calls.AHEAD
+# of so many suppliers in a database so many are asked for
+SUPPLIERS, ASKED = 120_000, 90
 # of the growths of memory of the service, one in so many is refused
 STEP = 97
 # lines of a service that did not start for want of memory
@@ -83,4 +85,26 @@ def of_other_tables():
         return found + tables.wrong_in(service.folder / "dss.db")
 
 
-CASES = {"serve-without-memory-for-a-copy": without_memory_for_it, "serve-of-other-tables": of_other_tables}
+def while_the_file_is_gone():
+    """What is read is answered from the copy: a database larger than what the program keeps of its pages is overwritten with
+    zeros once the service listens, and suppliers' availabilities are answered all the same. Without a copy each is 500."""
+    ids = [f"uss-{number:06}" for number in range(SUPPLIERS)]
+    rows = {"availability": [(it, 1, wire.ovn(1)) for it in ids], "meta": [(1, 2, 1)]}
+    service = Service()
+    try:
+        tables.make(service.folder / "dss.db", 2, rows)
+        service.start()
+        file = service.folder / "dss.db"
+        with file.open("r+b") as opened:
+            opened.write(bytes(file.stat().st_size))
+        asked = ids[:: SUPPLIERS // ASKED][:ASKED]
+        found = service.ask([wire.request("GET", f"{wire.AVAILABILITY}/{it}", "Bearer tok-a") for it in asked])
+        texts = [wire.compact({"status": {"availability": "Normal", "uss": it}, "version": wire.ovn(1)}) for it in asked]
+        why = first_difference([wire.answer(200, it) for it in texts], found)
+        return [why] if why else []
+    finally:
+        service.kill()
+        service.room.cleanup()
+
+
+CASES = {"serve-while-the-file-is-gone": while_the_file_is_gone, "serve-without-memory-for-a-copy": without_memory_for_it, "serve-of-other-tables": of_other_tables}
