@@ -107,4 +107,8 @@ def while_the_file_is_gone():
         service.room.cleanup()
 
 
-CASES = {"serve-while-the-file-is-gone": while_the_file_is_gone, "serve-without-memory-for-a-copy": without_memory_for_it, "serve-of-other-tables": of_other_tables}
+CASES = {
+    "serve-while-the-file-is-gone": while_the_file_is_gone,
+    "serve-without-memory-for-a-copy": without_memory_for_it,
+    "serve-of-other-tables": of_other_tables,
+}
