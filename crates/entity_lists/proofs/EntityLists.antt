@@ -15,39 +15,24 @@ use Rattle.entity_lists.specs.Subscriptions as subs
 use Rattle.entity_lists.proofs.Keys.{key_total}
 use Rattle.entity_lists.proofs.Maps.{values_of_kept}
 
-meeting_answer : (xs d es : List Entity) (kind : Kind) (areas : List Region) (except : Option ℕ) → d ≡ es → InOrder es
+pub meeting_answer : (xs d es : List Entity) (kind : Kind) (areas : List Region) (except : Option ℕ) → d ≡ es → InOrder es
     → xs ≡ filter (λ e. is_sought kind areas except (pair_of e)) d → xs ≡ meeting_in (entity_map es) kind areas except
 unfolding meeting_in
 meeting_answer xs d es kind areas except e s h =
     h ∙ (ap (filter (λ x. is_sought kind areas except (pair_of x))) e
     ∙ sym (values_of_kept key_cmp pair_of key_total (is_sought kind areas except) es s ∙ map-id (filter (λ x. is_sought kind areas except (pair_of x)) es)))
 
-all_answer : (xs d es : List Entity) (kind : Kind) → d ≡ es → InOrder es → xs ≡ filter (λ e. has_kind kind (key_of e)) d → xs ≡ all_in (entity_map es) kind
+pub all_answer : (xs d es : List Entity) (kind : Kind) → d ≡ es → InOrder es → xs ≡ filter (λ e. has_kind kind (key_of e)) d → xs ≡ all_in (entity_map es) kind
 unfolding all_in
 all_answer xs d es kind e s h =
     h ∙ (ap (filter (λ x. has_kind kind (key_of x))) e
     ∙ sym (values_of_kept key_cmp pair_of key_total (λ x. has_kind kind x.0) es s ∙ map-id (filter (λ x. has_kind kind (key_of x)) es)))
 
-pub meeting_answers : {E V : Type 0} (items : V → List Entity) (r : Result V E) (d es : List Entity) (kind : Kind) (areas : List Region) (except : Option ℕ) → d ≡ es → InOrder es
-    → IfOk r (λ f. items f ≡ filter (λ e. is_sought kind areas except (pair_of e)) d) → IfOk r (λ f. items f ≡ meeting_in (entity_map es) kind areas except)
-meeting_answers items (Ok f) d es kind areas except e s h = meeting_answer (items f) d es kind areas except e s h
-meeting_answers items (Err x) d es kind areas except e s h = tt
-
-pub all_answers : {E V : Type 0} (items : V → List Entity) (r : Result V E) (d es : List Entity) (kind : Kind) → d ≡ es → InOrder es
-    → IfOk r (λ f. items f ≡ filter (λ e. has_kind kind (key_of e)) d) → IfOk r (λ f. items f ≡ all_in (entity_map es) kind)
-all_answers items (Ok f) d es kind e s h = all_answer (items f) d es kind e s h
-all_answers items (Err x) d es kind e s h = tt
-
-dependents_answer : (ids : List ℕ) (d es : List Entity) (id : ℕ) → d ≡ es → InOrder es → ids ≡ map (λ e. e.id) (filter (λ e. is_naming id (pair_of e)) d) → ids ≡ dependents_in (entity_map es) id
+pub dependents_answer : (ids : List ℕ) (d es : List Entity) (id : ℕ) → d ≡ es → InOrder es → ids ≡ map (λ e. e.id) (filter (λ e. is_naming id (pair_of e)) d) → ids ≡ dependents_in (entity_map es) id
 unfolding dependents_in
 dependents_answer ids d es id e s h =
     h ∙ (ap (λ (xs : List Entity). map (λ x. x.id) (filter (λ x. is_naming id (pair_of x)) xs)) e
     ∙ ap (map (λ (x : Entity). x.id)) (sym (values_of_kept key_cmp pair_of key_total (is_naming id) es s ∙ map-id (filter (λ x. is_naming id (pair_of x)) es))))
-
-pub dependents_answers : {E V : Type 0} (items : V → List ℕ) (r : Result V E) (d es : List Entity) (id : ℕ) → d ≡ es → InOrder es
-    → IfOk r (λ f. items f ≡ map (λ e. e.id) (filter (λ e. is_naming id (pair_of e)) d)) → IfOk r (λ f. items f ≡ dependents_in (entity_map es) id)
-dependents_answers items (Ok f) d es id e s h = dependents_answer (items f) d es id e s h
-dependents_answers items (Err x) d es id e s h = tt
 
 -- ---- subscriptions
 

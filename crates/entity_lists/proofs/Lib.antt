@@ -3,4 +3,4 @@ pub mod Maps
 pub mod Places
 pub mod EntityLists
 pub mod Tellings
-pub mod Searches
+pub mod EntityTrees

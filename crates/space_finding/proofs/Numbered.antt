@@ -11,8 +11,8 @@ use Rattle.entity_core.proofs.Keys.{key_total, key_exact}
 use Rattle.entity_lists.specs.Entities.{entity_map}
 use Rattle.entity_lists.specs.Subscriptions.{subscription_map}
 use Rattle.space_tables.specs.Spelling.{Group, SubGroup}
-use Rattle.space_single.specs.Numbered.{FindsNumbered}
-use Rattle.space_single.specs.SubNumbered.{FindsSubNumbered}
+use Rattle.space_single.specs.Entity.{FindsNumbered}
+use Rattle.space_single.specs.Subscription.{FindsSubNumbered}
 use Rattle.space_finding.specs.Candidates.{ReadsNumbered, AddsNumbered, ReadsSubs, AddsSub}
 use Rattle.space_finding.proofs.Found.{none_numbered, adds_none, adds_one}
 

@@ -9,7 +9,7 @@ use crate::cell_table::CellTable;
 use crate::interval::Interval;
 use crate::numbers::find_numbers;
 use entity_lists::entities::Entities;
-use space_single::numbered::read_numbered;
+use space_single::entity::read_numbered;
 use sqlite::{Alter, Error, Transaction};
 use std::alloc::Global;
 

@@ -8,7 +8,7 @@ use entity_core::availability::Availability;
 use entity_core::entity::Entity;
 use entity_core::ovn::Ovn;
 use space_core::met::Met;
-use space_single::stated::read_stated;
+use space_single::availability::read_stated;
 use sqlite::{Alter, Error, Transaction};
 use std::alloc::Global;
 

@@ -1,10 +1,8 @@
 //! The entities that meet areas, read of a connection.
-ghost use Rattle.std.specs.Prelude.{◌≡◌, false, IfOk, OnOk, IsTrue};
+ghost use Rattle.std.specs.Prelude.{◌≡◌, false};
 ghost use Rattle.sqlite.specs.Held.{state};
-ghost use Rattle.sqlite.specs.State.{HasCleanDisk, Survives};
 ghost use Rattle.space_core.specs.Met.{met_in};
-ghost use Rattle.space_tables.specs.Tables.{dss_schema};
-ghost use Rattle.space_select.specs.Reading.{GoesBack, Reads, ReadsTables};
+ghost use Rattle.space_select.specs.Reading.{Reads, ReadsAlive, ReadsAlone, ReadsTables};
 ghost use Rattle.space_finding.specs.Asked.{HasAllAncestors, HasRanges};
 ghost use Rattle.space_finding.specs.Met.{FindsMet};
 
@@ -16,7 +14,7 @@ use entity_core::entity_id::EntityId;
 use entity_core::nature::Kind;
 use grid_core::volume::Area;
 use space_core::met::Met;
-use space_select::reading::alive;
+use space_select::reading::{alive, known};
 use sqlite::{Alter, Connection, Error, Transaction};
 use std::alloc::Global;
 
@@ -54,14 +52,8 @@ fn read_alone<S: Alter>(
     requires ranges { HasRanges ranges.now areas.now }
     requires ancestors { HasAllAncestors ancestors.now areas.now }
     ensures ended { conn.new.in_transaction ≡ false }
-    ensures read { let old = state S.Store conn.old in
-        HasCleanDisk (state S.Store conn.new)
-        → IfOk result (λ met. old.now.schema ≡ dss_schema
-        → FindsMet kind areas.now except old.now met.items) }
-    ensures back { let old = state S.Store conn.old in
-        let new = state S.Store conn.new in
-        HasCleanDisk new → IsTrue new.is_open → old.now.schema ≡ dss_schema → GoesBack old new }
-    ensures survives { Survives (state S.Store conn.old) (state S.Store conn.new) (λ _. ⊥) }
+    ensures reads { ReadsAlone (λ db met. FindsMet kind areas.now except db met.items)
+        (state S.Store conn.old) (state S.Store conn.new) result }
 {
     let mut tx = conn.transaction();
     let met = find_meeting(alloc, &mut tx, ranges, ancestors, kind, areas, except)?;
@@ -83,14 +75,10 @@ fn read_alive<S: Alter>(
     requires ranges { HasRanges ranges.now areas.now }
     requires ancestors { HasAllAncestors ancestors.now areas.now }
     ensures outside { conn.new.in_transaction ≡ false }
-    ensures read { let old = state S.Store conn.old in
-        HasCleanDisk (state S.Store conn.new)
-        → IfOk result (λ met. old.now.schema ≡ dss_schema
-        → FindsMet kind areas.now except old.now met.items) }
-    ensures open { let new = state S.Store conn.new in
-        HasCleanDisk new → OnOk result (IsTrue new.is_open) }
-    ensures survives { Survives (state S.Store conn.old) (state S.Store conn.new) (λ _. ⊥) }
+    ensures reads { ReadsAlive (λ db met. FindsMet kind areas.now except db met.items)
+        (state S.Store conn.old) (state S.Store conn.new) result }
 {
+    known(conn);
     let met = read_alone(alloc, conn, ranges, ancestors, kind, areas, except)?;
     alive(conn)?;
     Ok(met)

@@ -9,7 +9,7 @@ use crate::cell_table::CellTable;
 use crate::interval::Interval;
 use crate::numbers::find_numbers;
 use entity_lists::subscriptions::Subscriptions;
-use space_single::sub_numbered::read_sub_numbered;
+use space_single::subscription::read_sub_numbered;
 use sqlite::{Alter, Error, Transaction};
 use std::alloc::Global;
 

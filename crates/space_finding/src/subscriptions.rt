@@ -1,11 +1,9 @@
 //! The subscriptions that meet areas, read of a connection.
-ghost use Rattle.std.specs.Prelude.{◌≡◌, false, IfOk, OnOk, IsTrue};
+ghost use Rattle.std.specs.Prelude.{◌≡◌, false};
 ghost use Rattle.sqlite.specs.Held.{state};
-ghost use Rattle.sqlite.specs.State.{HasCleanDisk, Survives};
 ghost use Rattle.entity_core.specs.Search.{subscribers_in, subscriptions_in};
 ghost use Rattle.entity_lists.specs.Subscriptions.{subscription_map};
-ghost use Rattle.space_tables.specs.Tables.{dss_schema};
-ghost use Rattle.space_select.specs.Reading.{GoesBack, ReadsTables};
+ghost use Rattle.space_select.specs.Reading.{ReadsAlive, ReadsAlone, ReadsTables};
 ghost use Rattle.space_finding.specs.Candidates.{HoldsNear, HoldsSubCandidates};
 
 use crate::asked::{ancestors_of, ranges_of};
@@ -16,7 +14,7 @@ use entity_core::subscription::Sub;
 use entity_core::uss_id::UssId;
 use entity_lists::subscriptions::Subscriptions;
 use grid_core::volume::Area;
-use space_select::reading::alive;
+use space_select::reading::{alive, known};
 use sqlite::{Alter, Connection, Error};
 use std::alloc::Global;
 
@@ -28,14 +26,9 @@ fn read_alone<S: Alter>(
 ) -> Result<Subscriptions, Error>
     requires { conn.old.in_transaction ≡ false }
     ensures ended { conn.new.in_transaction ≡ false }
-    ensures read { let old = state S.Store conn.old in
-        HasCleanDisk (state S.Store conn.new)
-        → IfOk result (λ found. old.now.schema ≡ dss_schema
-        → HoldsSubCandidates ranges.now ancestors.now old.now (subscription_map found)) }
-    ensures back { let old = state S.Store conn.old in
-        let new = state S.Store conn.new in
-        HasCleanDisk new → IsTrue new.is_open → old.now.schema ≡ dss_schema → GoesBack old new }
-    ensures survives { Survives (state S.Store conn.old) (state S.Store conn.new) (λ _. ⊥) }
+    ensures reads { ReadsAlone (λ db found.
+        HoldsSubCandidates ranges.now ancestors.now db (subscription_map found))
+        (state S.Store conn.old) (state S.Store conn.new) result }
 {
     let mut tx = conn.transaction();
     let found = read_sub_candidates(alloc, &mut tx, ranges, ancestors)?;
@@ -52,14 +45,11 @@ fn read_alive<S: Alter>(
 ) -> Result<Subscriptions, Error>
     requires { conn.old.in_transaction ≡ false }
     ensures outside { conn.new.in_transaction ≡ false }
-    ensures read { let old = state S.Store conn.old in
-        HasCleanDisk (state S.Store conn.new)
-        → IfOk result (λ found. old.now.schema ≡ dss_schema
-        → HoldsSubCandidates ranges.now ancestors.now old.now (subscription_map found)) }
-    ensures open { let new = state S.Store conn.new in
-        HasCleanDisk new → OnOk result (IsTrue new.is_open) }
-    ensures survives { Survives (state S.Store conn.old) (state S.Store conn.new) (λ _. ⊥) }
+    ensures reads { ReadsAlive (λ db found.
+        HoldsSubCandidates ranges.now ancestors.now db (subscription_map found))
+        (state S.Store conn.old) (state S.Store conn.new) result }
 {
+    known(conn);
     let found = read_alone(alloc, conn, ranges, ancestors)?;
     alive(conn)?;
     Ok(found)

@@ -9,13 +9,13 @@ use Rattle.grid_core.specs.Extent.{Extent, Region, Meet, any_meet, region_of}
 use Rattle.grid_core.proofs.Meets.{any_meet_test}
 use Rattle.grid_core.proofs.IndexLaws.{found_by_index_lem}
 use Rattle.entity_core.specs.declared.entity.Entity.{Entity}
-use Rattle.space_list.specs.CellIndex.{Holder, Mark, Span, Grows, AllMarked, IsMarked, HasSpansOf, HasAllSpans, GathersAll, HasMeeting, exactly, holder_of, inside_of, mark_cmp, mark_of, place_of, span_cmp}
+use Rattle.space_list.specs.CellIndex.{Holder, Mark, Span, Grows, AllMarked, IsMarked, HasSpansOf, HasAllSpans, GathersAll, HasMeeting, exact_of, holder_of, range_of, mark_cmp, mark_of, place_of, span_cmp}
 
 pub marked_more : (h : Holder) (old new : BTreeSet Mark) → Grows mark_cmp old new → (c : Cell) → IsMarked old h c → IsMarked new h c
 marked_more h old new g c m = record { cell = m.cell; narrow = m.narrow; mark = g (mark_of h c) m.mark }
 
-pub asked_more : (old new : BTreeSet Span) → Grows span_cmp old new → (c : Cell) → HasSpansOf old c → HasSpansOf new c
-asked_more old new g c a = record { cell = a.cell; inside = g (inside_of c) a.inside; above = λ k l m. g (exactly (parent_of c k)) (a.above k l m) }
+pub spans_more : (old new : BTreeSet Span) → Grows span_cmp old new → (c : Cell) → HasSpansOf old c → HasSpansOf new c
+spans_more old new g c a = record { cell = a.cell; range = g (range_of c) a.range; ancestors = λ k l m. g (exact_of (parent_of c k)) (a.ancestors k l m) }
 
 both : {X : Type 0} (P Q : X → Type 0) (xs : List X) → All P xs → Any Q xs → (x : X) × P x × Q x
 both P Q xs a n = (n.1, subst P n.3 (a n.0 n.1 n.2), n.4)
@@ -29,19 +29,19 @@ found_cell marks spans ids g e c d m a t = elim ((found_by_index_lem d c a.cell 
       let narrow : hi_of c < 4294967296 = m.narrow in
       let from : lo_of d * 4294967296 ≤ lo_of c * 4294967296 + hi_of c = omega arith in
       let to : lo_of c * 4294967296 + hi_of c < (hi_of d + 1) * 4294967296 = omega arith in
-      g (inside_of d) a.inside (mark_of e c) m.mark from to
+      g (range_of d) a.range (mark_of e c) m.mark from to
   | inr h ↦
       let lo : lo_of c ≡ lo_of (parent_of d h.0) = h.3 in
       let hi : hi_of c ≡ hi_of (parent_of d h.0) = h.4 in
       let same : place_of c ≡ place_of (parent_of d h.0) = omega (arith, lo, hi) in
       let from : place_of (parent_of d h.0) ≤ place_of c = omega (arith, same) in
       let to : place_of c < place_of (parent_of d h.0) + 1 = omega (arith, same) in
-      g (exactly (parent_of d h.0)) (a.above h.0 h.1 h.2) (mark_of e c) m.mark from to
+      g (exact_of (parent_of d h.0)) (a.ancestors h.0 h.1 h.2) (mark_of e c) m.mark from to
 ]
 
 pub has_meeting : (marks : BTreeSet Mark) (spans : BTreeSet Span) (ids : BTreeSet ℕ) (areas : List Region) → GathersAll marks spans ids → HasAllSpans spans areas → HasMeeting marks areas ids
-has_meeting marks spans ids areas g asked e v marked meets =
-    let r = both (λ (x : Region). All (HasSpansOf spans) x.cells) (λ x. Meet (region_of v) x) areas asked meets in
+has_meeting marks spans ids areas g there e v marked meets =
+    let r = both (λ (x : Region). All (HasSpansOf spans) x.cells) (λ x. Meet (region_of v) x) areas there meets in
     let c = both (IsMarked marks e) (λ x. Any (λ y. Touch x y) r.0.cells) v.cells marked r.2.cells in
     let d = both (HasSpansOf spans) (λ y. Touch c.0 y) r.0.cells r.1 c.2 in
     found_cell marks spans ids g e c.0 d.0 c.1 d.1 d.2
@@ -53,5 +53,5 @@ entity_found marks ids areas has e marked meets =
     has (holder_of e) v.0 v.1 v.2
 
 pub near_answers : {E : Type 0} (r : Result (BTreeSet ℕ) E) (marks : BTreeSet Mark) (spans : BTreeSet Span) (areas : List Region) → IfOk r (λ ids. GathersAll marks spans ids) → HasAllSpans spans areas → IfOk r (λ ids. HasMeeting marks areas ids)
-near_answers (Ok ids) marks spans areas g asked = has_meeting marks spans ids areas g asked
-near_answers (Err x) marks spans areas g asked = tt
+near_answers (Ok ids) marks spans areas g there = has_meeting marks spans ids areas g there
+near_answers (Err x) marks spans areas g there = tt

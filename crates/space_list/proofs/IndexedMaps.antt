@@ -19,7 +19,7 @@ use Rattle.entity_core.specs.Airspace.{Entities, EntityKey, key_cmp, key_of}
 use Rattle.space_list.specs.CellIndex.{AllMarked, Grows, IsIndexOf, IsMarked, KeepsOthers, Mark, holder_of, mark_cmp, mark_of}
 use Rattle.entity_lists.specs.Entities.{entity_map, pair_of}
 use Rattle.entity_lists.specs.Entities.{was_put_at}
-use Rattle.entity_tree.specs.OwnKeys.{own_key}
+use Rattle.entity_lists.specs.OwnKeys.{own_key}
 use Rattle.entity_lists.specs.Sorted.{keyed}
 use Rattle.space_list.proofs.CellMeetings.{marked_more}
 use Rattle.entity_core.proofs.Keys.{key_total}

@@ -1,5 +1,5 @@
 -- Maps of what is sought.
-use Rattle.std.specs.Prelude.{◌≡◌, ℕ, ◌&&◌, ◌⊎◌, Bool, true, false, cond, List, [], ◌∷◌, map, nat_eq, Option, Some, None, Result, Ok, Err, OnOk, refl}
+use Rattle.std.specs.Prelude.{◌≡◌, ℕ, ◌&&◌, ◌⊎◌, Bool, true, false, cond, List, [], ◌∷◌, map, nat_eq, Option, Some, None, Result, Ok, Err, IfOk, OnOk, refl}
 use Rattle.std.proofs.Common.{arith, sym, ap, ◌∙◌, subst, inl, inr}
 use Rattle.std.proofs.lemmas.Option.{same_Some}
 use Rattle.std.proofs.lemmas.Bool.Decides.{nat_tests}
@@ -17,7 +17,7 @@ use Rattle.entity_core.proofs.Keys.{key_total, key_exact, one_key}
 use Rattle.space_list.specs.CellIndex.{AddsSought, FindsSoughtAmong, HasMeeting, IsIndexOf, Mark}
 use Rattle.entity_lists.specs.Entities.{InOrder, entity_map, pair_of}
 use Rattle.entity_lists.specs.Entities.{FindsSought}
-use Rattle.entity_tree.specs.OwnKeys.{own_key}
+use Rattle.entity_lists.specs.OwnKeys.{own_key}
 use Rattle.entity_lists.specs.Sorted.{keyed}
 use Rattle.space_list.proofs.CellMeetings.{entity_found}
 use Rattle.space_list.proofs.KeptEntries.{entries_kept}
@@ -127,3 +127,8 @@ pub meeting_found : (es found : List Entity) (marks : BTreeSet Mark) (ids : BTre
 meeting_found es found marks ids kind areas except index has s f = sub_meeting (entity_map es) kind areas except found s f.only (λ k x at sought.
     let own : key_of x ≡ k = own_key es k x (sym (get-from_entries key_total (keyed pair_of es) k) ∙ at) in
     f.all k x at sought (subst (λ (i : ℕ). contains nat_cmp ids i ≡ true) (ap (λ (q : EntityKey). q.1) own) (entity_found marks ids areas has x (index k x at) (meets_too kind areas except k x sought))))
+
+-- the list of what was found
+pub as_found : {E V : Type 0} (items : V → List Entity) (r : Result V E) (found all : List Entity) → IfOk r (λ v. items v ≡ found) → IfOk r (λ v. InOrder found) → (InOrder found → found ≡ all) → IfOk r (λ v. items v ≡ all)
+as_found items (Ok v) found all is order whole = is ∙ whole order
+as_found items (Err e) found all is order whole = tt

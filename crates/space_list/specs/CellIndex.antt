@@ -58,7 +58,7 @@ abbrev pub KeepsOthers : Holder → BTreeSet Mark → BTreeSet Mark → Type 0
 KeepsOthers h old new = (q : Mark) → (q.1 ≡ h.0 → q.2 ≡ h.1 → ⊥)
     → contains mark_cmp old q ≡ true → contains mark_cmp new q ≡ true
 
--- ---- what is asked of an index
+-- ---- where an index is searched: the range of a cell, and its ancestors
 
 -- from a place on, up to but not with another
 abbrev pub Span : Type 0
@@ -68,23 +68,23 @@ abbrev pub span_cmp : Span → Span → Ordering
 span_cmp a b = ordering_then (nat_cmp a.0 b.0) (nat_cmp a.1 b.1)
 
 -- where the cells begin that begin inside a cell
-abbrev pub inside_of : Cell → Span
-inside_of c = (lo_of c * 4294967296, (hi_of c + 1) * 4294967296)
+abbrev pub range_of : Cell → Span
+range_of c = (lo_of c * 4294967296, (hi_of c + 1) * 4294967296)
 
 -- the place of a cell alone
-abbrev pub exactly : Cell → Span
-exactly c = (place_of c, place_of c + 1)
+abbrev pub exact_of : Cell → Span
+exact_of c = (place_of c, place_of c + 1)
 
 -- the spans of the cells of coarser levels, below level 13, that hold a cell are there
-abbrev pub HasSpansAbove : BTreeSet Span → Cell → Type 0
-HasSpansAbove spans c = (k : ℕ) → k < length c.digits → k < 13
-    → contains span_cmp spans (exactly (parent_of c k)) ≡ true
+abbrev pub HasAncestors : BTreeSet Span → Cell → Type 0
+HasAncestors spans c = (k : ℕ) → k < length c.digits → k < 13
+    → contains span_cmp spans (exact_of (parent_of c k)) ≡ true
 
 -- the spans of all cells that touch a cell are there
 pub record HasSpansOf (spans : BTreeSet Span) (c : Cell) : Type 0 where
   pub cell : IsCell c
-  pub inside : contains span_cmp spans (inside_of c) ≡ true
-  pub above : HasSpansAbove spans c
+  pub range : contains span_cmp spans (range_of c) ≡ true
+  pub ancestors : HasAncestors spans c
 
 -- and so for each cell of some areas
 abbrev pub HasAllSpans : BTreeSet Span → List Region → Type 0

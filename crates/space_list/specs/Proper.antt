@@ -7,12 +7,11 @@ use Rattle.std.specs.Ordering.{eq_by_cmp, nat_cmp}
 use Rattle.std.proofs.lemmas.Cmp.{nat_cmp_total}
 use Rattle.std.specs.FinMap as maps
 use Rattle.std.specs.FinMap.{get-from_entries}
-use Rattle.entity_core.specs.Airspace.{EntityKey, IsAirspace, key_cmp, key_of}
-use Rattle.entity_core.specs.declared.entity.Entity.{Entity}
+use Rattle.entity_core.specs.Airspace.{IsAirspace}
 use Rattle.entity_core.specs.declared.subscription.Sub.{Sub}
 use Rattle.entity_core.proofs.Changes.{one_id}
-use Rattle.entity_core.proofs.Keys.{key_total, one_key}
-use Rattle.entity_tree.specs.OwnKeys.{own_key}
+use Rattle.entity_core.proofs.Keys.{key_total}
+use Rattle.entity_lists.specs.OwnKeys.{own_key}
 use Rattle.space_list.specs.declared.list.ListSpace.{ListSpace}
 use Rattle.entity_lists.specs.Entities.{pair_of}
 use Rattle.entity_lists.specs.Subscriptions.{pair_of as sub_pair}

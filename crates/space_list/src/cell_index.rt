@@ -5,7 +5,7 @@ ghost use Rattle.std.specs.BTreeSet.{contains};
 ghost use Rattle.std.specs.List.{All};
 ghost use Rattle.std.specs.Ordering.{nat_cmp};
 ghost use Rattle.grid_core.specs.Cell.{IsCell, lo_of, hi_of};
-ghost use Rattle.space_list.specs.CellIndex.{mark_cmp, holder_of, mark_of, span_cmp, exactly, Grows, KeepsOthers, IsMarked, AllMarked, HasSpansOf, HasSpansAbove, HasAllSpans, Gathers, GathersAll, HasMeeting, inside_of};
+ghost use Rattle.space_list.specs.CellIndex.{mark_cmp, holder_of, mark_of, span_cmp, exact_of, Grows, KeepsOthers, IsMarked, AllMarked, HasSpansOf, HasAncestors, HasAllSpans, Gathers, GathersAll, HasMeeting, range_of};
 
 use entity_core::entity::Entity;
 use entity_lists::entities::kind_index;
@@ -27,7 +27,7 @@ type Span = (u64, u64);
 const STEP: u64 = 4_294_967_296;
 
 // The places of the first and the last cell of level 13 inside.
-fn interval(cell: CellId) -> (u64, u64)
+fn interval_of(cell: CellId) -> (u64, u64)
     ensures valid { IsCell cell }
     ensures first { result.0 ≡ lo_of cell }
     ensures last { result.1 ≡ hi_of cell }
@@ -45,7 +45,7 @@ fn mark(holder: Holder, cell: CellId) -> Mark
     ensures mark { result ≡ mark_of holder cell }
     ensures narrow { hi_of cell < 4294967296 }
 {
-    let (lo, hi) = interval(cell);
+    let (lo, hi) = interval_of(cell);
     (lo * STEP + hi, holder.0, holder.1)
 }
 
@@ -101,54 +101,54 @@ pub(crate) fn unmark_entity(marks: &mut BTreeSet<Mark>, entity: &Entity)
     }
 }
 
-// ---- what is asked
+// ---- the spans of the cells of areas and of those that hold them
 
-fn ask_exactly(spans: &mut BTreeSet<Span>, cell: CellId) -> Result<(), AllocError>
+fn add_exact(spans: &mut BTreeSet<Span>, cell: CellId) -> Result<(), AllocError>
     ensures kept { Grows span_cmp spans.old spans.new }
-    ensures asked { OnOk result (contains span_cmp spans.new (exactly cell) ≡ true) }
+    ensures there { OnOk result (contains span_cmp spans.new (exact_of cell) ≡ true) }
 {
-    let (lo, hi) = interval(cell);
+    let (lo, hi) = interval_of(cell);
     let place = lo * STEP + hi;
     spans.insert((place, place + 1))?;
     Ok(())
 }
 
-fn ask_above(spans: &mut BTreeSet<Span>, cell: CellId) -> Result<(), AllocError>
+fn add_ancestors(spans: &mut BTreeSet<Span>, cell: CellId) -> Result<(), AllocError>
     ensures kept { Grows span_cmp spans.old spans.new }
-    ensures asked { OnOk result (HasSpansAbove spans.new cell) }
+    ensures there { OnOk result (HasAncestors spans.new cell) }
 {
     let own = cell.level();
     let levels = if own < 13 { own } else { 13 };
     for level in 0..levels {
-        ask_exactly(spans, cell.parent(level))?;
+        add_exact(spans, cell.parent(level))?;
     }
     Ok(())
 }
 
-fn ask_inside(spans: &mut BTreeSet<Span>, cell: CellId) -> Result<(), AllocError>
+fn add_range(spans: &mut BTreeSet<Span>, cell: CellId) -> Result<(), AllocError>
     ensures valid { IsCell cell }
     ensures kept { Grows span_cmp spans.old spans.new }
-    ensures asked { OnOk result (contains span_cmp spans.new (inside_of cell) ≡ true) }
+    ensures there { OnOk result (contains span_cmp spans.new (range_of cell) ≡ true) }
 {
-    let (lo, hi) = interval(cell);
+    let (lo, hi) = interval_of(cell);
     spans.insert((lo * STEP, (hi + 1) * STEP))?;
     Ok(())
 }
 
-fn ask_cell(spans: &mut BTreeSet<Span>, cell: CellId) -> Result<(), AllocError>
+fn add_cell(spans: &mut BTreeSet<Span>, cell: CellId) -> Result<(), AllocError>
     ensures kept { Grows span_cmp spans.old spans.new }
-    ensures asked { OnOk result (HasSpansOf spans.new cell) }
+    ensures there { OnOk result (HasSpansOf spans.new cell) }
 {
-    ask_inside(spans, cell)?;
-    ask_above(spans, cell)
+    add_range(spans, cell)?;
+    add_ancestors(spans, cell)
 }
 
-fn ask_cells(spans: &mut BTreeSet<Span>, cells: &[CellId]) -> Result<(), AllocError>
+fn add_all(spans: &mut BTreeSet<Span>, cells: &[CellId]) -> Result<(), AllocError>
     ensures kept { Grows span_cmp spans.old spans.new }
-    ensures asked { OnOk result (All (HasSpansOf spans.new) cells.now) }
+    ensures there { OnOk result (All (HasSpansOf spans.new) cells.now) }
 {
     for cell in cells {
-        ask_cell(spans, *cell)?;
+        add_cell(spans, *cell)?;
     }
     Ok(())
 }
@@ -159,7 +159,7 @@ fn spans_of(alloc: Global, areas: &[Area]) -> Result<BTreeSet<Span>, AllocError>
 {
     let mut spans = BTreeSet::new(alloc);
     for area in areas {
-        ask_cells(&mut spans, area.cells())?;
+        add_all(&mut spans, area.cells())?;
     }
     Ok(spans)
 }

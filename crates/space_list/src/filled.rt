@@ -8,8 +8,8 @@ use crate::indexed::IndexedEntities;
 use crate::indexed_subscriptions::IndexedSubscriptions;
 use crate::list::ListSpace;
 use entity_lists::availabilities::Availabilities;
+use entity_lists::entities::Entities;
 use entity_lists::subscriptions::Subscriptions;
-use entity_tree::tree::EntityTree;
 use std::alloc::{AllocError, Global};
 
 impl ListSpace {
@@ -17,7 +17,7 @@ impl ListSpace {
     /// has refused nothing.
     pub fn of(
         alloc: Global,
-        entities: EntityTree,
+        entities: Entities,
         subscriptions: Subscriptions,
         availabilities: Availabilities,
         serial: u64,

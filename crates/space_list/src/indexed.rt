@@ -11,7 +11,6 @@ use entity_core::entity::Entity;
 use entity_core::entity_id::EntityId;
 use entity_core::nature::Kind;
 use entity_lists::entities::Entities;
-use entity_tree::tree::EntityTree;
 use grid_core::volume::Area;
 use std::alloc::{AllocError, Global};
 use std::collections::BTreeSet;
@@ -21,7 +20,7 @@ use std::marker::Model;
 /// list.
 #[derive(Debug, Drop)]
 pub(crate) struct IndexedEntities {
-    entities: EntityTree,
+    entities: Entities,
     marks: BTreeSet<Mark>,
 }
 
@@ -39,7 +38,7 @@ impl Model for IndexedEntities {
 }
 
 // Takes the marks of an entity out, unless one of its kind, id and serial is kept.
-fn forget(marks: &mut BTreeSet<Mark>, entities: &EntityTree, gone: &Entity)
+fn forget(marks: &mut BTreeSet<Mark>, entities: &Entities, gone: &Entity)
     ensures { IsIndexOf (entity_map entities.now) marks.old
         → IsIndexOf (entity_map entities.now) marks.new }
 {
@@ -49,11 +48,7 @@ fn forget(marks: &mut BTreeSet<Mark>, entities: &EntityTree, gone: &Entity)
 }
 
 // Marks an entity that will be put. What was marked before an error goes out again.
-fn enter(
-    marks: &mut BTreeSet<Mark>,
-    entities: &EntityTree,
-    entity: &Entity,
-) -> Result<(), AllocError>
+fn enter(marks: &mut BTreeSet<Mark>, entities: &Entities, entity: &Entity) -> Result<(), AllocError>
     ensures kept { IsIndexOf (entity_map entities.now) marks.old
         → IsIndexOf (entity_map entities.now) marks.new }
     ensures marked { OnOk result (AllMarked marks.new entity.now) }
@@ -69,7 +64,7 @@ fn enter(
 
 // The marks come first, and go out again where there is no memory for the entity.
 fn put_in(
-    entities: &mut EntityTree,
+    entities: &mut Entities,
     marks: &mut BTreeSet<Mark>,
     entity: Entity,
 ) -> Result<(), AllocError>
@@ -93,7 +88,7 @@ fn put_in(
     }
 }
 
-fn remove_from(entities: &mut EntityTree, marks: &mut BTreeSet<Mark>, kind: Kind, id: EntityId)
+fn remove_from(entities: &mut Entities, marks: &mut BTreeSet<Mark>, kind: Kind, id: EntityId)
     requires { IsIndexOf (entity_map entities.old) marks.old }
     ensures index { IsIndexOf (entity_map entities.new) marks.new }
     ensures removed { entity_map entities.new ≡ remove (entity_map entities.old) (kind, id) }
@@ -107,7 +102,7 @@ fn remove_from(entities: &mut EntityTree, marks: &mut BTreeSet<Mark>, kind: Kind
 fn add_sought(
     alloc: Global,
     found: &mut Entities,
-    entities: &EntityTree,
+    entities: &Entities,
     kind: Kind,
     number: u128,
     areas: &[Area],
@@ -125,7 +120,7 @@ fn add_sought(
 // Of the entities of these ids, those that are sought.
 fn sought_among(
     alloc: Global,
-    entities: &EntityTree,
+    entities: &Entities,
     ids: &BTreeSet<u128>,
     kind: Kind,
     areas: &[Area],
@@ -144,7 +139,7 @@ fn sought_among(
 // Looks at the entities that have a cell near some area, and at no other.
 fn meeting_in(
     alloc: Global,
-    entities: &EntityTree,
+    entities: &Entities,
     marks: &BTreeSet<Mark>,
     kind: Kind,
     areas: &[Area],
@@ -156,7 +151,7 @@ fn meeting_in(
 {
     let ids = near(alloc, marks, areas)?;
     let found = sought_among(alloc, entities, &ids, kind, areas, &except)?;
-    Ok(found.into_vec())
+    found.into_vec(alloc)
 }
 
 impl IndexedEntities {
@@ -165,13 +160,13 @@ impl IndexedEntities {
         ensures { result ≡ [] }
     {
         IndexedEntities {
-            entities: EntityTree::new(alloc),
+            entities: Entities::new(alloc),
             marks: BTreeSet::new(alloc),
         }
     }
 
     /// The entities of a tree, each with its marks.
-    pub(crate) fn of(alloc: Global, entities: EntityTree) -> Result<IndexedEntities, AllocError>
+    pub(crate) fn of(alloc: Global, entities: Entities) -> Result<IndexedEntities, AllocError>
         ensures { IfOk result (λ indexed. indexed ≡ entities) }
     {
         let mut marks = BTreeSet::new(alloc);

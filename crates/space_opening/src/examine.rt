@@ -13,7 +13,7 @@ use crate::open_fault::OpenFault;
 use space_reading::judgement::{Judgement, Listed};
 use space_reading::reading::read_airspace;
 use space_select::meta::has_other_format;
-use space_tables::standing::has_meta;
+use space_tables::presence::has_meta;
 use sqlite::{Alter, Connection, Error};
 use std::alloc::Global;
 

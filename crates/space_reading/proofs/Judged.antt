@@ -14,13 +14,13 @@ use Rattle.space_reading.specs.Gathering.{Judges}
 use Rattle.space_reading.specs.Judging.{JudgesDatabase, listed_airspace}
 use Rattle.space_reading.proofs.Junction.{spelt_if_listed, listed_if_spelt}
 
-pub judges_database : (db : Database) (t : Tables) (r : Result Judgement Error) → IfOk r (Judges t) → (db.schema ≡ dss_schema → ShowsTables db t) → IfOk r (λ v. db.schema ≡ dss_schema → JudgesDatabase db v)
-judges_database db t (Err e) h read = tt
-judges_database db t (Ok (Spelt l)) h read = λ has. spelt_if_listed db t (listed_airspace l) has (read has) h
-judges_database db t (Ok OtherFormat) h read = λ has. other_database db t.metas.items (read has).metas h
-judges_database db t (Ok Unspelt) h read = λ has. ((λ a p. h.0 a (listed_if_spelt db t a has (read has) p)), (λ o. h.1 (other_rows db t.metas.items (read has).metas o)))
+pub judges_database : (db : Database) (t : Tables) (r : Result Judgement Error) → IfOk r (Judges t) → db.schema ≡ dss_schema → ShowsTables db t → IfOk r (JudgesDatabase db)
+judges_database db t (Err e) h has read = tt
+judges_database db t (Ok (Spelt l)) h has read = spelt_if_listed db t (listed_airspace l) has read h
+judges_database db t (Ok OtherFormat) h has read = other_database db t.metas.items read.metas h
+judges_database db t (Ok Unspelt) h has read = ((λ a p. h.0 a (listed_if_spelt db t a has read p)), (λ o. h.1 (other_rows db t.metas.items read.metas o)))
 
 -- the same in a transaction
 pub reads_database : (old new : State) (t : Tables) (r : Result Judgement Error) → IfOk r (Judges t) → Reads ShowsTables old new (Ok t) → Reads JudgesDatabase old new r
-reads_database old new t (Ok v) h p = record { answer = λ clean. judges_database old.now t (Ok v) h (p.answer clean); same = p.same; kept = p.kept; survives = p.survives }
+reads_database old new t (Ok v) h p = record { answer = λ clean has. judges_database old.now t (Ok v) h has (p.answer clean has); same = p.same; kept = p.kept; survives = p.survives }
 reads_database old new t (Err e) h p = record { answer = λ clean. tt; same = λ clean. tt; kept = p.kept; survives = p.survives }

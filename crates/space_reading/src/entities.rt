@@ -17,7 +17,7 @@ use crate::tables::EntityTables;
 use entity_core::entity::Entity;
 use entity_core::entity_id::EntityId;
 use entity_core::nature::Kind;
-use entity_tree::tree::EntityTree;
+use entity_lists::entities::Entities;
 use space_rows::entity::entity_of;
 use space_rows::rows::{CellRow, EntityRow, VolumeRow};
 use space_select::rows::{cell_rows, entity_rows, volume_rows};
@@ -52,7 +52,7 @@ fn cell_count(rows: &[CellRow], num: i64) -> usize
     rows.len()
 }
 
-fn is_free(alloc: Global, out: &EntityTree, kind: Kind, id: EntityId) -> Result<bool, AllocError>
+fn is_free(alloc: Global, out: &Entities, kind: Kind, id: EntityId) -> Result<bool, AllocError>
     ensures { IfOk result (λ b. IsTrue b ↔ (get (entity_map out.now) (kind, id) ≡ None)) }
 {
     match out.entity(alloc, kind, id)? {
@@ -70,7 +70,7 @@ fn next_entity(
     volumes: &[VolumeRow],
     cells: &[CellRow],
     named: Option<EntityId>,
-    out: &EntityTree,
+    out: &Entities,
 ) -> Result<Option<Entity>, AllocError>
     ensures { let before = entity_map out.now in
         IfOk result (λ o. Finds (IsNext serial last row.now volumes.now cells.now named before) o) }
@@ -100,7 +100,7 @@ fn gathered(
     volumes: &[VolumeRow],
     cells: &[CellRow],
     namings: &[NamingRow],
-) -> Result<Option<EntityTree>, AllocError>
+) -> Result<Option<Entities>, AllocError>
     requires { Rise int_cmp number_pair numbers.now }
     ensures { let r = rows.now in
         let p = parts_of volumes.now cells.now namings.now in
@@ -108,7 +108,7 @@ fn gathered(
         IfOk result (λ o. MatchOption o ((m : Map) → ¬ Gathers serial n (pos 0) r p empty m)
         (λ es. Gathers serial n (pos 0) r p empty (entity_map es))) }
 {
-    let mut out = EntityTree::new(alloc);
+    let mut out = Entities::new(alloc);
     let mut last = 0i64;
     let mut volumes_left = volumes;
     let mut cells_left = cells;
@@ -157,7 +157,7 @@ pub(crate) fn entities_in(
     serial: u64,
     numbers: &[Numbered],
     tables: &EntityTables,
-) -> Result<Option<EntityTree>, Error>
+) -> Result<Option<Entities>, Error>
     requires { Rise int_cmp number_pair numbers.now }
     ensures { let t = tables.now in
         let n = numbers.now in

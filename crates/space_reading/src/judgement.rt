@@ -2,13 +2,13 @@
 ghost use Rattle.entity_lists.specs.Subscriptions.{AllTold};
 
 use entity_lists::availabilities::Availabilities;
+use entity_lists::entities::Entities;
 use entity_lists::subscriptions::Subscriptions;
-use entity_tree::tree::EntityTree;
 
 /// An airspace, as it was read.
 #[derive(Debug, Drop)]
 pub struct Listed {
-    pub entities: EntityTree,
+    pub entities: Entities,
     pub subscriptions: Subscriptions,
     pub availabilities: Availabilities,
     pub serial: u64,

@@ -1,10 +1,8 @@
 //! The airspace is read of a connection.
-ghost use Rattle.std.specs.Prelude.{◌≡◌, false, OnOk, IfOk, IsTrue};
+ghost use Rattle.std.specs.Prelude.{◌≡◌, false};
 ghost use Rattle.sqlite.specs.Held.{state};
-ghost use Rattle.sqlite.specs.State.{HasCleanDisk, Survives};
-ghost use Rattle.space_tables.specs.Tables.{dss_schema};
 ghost use Rattle.space_reading.specs.Judging.{JudgesDatabase};
-ghost use Rattle.space_select.specs.Reading.{Reads, RestsAs};
+ghost use Rattle.space_select.specs.Reading.{Reads, ReadsAlive};
 ghost use Rattle.space_reading.specs.Showing.{ShowsTables};
 
 use crate::judge::judge;
@@ -18,14 +16,8 @@ use std::alloc::Global;
 fn read_alive<S: Alter>(conn: &mut Connection<S>) -> Result<Tables, Error>
     requires { conn.old.in_transaction ≡ false }
     ensures outside { conn.new.in_transaction ≡ false }
-    ensures read { let old = state S.Store conn.old in
-        HasCleanDisk (state S.Store conn.new)
-        → IfOk result (λ t. old.now.schema ≡ dss_schema → ShowsTables old.now t) }
-    ensures at_rest { let new = state S.Store conn.new in
-        HasCleanDisk new → OnOk result (RestsAs (state S.Store conn.old) new) }
-    ensures open { let new = state S.Store conn.new in
-        HasCleanDisk new → OnOk result (IsTrue new.is_open) }
-    ensures survives { Survives (state S.Store conn.old) (state S.Store conn.new) (λ _. ⊥) }
+    ensures reads { ReadsAlive ShowsTables
+        (state S.Store conn.old) (state S.Store conn.new) result }
 {
     known(conn);
     let tables = read_tables(conn)?;
@@ -39,14 +31,8 @@ fn read_alive<S: Alter>(conn: &mut Connection<S>) -> Result<Tables, Error>
 pub fn read_airspace<S: Alter>(alloc: Global, conn: &mut Connection<S>) -> Result<Judgement, Error>
     requires { conn.old.in_transaction ≡ false }
     ensures outside { conn.new.in_transaction ≡ false }
-    ensures judged { let old = state S.Store conn.old in
-        HasCleanDisk (state S.Store conn.new)
-        → IfOk result (λ v. old.now.schema ≡ dss_schema → JudgesDatabase old.now v) }
-    ensures at_rest { let new = state S.Store conn.new in
-        HasCleanDisk new → OnOk result (RestsAs (state S.Store conn.old) new) }
-    ensures open { let new = state S.Store conn.new in
-        HasCleanDisk new → OnOk result (IsTrue new.is_open) }
-    ensures survives { Survives (state S.Store conn.old) (state S.Store conn.new) (λ _. ⊥) }
+    ensures reads { ReadsAlive JudgesDatabase
+        (state S.Store conn.old) (state S.Store conn.new) result }
 {
     let tables = read_alive(conn)?;
     judge(alloc, &tables)

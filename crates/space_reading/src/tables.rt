@@ -1,9 +1,7 @@
 //! All rows of all tables, read in one transaction that changes nothing.
-ghost use Rattle.std.specs.Prelude.{◌≡◌, false, IfOk, IsTrue};
+ghost use Rattle.std.specs.Prelude.{◌≡◌, false};
 ghost use Rattle.sqlite.specs.Held.{state};
-ghost use Rattle.sqlite.specs.State.{HasCleanDisk, Survives};
-ghost use Rattle.space_tables.specs.Tables.{dss_schema};
-ghost use Rattle.space_select.specs.Reading.{Reads, GoesBack};
+ghost use Rattle.space_select.specs.Reading.{Reads, ReadsAlone};
 ghost use Rattle.space_select.specs.Meta.{ShowsMeta};
 ghost use Rattle.space_reading.specs.Showing.{ShowsSubs, ShowsSubCells, ShowsEntities, ShowsVolumes, ShowsCells, ShowsNamings, ShowsSettings, ShowsVolumeIds, ShowsCellIds, ShowsSettingIds, ShowsSubCellIds, ShowsSubTables, ShowsEntityTables, ShowsRowids, ShowsTables};
 
@@ -223,13 +221,8 @@ pub(crate) fn read_all<S: Alter>(tx: &mut Transaction<'_, S>) -> Result<Tables, 
 pub(crate) fn read_tables<S: Alter>(conn: &mut Connection<S>) -> Result<Tables, Error>
     requires { conn.old.in_transaction ≡ false }
     ensures ended { conn.new.in_transaction ≡ false }
-    ensures read { let old = state S.Store conn.old in
-        HasCleanDisk (state S.Store conn.new)
-        → IfOk result (λ t. old.now.schema ≡ dss_schema → ShowsTables old.now t) }
-    ensures back { let old = state S.Store conn.old in
-        let new = state S.Store conn.new in
-        HasCleanDisk new → IsTrue new.is_open → old.now.schema ≡ dss_schema → GoesBack old new }
-    ensures survives { Survives (state S.Store conn.old) (state S.Store conn.new) (λ _. ⊥) }
+    ensures reads { ReadsAlone ShowsTables
+        (state S.Store conn.old) (state S.Store conn.new) result }
 {
     let mut tx = conn.transaction();
     let tables = read_all(&mut tx)?;

@@ -1,6 +1,6 @@
 -- Readings in a transaction, alone and one after the other.
 use Rattle.std.proofs.Common.{◌≡◌, ◌⊎◌, inl, inr, List, ℕ, Ok, Err, Result, IfOk, OnOk, sym, ap, subst, ◌∙◌, arith}
-use Rattle.std.specs.Prelude.{IfErr, Vec}
+use Rattle.std.specs.Prelude.{IfErr, IsTrue, Vec}
 use Rattle.std.specs.Global.{Global}
 use Rattle.sqlite.specs.Order.{Row}
 use Rattle.sqlite.specs.declared.error.Error.{Error}
@@ -11,8 +11,10 @@ use Rattle.sqlite.specs.State.{State, HasCleanDisk, KeepsCommit, Shown, ShowsRow
 use Rattle.sqlite.proofs.Callers.{IsPlain}
 use Rattle.sqlite.proofs.StateLemmas.{survives_then}
 use Rattle.space_tables.specs.Tables.{dss_schema}
+use Rattle.entity_core.specs.Airspace.{Airspace}
 use Rattle.space_tables.proofs.Steps.{keeps_then, unchanged_keeps, kept_keeps}
-use Rattle.space_select.specs.Reading.{Reads}
+use Rattle.space_tables.specs.Spelling.{Spells}
+use Rattle.space_select.specs.Reading.{Reads, ReadsAlive, ReadsAlone, ReadsTables}
 use Rattle.space_select.specs.Selecting.{Answers}
 
 -- a query leaves all as it was
@@ -76,6 +78,33 @@ reads_then P Q a b d x (Err e) p q =
       kept = λ clean has. keeps_then a b d (p.kept (mid clean) has) (q.kept clean (ap (λ (db : Database). db.schema) (p.same (mid clean) has) ∙ has));
       survives = survives_then a b d _ _ (λ _. ⊥) (λ _ db none. none) (λ _ db none. none) p.survives q.survives;
     }
+
+-- ---- in a transaction of its own
+
+module _ {X : Type 0} (P : Database → X → Type 0) (old mid new : State) (x : X) where
+  -- of a store that works after it
+  pub reads_alive : (IsTrue old.is_open → old.now ≡ old.committed) → ReadsAlone P old mid (Ok x) → (HasCleanDisk new → IsUnchanged mid new) → Survives mid new (λ _. ⊥) → ReadsAlive P old new (Ok x)
+  reads_alive settled alone same survives =
+      let cleaned = λ (clean : HasCleanDisk new). let c : HasCleanDisk mid = omega (arith, survives.clean) in c in
+      record {
+        answer = λ clean. alone.answer (cleaned clean);
+        rests = λ clean has.
+            let kept = (same clean).0 in
+            let back = alone.back (cleaned clean) kept.was_open has in
+            ((kept.is_open, kept.committed_is ∙ (back.committed_is ∙ (sym back.now_is ∙ sym kept.now_is))), kept.now_is ∙ (back.now_is ∙ sym (settled back.was_open)));
+        is_open = λ clean. (same clean).0.is_open;
+        survives = survives_then old mid new _ _ (λ _. ⊥) (λ _ db none. none) (λ _ db none. none) alone.survives survives;
+      }
+
+-- what was read, judged
+pub alive_judged : {X Y : Type 0} (P : Database → X → Type 0) (Q : Database → Y → Type 0) (old new : State) (x : X) (r : Result Y Error) → ((db : Database) → db.schema ≡ dss_schema → P db x → IfOk r (Q db)) → ReadsAlive P old new (Ok x) → ReadsAlive Q old new r
+alive_judged P Q old new x (Ok y) f p = record { answer = λ clean has. f old.now has (p.answer clean has); rests = p.rests; is_open = p.is_open; survives = p.survives }
+alive_judged P Q old new x (Err e) f p = record { answer = λ clean. tt; rests = λ clean. tt; is_open = λ clean. tt; survives = p.survives }
+
+-- of the airspace that the tables spell
+pub reads_spelt : {X : Type 0} (P : Database → X → Type 0) (Q : Airspace → X → Type 0) (old new : State) (r : Result X Error) → ((db : Database) (x : X) → P db x → (a : Airspace) → Spells db a → Q a x) → ReadsAlive P old new r → ReadsTables old new r Q
+reads_spelt P Q old new (Ok x) f p = record { answer = λ clean a s. f old.now x (p.answer clean s.schema) a s; rests = p.rests; is_open = p.is_open; survives = p.survives }
+reads_spelt P Q old new (Err e) f p = record { answer = λ clean. tt; rests = λ clean. tt; is_open = λ clean. tt; survives = p.survives }
 
 -- an error of any kind tells no more
 pub reads_failed : {X Y : Type 0} (P : Database → X → Type 0) (Q : Database → Y → Type 0) (a d : State) (e f : Error) (r : Result Y Error) → r ≡ Err f → Reads P a d (Err e) → Reads Q a d r

@@ -47,11 +47,29 @@ pub record GoesBack (old new : State) : Type 0 where
 abbrev pub RestsAs : State → State → Type 0
 RestsAs old new = old.now.schema ≡ dss_schema → IsSettled new × (new.now ≡ old.now)
 
+-- A reading in a transaction of its own, which is rolled back: where the tables are those of format
+-- 2, its answer has P of what was seen, and what was committed is seen again. Nothing is committed.
+pub record ReadsAlone {X : Type 0} (P : Database → X → Type 0) (old new : State)
+    (result : Result X Error) : Type 0 where
+  pub answer : HasCleanDisk new → IfOk result (λ x. old.now.schema ≡ dss_schema → P old.now x)
+  pub back : HasCleanDisk new → IsTrue new.is_open → old.now.schema ≡ dss_schema
+      → GoesBack old new
+  pub survives : Survives old new (λ _. ⊥)
+
+-- The same of a store that still works after an answer: then what was seen is seen and committed.
+pub record ReadsAlive {X : Type 0} (P : Database → X → Type 0) (old new : State)
+    (result : Result X Error) : Type 0 where
+  pub answer : HasCleanDisk new → IfOk result (λ x. old.now.schema ≡ dss_schema → P old.now x)
+  pub rests : HasCleanDisk new → OnOk result (RestsAs old new)
+  pub is_open : HasCleanDisk new → OnOk result (IsTrue new.is_open)
+  pub survives : Survives old new (λ _. ⊥)
+
 -- What is read has P of the airspace that the tables spell, if they spell one. Nothing is
--- committed, and after an answer the store is open.
+-- committed, and after an answer the store is open, and has what it had.
 pub record ReadsTables {X : Type 0} (old new : State) (result : Result X Error)
     (P : Airspace → X → Type 0) : Type 0 where
   pub answer : HasCleanDisk new → IfOk result (λ found. (a : Airspace) → Spells old.now a
       → P a found)
+  pub rests : HasCleanDisk new → OnOk result (RestsAs old new)
   pub is_open : HasCleanDisk new → OnOk result (IsTrue new.is_open)
   pub survives : Survives old new (λ _. ⊥)

@@ -1,10 +1,8 @@
 //! One SELECT, in a transaction and outside one.
-ghost use Rattle.std.specs.Prelude.{◌≡◌, false, IfOk, OnOk, IsTrue};
+ghost use Rattle.std.specs.Prelude.{◌≡◌, false};
 ghost use Rattle.sqlite.specs.Held.{state};
-ghost use Rattle.sqlite.specs.State.{HasCleanDisk, Survives};
 ghost use Rattle.sqlite.specs.Values.{bound};
-ghost use Rattle.space_tables.specs.Tables.{dss_schema};
-ghost use Rattle.space_select.specs.Reading.{Reads, GoesBack, RestsAs};
+ghost use Rattle.space_select.specs.Reading.{Reads, ReadsAlive, ReadsAlone};
 ghost use Rattle.space_select.specs.Selecting.{IsSelect, Answers};
 
 use crate::reading::{alive, known};
@@ -34,14 +32,8 @@ fn query_alone<S: Alter>(
     requires outside { conn.old.in_transaction ≡ false }
     requires select { IsSelect sql.now }
     ensures ended { conn.new.in_transaction ≡ false }
-    ensures read { let old = state S.Store conn.old in
-        HasCleanDisk (state S.Store conn.new)
-        → IfOk result (λ rows. old.now.schema ≡ dss_schema
-        → Answers sql.now (bound params.now) old.now rows.items) }
-    ensures back { let old = state S.Store conn.old in
-        let new = state S.Store conn.new in
-        HasCleanDisk new → IsTrue new.is_open → old.now.schema ≡ dss_schema → GoesBack old new }
-    ensures survives { Survives (state S.Store conn.old) (state S.Store conn.new) (λ _. ⊥) }
+    ensures reads { ReadsAlone (λ db rows. Answers sql.now (bound params.now) db rows.items)
+        (state S.Store conn.old) (state S.Store conn.new) result }
 {
     let mut tx = conn.transaction();
     let rows = query(&mut tx, sql, params)?;
@@ -58,15 +50,8 @@ pub fn select<S: Alter>(
     requires outside { conn.old.in_transaction ≡ false }
     requires select { IsSelect sql.now }
     ensures outside { conn.new.in_transaction ≡ false }
-    ensures read { let old = state S.Store conn.old in
-        HasCleanDisk (state S.Store conn.new)
-        → IfOk result (λ rows. old.now.schema ≡ dss_schema
-        → Answers sql.now (bound params.now) old.now rows.items) }
-    ensures at_rest { let new = state S.Store conn.new in
-        HasCleanDisk new → OnOk result (RestsAs (state S.Store conn.old) new) }
-    ensures open { let new = state S.Store conn.new in
-        HasCleanDisk new → OnOk result (IsTrue new.is_open) }
-    ensures survives { Survives (state S.Store conn.old) (state S.Store conn.new) (λ _. ⊥) }
+    ensures reads { ReadsAlive (λ db rows. Answers sql.now (bound params.now) db rows.items)
+        (state S.Store conn.old) (state S.Store conn.new) result }
 {
     known(conn);
     let rows = query_alone(conn, sql, params)?;

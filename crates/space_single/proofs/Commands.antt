@@ -7,7 +7,7 @@ use Rattle.sqlite.specs.Term.{Term, col}
 use Rattle.space_select.specs.Selecting.{IsSelect, command_of}
 use Rattle.space_select.proofs.Means.{listing}
 use Rattle.space_single.proofs.Found.{same}
-use Rattle.space_single.proofs.Texts.{numbered_read, naming_read, sub_id_read, sub_read, sub_numbered_read, own_sub_cells_read, sub_num_read, namers_read, id_read}
+use Rattle.space_single.specs.Texts.{numbered_read, naming_read, sub_id_read, sub_read, sub_numbered_read, own_sub_cells_read, sub_num_read, namers_read, id_read}
 
 -- the number that is the key of a row is the parameter
 abbrev pub by_key : List Term

@@ -12,14 +12,14 @@ use Rattle.space_rows.specs.declared.rows.VolumeRow.{VolumeRow}
 use Rattle.space_rows.specs.declared.rows.CellRow.{CellRow}
 use Rattle.space_rows.specs.Rows.{SpellsEntity}
 use Rattle.space_tables.specs.Spelling.{IsGroup, entity_values, volume_values, cell_values}
-use Rattle.space_single.specs.declared.own.OwnRows.{OwnRows}
-use Rattle.space_single.specs.Own.{AnswersHead, AnswersOwn, FindsOfHead}
-use Rattle.space_single.specs.Named.{FindsNamed}
+use Rattle.space_single.specs.declared.entity_rows.OwnRows.{OwnRows}
+use Rattle.space_single.specs.EntityRows.{AnswersOwn, FindsOfHead}
+use Rattle.space_single.specs.Entity.{AnswersNamed, FindsNamed}
 use Rattle.space_single.proofs.Heads.{ShowsHead, head_shown}
 use Rattle.space_single.proofs.OwnRows.{own_volumes_shown, own_cells_shown}
 
 -- what is found of the row is what is found of the kind and the id
-pub named_told : (db : Database) (k : EntityKey) → k.1 < 2 ^ 128 → (heads : List Row) (found : Option Entity) → AnswersHead k db heads → FindsOfHead heads db found → FindsNamed k db found
+pub named_told : (db : Database) (k : EntityKey) → k.1 < 2 ^ 128 → (heads : List Row) (found : Option Entity) → AnswersNamed k db heads → FindsOfHead heads db found → FindsNamed k db found
 named_told db k fits heads found h of a s = go (head_shown db a s k fits heads h)
   where
     go : ShowsHead db a s k heads → found ≡ get a.entities k

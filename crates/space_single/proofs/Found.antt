@@ -26,8 +26,8 @@ use Rattle.space_tables.specs.Tables.{dss_schema}
 use Rattle.space_tables.specs.Spelling.{Spells, availability_values, three_columns}
 use Rattle.space_tables.proofs.OneAirspace.{entries_rise, EntryLess}
 use Rattle.space_select.specs.Selecting.{IsSelect, Answers, command_of}
-use Rattle.space_single.specs.Stated.{rows_of_setting}
-use Rattle.space_single.proofs.Texts.{availability_read}
+use Rattle.space_single.specs.Availability.{rows_of_setting}
+use Rattle.space_single.specs.Texts.{availability_read}
 use Rattle.space_select.proofs.Means.{listing}
 use Rattle.space_select.proofs.MapEntries.{hits, below_misses}
 use Rattle.space_select.proofs.Selected.{selects_all}

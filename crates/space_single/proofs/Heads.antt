@@ -32,7 +32,7 @@ use Rattle.space_rows.proofs.OneEntity.{one_id}
 use Rattle.space_rows.proofs.Digits.{both}
 use Rattle.space_tables.specs.Spelling.{Spells, SubGroup, Group, IsGroup, pair_of, entity_values, entity_columns}
 use Rattle.space_select.specs.Selecting.{IsSelect, Answers, command_of}
-use Rattle.space_single.proofs.Texts.{head_read}
+use Rattle.space_single.specs.Texts.{head_read}
 use Rattle.space_select.proofs.Means.{listing}
 use Rattle.space_select.proofs.MapEntries.{hits}
 use Rattle.space_single.proofs.Found.{same, entry_of, found_in}

@@ -1,4 +1,3 @@
-pub mod Texts
 pub mod Still
 pub mod Serials
 pub mod Found

@@ -13,8 +13,8 @@ use Rattle.entity_core.specs.declared.entity.Entity.{Entity}
 use Rattle.entity_core.specs.Airspace.{Airspace}
 use Rattle.space_tables.specs.Spelling.{Spells, Group, entity_values, entity_columns}
 use Rattle.space_tables.proofs.OneAirspace.{numbers_differ}
-use Rattle.space_single.specs.Own.{FindsOfHead}
-use Rattle.space_single.specs.Numbered.{AnswersNumber, FindsNumbered}
+use Rattle.space_single.specs.EntityRows.{FindsOfHead}
+use Rattle.space_single.specs.Entity.{AnswersNumber, FindsNumbered}
 use Rattle.space_single.proofs.Commands.{by_key, numbered_is}
 use Rattle.space_single.proofs.Picked.{selects_from, has_or_not, one_shown, none_shown}
 

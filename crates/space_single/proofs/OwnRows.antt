@@ -27,7 +27,7 @@ use Rattle.space_tables.proofs.Rising.{all_volumes_rise, all_cells_rise}
 use Rattle.space_tables.proofs.OneAirspace.{numbers_differ, volumes_borne, cells_borne}
 use Rattle.space_select.specs.Rows.{volume_order, cell_order}
 use Rattle.space_select.specs.Selecting.{IsSelect, Answers, command_of}
-use Rattle.space_single.proofs.Texts.{own_volumes_read, own_cells_read}
+use Rattle.space_single.specs.Texts.{own_volumes_read, own_cells_read}
 use Rattle.space_select.proofs.Means.{listing}
 use Rattle.space_single.proofs.Found.{same}
 use Rattle.space_select.proofs.Shown.{then_equal}

@@ -26,8 +26,8 @@ use Rattle.space_tables.proofs.Rising.{sub_cell_cmp, sub_cells_of, all_sub_cells
 use Rattle.space_tables.proofs.OneAirspace.{sub_numbers_differ}
 use Rattle.space_select.proofs.Shown.{then_equal}
 use Rattle.space_select.proofs.Selected.{selects_one}
-use Rattle.space_single.specs.OwnSub.{AnswersSubCells, FindsSubOfHead}
-use Rattle.space_single.specs.SubNumbered.{AnswersSubNumber, FindsSubNumbered}
+use Rattle.space_single.specs.SubscriptionRows.{AnswersSubCells, FindsSubOfHead}
+use Rattle.space_single.specs.Subscription.{AnswersSubNumber, FindsSubNumbered}
 use Rattle.space_single.specs.Subscription.{AnswersSub, FindsSub}
 use Rattle.space_single.proofs.Commands.{by_key, by_first, own_sub_cells_is, sub_numbered_is}
 use Rattle.space_single.proofs.OwnRows.{own_of}

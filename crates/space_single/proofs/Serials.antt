@@ -19,7 +19,7 @@ use Rattle.space_tables.specs.Spelling.{Spells, meta_columns, meta_values}
 use Rattle.space_select.specs.Selecting.{IsSelect, Answers, command_of}
 use Rattle.space_select.proofs.Means.{listing}
 use Rattle.space_select.proofs.Selected.{selects_all}
-use Rattle.space_single.proofs.Texts.{serial_read}
+use Rattle.space_single.specs.Texts.{serial_read}
 
 pub serial_select : IsSelect serial_read
 unfolding understood everything

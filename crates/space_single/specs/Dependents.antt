@@ -1,5 +1,5 @@
 -- The entities that name a subscription.
-use Rattle.std.specs.Prelude.{◌≡◌, ℕ, ℤ, codes, List, [], ◌∷◌}
+use Rattle.std.specs.Prelude.{◌≡◌, ℕ, ℤ, List, [], ◌∷◌}
 use Rattle.std.specs.List.{AllZip}
 use Rattle.sqlite_value.specs.Order.{Row}
 use Rattle.sqlite_value.specs.declared.value.Value.TheVariants.{Int, Text}
@@ -10,21 +10,19 @@ use Rattle.entity_core.specs.EntityId.{printed}
 use Rattle.entity_core.specs.Search.{dependents_in}
 use Rattle.space_tables.specs.Spelling.{Group, Spells}
 use Rattle.space_select.specs.Selecting.{Answers}
+use Rattle.space_single.specs.Texts.{id_read, namers_read, sub_num_read}
 
 -- the number of a subscription, as it is asked for by its id
 abbrev pub AnswersSubNum : ℕ → Database → List Row → Type 0
-AnswersSubNum id db rows =
-    Answers (codes "SELECT num FROM subscription WHERE id = ?1") (Text (printed id) ∷ []) db rows
+AnswersSubNum id db rows = Answers sub_num_read (Text (printed id) ∷ []) db rows
 
 -- the numbers of the entities that name the subscription of a number, as they are asked for
 abbrev pub AnswersNamers : ℤ → Database → List Row → Type 0
-AnswersNamers num db rows =
-    Answers (codes "SELECT entity FROM naming WHERE subscription = ?1") (Int num ∷ []) db rows
+AnswersNamers num db rows = Answers namers_read (Int num ∷ []) db rows
 
 -- the id of an entity, as it is asked for by its number
 abbrev pub AnswersId : ℤ → Database → List Row → Type 0
-AnswersId num db rows =
-    Answers (codes "SELECT id FROM entity WHERE num = ?1") (Int num ∷ []) db rows
+AnswersId num db rows = Answers id_read (Int num ∷ []) db rows
 
 -- the id of the entity whose rows have the number
 abbrev pub IsIdOf : List Group → ℤ → ℕ → Type 0

@@ -1,9 +1,8 @@
+pub mod Texts
 pub mod Naming
-pub mod Own
-pub mod OwnSub
-pub mod Numbered
-pub mod SubNumbered
-pub mod Named
+pub mod EntityRows
+pub mod Entity
+pub mod SubscriptionRows
 pub mod Subscription
 pub mod Dependents
-pub mod Stated
+pub mod Availability

@@ -1,15 +1,13 @@
 //! The ids of the entities that name a subscription, read of a connection.
-ghost use Rattle.std.specs.Prelude.{◌≡◌, false, IfOk, OnOk, IsTrue};
+ghost use Rattle.std.specs.Prelude.{◌≡◌, false};
 ghost use Rattle.sqlite.specs.Held.{state};
-ghost use Rattle.sqlite.specs.State.{HasCleanDisk, Survives};
 ghost use Rattle.entity_core.specs.Search.{dependents_in};
-ghost use Rattle.space_tables.specs.Tables.{dss_schema};
-ghost use Rattle.space_select.specs.Reading.{GoesBack, Reads, ReadsTables};
+ghost use Rattle.space_select.specs.Reading.{Reads, ReadsAlone, ReadsTables};
 ghost use Rattle.space_single.specs.Dependents.{AnswersSubNum, AnswersNamers, AnswersId, FindsId, FindsIds, FindsDependents};
 
 use crate::values::{id_among, number_among, numbers_of};
 use entity_core::entity_id::EntityId;
-use space_select::reading::alive;
+use space_select::reading::{alive, known};
 use space_select::select::query;
 use sqlite::{Alter, Connection, Error, Row, Transaction, params};
 use std::alloc::Global;
@@ -111,14 +109,8 @@ fn find_alone<S: Alter>(
 ) -> Result<Vec<EntityId>, Error>
     requires { conn.old.in_transaction ≡ false }
     ensures ended { conn.new.in_transaction ≡ false }
-    ensures read { let old = state S.Store conn.old in
-        HasCleanDisk (state S.Store conn.new)
-        → IfOk result (λ ids. old.now.schema ≡ dss_schema
-        → FindsDependents id old.now ids.items) }
-    ensures back { let old = state S.Store conn.old in
-        let new = state S.Store conn.new in
-        HasCleanDisk new → IsTrue new.is_open → old.now.schema ≡ dss_schema → GoesBack old new }
-    ensures survives { Survives (state S.Store conn.old) (state S.Store conn.new) (λ _. ⊥) }
+    ensures reads { ReadsAlone (λ db ids. FindsDependents id db ids.items)
+        (state S.Store conn.old) (state S.Store conn.new) result }
 {
     let mut tx = conn.transaction();
     let ids = find_dependents(alloc, &mut tx, id)?;
@@ -139,6 +131,7 @@ pub fn read_dependents<S: Alter>(
     ensures reads { ReadsTables (state S.Store conn.old) (state S.Store conn.new) result
         (λ a found. found.items ≡ dependents_in a.entities id) }
 {
+    known(conn);
     let ids = find_alone(alloc, conn, id)?;
     alive(conn)?;
     Ok(ids)

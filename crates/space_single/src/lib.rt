@@ -1,14 +1,12 @@
 //! Single things of the airspace that the tables spell, read of a connection.
 #![tactic(auto)]
 
+pub mod availability;
 pub mod dependents;
-mod named;
+pub mod entity;
+mod entity_rows;
 mod naming;
-pub mod numbered;
-mod own;
-mod own_sub;
-pub mod single;
-pub mod stated;
-pub mod sub_numbered;
+pub mod serial;
 pub mod subscription;
+mod subscription_rows;
 mod values;

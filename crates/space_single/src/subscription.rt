@@ -1,21 +1,21 @@
-//! The subscription of an id, read of a connection.
-ghost use Rattle.std.specs.Prelude.{◌≡◌, false, IfOk, OnOk, IsTrue};
+//! One subscription, read by its id or by its number in the tables.
+ghost use Rattle.std.specs.Prelude.{◌≡◌, false};
 ghost use Rattle.std.specs.FinMap.{get};
 ghost use Rattle.sqlite.specs.Held.{state};
-ghost use Rattle.sqlite.specs.State.{HasCleanDisk, Survives};
-ghost use Rattle.space_tables.specs.Tables.{dss_schema};
-ghost use Rattle.space_select.specs.Reading.{GoesBack, Reads, ReadsTables};
-ghost use Rattle.space_single.specs.Subscription.{AnswersSub, FindsSub};
+ghost use Rattle.space_select.specs.Reading.{Reads, ReadsAlone, ReadsTables};
+ghost use Rattle.space_single.specs.Subscription.{AnswersSub, AnswersSubNumber, FindsSub, FindsSubNumbered};
 
-use crate::own_sub::sub_of_head;
+use crate::subscription_rows::sub_of_head;
 use entity_core::entity_id::EntityId;
 use entity_core::subscription::Sub;
-use space_select::reading::alive;
+use space_select::reading::{alive, known};
 use space_select::select::query;
 use sqlite::{Alter, Connection, Error, Row, Transaction, params};
 use std::alloc::Global;
 
-fn query_head<S: Alter>(
+// ---- by its id
+
+fn query_named<S: Alter>(
     alloc: Global,
     tx: &mut Transaction<'_, S>,
     id: EntityId,
@@ -44,7 +44,7 @@ fn find_sub<S: Alter>(
         Reads (FindsSub id) old (state S.Store tx.new.conn.now) result }
 {
     let _number = id.number();
-    let rows = query_head(alloc, tx, id)?;
+    let rows = query_named(alloc, tx, id)?;
     sub_of_head(alloc, tx, rows.as_slice())
 }
 
@@ -56,13 +56,8 @@ fn find_alone<S: Alter>(
 ) -> Result<Option<Sub>, Error>
     requires { conn.old.in_transaction ≡ false }
     ensures ended { conn.new.in_transaction ≡ false }
-    ensures read { let old = state S.Store conn.old in
-        HasCleanDisk (state S.Store conn.new)
-        → IfOk result (λ found. old.now.schema ≡ dss_schema → FindsSub id old.now found) }
-    ensures back { let old = state S.Store conn.old in
-        let new = state S.Store conn.new in
-        HasCleanDisk new → IsTrue new.is_open → old.now.schema ≡ dss_schema → GoesBack old new }
-    ensures survives { Survives (state S.Store conn.old) (state S.Store conn.new) (λ _. ⊥) }
+    ensures reads { ReadsAlone (FindsSub id)
+        (state S.Store conn.old) (state S.Store conn.new) result }
 {
     let mut tx = conn.transaction();
     let found = find_sub(alloc, &mut tx, id)?;
@@ -82,7 +77,39 @@ pub fn read_subscription<S: Alter>(
     ensures reads { ReadsTables (state S.Store conn.old) (state S.Store conn.new) result
         (λ a found. found ≡ get a.subscriptions id) }
 {
+    known(conn);
     let found = find_alone(alloc, conn, id)?;
     alive(conn)?;
     Ok(found)
+}
+
+// ---- by its number
+
+fn query_numbered<S: Alter>(tx: &mut Transaction<'_, S>, num: i64) -> Result<Vec<Row>, Error>
+    ensures same_reference { tx.new.conn.ghost_name ≡ tx.old.conn.ghost_name }
+    ensures reads { let old = state S.Store tx.old.conn.now in
+        Reads (λ db rows. AnswersSubNumber num db rows.items)
+        old (state S.Store tx.new.conn.now) result }
+{
+    query(
+        tx,
+        "SELECT num, id, manager, serial, version, notes, url, for_intents, for_constraints, \
+         alt_lower, alt_upper, time_start, time_end FROM subscription WHERE num = ?1",
+        params![num],
+    )
+}
+
+/// The subscription whose row has a number, if there is one, as the tables spell it. Where they
+/// spell no airspace, anything may come of it.
+pub fn read_sub_numbered<S: Alter>(
+    alloc: Global,
+    tx: &mut Transaction<'_, S>,
+    num: i64,
+) -> Result<Option<Sub>, Error>
+    ensures same_reference { tx.new.conn.ghost_name ≡ tx.old.conn.ghost_name }
+    ensures reads { let old = state S.Store tx.old.conn.now in
+        Reads (FindsSubNumbered num) old (state S.Store tx.new.conn.now) result }
+{
+    let rows = query_numbered(tx, num)?;
+    sub_of_head(alloc, tx, rows.as_slice())
 }

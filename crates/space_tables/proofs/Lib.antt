@@ -7,4 +7,4 @@ pub mod Formats
 pub mod Upgraded
 pub mod Rising
 pub mod OneAirspace
-pub mod Standings
+pub mod Presences

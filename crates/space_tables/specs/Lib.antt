@@ -1,5 +1,5 @@
 pub mod Tables
 pub mod Spelling
 pub mod Making
-pub mod Standing
+pub mod Presence
 pub mod Laws

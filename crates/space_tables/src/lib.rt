@@ -5,5 +5,5 @@
 pub mod format;
 pub mod laws;
 pub mod make;
-pub mod standing;
+pub mod presence;
 pub mod upgrade;

@@ -1,7 +1,7 @@
 use Rattle.std.proofs.Common.{Some, None, to_z-of_z}
 use Rattle.sqlite.specs.Held.{state}
 use Rattle.entity_lists.specs.Entities.{entity_map}
-use Rattle.space_single.specs.Numbered.{FindsNumbered}
+use Rattle.space_single.specs.Entity.{FindsNumbered}
 use Rattle.space_select.proofs.Readings.{reads_as}
 use Rattle.space_finding.specs.Candidates.{AddsNumbered}
 use Rattle.space_finding.proofs.Numbered.{adds_entity, adds_no_entity}

@@ -5,7 +5,7 @@ use Rattle.entity_core.specs.Airspace.{Stated}
 use Rattle.entity_core.specs.declared.availability.Availability.{Availability}
 use Rattle.entity_core.specs.declared.availability.Availability.TheVariants.{Unknown}
 use Rattle.space_core.specs.declared.met.Met.{Met}
-use Rattle.space_single.specs.Stated.{FindsStated}
+use Rattle.space_single.specs.Availability.{FindsStated}
 use Rattle.space_select.proofs.Readings.{reads_as}
 use Rattle.space_finding.specs.Met.{IsWithAvailability}
 use Rattle.space_finding.proofs.managers.with_availability.Goals as goal

@@ -1,7 +1,7 @@
 use Rattle.std.proofs.Common.{Some, None, to_z-of_z}
 use Rattle.sqlite.specs.Held.{state}
 use Rattle.entity_lists.specs.Subscriptions.{subscription_map}
-use Rattle.space_single.specs.SubNumbered.{FindsSubNumbered}
+use Rattle.space_single.specs.Subscription.{FindsSubNumbered}
 use Rattle.space_select.proofs.Readings.{reads_as}
 use Rattle.space_finding.specs.Candidates.{AddsSub}
 use Rattle.space_finding.proofs.Numbered.{adds_sub, adds_no_sub}

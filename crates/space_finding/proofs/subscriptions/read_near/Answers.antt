@@ -4,7 +4,7 @@ use Rattle.entity_lists.specs.Subscriptions.{subscription_map}
 use Rattle.space_finding.specs.declared.interval.Interval.{Interval}
 use Rattle.space_finding.specs.Asked.{HasAllAncestors, HasRanges}
 use Rattle.space_finding.specs.Candidates.{HoldsNear, HoldsSubCandidates}
-use Rattle.space_finding.proofs.Answered.{tables_read}
+use Rattle.space_select.proofs.Readings.{reads_spelt}
 use Rattle.space_finding.proofs.Exact.{candidates_near}
 use Rattle.space_finding.proofs.subscriptions.read_near.Goals as goal
 
@@ -17,6 +17,5 @@ returns-clause-reads g c =
     let new = state g.S.Store c.read_alive.new.conn in
     let asked = subst (λ (l : List Interval). HasRanges l areas) (sym c.as_slice.ensures.value) c.in_ok-ranges.ensures.each in
     let above = subst (λ (l : List Interval). HasAllAncestors l areas) (sym c.as_slice-2.ensures.value) c.in_ok-ancestors.ensures.each in
-    tables_read (λ db found. HoldsSubCandidates ranges ancestors db (subscription_map found)) (λ a found. HoldsNear areas a.subscriptions (subscription_map found)) old new c.read_alive.result
-    (λ found a s held. candidates_near areas ranges ancestors old.now (subscription_map found) asked above held a s)
-    c.read_alive.ensures.read c.read_alive.ensures.open c.read_alive.ensures.survives
+    reads_spelt (λ db found. HoldsSubCandidates ranges ancestors db (subscription_map found)) (λ a found. HoldsNear areas a.subscriptions (subscription_map found)) old new c.read_alive.result
+    (λ db found held a s. candidates_near areas ranges ancestors db (subscription_map found) asked above held a s) c.read_alive.ensures.reads

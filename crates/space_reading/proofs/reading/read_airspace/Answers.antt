@@ -1,13 +1,11 @@
 use Rattle.sqlite.specs.Held.{state}
-use Rattle.space_select.proofs.Readings.{on_ok}
+use Rattle.space_select.proofs.Readings.{alive_judged}
+use Rattle.space_reading.specs.Judging.{JudgesDatabase}
+use Rattle.space_reading.specs.Showing.{ShowsTables}
 use Rattle.space_reading.proofs.Judged.{judges_database}
 use Rattle.space_reading.proofs.reading.read_airspace.Goals as goal
 
-pub returns-clause-judged : goal.returns-clause-judged
-returns-clause-judged g c = λ clean. judges_database (state g.S.Store c.args.conn.now).now c.in_ok-tables.tables c.judge.result c.judge.ensures (c.in_ok-tables.ensures.read clean)
-
-pub returns-clause-open : goal.returns-clause-open
-returns-clause-open g c = λ clean. on_ok c.judge.result _ (c.in_ok-tables.ensures.open clean)
-
-pub returns-clause-at_rest : goal.returns-clause-at_rest
-returns-clause-at_rest g c = λ clean. on_ok c.judge.result _ (c.in_ok-tables.ensures.at_rest clean)
+pub returns-clause-reads : goal.returns-clause-reads
+returns-clause-reads g c =
+    alive_judged ShowsTables JudgesDatabase (state g.S.Store c.args.conn.now) (state g.S.Store c.read_alive.new.conn) c.in_ok-tables.tables c.judge.result
+    (λ db has shown. judges_database db c.in_ok-tables.tables c.judge.result c.judge.ensures has shown) c.in_ok-tables.ensures.reads

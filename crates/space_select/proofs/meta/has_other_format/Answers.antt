@@ -6,4 +6,4 @@ pub select-requires-clause-select : goal.select-requires-clause-select
 select-requires-clause-select g c = metas_select
 
 pub returns-clause-told : goal.returns-clause-told
-returns-clause-told g c = λ clean. other_told (state g.S.Store c.args.conn.now).now c.in_ok-rows.rows.items c.as_slice.result.now c.is_other.result c.as_slice.ensures.value c.is_other.ensures (c.in_ok-rows.ensures.read clean)
+returns-clause-told g c = λ clean. other_told (state g.S.Store c.args.conn.now).now c.in_ok-rows.rows.items c.as_slice.result.now c.is_other.result c.as_slice.ensures.value c.is_other.ensures (c.in_ok-rows.ensures.reads.answer clean)

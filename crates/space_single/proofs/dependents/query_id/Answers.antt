@@ -3,7 +3,7 @@ use Rattle.std.specs.Prelude.{[], ◌∷◌}
 use Rattle.sqlite.specs.Held.{state}
 use Rattle.sqlite.specs.declared.types.Value.TheVariants.{Int}
 use Rattle.space_select.proofs.Readings.{reads_asked}
-use Rattle.space_single.proofs.Texts.{id_read}
+use Rattle.space_single.specs.Texts.{id_read}
 use Rattle.space_single.proofs.Commands.{id_select}
 use Rattle.space_single.proofs.dependents.query_id.Goals as goal
 

@@ -4,7 +4,7 @@ use Rattle.sqlite.specs.Held.{state}
 use Rattle.sqlite.specs.declared.types.Value.TheVariants.{Text}
 use Rattle.entity_core.specs.EntityId.{printed}
 use Rattle.space_select.proofs.Readings.{reads_asked}
-use Rattle.space_single.proofs.Texts.{sub_num_read}
+use Rattle.space_single.specs.Texts.{sub_num_read}
 use Rattle.space_single.proofs.Commands.{sub_num_select}
 use Rattle.space_single.proofs.dependents.query_num.Goals as goal
 

@@ -3,7 +3,7 @@ use Rattle.std.specs.Prelude.{[], ◌∷◌}
 use Rattle.sqlite.specs.Held.{state}
 use Rattle.sqlite.specs.declared.types.Value.TheVariants.{Int}
 use Rattle.space_select.proofs.Readings.{reads_asked}
-use Rattle.space_single.proofs.Texts.{sub_id_read}
+use Rattle.space_single.specs.Texts.{sub_id_read}
 use Rattle.space_single.proofs.Commands.{sub_id_select}
 use Rattle.space_single.proofs.naming.query_sub_id.Goals as goal
 

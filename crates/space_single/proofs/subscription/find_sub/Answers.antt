@@ -3,7 +3,7 @@ use Rattle.sqlite.specs.Held.{state}
 use Rattle.sqlite.specs.Order.{Row}
 use Rattle.space_select.proofs.Readings.{reads_then}
 use Rattle.space_single.specs.Subscription.{AnswersSub, FindsSub}
-use Rattle.space_single.specs.OwnSub.{FindsSubOfHead}
+use Rattle.space_single.specs.SubscriptionRows.{FindsSubOfHead}
 use Rattle.space_single.proofs.Still.{reads_weaker}
 use Rattle.space_single.proofs.OwnSubs.{sub_named_told}
 use Rattle.space_single.proofs.subscription.find_sub.Goals as goal
@@ -13,7 +13,7 @@ returns-clause-reads g c =
     let fits = subst (λ (n : ℕ). n < 2 ^ 128) c.number-number.ensures c.number-number.type_inv in
     let id = c.args.id in
     let a = state g.S.Store c.args.tx.now.conn.now in
-    let b = state g.S.Store c.query_head.new.tx.conn.now in
+    let b = state g.S.Store c.query_named.new.tx.conn.now in
     let d = state g.S.Store c.sub_of_head.new.tx.conn.now in
     let rows = c.in_ok-rows.rows in
     reads_weaker _ (FindsSub id) a d c.sub_of_head.result

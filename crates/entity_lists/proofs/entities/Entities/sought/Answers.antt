@@ -1,12 +1,14 @@
-use Rattle.std.proofs.Common.{sym, ◌∙◌, subst, Option}
-use Rattle.std.specs.Result.{IfOk}
-use Rattle.entity_core.specs.declared.entity.Entity.{Entity}
-use Rattle.entity_core.specs.Airspace.{EntityKey}
-use Rattle.entity_lists.specs.Entities.{FindsSought}
-use Rattle.entity_lists.proofs.Searches.{get_find}
+use Rattle.std.proofs.Common.{sym, ap, ◌∙◌}
+use Rattle.std.specs.Option.{option_copied}
+use Rattle.entity_lists.proofs.EntityTrees.{finds_it, finds_none_sought}
 use Rattle.entity_lists.proofs.entities.Entities.sought.Goals as goal
 
-pub returns : goal.returns
-returns c =
-    let k : EntityKey = (c.args.kind, c.args.number) in
-    subst (λ (there : Option Entity). IfOk c.wanted.result (λ found. FindsSought there c.args.kind c.args.areas.now c.args.except k found)) (sym (get_find c.args.self.now c.deref.result.now k (c.deref.ensures.value ∙ c.self.view_is))) c.wanted.ensures
+pub returns-in_ok-clone-in-Some : goal.returns-in_ok-clone-in-Some
+returns-in_ok-clone-in-Some c =
+    finds_it c.args.self.now c.args.kind c.args.number c.args.areas.now c.args.except c.in-Some.entity.now c.in_ok-clone-in-Some.field-0
+    (sym c.at.ensures ∙ ap option_copied c.in-Some.is) c.in_ok-clone-in-Some.ensures (sym c.is_wanted.ensures ∙ c.if-is_wanted.true)
+
+pub returns-else-is_wanted : goal.returns-else-is_wanted
+returns-else-is_wanted c =
+    finds_none_sought c.args.self.now c.args.kind c.args.number c.args.areas.now c.args.except c.in-Some.entity.now
+    (sym c.at.ensures ∙ ap option_copied c.in-Some.is) (sym c.is_wanted.ensures ∙ c.if-is_wanted.false)

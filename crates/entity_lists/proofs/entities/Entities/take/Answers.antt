@@ -1,16 +1,24 @@
-use Rattle.std.proofs.Common.{sym, ◌∙◌}
-use Rattle.entity_core.specs.Airspace.{key_cmp}
-use Rattle.entity_lists.specs.Entities.{pair_of}
-use Rattle.entity_lists.proofs.Keys.{key_total, key_exact}
-use Rattle.entity_lists.proofs.Places.{remove_order, remove_map}
-use Rattle.entity_lists.proofs.Searches.{get_find}
+use Rattle.std.proofs.Common.{◌≡◌, ℕ, None, sym, ap, ◌∙◌, subst}
+use Rattle.std.specs.Prelude.{cond}
+use Rattle.std.specs.BTreeMap as tree
+use Rattle.std.specs.BTreeMap.{is_at}
+use Rattle.entity_lists.specs.Entities.{AreKeyed, numbers_of}
+use Rattle.entity_lists.proofs.EntityTrees.{get_in, keyed_without, number_cmp, without_map}
 use Rattle.entity_lists.proofs.entities.Entities.take.Goals as goal
 
 pub invariant_of-self : goal.invariant_of-self
-invariant_of-self c = remove_order key_cmp pair_of key_total c.self.inside.items.items c.remove_from.new.items.items (c.args.kind, c.args.id) c.self.invariant c.remove_from.ensures.left
+invariant_of-self c = subst AreKeyed (sym c.remove.ensures.entries) (keyed_without (is_at (number_cmp c.key.result)) c.self.inside.tree.entries c.self.invariant)
 
-pub returns : goal.returns
-returns c = record {
-  was = c.remove_from.ensures.was ∙ sym (get_find c.args.self.now c.self.inside.items.items (c.args.kind, c.args.id) c.self.view_is);
-  left = remove_map key_cmp pair_of key_total key_exact c.self.inside.items.items c.remove_from.new.items.items c.args.self.now (c.args.kind, c.args.id) c.self.view_is c.self.invariant c.remove_from.ensures.left;
-}
+pub returns-clause-was : goal.returns-clause-was
+returns-clause-was c =
+    let key : c.key.result ≡ numbers_of (c.args.kind, c.args.id) = c.key.ensures ∙ ap (λ (n : ℕ). numbers_of (c.args.kind, n)) c.number.ensures in
+    c.remove.ensures.value
+    ∙ (ap (λ (k : ℕ × ℕ). tree.get number_cmp c.self.inside.tree k) key
+    ∙ get_in c.self.inside.tree c.args.self.now (c.args.kind, c.args.id) c.self.view_is c.self.invariant)
+
+pub returns-clause-left : goal.returns-clause-left
+returns-clause-left c =
+    let key : c.key.result ≡ numbers_of (c.args.kind, c.args.id) = c.key.ensures ∙ ap (λ (n : ℕ). numbers_of (c.args.kind, n)) c.number.ensures in
+    let left = subst AreKeyed (sym c.remove.ensures.entries) (keyed_without (is_at (number_cmp c.key.result)) c.self.inside.tree.entries c.self.invariant) in
+    without_map c.self.inside.tree c.remove.new.self c.args.self.now c.self.view_is c.self.invariant left (c.args.kind, c.args.id)
+    (λ q. c.remove.ensures.updates.0 q ∙ ap (λ (k : ℕ × ℕ). cond (is_at (number_cmp k) q) None (tree.get number_cmp c.self.inside.tree q)) key)

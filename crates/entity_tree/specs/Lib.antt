@@ -1,2 +1,0 @@
-pub mod EntityTree
-pub mod OwnKeys

@@ -1,4 +1,0 @@
-//! Entities in a tree by kind and id.
-#![tactic(auto)]
-
-pub mod tree;
