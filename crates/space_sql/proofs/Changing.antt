@@ -1,6 +1,6 @@
 -- What a change tells of a space.
 use Rattle.std.proofs.Common.{◌≡◌, ◌⊎◌, inl, inr, Ok, Err, Result, refl, sym, ap, subst, ◌∙◌, arith}
-use Rattle.std.specs.Prelude.{ℕ, Bool, false, IsTrue, IsErr, IsErrOf, MatchResult, ◌↔◌}
+use Rattle.std.specs.Prelude.{false, IsTrue, IsErrOf, OnOk, ◌↔◌}
 use Rattle.sqlite_trees.specs.Tree.{Trees}
 use Rattle.sqlite_trees.specs.declared.store.Store.{Ghosts}
 use Rattle.sqlite.specs.Effect.{Database, IsDatabase}
@@ -15,8 +15,9 @@ use Rattle.space_tables.specs.Making.{IsUndone}
 use Rattle.space_tables.specs.Spelling.{Spells}
 use Rattle.space_tables.proofs.OneAirspace.{one_airspace}
 use Rattle.space_changes.specs.Committing.{Commits, MayBeChanged}
-use Rattle.space_sql.specs.Holding.{Keeps, holds_in, is_whole_in, holds_of, is_sound_of, is_whole_of, kept, kept_by, with_tables}
-use Rattle.space_sql.proofs.Outcomes.{Laws, Rests, held_is_spelt, spelt_alone, spelt_is_held, whole_is_spelt}
+use Rattle.space_sql.specs.Holding.{IsKeeping, Keeps, Kept, Rests, holds_in, is_whole_in, holds_of, is_sound_of, is_whole_of, with_tables}
+use Rattle.space_sql.specs.Settling.{Settles}
+use Rattle.space_sql.proofs.Outcomes.{held_is_spelt, spelt_alone, spelt_is_held, whole_is_spelt}
 
 -- trees that a commit may have left keep the airspace that they spell
 keeps_of : (trees : Trees) (a : Airspace) → ((db : Database) × (trees ≡ db.trees) × IsDatabase db × Spells db a) → Keeps trees a
@@ -24,7 +25,7 @@ keeps_of trees a it =
     let path : it.0 ≡ with_tables trees = λ i. record { schema = it.3.schema i; trees = (sym it.1) i } in
     subst (λ d. IsDatabase d × Spells d a) path (it.2, it.3)
 
-module _ (P : Airspace → Type 0) (change : Airspace → Airspace) (old mid new : State) (rests : Rests old) (rested : Rests mid) (after : Laws new) (live : HasCleanDisk old → IsTrue old.is_open) (fits : HasCleanDisk old → (a : Airspace) → holds_in old a → P a) (went : Survives old mid (MayBeChanged P change old)) (tried : Survives mid new (λ _. ⊥)) (clean : HasCleanDisk new) where
+module _ (P : Airspace → Type 0) (change : Airspace → Airspace) (old mid new : State) (rests : Rests old) (after : Rests new) (live : HasCleanDisk old → IsTrue old.is_open) (fits : HasCleanDisk old → (a : Airspace) → holds_in old a → P a) (went : Survives old mid (MayBeChanged P change old)) (tried : Survives mid new (λ _. ⊥)) (clean : HasCleanDisk new) where
   mid_clean : HasCleanDisk mid
   mid_clean = omega (arith, tried.clean)
 
@@ -53,48 +54,57 @@ module _ (P : Airspace → Type 0) (change : Airspace → Airspace) (old mid new
   pub change_refused : IsUndone old mid → IsUnchanged mid new → (a : Airspace) → holds_in old a ↔ holds_in new a
   change_refused undone same a =
       let last : old.committed.trees ≡ new.committed.trees = ap (λ (d : Database). d.trees) (sym undone.1 ∙ sym same.0.committed_is) in (
-        (λ h. (new.committed.trees, after.stays same.0.is_open, subst (λ t. Keeps t a) (rests.laws.settled h.0 (live old_clean) h.1 ∙ last) h.2)),
-        (λ h. (old.committed.trees, rests.laws.stays (live old_clean), subst (λ t. Keeps t a) (after.settled h.0 same.0.is_open h.1 ∙ sym last) h.2)),
+        (λ h. (new.committed.trees, after.stays same.0.is_open, subst (λ t. Keeps t a) (rests.no_other h.0 (live old_clean) h.1 ∙ last) h.2)),
+        (λ h. (old.committed.trees, rests.stays (live old_clean), subst (λ t. Keeps t a) (after.no_other h.0 same.0.is_open h.1 ∙ sym last) h.2)),
       )
 
+-- a space that was not broken, and a change of its tables that was tried
+module _ {S : Type 0} (g : Ghosts S) (P : Airspace → Type 0) (change : Airspace → Airspace) (old new : Kept S) (mid : Held S) (works : old.broken ≡ false) (kept : IsKeeping (state g old.conn) old.broken) (keeping : IsKeeping (state g new.conn) new.broken) (fits : is_sound_of g old → (a : Airspace) → holds_of g old a → P a) where
+  live : HasCleanDisk (state g old.conn) → IsTrue (state g old.conn).is_open
+  live clean = kept.live clean works
+
+  fits_clean : HasCleanDisk (state g old.conn) → (a : Airspace) → holds_of g old a → P a
+  fits_clean clean = fits (record { clean = clean; live = kept.live clean })
+
+  was_clean : (told : Result (Unit {0}) Error) (r : Result (Unit {0}) SpaceFault) → Commits P change (state g old.conn) (state g mid) told → Settles g mid new.conn told r → HasCleanDisk (state g new.conn) → HasCleanDisk (state g old.conn)
+  was_clean told r it to clean = omega (arith, it.crash.clean, to.survives.clean)
+
+  done : (told : Result (Unit {0}) Error) (r : Result (Unit {0}) SpaceFault) → Commits P change (state g old.conn) (state g mid) told → Settles g mid new.conn told r → HasCleanDisk (state g new.conn)
+      → OnOk r ((a : Airspace) → holds_of g old a → IsContent (holds_of g) new (change a))
+  done (Ok x) (Ok y) it to clean = λ a h.
+      let old_clean = was_clean (Ok x) (Ok y) it to clean in
+      let whole = subst (λ (k : Held S). Commits P change (state g old.conn) (state g k) (Ok x)) (sym to.passes.1) it in
+      let made = whole.done clean in
+      let spelt = made.0 a (held_is_spelt (state g old.conn) kept.rests (live old_clean) a h) (fits_clean old_clean a h) in
+      record { held = spelt_is_held (state g new.conn) keeping.rests made.1.0 (change a) spelt; only = λ b. spelt_alone (state g new.conn) keeping.rests made.1.0 (change a) b spelt }
+  done (Ok x) (Err f) it to clean = tt
+  done (Err e) (Ok y) it to clean = absurd (let p = to.passes in cc)
+  done (Err e) (Err f) it to clean = tt
+
+  refused : (told : Result (Unit {0}) Error) (r : Result (Unit {0}) SpaceFault) → Commits P change (state g old.conn) (state g mid) told → Settles g mid new.conn told r → HasCleanDisk (state g new.conn)
+      → IsErrOf r Unchanged → (a : Airspace) → holds_of g old a ↔ holds_of g new a
+  refused (Ok x) (Ok y) it to clean is = absurd cc
+  refused (Ok x) (Err f) it to clean is = absurd (let p = to.passes.0 in cc)
+  refused (Err e) (Ok y) it to clean is = absurd cc
+  refused (Err e) (Err f) it to clean is =
+      let unchanged = to.same clean is in
+      change_refused P change (state g old.conn) (state g mid) (state g new.conn) kept.rests keeping.rests live fits_clean it.crash to.survives clean (it.err (omega (arith, to.survives.clean, clean)) unchanged.0.was_open) unchanged
+
+  changes : (told : Result (Unit {0}) Error) (r : Result (Unit {0}) SpaceFault) → Commits P change (state g old.conn) (state g mid) told → Settles g mid new.conn told r
+      → Changes (holds_of g) (is_sound_of g) (is_whole_of g) old.broken old new r change
+  changes told r it to = record {
+    sound = λ s. let clean = was_clean told r it to s.clean in record { clean = clean; live = kept.live clean };
+    whole = λ s. change_whole P change (state g old.conn) (state g mid) (state g new.conn) kept.rests keeping.rests live fits_clean it.crash to.survives s.clean;
+    done = λ s. done told r it to s.clean;
+    refused = λ s. refused told r it to s.clean;
+    broken = λ s is. change_only P change (state g old.conn) (state g mid) (state g new.conn) kept.rests keeping.rests live fits_clean it.crash to.survives s.clean;
+    frozen = λ s set. absurd (let off = works in cc);
+  }
+
 -- the answer of a space, for what a change of its tables told
-module _ {S : Type 0} (g : Ghosts S) (P : Airspace → Type 0) (change : Airspace → Airspace) (old mid new : Held S) (n m : ℕ) (d : Bool) (rests : Rests (state g old)) (rested : Rests (state g mid)) (after : Laws (state g new)) (live : HasCleanDisk (state g old) → IsTrue (state g old).is_open) (fits : HasCleanDisk (state g old) → (a : Airspace) → holds_in (state g old) a → P a) where
-  clean_first : (r : Result (Unit {0}) Error) → Commits P change (state g old) (state g mid) r → Survives (state g mid) (state g new) (λ _. ⊥) → HasCleanDisk (state g new) → HasCleanDisk (state g old)
-  clean_first r it tried clean = omega (arith, it.crash.clean, tried.clean)
-
-  pub changes_settled : (answer : Result (Unit {0}) Error) (r : Result (Unit {0}) SpaceFault) → Commits P change (state g old) (state g mid) answer → MatchResult answer (λ x. (r ≡ Ok x) × (new ≡ mid)) (λ _. IsErr r)
-      → (HasCleanDisk (state g new) → IsErrOf r Unchanged → IsUnchanged (state g mid) (state g new)) → Survives (state g mid) (state g new) (λ _. ⊥)
-      → Changes (holds_of g) (is_sound_of g) (is_whole_of g) false (kept old n false) (kept new m d) r change
-  changes_settled (Ok x) (Ok y) it passes same tried =
-      record {
-        sound = λ s. let clean = clean_first (Ok x) it tried s.clean in record { clean = clean; live = λ off. live clean };
-        whole = λ s. change_whole P change (state g old) (state g mid) (state g new) rests rested after live fits it.crash tried s.clean;
-        done = λ s a h.
-            let clean = clean_first (Ok x) it tried s.clean in
-            let made = it.done (subst (λ k. HasCleanDisk (state g k)) passes.1 s.clean) in
-            let spelt = made.0 a (held_is_spelt (state g old) rests (live clean) a h) (fits clean a h) in
-            subst (λ k. IsContent (holds_of g) (kept k m d) (change a)) (sym passes.1)
-            (record { held = spelt_is_held (state g mid) rested made.1.0 (change a) spelt; only = λ b. spelt_alone (state g mid) rested made.1.0 (change a) b spelt });
-        refused = λ s e. absurd cc;
-        broken = λ s e. absurd cc;
-        frozen = λ s e. absurd cc;
-      }
-  changes_settled (Ok x) (Err e) it passes same tried = absurd (let e = passes.0 in cc)
-  changes_settled (Err e) (Ok y) it passes same tried = absurd (let e = passes in cc)
-  changes_settled (Err e) (Err f) it passes same tried =
-      record {
-        sound = λ s. let clean = clean_first (Err e) it tried s.clean in record { clean = clean; live = λ off. live clean };
-        whole = λ s. change_whole P change (state g old) (state g mid) (state g new) rests rested after live fits it.crash tried s.clean;
-        done = λ s. tt;
-        refused = λ s is.
-            let unchanged = same s.clean is in
-            change_refused P change (state g old) (state g mid) (state g new) rests rested after live fits it.crash tried s.clean (it.err (omega (arith, tried.clean, s.clean)) unchanged.0.was_open) unchanged;
-        broken = λ s is. change_only P change (state g old) (state g mid) (state g new) rests rested after live fits it.crash tried s.clean;
-        frozen = λ s e. absurd cc;
-      }
-
--- whether its tables were those of format 1 has no part in what a change leaves
-pub changes_kept : {S T : Type 0} (g : Ghosts S) (old new : Held S) (n m : ℕ) (b d was off : Bool) (r : Result T SpaceFault) (change : Airspace → Airspace) → Changes (holds_of g) (is_sound_of g) (is_whole_of g) off (kept old n b) (kept new m d) r change
-    → Changes (holds_of g) (is_sound_of g) (is_whole_of g) off (kept_by was old n b) (kept_by was new m d) r change
-changes_kept {S} {T} g old new n m b d was off (Ok x) change p = record { sound = p.sound; whole = p.whole; done = λ s a h. let it = p.done s a h in record { held = it.held; only = it.only }; refused = p.refused; broken = p.broken; frozen = p.frozen }
-changes_kept {S} {T} g old new n m b d was off (Err e) change p = record { sound = p.sound; whole = p.whole; done = λ s. tt; refused = p.refused; broken = p.broken; frozen = p.frozen }
+pub changes_settled : {S : Type 0} (g : Ghosts S) (P : Airspace → Type 0) {change : Airspace → Airspace} {old seen new : Kept S} {mid : Held S} {told : Result (Unit {0}) Error} {r : Result (Unit {0}) SpaceFault} → old ≡ seen → IsKeeping (state g old.conn) old.broken → old.broken ≡ false
+    → (is_sound_of g seen → (a : Airspace) → holds_of g seen a → P a) → Commits P change (state g old.conn) (state g mid) told → Settles g mid new.conn told r → IsKeeping (state g new.conn) new.broken
+    → Changes (holds_of g) (is_sound_of g) (is_whole_of g) seen.broken seen new r change
+changes_settled {S} g P {change} {old} {seen} {new} {mid} {told} {r} is kept works fits it to keeping =
+    let due = subst (λ (k : Kept S). is_sound_of g k → (a : Airspace) → holds_of g k a → P a) (sym is) fits in
+    subst (λ (k : Kept S). Changes (holds_of g) (is_sound_of g) (is_whole_of g) k.broken k new r change) is (changes g P change old new mid works kept keeping due told r it to)

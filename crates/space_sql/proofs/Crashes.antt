@@ -10,7 +10,6 @@ use Rattle.sqlite_value.specs.Order.{Row, column}
 use Rattle.sqlite.specs.Effect.{Database}
 use Rattle.sqlite.specs.State.{State, IsLive}
 use Rattle.entity_core.specs.Airspace.{Airspace}
-use Rattle.space_core.specs.Space.{IsContent}
 use Rattle.space_select.specs.Meta.{IsOtherFormat}
 use Rattle.space_tables.specs.declared.format.Format.{Format}
 use Rattle.space_tables.specs.declared.format.Format.TheVariants.{Two}
@@ -76,9 +75,9 @@ if_err_as (Ok x) f p = tt
 if_err_as (Err e) f p = f e p
 
 module _ (old opened : State) (live : IsLive opened) (settled : IsTrue opened.is_open → opened.now ≡ opened.committed) {X C : Type 0} (r : Result X (OpenFault × C)) (Left : Type 0) (sees : Left → IsTrue opened.is_open × ∥ old.may_leave opened.committed.trees ∥₁) where
-  pub taken_again : (Sound : X → Type 0) (Holds : X → Airspace → Type 0) → IfOk r (λ s. Sound s → (format : Format) → opened.now.schema ≡ schema_of format → (a : Airspace) × SpellsAs format opened.now a × IsContent Holds s a)
-      → IfOk r (λ s. Sound s → is_whole_in old → Left → ∥ ((a : Airspace) × holds_in old a × IsContent Holds s a) ∥₁)
-  taken_again Sound Holds taken = if_ok_as r (λ s got sound whole left. ∥∥₁_map (sees left).1 (λ may.
+  pub taken_again : (Sound : X → Type 0) (Has : X → Airspace → Type 0) → IfOk r (λ s. Sound s → (format : Format) → opened.now.schema ≡ schema_of format → (a : Airspace) × SpellsAs format opened.now a × Has s a)
+      → IfOk r (λ s. Sound s → is_whole_in old → Left → ∥ ((a : Airspace) × holds_in old a × Has s a) ∥₁)
+  taken_again Sound Has taken = if_ok_as r (λ s got sound whole left. ∥∥₁_map (sees left).1 (λ may.
       let it = found_again old opened whole live (sees left).0 (settled (sees left).0) may in
       let own = got sound Two it.schema in
       (own.0, subst (λ a. holds_in old a) (one_airspace _ _ it.held own.0 refl it.spelt own.1) it.holds, own.2))) taken

@@ -6,23 +6,12 @@ use Rattle.sqlite_trees.specs.Objects.{catalog_tree}
 use Rattle.sqlite_schema.specs.declared.schema.Schema.{Schema}
 use Rattle.sqlite_catalog.proofs.ReadLemmas.{lists_once}
 use Rattle.sqlite.specs.Effect.{Database, IsDatabase}
-use Rattle.sqlite.specs.State.{State, HasCleanDisk, IsLive, Survives}
+use Rattle.sqlite.specs.State.{State, HasCleanDisk, Survives}
 use Rattle.entity_core.specs.Airspace.{Airspace}
 use Rattle.space_tables.specs.Spelling.{Spells}
 use Rattle.space_tables.specs.Tables.{dss_schema}
 use Rattle.space_tables.proofs.OneAirspace.{one_airspace}
-use Rattle.space_sql.specs.Holding.{Keeps, holds_in, is_whole_in, with_tables}
-
--- the laws of a store, at a state
-pub record Laws (s : State) : Type 0 where
-  pub settled : (db : Trees) → IsTrue s.is_open → s.may_leave db → db ≡ s.committed.trees
-  pub stays : IsTrue s.is_open → s.may_leave s.committed.trees
-
--- what is known of a connection between two calls
-pub record Rests (s : State) : Type 0 where
-  pub laws : Laws s
-  pub live : IsLive s
-  pub settled : IsTrue s.is_open → s.now ≡ s.committed
+use Rattle.space_sql.specs.Holding.{Keeps, Rests, holds_in, is_whole_in, with_tables}
 
 pub respell : (D E : Database) (a : Airspace) → E.schema ≡ dss_schema → D.trees ≡ E.trees → Spells D a → Spells E a
 respell D E a is same p = let path : D ≡ E = λ i. record { schema = (p.schema ∙ sym is) i; trees = same i } in subst (λ d. Spells d a) path p
@@ -31,13 +20,10 @@ respell D E a is same p = let path : D ≡ E = λ i. record { schema = (p.schema
 pub one_schema : (trees : Trees) (s t : Schema) → IsDatabase (record { schema = s; trees = trees }) → IsDatabase (record { schema = t; trees = trees }) → s ≡ t
 one_schema trees s t p q = lists_once (trees catalog_tree) s t p.lists q.lists
 
-pub one_kept : (s : State) (a b : Airspace) → Laws s → IsTrue s.is_open → holds_in s a → holds_in s b → a ≡ b
-one_kept s a b law is_open h k = one_airspace _ _ a b (law.settled h.0 is_open h.1 ∙ sym (law.settled k.0 is_open k.1)) h.2.1 k.2.1
-
 module _ (s : State) (rests : Rests s) (is_open : IsTrue s.is_open) where
   -- the one outcome
   now_trees : (db : Trees) → s.may_leave db → db ≡ s.now.trees
-  now_trees db may = rests.laws.settled db is_open may ∙ sym (ap (λ (d : Database). d.trees) (rests.settled is_open))
+  now_trees db may = rests.no_other db is_open may ∙ sym (ap (λ (d : Database). d.trees) (rests.settled is_open))
 
   -- what is held is spelt by what is seen
   pub held_is_spelt : (a : Airspace) → holds_in s a → Spells s.now a
@@ -50,14 +36,14 @@ module _ (s : State) (rests : Rests s) (is_open : IsTrue s.is_open) where
   spelt_is_held a p =
       let trees : s.now.trees ≡ s.committed.trees = ap (λ (d : Database). d.trees) (rests.settled is_open) in
       let obeys : IsDatabase (with_tables s.now.trees) = subst (λ k. IsDatabase (record { schema = k; trees = s.now.trees })) p.schema (rests.live is_open).0 in
-      (s.committed.trees, rests.laws.stays is_open, (subst (λ t. IsDatabase (with_tables t)) trees obeys, respell s.now _ a refl trees p))
+      (s.committed.trees, rests.stays is_open, (subst (λ t. IsDatabase (with_tables t)) trees obeys, respell s.now _ a refl trees p))
 
   pub spelt_alone : (a b : Airspace) → Spells s.now a → holds_in s b → b ≡ a
-  spelt_alone a b p h = one_kept s b a rests.laws is_open h (spelt_is_held a p)
+  spelt_alone a b p h = one_airspace s.now s.now b a refl (held_is_spelt b h) p
 
   -- where all that is committed is whole, something is spelt
   pub whole_is_spelt : is_whole_in s → (a : Airspace) × Spells s.now a
-  whole_is_spelt whole = let it = whole _ (rests.laws.stays is_open) in (it.0, held_is_spelt it.0 (_, rests.laws.stays is_open, it.1))
+  whole_is_spelt whole = let it = whole _ (rests.stays is_open) in (it.0, held_is_spelt it.0 (_, rests.stays is_open, it.1))
 
 -- ---- a call that commits nothing
 
@@ -75,8 +61,8 @@ module _ (old new : State) (went : Survives old new (λ _. ⊥)) (clean : HasCle
   stays_whole whole db may = whole db (not_new db may)
 
   -- the store is open still, so what was held is held
-  pub stays_held : Laws old → Laws new → IsTrue old.is_open → IsTrue new.is_open → (a : Airspace) → holds_in old a → holds_in new a
+  pub stays_held : Rests old → Rests new → IsTrue old.is_open → IsTrue new.is_open → (a : Airspace) → holds_in old a → holds_in new a
   stays_held before after was_open is_open a h =
       let may = after.stays is_open in
-      let same : h.0 ≡ new.committed.trees = before.settled h.0 was_open h.1 ∙ sym (before.settled _ was_open (not_new _ may)) in
+      let same : h.0 ≡ new.committed.trees = before.no_other h.0 was_open h.1 ∙ sym (before.no_other _ was_open (not_new _ may)) in
       (new.committed.trees, may, subst (λ t. Keeps t a) same h.2)

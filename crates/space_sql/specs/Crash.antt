@@ -1,5 +1,5 @@
 -- What a crash leaves of a space over tables, and what is found again of it.
-use Rattle.std.specs.Prelude.{◌≡◌, IsTrue, Result, IfErr, IfOk}
+use Rattle.std.specs.Prelude.{◌≡◌, IsTrue, Option, Result, IfErr, IfOk}
 use Rattle.sqlite_trees.specs.Tree.{Trees}
 use Rattle.sqlite_trees.specs.declared.store.Store.{Ghosts}
 use Rattle.sqlite.specs.Held.{Held, state}
@@ -7,6 +7,7 @@ use Rattle.entity_core.specs.Airspace.{Airspace}
 use Rattle.sqlite.specs.State.{HasCleanDisk}
 use Rattle.space_core.specs.Space.{IsContent}
 use Rattle.space_core.specs.declared.space.Space as spaces
+use Rattle.space_reading.specs.declared.judgement.Listed.{Listed}
 use Rattle.space_opening.specs.declared.open_fault.OpenFault.{OpenFault}
 use Rattle.space_opening.specs.declared.open_fault.OpenFault.TheVariants.{Store}
 use Rattle.space_sql.specs.Opening.{HoldsSpelt, IsDueFault}
@@ -38,9 +39,9 @@ pub record SeesLeft {S T : Type 0} (g : Ghosts S) (k : Kept S) (h : Ghosts T) (c
 -- the one before the crash held, and no other; and `NotADss` and `Version` do not come.
 pub record FindsLeft {S T : Type 0} (g : Ghosts S) (k : Kept S) (h : Ghosts T)
     (space : spaces.Ghosts (Kept T)) (conn : Held T)
-    (result : Result (Kept T) (OpenFault × Held T)) : Type 0 where
-  pub found : IfOk result (λ s. space.is_sound s → is_whole_of g k → SeesLeft g k h conn
-      → ∥ ((a : Airspace) × holds_of g k a × IsContent space.holds s a) ∥₁)
+    (result : Result (Kept T × Option Listed) (OpenFault × Held T)) : Type 0 where
+  pub found : IfOk result (λ t. space.is_sound t.0 → is_whole_of g k → SeesLeft g k h conn
+      → ∥ ((a : Airspace) × holds_of g k a × IsContent space.holds t.0 a) ∥₁)
   pub refused : IfErr result (λ e. HasCleanDisk (state h e.1) → is_whole_of g k
       → SeesLeft g k h conn → e.0 ≡ Store)
 
@@ -48,6 +49,7 @@ pub record FindsLeft {S T : Type 0} (g : Ghosts S) (k : Kept S) (h : Ghosts T)
 abbrev pub LeftIsFound : {S T : Type 0} → Ghosts S → Kept S → Ghosts T → spaces.Ghosts (Kept T)
     → Held T → Type 0
 LeftIsFound {S} {T} g k h space conn =
-    (result : Result (Kept T) (OpenFault × Held T)) → IfOk result (HoldsSpelt space (state h conn))
+    (result : Result (Kept T × Option Listed) (OpenFault × Held T))
+    → IfOk result (λ t. HoldsSpelt space (state h conn) t.0)
     → IfErr result (λ e. IsDueFault (state h conn) (state h e.1) e.0)
     → FindsLeft g k h space conn result

@@ -5,7 +5,7 @@ use Rattle.sqlite_trees.specs.Tree.{Trees}
 use Rattle.sqlite_trees.specs.declared.store.Store.{Ghosts}
 use Rattle.sqlite.specs.Effect.{IsDatabase, Database}
 use Rattle.sqlite.specs.Held.{Held, held_code, state}
-use Rattle.sqlite.specs.State.{State, HasCleanDisk}
+use Rattle.sqlite.specs.State.{State, HasCleanDisk, IsLive}
 use Rattle.entity_core.specs.Airspace.{Airspace}
 use Rattle.space_tables.specs.Spelling.{Spells}
 use Rattle.space_tables.specs.Tables.{dss_schema}
@@ -31,10 +31,19 @@ pub record IsSound (s : State) (broken : Bool) : Type 0 where
   pub clean : HasCleanDisk s
   pub live : broken ≡ false → IsTrue s.is_open
 
+-- what is known of a connection outside a transaction, while it is open: what is seen is what was
+-- committed last, and a crash leaves that and nothing else
+pub record Rests (s : State) : Type 0 where
+  pub live : IsLive s
+  pub settled : IsTrue s.is_open → s.now ≡ s.committed
+  pub stays : IsTrue s.is_open → s.may_leave s.committed.trees
+  pub no_other : (db : Trees) → IsTrue s.is_open → s.may_leave db → db ≡ s.committed.trees
+
 -- what is true of the connection of a space between two calls
 pub record IsKeeping (s : State) (broken : Bool) : Type 0 where
   pub outside : s.in_transaction ≡ false
   pub live : HasCleanDisk s → broken ≡ false → IsTrue s.is_open
+  pub rests : Rests s
 
 -- what contracts see of a space
 pub record Kept (S : Type 0) : Type 0 where
@@ -51,16 +60,7 @@ kept_code {S} store =
     (λ k. (k.conn, (k.refusals, (k.broken, k.upgraded))))
     (λ p. record { conn = p.0; refusals = p.1.0; broken = p.1.1.0; upgraded = p.1.1.1 }) (λ _. refl)
 
--- by its parts
-abbrev pub kept_by : {S : Type 0} → Bool → Held S → ℕ → Bool → Kept S
-kept_by upgraded conn refusals broken =
-    record { conn = conn; refusals = refusals; broken = broken; upgraded = upgraded }
-
--- what a call sees of it: of its tables' past it knows nothing
-abbrev pub kept : {S : Type 0} → Held S → ℕ → Bool → Kept S
-kept conn refusals broken = kept_by false conn refusals broken
-
--- of a space by its parts
+-- of a space, by its store
 abbrev pub holds_of : {S : Type 0} → Ghosts S → Kept S → Airspace → Type 0
 holds_of g k a = holds_in (state g k.conn) a
 

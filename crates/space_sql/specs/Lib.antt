@@ -1,4 +1,5 @@
 pub mod Holding
+pub mod Settling
 pub mod Laws
 pub mod Opening
 pub mod Crash

@@ -1,6 +1,8 @@
 -- What taking a database tells, and what it leaves.
-use Rattle.std.specs.Prelude.{◌≡◌}
+use Rattle.std.specs.Prelude.{◌≡◌, false}
 use Rattle.sqlite_trees.specs.Tree.{Trees}
+use Rattle.sqlite_trees.specs.declared.store.Store as stores
+use Rattle.sqlite.specs.Held.{state}
 use Rattle.sqlite.specs.State.{State, HasCleanDisk}
 use Rattle.entity_core.specs.Airspace.{Airspace}
 use Rattle.space_core.specs.Space.{IsContent}
@@ -9,14 +11,22 @@ use Rattle.space_tables.specs.Spelling.{SpellsAs}
 use Rattle.space_tables.specs.Tables.{schema_of}
 use Rattle.space_tables.specs.declared.format.Format.{Format}
 use Rattle.space_tables.specs.declared.format.Format.TheVariants.{One, Two}
-use Rattle.space_tables.specs.declared.standing.Standing.{Standing}
-use Rattle.space_tables.specs.declared.standing.Standing.TheVariants.{Missing, Partial, Whole}
+use Rattle.space_tables.specs.declared.presence.Presence.{Presence}
+use Rattle.space_tables.specs.declared.presence.Presence.TheVariants.{Missing, Partial, Whole}
 use Rattle.space_tables.specs.Making.{MayBeMade}
-use Rattle.space_tables.specs.Standing.{standing_in}
+use Rattle.space_tables.specs.Presence.{presence_in}
 use Rattle.space_opening.specs.Opening.{MayBeMoved, Refuses}
 use Rattle.space_opening.specs.declared.open_fault.OpenFault.{OpenFault}
 use Rattle.space_opening.specs.declared.open_fault.OpenFault.TheVariants.{Store}
 use Rattle.space_sql.specs.Holding.{Kept}
+
+-- a space that was just taken is sound, as long as its disk has returned what was written; it has
+-- refused nothing, and is not broken
+pub record IsFresh {S : Type 0} (g : stores.Ghosts S) (space : Ghosts (Kept S)) (k : Kept S)
+    : Type 0 where
+  pub sound : HasCleanDisk (state g k.conn) → space.is_sound k
+  pub unrefused : space.refusals k ≡ 0
+  pub works : space.is_broken k ≡ false
 
 -- what is taken of tables of a format holds the airspace that they spell
 abbrev pub HoldsSpelt : {S : Type 0} → Ghosts (Kept S) → State → Kept S → Type 0
@@ -33,7 +43,7 @@ IsDueFault opened back fault =
 -- Trees that opening may have committed, by how the database stood to the tables: those of an empty
 -- airspace where there was no table, those of format 2 with the airspace that tables of format 1
 -- spelt, and else none.
-abbrev pub MayBeTaken : Standing → State → Trees → Type 0
+abbrev pub MayBeTaken : Presence → State → Trees → Type 0
 MayBeTaken Missing old trees = MayBeMade old trees
 MayBeTaken Partial old trees = ⊥
 MayBeTaken (Whole One) old trees = MayBeMoved old trees
@@ -42,4 +52,4 @@ MayBeTaken (Whole Two) old trees = ⊥
 -- trees that opening may have committed before it failed: after NotADss and Version there are none
 abbrev pub MayBeOpened : State → OpenFault → Trees → Type 0
 MayBeOpened old fault trees =
-    (fault ≡ Store) × MayBeTaken (standing_in old.now.schema.tables) old trees
+    (fault ≡ Store) × MayBeTaken (presence_in old.now.schema.tables) old trees

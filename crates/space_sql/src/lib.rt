@@ -4,8 +4,6 @@
 pub mod laws;
 mod listed;
 pub mod open;
-mod parts;
 mod reading;
 pub mod space;
-mod subscriptions;
 mod told;

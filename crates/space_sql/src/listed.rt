@@ -5,19 +5,18 @@ ghost use Rattle.sqlite.specs.State.{HasCleanDisk};
 ghost use Rattle.space_core.specs.Space.{Reads, Tells};
 ghost use Rattle.space_reading.specs.Judging.{listed_airspace};
 ghost use Rattle.space_select.specs.Reading.{ReadsTables};
-ghost use Rattle.space_sql.specs.Holding.{IsKeeping, holds_of, is_sound_of, is_whole_of, kept};
+ghost use Rattle.space_sql.specs.Holding.{holds_of, is_sound_of, is_whole_of};
 ghost use Rattle.space_sql.specs.Listed.{IsAllOf};
 ghost use Rattle.space_tables.specs.Spelling.{Spells};
 ghost use Rattle.space_tables.specs.Tables.{dss_schema};
 
 use crate::open::memory;
+use crate::reading::read_listed;
 use crate::space::SqlSpace;
 use crate::told::settled;
 use same_schema::schema::same_schema;
 use space_core::space::SpaceFault;
-use space_reading::judgement::{Judgement, Listed};
-use space_reading::reading::read_airspace;
-use space_select::reading::known;
+use space_reading::judgement::Listed;
 use space_tables::make::make_tables;
 use sqlite::{Alter, Connection, Error, ErrorCode};
 use sqlite_schema::schema::Schema;
@@ -49,34 +48,7 @@ fn read_ours<S: Alter>(alloc: Global, conn: &mut Connection<S>) -> Result<Listed
     if !is_ours(alloc, conn.schema()) {
         return Err(Error::SqliteFailure(ErrorCode::DatabaseCorrupt));
     }
-    match read_airspace(alloc, conn) {
-        Ok(Judgement::Spelt(listed)) => Ok(listed),
-        Ok(_) => Err(Error::SqliteFailure(ErrorCode::DatabaseCorrupt)),
-        Err(error) => Err(error),
-    }
-}
-
-fn all_listed<S: Alter>(
-    alloc: Global,
-    conn: &mut Connection<S>,
-    refusals: &mut u64,
-    broken: &mut bool,
-) -> Result<Listed, SpaceFault>
-    requires { IsKeeping (state S.Store conn.old) broken.old }
-    ensures keeping { IsKeeping (state S.Store conn.new) broken.new }
-    ensures tells { Tells refusals.old refusals.new broken.old broken.new result }
-    ensures reads { Reads (holds_of S.Store) (is_sound_of S.Store) (is_whole_of S.Store)
-        (kept conn.old refusals.old broken.old) (kept conn.new refusals.new broken.new) result
-        (λ a found. listed_airspace found ≡ a) }
-    ensures all { IfOk result (IsAllOf S.Store (kept conn.new refusals.new broken.new)) }
-{
-    if *broken {
-        return Err(SpaceFault::Broken);
-    }
-    known(conn);
-    let read = read_ours(alloc, conn);
-    known(conn);
-    settled(conn, refusals, broken, read)
+    read_listed(alloc, conn)
 }
 
 impl<S: Alter> SqlSpace<S> {
@@ -89,7 +61,10 @@ impl<S: Alter> SqlSpace<S> {
             self.old self.new result (λ a found. listed_airspace found ≡ a) }
         ensures all { IfOk result (IsAllOf S.Store self.new) }
     {
-        let alloc = self.alloc;
-        all_listed(alloc, &mut self.conn, &mut self.refusals, &mut self.broken)
+        if self.broken {
+            return Err(SpaceFault::Broken);
+        }
+        let read = read_ours(self.alloc, &mut self.conn);
+        settled(&mut self.conn, &mut self.refusals, &mut self.broken, read)
     }
 }

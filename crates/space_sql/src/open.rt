@@ -1,6 +1,6 @@
 //! A space over tables is made, taken and given back.
 ghost use Rattle.std.specs.Prelude.{◌≡◌, ◌≢◌, ◌↔◌, codes, false, Err, IfErr, IfOk, IfSome, IsTrue};
-ghost use Rattle.sqlite.specs.Files.{file_state, over_files};
+ghost use Rattle.sqlite.specs.Files.{over_files};
 ghost use Rattle.sqlite.specs.Held.{state};
 ghost use Rattle.sqlite.specs.State.{HasCleanDisk, Survives};
 ghost use Rattle.sqlite.specs.Steps.{IsEmpty, over_memory};
@@ -8,29 +8,29 @@ ghost use Rattle.sqlite.specs.declared.error.Error.TheVariants.{SqliteFailure};
 ghost use Rattle.sqlite.specs.declared.error.ErrorCode.TheVariants.{NotADatabase};
 ghost use Rattle.entity_core.specs.Airspace.{Airspace, empty_at};
 ghost use Rattle.space_core.specs.Space.{IsContent};
-ghost use Rattle.space_tables.specs.Making.{IsSettled, IsUndone, MayBeMade};
+ghost use Rattle.space_tables.specs.Making.{IsSettled, MayBeMade};
 ghost use Rattle.space_tables.specs.Spelling.{Spells, SpellsAs};
-ghost use Rattle.space_tables.specs.Standing.{standing_in};
+ghost use Rattle.space_tables.specs.Presence.{presence_in};
 ghost use Rattle.space_tables.specs.Tables.{dss_schema, first_schema, no_schema, schema_of};
 ghost use Rattle.space_tables.specs.declared.format.Format.{Format};
 ghost use Rattle.space_tables.specs.declared.format.Format.TheVariants.{One, Two};
-ghost use Rattle.space_tables.specs.declared.standing.Standing.TheVariants.{Whole};
+ghost use Rattle.space_tables.specs.declared.presence.Presence.TheVariants.{Whole};
 ghost use Rattle.space_opening.specs.Opening.{MayBeMoved, Refuses};
 ghost use Rattle.space_opening.specs.declared.open_fault.OpenFault.TheVariants.{Store};
 ghost use Rattle.space_sql.specs.Listed.{IsAllOf};
-ghost use Rattle.space_sql.specs.Opening.{HoldsSpelt, IsDueFault, MayBeOpened};
+ghost use Rattle.space_sql.specs.Opening.{HoldsSpelt, IsDueFault, IsFresh, MayBeOpened};
 
 use crate::listed::is_ours;
 use crate::space::SqlSpace;
+use crate::told::at_rest;
 use space_core::space::{Space, SpaceFault};
 use space_opening::examine::{examined, partial_fault};
 use space_opening::moving::moved;
 use space_opening::open_fault::OpenFault;
 use space_reading::judgement::Listed;
-use space_select::reading::known;
 use space_tables::format::Format;
 use space_tables::make::make_tables;
-use space_tables::standing::{Standing, standing_of};
+use space_tables::presence::{Presence, presence_of};
 use sqlite::{Alter, Connection, Error, ErrorCode, File, FileStore, MemStore};
 use std::alloc::Global;
 use std::io::Read;
@@ -41,14 +41,13 @@ fn space_over<S: Alter>(alloc: Global, conn: Connection<S>, upgraded: bool) -> S
     requires outside { conn.in_transaction ≡ false }
     requires open { HasCleanDisk (state S.Store conn) → IsTrue (state S.Store conn).is_open }
     ensures same { result.conn ≡ conn }
-    ensures fresh { (result.refusals ≡ 0) × (result.broken ≡ false) }
+    ensures fresh { IsFresh S.Store ⟦<SqlSpace<S> as Space>⟧ result }
     ensures told { result.upgraded ≡ upgraded }
-    ensures sound { HasCleanDisk (state S.Store conn) → ⟦<SqlSpace<S> as Space>⟧.is_sound result }
     ensures content { ⟦<SqlSpace<S> as Space>⟧.is_sound result → IsSettled (state S.Store conn)
         → (a : Airspace) → Spells (state S.Store conn).now a
         → IsContent ⟦<SqlSpace<S> as Space>⟧.holds result a }
 {
-    known(&conn);
+    at_rest(&conn);
     SqlSpace {
         conn,
         refusals: 0,
@@ -58,26 +57,22 @@ fn space_over<S: Alter>(alloc: Global, conn: Connection<S>, upgraded: bool) -> S
     }
 }
 
-// A space over a connection, with all that its tables have where they were read; or a fault, with the
-// connection that goes back.
-type Taking<S> = Result<(SqlSpace<S>, Option<Listed>), (OpenFault, Connection<S>)>;
+/// A space over a connection, with all that its tables have where they were read; or a fault, with
+/// the connection that goes back.
+pub type Taking<S> = Result<(SqlSpace<S>, Option<Listed>), (OpenFault, Connection<S>)>;
 
 // Makes the tables in a database that has none of them.
 fn make_new<S: Alter>(alloc: Global, mut conn: Connection<S>) -> Taking<S>
     requires { conn.in_transaction ≡ false }
-    ensures sound { IfOk result (λ t. HasCleanDisk (state S.Store t.0.conn)
-        → ⟦<SqlSpace<S> as Space>⟧.is_sound t.0) }
+    ensures fresh { IfOk result (λ t. IsFresh S.Store ⟦<SqlSpace<S> as Space>⟧ t.0) }
     ensures made { IfOk result (λ t. ⟦<SqlSpace<S> as Space>⟧.is_sound t.0
         → (state S.Store conn).now.schema ≡ no_schema
         → IsContent ⟦<SqlSpace<S> as Space>⟧.holds t.0 (empty_at 0)) }
-    ensures fresh { IfOk result (λ t. (t.0.refusals ≡ 0) × (t.0.broken ≡ false)) }
     ensures new { IfOk result (λ t. t.0.upgraded ≡ false) }
     ensures all { IfOk result (λ t. (state S.Store conn).now.schema ≡ dss_schema
         → IfSome t.1 (IsAllOf S.Store t.0)) }
     ensures store { IfErr result (λ e. e.0 ≡ OpenFault.Store) }
     ensures back { IfErr result (λ e. e.1.in_transaction ≡ false) }
-    ensures undone { IfErr result (λ e. HasCleanDisk (state S.Store e.1)
-        → IsTrue (state S.Store e.1).is_open → IsUndone (state S.Store conn) (state S.Store e.1)) }
     ensures left { IfErr result (λ e. Survives (state S.Store conn) (state S.Store e.1)
         (MayBeMade (state S.Store conn))) }
 {
@@ -90,13 +85,11 @@ fn make_new<S: Alter>(alloc: Global, mut conn: Connection<S>) -> Taking<S>
 // Takes tables of format 2 as they are.
 fn take_second<S: Alter>(alloc: Global, mut conn: Connection<S>) -> Taking<S>
     requires { conn.in_transaction ≡ false }
-    ensures sound { IfOk result (λ t. HasCleanDisk (state S.Store t.0.conn)
-        → ⟦<SqlSpace<S> as Space>⟧.is_sound t.0) }
+    ensures fresh { IfOk result (λ t. IsFresh S.Store ⟦<SqlSpace<S> as Space>⟧ t.0) }
     ensures taken { IfOk result (λ t. ⟦<SqlSpace<S> as Space>⟧.is_sound t.0
         → (state S.Store conn).now.schema ≡ dss_schema
         → (a : Airspace) × SpellsAs Two (state S.Store conn).now a
         × IsContent ⟦<SqlSpace<S> as Space>⟧.holds t.0 a) }
-    ensures fresh { IfOk result (λ t. (t.0.refusals ≡ 0) × (t.0.broken ≡ false)) }
     ensures same { IfOk result (λ t. t.0.upgraded ≡ false) }
     ensures all { IfOk result (λ t. (state S.Store conn).now.schema ≡ dss_schema
         → IfSome t.1 (IsAllOf S.Store t.0)) }
@@ -119,13 +112,11 @@ fn take_second<S: Alter>(alloc: Global, mut conn: Connection<S>) -> Taking<S>
 // Brings tables of format 1 to format 2, and takes them.
 fn take_first<S: Alter>(alloc: Global, mut conn: Connection<S>) -> Taking<S>
     requires { conn.in_transaction ≡ false }
-    ensures sound { IfOk result (λ t. HasCleanDisk (state S.Store t.0.conn)
-        → ⟦<SqlSpace<S> as Space>⟧.is_sound t.0) }
+    ensures fresh { IfOk result (λ t. IsFresh S.Store ⟦<SqlSpace<S> as Space>⟧ t.0) }
     ensures taken { IfOk result (λ t. ⟦<SqlSpace<S> as Space>⟧.is_sound t.0
         → (state S.Store conn).now.schema ≡ first_schema
         → (a : Airspace) × SpellsAs One (state S.Store conn).now a
         × IsContent ⟦<SqlSpace<S> as Space>⟧.holds t.0 a) }
-    ensures fresh { IfOk result (λ t. (t.0.refusals ≡ 0) × (t.0.broken ≡ false)) }
     ensures upgraded { IfOk result (λ t. IsTrue t.0.upgraded) }
     ensures all { IfOk result (λ t. (state S.Store conn).now.schema ≡ dss_schema
         → IfSome t.1 (IsAllOf S.Store t.0)) }
@@ -162,56 +153,20 @@ impl<S: Alter> SqlSpace<S> {
     /// one with only some of the tables, or with rows that are no airspace, is `NotADss`. On a
     /// fault the connection comes back: after `NotADss` and `Version` nothing was written, and
     /// after `Store` the tables are as before, or as this call would have made them.
-    pub fn adopt(
-        alloc: Global,
-        conn: Connection<S>,
-    ) -> Result<SqlSpace<S>, (OpenFault, Connection<S>)>
-        requires { conn.in_transaction ≡ false }
-        ensures sound { IfOk result (λ s. HasCleanDisk (state S.Store s.conn)
-            → ⟦<SqlSpace<S> as Space>⟧.is_sound s) }
-        ensures made { IfOk result (λ s. ⟦<SqlSpace<S> as Space>⟧.is_sound s
-            → (state S.Store conn).now.schema ≡ no_schema
-            → IsContent ⟦<SqlSpace<S> as Space>⟧.holds s (empty_at 0)) }
-        ensures taken { IfOk result
-            (HoldsSpelt ⟦<SqlSpace<S> as Space>⟧ (state S.Store conn)) }
-        ensures upgraded { IfOk result (λ s. IsTrue s.upgraded
-            ↔ (standing_in (state S.Store conn).now.schema.tables ≡ Whole One)) }
-        ensures fresh { IfOk result (λ s. (⟦<SqlSpace<S> as Space>⟧.refusals s ≡ 0)
-            × (⟦<SqlSpace<S> as Space>⟧.is_broken s ≡ false)) }
-        ensures new { IfErr result (λ e. (state S.Store conn).now.schema ≡ no_schema
-            → e.0 ≡ OpenFault.Store) }
-        ensures refused { IfErr result (λ e.
-            IsDueFault (state S.Store conn) (state S.Store e.1) e.0) }
-        ensures unwritten { IfErr result (λ e. HasCleanDisk (state S.Store e.1)
-            → (format : Format) → (state S.Store conn).now.schema ≡ schema_of format
-            → e.0 ≢ OpenFault.Store → IsSettled (state S.Store e.1)
-            × ((state S.Store e.1).now ≡ (state S.Store conn).now)) }
-        ensures left { IfErr result (λ e. Survives (state S.Store conn) (state S.Store e.1)
-            (MayBeOpened (state S.Store conn) e.0)) }
-        ensures back { IfErr result (λ e. e.1.in_transaction ≡ false) }
-    {
-        match SqlSpace::adopt_listed(alloc, conn) {
-            Ok((space, _)) => Ok(space),
-            Err(refused) => Err(refused),
-        }
-    }
-
-    /// The same as `adopt`, with all that the tables have, where they were whole and of format 2 and
-    /// so were read. That this is all that the space holds is said where they are as `make_tables`
+    ///
+    /// With the space comes all that the tables have, where they were whole and of format 2 and so
+    /// were read. That this is all that the space holds is said where they are as `make_tables`
     /// makes them, and no other stands beside them.
-    pub fn adopt_listed(alloc: Global, conn: Connection<S>) -> Taking<S>
+    pub fn adopt(alloc: Global, conn: Connection<S>) -> Taking<S>
         requires { conn.in_transaction ≡ false }
-        ensures sound { IfOk result (λ t. HasCleanDisk (state S.Store t.0.conn)
-            → ⟦<SqlSpace<S> as Space>⟧.is_sound t.0) }
+        ensures fresh { IfOk result (λ t. IsFresh S.Store ⟦<SqlSpace<S> as Space>⟧ t.0) }
         ensures made { IfOk result (λ t. ⟦<SqlSpace<S> as Space>⟧.is_sound t.0
             → (state S.Store conn).now.schema ≡ no_schema
             → IsContent ⟦<SqlSpace<S> as Space>⟧.holds t.0 (empty_at 0)) }
         ensures taken { IfOk result
             (λ t. HoldsSpelt ⟦<SqlSpace<S> as Space>⟧ (state S.Store conn) t.0) }
         ensures upgraded { IfOk result (λ t. IsTrue t.0.upgraded
-            ↔ (standing_in (state S.Store conn).now.schema.tables ≡ Whole One)) }
-        ensures fresh { IfOk result (λ t. (⟦<SqlSpace<S> as Space>⟧.refusals t.0 ≡ 0)
-            × (⟦<SqlSpace<S> as Space>⟧.is_broken t.0 ≡ false)) }
+            ↔ (presence_in (state S.Store conn).now.schema.tables ≡ Whole One)) }
         ensures all { IfOk result (λ t. (state S.Store conn).now.schema ≡ dss_schema
             → IfSome t.1 (IsAllOf S.Store t.0)) }
         ensures new { IfErr result (λ e. (state S.Store conn).now.schema ≡ no_schema
@@ -226,11 +181,11 @@ impl<S: Alter> SqlSpace<S> {
             (MayBeOpened (state S.Store conn) e.0)) }
         ensures back { IfErr result (λ e. e.1.in_transaction ≡ false) }
     {
-        match standing_of(conn.schema()) {
-            Standing::Missing => make_new(alloc, conn),
-            Standing::Whole(Format::One) => take_first(alloc, conn),
-            Standing::Whole(Format::Two) => take_second(alloc, conn),
-            Standing::Partial => Err(refused(conn)),
+        match presence_of(conn.schema()) {
+            Presence::Missing => make_new(alloc, conn),
+            Presence::Whole(Format::One) => take_first(alloc, conn),
+            Presence::Whole(Format::Two) => take_second(alloc, conn),
+            Presence::Partial => Err(refused(conn)),
         }
     }
 
@@ -260,17 +215,14 @@ impl<S: Alter> SqlSpace<S> {
 // Takes a connection, with all that the space then holds where its tables are as they are made.
 fn taken_whole<S: Alter>(alloc: Global, conn: Connection<S>) -> Taking<S>
     requires { conn.in_transaction ≡ false }
-    ensures sound { IfOk result (λ t. HasCleanDisk (state S.Store t.0.conn)
-        → ⟦<SqlSpace<S> as Space>⟧.is_sound t.0) }
-    ensures fresh { IfOk result (λ t. (⟦<SqlSpace<S> as Space>⟧.refusals t.0 ≡ 0)
-        × (⟦<SqlSpace<S> as Space>⟧.is_broken t.0 ≡ false)) }
+    ensures fresh { IfOk result (λ t. IsFresh S.Store ⟦<SqlSpace<S> as Space>⟧ t.0) }
     ensures all { IfOk result (λ t. IfSome t.1 (IsAllOf S.Store t.0)) }
 {
     if is_ours(alloc, conn.schema()) {
-        return SqlSpace::adopt_listed(alloc, conn);
+        return SqlSpace::adopt(alloc, conn);
     }
     match SqlSpace::adopt(alloc, conn) {
-        Ok(space) => Ok((space, None)),
+        Ok((space, _)) => Ok((space, None)),
         Err(refused) => Err(refused),
     }
 }
@@ -340,14 +292,11 @@ impl SqlSpace<FileStore<File>> {
     /// Opens a file, or makes it, and takes what it has (`adopt`). After a fault it is closed. The
     /// name `:memory:` is refused.
     pub fn open(rt: &HostRuntime, path: &str) -> Result<SqlSpace<FileStore<File>>, OpenFault>
-        ensures sound { IfOk result (λ s. HasCleanDisk (file_state s.conn)
-            → ⟦<SqlSpace<FileStore<File>> as Space>⟧.is_sound s) }
-        ensures fresh { IfOk result (λ s. (⟦<SqlSpace<FileStore<File>> as Space>⟧.refusals s ≡ 0)
-            × (⟦<SqlSpace<FileStore<File>> as Space>⟧.is_broken s ≡ false)) }
+        ensures fresh { IfOk result (IsFresh over_files ⟦<SqlSpace<FileStore<File>> as Space>⟧) }
         ensures memory { path.now ≡ codes ":memory:" → result ≡ Err OpenFault.Store }
     {
         match SqlSpace::adopt(rt.alloc(), file(rt, path)?) {
-            Ok(space) => Ok(space),
+            Ok((space, _)) => Ok(space),
             Err((fault, conn)) => {
                 let _ = conn.close();
                 Err(fault)
@@ -361,10 +310,8 @@ impl SqlSpace<FileStore<File>> {
         rt: &HostRuntime,
         path: &str,
     ) -> Result<(SqlSpace<FileStore<File>>, Option<Listed>), OpenFault>
-        ensures sound { IfOk result (λ t. HasCleanDisk (file_state t.0.conn)
-            → ⟦<SqlSpace<FileStore<File>> as Space>⟧.is_sound t.0) }
-        ensures fresh { IfOk result (λ t. (⟦<SqlSpace<FileStore<File>> as Space>⟧.refusals t.0 ≡ 0)
-            × (⟦<SqlSpace<FileStore<File>> as Space>⟧.is_broken t.0 ≡ false)) }
+        ensures fresh { IfOk result (λ t.
+            IsFresh over_files ⟦<SqlSpace<FileStore<File>> as Space>⟧ t.0) }
         ensures all { IfOk result (λ t. IfSome t.1 (IsAllOf over_files t.0)) }
         ensures memory { path.now ≡ codes ":memory:" → result ≡ Err OpenFault.Store }
     {

@@ -1,9 +1,12 @@
-//! All entities of a kind are read of the tables.
+//! All that the tables have is read, and the entities of a kind among it.
 ghost use Rattle.std.specs.Prelude.{◌≡◌, false, IfOk};
 ghost use Rattle.sqlite.specs.Held.{state};
+ghost use Rattle.sqlite.specs.State.{HasCleanDisk};
 ghost use Rattle.entity_core.specs.Search.{all_in};
 ghost use Rattle.space_reading.specs.Judging.{listed_airspace};
 ghost use Rattle.space_select.specs.Reading.{ReadsTables};
+ghost use Rattle.space_tables.specs.Spelling.{Spells};
+ghost use Rattle.space_tables.specs.Tables.{dss_schema};
 
 use entity_core::entity::Entity;
 use entity_core::nature::Kind;
@@ -12,12 +15,18 @@ use space_reading::reading::read_airspace;
 use sqlite::{Alter, Connection, Error, ErrorCode};
 use std::alloc::Global;
 
-// Reads all tables. Tables that spell no airspace are told as corrupt.
-fn read_listed<S: Alter>(alloc: Global, conn: &mut Connection<S>) -> Result<Listed, Error>
+/// Reads all tables. Tables that spell no airspace are told as corrupt.
+pub(crate) fn read_listed<S: Alter>(
+    alloc: Global,
+    conn: &mut Connection<S>,
+) -> Result<Listed, Error>
     requires { conn.old.in_transaction ≡ false }
     ensures outside { conn.new.in_transaction ≡ false }
     ensures reads { ReadsTables (state S.Store conn.old) (state S.Store conn.new) result
         (λ a found. listed_airspace found ≡ a) }
+    ensures spelt { HasCleanDisk (state S.Store conn.new)
+        → (state S.Store conn.old).now.schema ≡ dss_schema → IfOk result
+        (λ found. Spells (state S.Store conn.new).now (listed_airspace found)) }
 {
     match read_airspace(alloc, conn) {
         Ok(Judgement::Spelt(listed)) => Ok(listed),

@@ -3,7 +3,8 @@ ghost use Rattle.std.specs.Prelude.{◌≡◌, false};
 ghost use Rattle.sqlite.specs.Held.{state};
 ghost use Rattle.space_sql.specs.Holding.{holds_in, is_whole_in, IsSound};
 
-use crate::{parts, subscriptions};
+use crate::reading::read_all;
+use crate::told::settled;
 use entity_core::availability::Availability;
 use entity_core::entity::Entity;
 use entity_core::entity_id::EntityId;
@@ -12,8 +13,16 @@ use entity_core::ovn::Ovn;
 use entity_core::subscription::Sub;
 use entity_core::uss_id::UssId;
 use grid_core::volume::Area;
+use space_changes::change::make_change;
 use space_core::met::Met;
 use space_core::space::{Change, Space, SpaceFault};
+use space_finding::meeting::read_meeting;
+use space_finding::subscriptions::{find_subscribers, find_subscriptions_of};
+use space_single::availability::read_availability;
+use space_single::dependents::read_dependents;
+use space_single::entity::read_entity;
+use space_single::serial::read_serial;
+use space_single::subscription::read_subscription;
 use sqlite::{Alter, Connection};
 use std::alloc::Global;
 use std::marker::Model;
@@ -78,15 +87,11 @@ impl<S: Alter> Space for SqlSpace<S> {
     ghost proper = { λ s a sound h. kept_is_proper a h };
 
     fn entity(&mut self, kind: Kind, id: EntityId) -> Result<Option<Entity>, SpaceFault> {
-        let alloc = self.alloc;
-        parts::entity(
-            alloc,
-            &mut self.conn,
-            &mut self.refusals,
-            &mut self.broken,
-            kind,
-            id,
-        )
+        if self.broken {
+            return Err(SpaceFault::Broken);
+        }
+        let read = read_entity(self.alloc, &mut self.conn, kind, id);
+        settled(&mut self.conn, &mut self.refusals, &mut self.broken, read)
     }
 
     fn meeting(
@@ -95,99 +100,74 @@ impl<S: Alter> Space for SqlSpace<S> {
         areas: &[Area],
         except: Option<EntityId>,
     ) -> Result<Vec<Met>, SpaceFault> {
-        let alloc = self.alloc;
-        parts::meeting(
-            alloc,
-            &mut self.conn,
-            &mut self.refusals,
-            &mut self.broken,
-            kind,
-            areas,
-            except,
-        )
+        if self.broken {
+            return Err(SpaceFault::Broken);
+        }
+        let read = read_meeting(self.alloc, &mut self.conn, kind, areas, except);
+        settled(&mut self.conn, &mut self.refusals, &mut self.broken, read)
     }
 
     fn all(&mut self, kind: Kind) -> Result<Vec<Entity>, SpaceFault> {
-        let alloc = self.alloc;
-        parts::all(
-            alloc,
-            &mut self.conn,
-            &mut self.refusals,
-            &mut self.broken,
-            kind,
-        )
+        if self.broken {
+            return Err(SpaceFault::Broken);
+        }
+        let read = read_all(self.alloc, &mut self.conn, kind);
+        settled(&mut self.conn, &mut self.refusals, &mut self.broken, read)
     }
 
     fn availability(&mut self, uss: &UssId) -> Result<Option<(Availability, Ovn)>, SpaceFault> {
-        let alloc = self.alloc;
-        parts::availability(
-            alloc,
-            &mut self.conn,
-            &mut self.refusals,
-            &mut self.broken,
-            uss,
-        )
+        if self.broken {
+            return Err(SpaceFault::Broken);
+        }
+        let read = read_availability(self.alloc, &mut self.conn, uss);
+        settled(&mut self.conn, &mut self.refusals, &mut self.broken, read)
     }
 
     fn subscription(&mut self, id: EntityId) -> Result<Option<Sub>, SpaceFault> {
-        let alloc = self.alloc;
-        subscriptions::subscription(
-            alloc,
-            &mut self.conn,
-            &mut self.refusals,
-            &mut self.broken,
-            id,
-        )
+        if self.broken {
+            return Err(SpaceFault::Broken);
+        }
+        let read = read_subscription(self.alloc, &mut self.conn, id);
+        settled(&mut self.conn, &mut self.refusals, &mut self.broken, read)
     }
 
     fn subscriptions_of(&mut self, uss: &UssId, area: &Area) -> Result<Vec<Sub>, SpaceFault> {
-        let alloc = self.alloc;
-        subscriptions::subscriptions_of(
-            alloc,
-            &mut self.conn,
-            &mut self.refusals,
-            &mut self.broken,
-            uss,
-            area,
-        )
+        if self.broken {
+            return Err(SpaceFault::Broken);
+        }
+        let read = find_subscriptions_of(self.alloc, &mut self.conn, uss, area);
+        settled(&mut self.conn, &mut self.refusals, &mut self.broken, read)
     }
 
     fn subscribers(&mut self, kind: Kind, areas: &[Area]) -> Result<Vec<Sub>, SpaceFault> {
-        let alloc = self.alloc;
-        subscriptions::subscribers(
-            alloc,
-            &mut self.conn,
-            &mut self.refusals,
-            &mut self.broken,
-            kind,
-            areas,
-        )
+        if self.broken {
+            return Err(SpaceFault::Broken);
+        }
+        let read = find_subscribers(self.alloc, &mut self.conn, kind, areas);
+        settled(&mut self.conn, &mut self.refusals, &mut self.broken, read)
     }
 
     fn dependents(&mut self, id: EntityId) -> Result<Vec<EntityId>, SpaceFault> {
-        let alloc = self.alloc;
-        subscriptions::dependents(
-            alloc,
-            &mut self.conn,
-            &mut self.refusals,
-            &mut self.broken,
-            id,
-        )
+        if self.broken {
+            return Err(SpaceFault::Broken);
+        }
+        let read = read_dependents(self.alloc, &mut self.conn, id);
+        settled(&mut self.conn, &mut self.refusals, &mut self.broken, read)
     }
 
     fn serial(&mut self) -> Result<u64, SpaceFault> {
-        parts::serial(&mut self.conn, &mut self.refusals, &mut self.broken)
+        if self.broken {
+            return Err(SpaceFault::Broken);
+        }
+        let read = read_serial(&mut self.conn);
+        settled(&mut self.conn, &mut self.refusals, &mut self.broken, read)
     }
 
     fn apply(&mut self, change: Change, notify: &[EntityId]) -> Result<(), SpaceFault> {
-        let alloc = self.alloc;
-        parts::apply(
-            alloc,
-            &mut self.conn,
-            &mut self.refusals,
-            &mut self.broken,
-            &change,
-            notify,
-        )
+        if self.broken {
+            return Err(SpaceFault::Broken);
+        }
+        let made = make_change(self.alloc, &mut self.conn, &change, notify);
+        settled(&mut self.conn, &mut self.refusals, &mut self.broken, made)
     }
 }

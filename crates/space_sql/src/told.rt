@@ -1,14 +1,23 @@
 //! What a space over tables answers, and how it keeps count of it.
-ghost use Rattle.std.specs.Prelude.{◌≡◌, false, IsErr, IsErrOf, IsTrue, MatchResult, Ok, OnOk};
+ghost use Rattle.std.specs.Prelude.{◌≡◌, false, IsTrue, OnOk};
 ghost use Rattle.sqlite.specs.Held.{state};
 ghost use Rattle.sqlite.specs.State.{HasCleanDisk, IsUnchanged, Survives};
 ghost use Rattle.space_core.specs.Space.{Tells, is_broken_after, refusals_after};
 ghost use Rattle.space_core.specs.declared.space.SpaceFault.TheVariants.{Unchanged};
-ghost use Rattle.space_sql.specs.Holding.{IsKeeping};
+ghost use Rattle.space_sql.specs.Holding.{IsKeeping, Rests};
+ghost use Rattle.space_sql.specs.Settling.{Settles};
 
 use space_core::space::SpaceFault;
-use space_select::reading::alive;
+use space_select::reading::{alive, known};
 use sqlite::{Alter, Connection, Error};
+
+/// What is known of a connection outside a transaction. It does nothing.
+pub(crate) fn at_rest<S: Alter>(conn: &Connection<S>)
+    requires { conn.now.in_transaction ≡ false }
+    ensures { Rests (state S.Store conn.now) }
+{
+    known(conn);
+}
 
 // The fault of a call that failed: the store still works, or not.
 fn fault<S: Alter>(conn: &mut Connection<S>) -> SpaceFault
@@ -40,11 +49,7 @@ fn note<T>(refusals: &mut u64, broken: &mut bool, answer: &Result<T, SpaceFault>
 fn told<S: Alter, T>(conn: &mut Connection<S>, answer: Result<T, Error>) -> Result<T, SpaceFault>
     requires outside { conn.old.in_transaction ≡ false }
     ensures outside { conn.new.in_transaction ≡ false }
-    ensures passes { MatchResult answer (λ x. (result ≡ Ok x) × (conn.new ≡ conn.old))
-        (λ _. IsErr result) }
-    ensures same { HasCleanDisk (state S.Store conn.new) → IsErrOf result Unchanged
-        → IsUnchanged (state S.Store conn.old) (state S.Store conn.new) }
-    ensures survives { Survives (state S.Store conn.old) (state S.Store conn.new) (λ _. ⊥) }
+    ensures settles { Settles S.Store conn.old conn.new answer result }
 {
     match answer {
         Ok(found) => Ok(found),
@@ -65,13 +70,10 @@ pub(crate) fn settled<S: Alter, T>(
     requires works { broken.old ≡ false }
     ensures keeping { IsKeeping (state S.Store conn.new) broken.new }
     ensures tells { Tells refusals.old refusals.new broken.old broken.new result }
-    ensures passes { MatchResult answer (λ x. (result ≡ Ok x) × (conn.new ≡ conn.old))
-        (λ _. IsErr result) }
-    ensures same { HasCleanDisk (state S.Store conn.new) → IsErrOf result Unchanged
-        → IsUnchanged (state S.Store conn.old) (state S.Store conn.new) }
-    ensures survives { Survives (state S.Store conn.old) (state S.Store conn.new) (λ _. ⊥) }
+    ensures settles { Settles S.Store conn.old conn.new answer result }
 {
     let result = told(conn, answer);
     note(refusals, broken, &result);
+    at_rest(conn);
     result
 }

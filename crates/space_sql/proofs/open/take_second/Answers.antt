@@ -15,7 +15,7 @@ returns-in-Ok-clause-taken g c = λ sound schema.
 
 pub returns-in-Ok-clause-all : goal.returns-in-Ok-clause-all
 returns-in-Ok-clause-all g c = λ schema. record {
-  works = c.space_over.ensures.fresh.1;
+  works = c.space_over.ensures.fresh.works;
   content = λ sound.
       let clean = subst (λ h. HasCleanDisk (state g.S.Store h)) c.space_over.ensures.same sound.clean in
       let it = c.in-Ok.ensures.examines clean schema in

@@ -1,14 +1,23 @@
-use Rattle.std.proofs.Common.{refl}
+use Rattle.std.proofs.Common.{refl, sym, subst}
+use Rattle.sqlite.specs.Effect.{Database}
 use Rattle.sqlite.specs.Held.{state}
+use Rattle.space_tables.specs.Spelling.{Spells}
 use Rattle.space_tables.proofs.OneAirspace.{one_airspace}
+use Rattle.space_reading.specs.Judging.{listed_airspace}
 use Rattle.space_sql.proofs.reading.read_listed.Goals as goal
 
 pub returns-in-Ok-Spelt-clause-reads : goal.returns-in-Ok-Spelt-clause-reads
 returns-in-Ok-Spelt-clause-reads g c =
     let old = state g.S.Store c.args.conn.now in
-    let judged = rw c.in-Ok-Spelt.field-0-is at c.in-Ok-Spelt.ensures.judged in
+    let judged = rw c.in-Ok-Spelt.field-0-is at c.in-Ok-Spelt.ensures.reads in
     record {
-      answer = λ clean a p. one_airspace old.now old.now _ a refl (judged clean p.schema) p;
-      is_open = c.in-Ok-Spelt.ensures.open;
-      survives = c.in-Ok-Spelt.ensures.survives;
+      answer = λ clean a p. one_airspace old.now old.now _ a refl (judged.answer clean p.schema) p;
+      rests = judged.rests;
+      is_open = judged.is_open;
+      survives = judged.survives;
     }
+
+pub returns-in-Ok-Spelt-clause-spelt : goal.returns-in-Ok-Spelt-clause-spelt
+returns-in-Ok-Spelt-clause-spelt g c = λ clean schema.
+    let judged = rw c.in-Ok-Spelt.field-0-is at c.in-Ok-Spelt.ensures.reads in
+    subst (λ (db : Database). Spells db (listed_airspace c.in-Ok-Spelt.listed)) (sym (judged.rests clean schema).1) (judged.answer clean schema)

@@ -1,10 +1,5 @@
-use Rattle.std.proofs.Common.{◌≡◌, subst}
-use Rattle.std.specs.FinMap.{get}
-use Rattle.space_core.specs.Space.{Reads}
-use Rattle.space_sql.specs.Holding.{holds_of, is_sound_of, is_whole_of, kept_by}
-use Rattle.space_sql.proofs.Readings.{reads_kept}
+use Rattle.space_sql.proofs.Readings.{reads_settled}
 use Rattle.space_sql.proofs.space.SqlSpaceSpace.entity.Goals as goal
 
 pub returns-clause-reads : goal.returns-clause-reads
-returns-clause-reads g c = subst (λ v. Reads (holds_of g.S.Store) (is_sound_of g.S.Store) (is_whole_of g.S.Store) v (kept_by c.self.inside.upgraded c.entity.new.conn c.entity.new.refusals c.entity.new.broken) c.entity.result (λ a found. found ≡ get a.entities (c.args.kind, c.args.id))) c.self.view_is
-    (reads_kept g.S.Store _ _ _ _ _ _ c.self.inside.upgraded c.entity.result (λ a found. found ≡ get a.entities (c.args.kind, c.args.id)) c.entity.ensures.reads)
+returns-clause-reads g c = reads_settled g.S.Store c.self.view_is c.self.invariant c.if-self.false c.settled.ensures.settles c.read_entity-read.ensures.reads c.settled.ensures.keeping c.settled.ensures.tells.breaks

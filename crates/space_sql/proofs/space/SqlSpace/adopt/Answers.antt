@@ -1,0 +1,53 @@
+use Rattle.std.proofs.Common.{◌≡◌}
+use Rattle.std.proofs.lemmas.Result.{IfErr-weaker, IfOk-weaker}
+use Rattle.sqlite.specs.Held.{state}
+use Rattle.entity_core.specs.Airspace.{Airspace}
+use Rattle.space_core.specs.Space.{IsContent}
+use Rattle.space_tables.specs.Spelling.{SpellsAs}
+use Rattle.space_tables.specs.declared.format.Format.TheVariants.{One, Two}
+use Rattle.space_tables.specs.declared.presence.Presence.TheVariants.{Whole}
+use Rattle.space_opening.specs.Opening.{MayBeMoved, Refuses}
+use Rattle.space_opening.specs.declared.open_fault.OpenFault.TheVariants.{Store}
+use Rattle.space_sql.specs.Holding.{holds_of}
+use Rattle.space_sql.proofs.Openings.{left_as, left_made, of_format, stands_seen}
+use Rattle.space_sql.proofs.space.SqlSpace.adopt.Goals as goal
+
+pub returns-in-Missing-clause-left : goal.returns-in-Missing-clause-left
+returns-in-Missing-clause-left g c =
+    left_made (state g.S.Store c.args.conn) (λ h. state g.S.Store h) c.make_new.result (stands_seen c.schema.ensures.value c.in-Missing.ensures.exact) c.make_new.ensures.store c.make_new.ensures.left
+
+pub returns-in-Whole-One-clause-taken : goal.returns-in-Whole-One-clause-taken
+returns-in-Whole-One-clause-taken g c =
+    let old = state g.S.Store c.args.conn in
+    let stands = stands_seen c.schema.ensures.value (rw c.in-Whole-One.field-0-is at c.in-Whole-One.ensures.exact) in
+    IfOk-weaker c.take_first.result _ _ (λ t it sound. of_format old.now.schema (λ format. (a : Airspace) × SpellsAs format old.now a × IsContent (holds_of g.S.Store) t.0 a) One stands (it sound)) c.take_first.ensures.taken
+
+pub returns-in-Whole-One-clause-refused : goal.returns-in-Whole-One-clause-refused
+returns-in-Whole-One-clause-refused g c =
+    let old = state g.S.Store c.args.conn in
+    let stands = stands_seen c.schema.ensures.value (rw c.in-Whole-One.field-0-is at c.in-Whole-One.ensures.exact) in
+    IfErr-weaker c.take_first.result _ _ (λ e it clean. of_format old.now.schema (λ format. Refuses format old.now e.0) One stands (it clean)) c.take_first.ensures.refused
+
+pub returns-in-Whole-One-clause-left : goal.returns-in-Whole-One-clause-left
+returns-in-Whole-One-clause-left g c =
+    let old = state g.S.Store c.args.conn in
+    let stands = stands_seen c.schema.ensures.value (rw c.in-Whole-One.field-0-is at c.in-Whole-One.ensures.exact) in
+    left_as old (λ h. state g.S.Store h) (Whole One) (λ fault trees. (fault ≡ Store) × MayBeMoved old trees) c.take_first.result stands (λ fault trees it. it) c.take_first.ensures.left
+
+pub returns-in-Whole-Two-clause-taken : goal.returns-in-Whole-Two-clause-taken
+returns-in-Whole-Two-clause-taken g c =
+    let old = state g.S.Store c.args.conn in
+    let stands = stands_seen c.schema.ensures.value (rw c.in-Whole-Two.field-0-is at c.in-Whole-Two.ensures.exact) in
+    IfOk-weaker c.take_second.result _ _ (λ t it sound. of_format old.now.schema (λ format. (a : Airspace) × SpellsAs format old.now a × IsContent (holds_of g.S.Store) t.0 a) Two stands (it sound)) c.take_second.ensures.taken
+
+pub returns-in-Whole-Two-clause-refused : goal.returns-in-Whole-Two-clause-refused
+returns-in-Whole-Two-clause-refused g c =
+    let old = state g.S.Store c.args.conn in
+    let stands = stands_seen c.schema.ensures.value (rw c.in-Whole-Two.field-0-is at c.in-Whole-Two.ensures.exact) in
+    IfErr-weaker c.take_second.result _ _ (λ e it clean. of_format old.now.schema (λ format. Refuses format old.now e.0) Two stands (it clean)) c.take_second.ensures.refused
+
+pub returns-in-Whole-Two-clause-left : goal.returns-in-Whole-Two-clause-left
+returns-in-Whole-Two-clause-left g c =
+    let old = state g.S.Store c.args.conn in
+    let stands = stands_seen c.schema.ensures.value (rw c.in-Whole-Two.field-0-is at c.in-Whole-Two.ensures.exact) in
+    left_as old (λ h. state g.S.Store h) (Whole Two) (λ _ _. ⊥) c.take_second.result stands (λ fault trees none. absurd none) c.take_second.ensures.left
