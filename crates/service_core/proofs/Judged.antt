@@ -1,6 +1,6 @@
 -- Which rule is the first that is broken, and what is missing.
-use Rattle.std.specs.Prelude.{◌≡◌, ℕ, ◌&&◌, Bool, true, false, List, [], ◌∷◌, ◌++◌, map, Option, Some, None, find, cond, refl, IfSome, not}
-use Rattle.std.proofs.Common.{sym, ap, ◌∙◌, subst}
+use Rattle.std.specs.Prelude.{◌≡◌, ◌⊎◌, ℕ, ◌&&◌, Bool, true, false, List, [], ◌∷◌, ◌++◌, map, Option, Some, None, find, cond, refl, IfSome, not}
+use Rattle.std.proofs.Common.{sym, ap, ◌∙◌, subst, inl, inr}
 use Rattle.grid_core.specs.Extent.{Region, region_of}
 use Rattle.entity_core.specs.Airspace.{Airspace}
 use Rattle.entity_core.specs.Search.{meeting_in}
@@ -23,10 +23,13 @@ use Rattle.policy_core.specs.Policy.{breaks, breaks_given, early_rules, standing
 use Rattle.policy_core.specs.Standing.{Facts, sub_of, sub_under}
 use Rattle.policy_core.specs.View.{view_of}
 use Rattle.policy_core.proofs.Finds.{find_has, find_rest}
+use Rattle.service_step.specs.declared.admitted.Admitted.{Admitted}
 use Rattle.service_step.specs.declared.look.Facts as own
+use Rattle.service_step.specs.declared.needed.JudgedPut.{JudgedPut}
+use Rattle.service_step.specs.Admitted.{IsAdmitted}
 use Rattle.service_step.specs.Step.{told_missing}
 use Rattle.service_step.specs.Looks.{facts_in, AreFacts}
-use Rattle.service_core.specs.Decision.{IsFirst}
+use Rattle.service_core.specs.Decision.{BreaksNoStandingBy, IsFirst, IsMissingFor, missing_by}
 
 find_front : {X : Type 0} (p : X → Bool) (xs ys : List X) (x : X) → find p xs ≡ Some x → find p (xs ++ ys) ≡ Some x
 find_front p [] ys x h = cc
@@ -76,58 +79,46 @@ told_standing a t c r h = find_has (λ (p : Rule). told_missing a c p ≡ nothin
 
 -- ---- what was looked up
 
--- what is first where what was looked up was lent
-pub lent_first : (g : own.Facts) (f : Facts) (t : ℕ) (c : Call) (r : Option Rule) → f ≡ facts_in g → r ≡ find (breaks_given f t c) standing_rules → find (breaks_given (facts_in g) t c) standing_rules ≡ r
-lent_first g f t c r one is = sym (is ∙ ap (λ (x : Facts). find (breaks_given x t c) standing_rules) one)
+module _ (q : Admitted) (g : own.Facts) where
+  -- what is first where what was looked up was lent
+  pub lent_first : (f : Facts) (r : Option Rule) → f ≡ facts_in g → r ≡ find (breaks_given f q.moment q.call.now) standing_rules → find (breaks_given (facts_in g) q.moment q.call.now) standing_rules ≡ r
+  lent_first f r one is = sym (is ∙ ap (λ (x : Facts). find (breaks_given x q.moment q.call.now) standing_rules) one)
 
-pub lent_limit : (g : own.Facts) (f : Facts) (t : ℕ) (c : Call) (limit : Bool) → f ≡ facts_in g → limit ≡ breaks_given f t c Limit → limit ≡ breaks_given (facts_in g) t c Limit
-lent_limit g f t c limit one is = is ∙ ap (λ (x : Facts). breaks_given x t c Limit) one
-
--- the subscription that was looked up
-pub regards_sub : (a : Airspace) (op : Operation) (g : own.Facts) → AreFacts op a g → g.sub ≡ sub_of a op
-regards_sub a op g is = ap (λ (f : Facts). f.sub) is
+  pub lent_limit : (f : Facts) (limit : Bool) → f ≡ facts_in g → limit ≡ breaks_given f q.moment q.call.now Limit → limit ≡ breaks_given (facts_in g) q.moment q.call.now Limit
+  lent_limit f limit one is = is ∙ ap (λ (x : Facts). breaks_given x q.moment q.call.now Limit) one
 
 pub standing_from : (a : Airspace) (t : ℕ) (c : Call) (g : own.Facts) → AreFacts c.op a g → find (breaks_given (facts_in g) t c) standing_rules ≡ find (breaks a t c) standing_rules
 standing_from a t c g is = ap (λ (f : Facts). find (breaks_given f t c) standing_rules) is
 
--- the first of P7 to P13, P16 and P17 that is broken is the first of all
-pub judged_standing : (a : Airspace) (t : ℕ) (c : Call) (g : own.Facts) (r : Rule) (m : Missing) → find (breaks a t c) early_rules ≡ None → find (breaks_given (facts_in g) t c) standing_rules ≡ Some r → m ≡ nothing_missing → AreFacts c.op a g
-    → IsFirst t c a (Some (r, m))
-judged_standing a t c g r m early is none regards =
-    let e : find (breaks a t c) standing_rules ≡ Some r = sym (standing_from a t c g regards) ∙ is in
-    (first_standing a t c r early e, none ∙ sym (told_standing a t c r e))
+key_is : (a : Airspace) (t : ℕ) (c : Call) (m : Missing) (b : Bool) → m ≡ missing_for a c.caller c.op → b ≡ not (is_nothing m) → breaks a t c Key ≡ b
+key_is a t c m b is h = ap (λ (x : Missing). not (is_nothing x)) (sym is) ∙ sym h
 
-is_missing_for : (a : Airspace) (c : Call) (caller : Caller) (m : Missing) → c.caller ≡ Some caller → m ≡ missing_for a (Some caller) c.op → m ≡ missing_for a c.caller c.op
-is_missing_for a c caller m who is = is ∙ ap (λ (o : Option Caller). missing_for a o c.op) (sym who)
+module _ (q : Admitted) (is_admitted : IsAdmitted q) (g : own.Facts) (a : Airspace) (regards : AreFacts q.call.now.op a g) where
+  -- the first of P7 to P13, P16 and P17 that is broken is the first of all
+  pub judged_standing : (r : Rule) (m : Missing) → find (breaks_given (facts_in g) q.moment q.call.now) standing_rules ≡ Some r → m ≡ nothing_missing → IsFirst q a (Some (r, m))
+  judged_standing r m is none =
+      let e : find (breaks a q.moment q.call.now) standing_rules ≡ Some r = sym (standing_from a q.moment q.call.now g regards) ∙ is in
+      (first_standing a q.moment q.call.now r (is_admitted.early a) e, none ∙ sym (told_standing a q.moment q.call.now r e))
 
-key_is : (a : Airspace) (t : ℕ) (c : Call) (m : Missing) (b : Bool) → m ≡ missing_for a c.caller c.op → is_nothing m ≡ b → breaks a t c Key ≡ not b
-key_is a t c m b is h = ap (λ (x : Missing). not (is_nothing x)) (sym is) ∙ ap not h
+  -- where none of them is, only the last rules are left
+  first_of_last : BreaksNoStandingBy q g → first_broken a q.moment q.call.now ≡ find (breaks a q.moment q.call.now) last_rules
+  first_of_last is = first_last a q.moment q.call.now (is_admitted.early a) (sym (standing_from a q.moment q.call.now g regards) ∙ is)
 
-pub lacks_some : (b : Bool) → true ≡ not b → b ≡ false
-lacks_some true h = h
-lacks_some false h = refl
+  is_missing : (m : Missing) → IsMissingFor q g.sub a m → m ≡ missing_for a q.call.now.caller q.call.now.op
+  is_missing m is = is (ap (λ (f : Facts). f.sub) regards) ∙ ap (λ (o : Option Caller). missing_for a o q.call.now.op) (sym is_admitted.caller)
 
-pub lacks_none : (b : Bool) → false ≡ not b → b ≡ true
-lacks_none true h = refl
-lacks_none false h = h
+  -- where something is missing, the key is the first
+  pub judged_key : (m : Missing) → BreaksNoStandingBy q g → IsMissingFor q g.sub a m → true ≡ not (is_nothing m) → IsFirst q a (Some (Key, m))
+  judged_key m none missing some =
+      let f = is_missing m missing in
+      (first_of_last none ∙ ap (λ (b : Bool). cond b (Some Key) (cond (breaks a q.moment q.call.now Limit) (Some Limit) None)) (key_is a q.moment q.call.now m true f some), f)
 
--- where something is missing, the key is the first
-pub judged_key : (a : Airspace) (t : ℕ) (c : Call) (g : own.Facts) (caller : Caller) (m : Missing) → find (breaks a t c) early_rules ≡ None → find (breaks_given (facts_in g) t c) standing_rules ≡ None → AreFacts c.op a g
-    → c.caller ≡ Some caller → m ≡ missing_for a (Some caller) c.op → is_nothing m ≡ false → IsFirst t c a (Some (Key, m))
-judged_key a t c g caller m early is regards who missing some =
-    let e : find (breaks a t c) standing_rules ≡ None = sym (standing_from a t c g regards) ∙ is in
-    let f : m ≡ missing_for a c.caller c.op = is_missing_for a c caller m who missing in
-    (first_last a t c early e ∙ ap (λ (b : Bool). cond b (Some Key) (cond (breaks a t c Limit) (Some Limit) None)) (key_is a t c m false f some), f)
-
--- where nothing is missing, the limit is all that is left
-pub last_limit : (a : Airspace) (t : ℕ) (c : Call) (g : own.Facts) (caller : Caller) (m : Missing) (limit : Bool) → find (breaks a t c) early_rules ≡ None → find (breaks_given (facts_in g) t c) standing_rules ≡ None → AreFacts c.op a g
-    → c.caller ≡ Some caller → m ≡ missing_for a (Some caller) c.op → is_nothing m ≡ true → limit ≡ breaks_given (facts_in g) t c Limit → first_broken a t c ≡ cond limit (Some Limit) None
-last_limit a t c g caller m limit early is regards who missing none l =
-    let e : find (breaks a t c) standing_rules ≡ None = sym (standing_from a t c g regards) ∙ is in
-    let f : m ≡ missing_for a c.caller c.op = is_missing_for a c caller m who missing in
-    let n : limit ≡ breaks a t c Limit = l ∙ ap (λ (f : Facts). breaks_given f t c Limit) regards in
-    first_last a t c early e ∙ (ap (λ (b : Bool). cond b (Some Key) (cond (breaks a t c Limit) (Some Limit) None)) (key_is a t c m true f none)
-    ∙ ap (λ (b : Bool). cond b (Some Limit) None) (sym n))
+  -- where nothing is missing, the limit is all that is left
+  pub last_limit : (m : Missing) (limit : Bool) → BreaksNoStandingBy q g → IsMissingFor q g.sub a m → false ≡ not (is_nothing m) → limit ≡ breaks_given (facts_in g) q.moment q.call.now Limit → first_broken a q.moment q.call.now ≡ cond limit (Some Limit) None
+  last_limit m limit none missing nothing l =
+      let n : limit ≡ breaks a q.moment q.call.now Limit = l ∙ ap (λ (f : Facts). breaks_given f q.moment q.call.now Limit) regards in
+      first_of_last none ∙ (ap (λ (b : Bool). cond b (Some Key) (cond (breaks a q.moment q.call.now Limit) (Some Limit) None)) (key_is a q.moment q.call.now m false (is_missing m missing) nothing)
+      ∙ ap (λ (b : Bool). cond b (Some Limit) None) (sym n))
 
 pub some_of_none : (o : Option Rule) (P : Rule → Type 0) → None ≡ o → IfSome o P
 some_of_none o P e = subst (λ (x : Option Rule). IfSome x P) e tt
@@ -142,21 +133,24 @@ unfolding missing_from
 missing_none f key = refl
 
 -- a put without a key needs nothing
-pub needs_nothing : (a : Airspace) (caller : Caller) (sub : Option Sub) (id : ℕ) (put : Put) (m : Missing) → needs_key put.nature ≡ false → m ≡ nothing_missing → m ≡ missing_with a caller sub id put
-needs_nothing a caller sub id put m lacks none =
+pub needs_nothing : (a : Airspace) (judged : JudgedPut) (m : Missing) → needs_key judged.put.now.nature ≡ false → m ≡ nothing_missing → m ≡ missing_by a judged
+needs_nothing a judged m lacks none =
+    let put = judged.put.now in
+    let uss = judged.caller.now.uss in
     let areas : List Region = map region_of put.volumes in
-    let told : Kind → Bool = λ kind. needs_kind kind (Some caller) (subscription_of put.nature) sub in
+    let told : Kind → Bool = λ kind. needs_kind kind (Some judged.caller.now) (subscription_of put.nature) judged.sub.now in
     none ∙ both [] _ [] _
-    (missing_none (view_of a caller.uss) put.key ∙ ap (λ (b : Bool). map (view_of a caller.uss) (missing_from put.key (cond (b && told kinds.Intent) (unspared a (meeting_in a.entities kinds.Intent areas (Some id))) []))) (sym lacks))
-    (missing_none (view_of a caller.uss) put.key ∙ ap (λ (b : Bool). map (view_of a caller.uss) (missing_from put.key (cond (b && told kinds.Constraint) (unspared a (meeting_in a.entities kinds.Constraint areas None)) []))) (sym lacks))
+    (missing_none (view_of a uss) put.key ∙ ap (λ (b : Bool). map (view_of a uss) (missing_from put.key (cond (b && told kinds.Intent) (unspared a (meeting_in a.entities kinds.Intent areas (Some judged.id))) []))) (sym lacks))
+    (missing_none (view_of a uss) put.key ∙ ap (λ (b : Bool). map (view_of a uss) (missing_from put.key (cond (b && told kinds.Constraint) (unspared a (meeting_in a.entities kinds.Constraint areas None)) []))) (sym lacks))
 
 -- of the subscription that is there, what is missing is what the policy says
-pub put_missing : (a : Airspace) (caller : Caller) (op : Operation) (sub : Option Sub) (id : ℕ) (put : Put) (m : Missing) → missing_for a (Some caller) op ≡ missing_put a caller id put → sub_of a op ≡ sub_under a (subscription_of put.nature)
+put_missing : (a : Airspace) (caller : Caller) (op : Operation) (sub : Option Sub) (id : ℕ) (put : Put) (m : Missing) → missing_for a (Some caller) op ≡ missing_put a caller id put → sub_of a op ≡ sub_under a (subscription_of put.nature)
     → m ≡ missing_with a caller sub id put → sub ≡ sub_of a op → m ≡ missing_for a (Some caller) op
 put_missing a caller op sub id put m one two is h = is ∙ (ap (λ (s : Option Sub). missing_with a caller s id put) (h ∙ two) ∙ sym one)
 
-pub create_missing : (a : Airspace) (caller : Caller) (op : Operation) (sub : Option Sub) (id : ℕ) (put : Put) (m : Missing) → op ≡ Create id put → m ≡ missing_with a caller sub id put → sub ≡ sub_of a op → m ≡ missing_for a (Some caller) op
-create_missing a caller op sub id put m is = put_missing a caller op sub id put m (ap (missing_for a (Some caller)) is) (ap (sub_of a) is)
-
-pub update_missing : (a : Airspace) (caller : Caller) (op : Operation) (sub : Option Sub) (id : ℕ) (ovn : List ℕ) (put : Put) (m : Missing) → op ≡ Update id ovn put → m ≡ missing_with a caller sub id put → sub ≡ sub_of a op → m ≡ missing_for a (Some caller) op
-update_missing a caller op sub id ovn put m is = put_missing a caller op sub id put m (ap (missing_for a (Some caller)) is) (ap (sub_of a) is)
+pub missing_is : (a : Airspace) (q : Admitted) (sub : Option Sub) (id : ℕ) (put : Put) (m : Missing) → (q.call.now.op ≡ Create id put) ⊎ ((ovn : List ℕ) × q.call.now.op ≡ Update id ovn put) → m ≡ missing_with a q.caller.now sub id put → IsMissingFor q sub a m
+missing_is a q sub id put m op =
+    elim op [
+      | inl is ↦ put_missing a q.caller.now q.call.now.op sub id put m (ap (missing_for a (Some q.caller.now)) is) (ap (sub_of a) is)
+      | inr is ↦ put_missing a q.caller.now q.call.now.op sub id put m (ap (missing_for a (Some q.caller.now)) is.1) (ap (sub_of a) is.1)
+    ]

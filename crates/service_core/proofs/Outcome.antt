@@ -1,5 +1,5 @@
 -- What a call's reply and its space are, from its parts.
-use Rattle.std.specs.Prelude.{◌≡◌, ◌||◌, ℕ, Bool, Option, Some, None, Ok, Err, refl, find, is_some, List}
+use Rattle.std.specs.Prelude.{◌≡◌, ◌||◌, ℕ, Bool, Option, Some, None, Ok, Err, refl, is_some, List}
 use Rattle.std.proofs.Common.{arith, sym, ap, ◌∙◌, subst, inl, inr}
 use Rattle.std.proofs.lemmas.Bool.{false≢true, cases_lt}
 use Rattle.entity_core.specs.Airspace.{Airspace, IsAirspace}
@@ -11,6 +11,7 @@ use Rattle.space_core.specs.Space.{greatest_count, IsContent, Changes, Tells, ch
 use Rattle.policy_core.specs.declared.call.Call.{Call}
 use Rattle.policy_core.specs.declared.rule.Rule.{Rule}
 use Rattle.policy_core.specs.declared.reference.Missing.{Missing}
+use Rattle.service_step.specs.declared.admitted.Admitted.{Admitted}
 use Rattle.service_step.specs.declared.halt.Halt.{Halt}
 use Rattle.service_step.specs.declared.halt.Halt.TheVariants.{NoMemory, Space}
 use Rattle.service_step.specs.declared.look.Facts.{Facts}
@@ -19,12 +20,13 @@ use Rattle.service_step.specs.declared.made.Made.{Made}
 use Rattle.service_step.specs.declared.reply.Answer.{Answer}
 use Rattle.service_step.specs.declared.reply.Reply.{Reply}
 use Rattle.service_step.specs.declared.reply.Reply.TheVariants.{Done, Denied}
-use Rattle.policy_core.specs.Policy.{breaks, early_rules, standing_rules, first_broken}
+use Rattle.policy_core.specs.Policy.{first_broken}
 use Rattle.service_step.specs.Step.{step, step_by, effect, told_missing}
-use Rattle.service_step.specs.Looks.{Looks, Makes, Prepares, changed_by}
-use Rattle.service_core.specs.Decision.{Decides}
+use Rattle.service_step.specs.Admitted.{IsAdmitted}
+use Rattle.service_step.specs.Looks.{Looks, Prepares, changed_by}
+use Rattle.service_core.specs.Decision.{Allows, BreaksNoStanding, Decides}
 use Rattle.service_step.specs.Reply.{is_stopped}
-use Rattle.service_core.specs.Service.{Answers, MayFail, reply_of}
+use Rattle.service_core.specs.Service.{Answers, AnswersTo, MayFail, OfEachHeld, reply_of}
 
 pub step_denied : (salt : List ℕ) (a : Airspace) (t : ℕ) (c : Call) (p : Rule) (m : Missing) → first_broken a t c ≡ Some p → m ≡ told_missing a c p → step salt a t c ≡ (a, Denied p m)
 unfolding step
@@ -43,8 +45,27 @@ same_content g old new a forth back content = record {
 fails_from : (a : Airspace) (t : ℕ) (c : Call) (reply : Reply) (n m k : ℕ) → m ≡ n → MayFail a t c reply m k → MayFail a t c reply n k
 fails_from a t c reply n m k e h = subst (λ (x : ℕ). MayFail a t c reply x k) e h
 
-module _ {S : Type 0} (g : Ghosts S) (salt : List ℕ) (t : ℕ) (c : Call) where
-  pub denied_answers : (old new : S) (p : Rule) (m : Missing) → Looks g old new (Ok (Refused p m)) (Decides t c) → Answers g salt t c old new (Denied p m)
+-- an early rule is broken
+pub early_answers : {S : Type 0} (g : Ghosts S) (salt : List ℕ) (t : ℕ) (c : Call) (old : S) (p : Rule) (m : Missing) → ((a : Airspace) → first_broken a t c ≡ Some p) → ((a : Airspace) → m ≡ told_missing a c p) → Answers g salt t c old old (Denied p m)
+early_answers g salt t c old p m first missing = record {
+  step = λ s a h. (step_denied salt a t c p m (first a) (missing a), h);
+  fails = λ s a h. tt;
+  sound = λ s. s;
+  whole = λ s w. w;
+  breaks = refl;
+}
+
+module _ {S : Type 0} (g : Ghosts S) (q : Admitted) where
+  abbrev salt : List ℕ
+  salt = q.salt.now
+
+  abbrev t : ℕ
+  t = q.moment
+
+  abbrev c : Call
+  c = q.call.now
+
+  pub denied_answers : (old new : S) (p : Rule) (m : Missing) → Looks g old new (Ok (Refused p m)) (Decides q) → AnswersTo g q old new (Denied p m)
   denied_answers old new p m looks = record {
     step = λ s a h. let f = looks.found s a h.held in (step_denied salt a t c p m f.0 f.1, same_content g old new a (looks.stays s) (looks.no_other s) h);
     fails = λ s a h. tt;
@@ -54,23 +75,22 @@ module _ {S : Type 0} (g : Ghosts S) (salt : List ℕ) (t : ℕ) (c : Call) wher
   }
 
   -- a halted look, where want of memory comes only where no standing rule is broken
-  pub halted_answers : {X : Type 0} (old new : S) (h : Halt) (P : Airspace → X → Type 0) → Looks g old new (Err h) P → ((a : Airspace) → find (breaks a t c) early_rules ≡ None)
-      → (h ≡ NoMemory → g.is_sound new → (a : Airspace) → g.holds old a → find (breaks a t c) standing_rules ≡ None) → Answers g salt t c old new (reply_of h)
-  halted_answers old new NoMemory P looks early quiet = record {
+  pub halted_answers : {X : Type 0} (old new : S) (h : Halt) (P : Airspace → X → Type 0) → Looks g old new (Err h) P → IsAdmitted q → (h ≡ NoMemory → g.is_sound new → (a : Airspace) → g.holds old a → BreaksNoStanding q a) → AnswersTo g q old new (reply_of h)
+  halted_answers old new NoMemory P looks is_admitted quiet = record {
     step = λ s a h. same_content g old new a (looks.stays s) (looks.no_other s) h;
-    fails = λ s a h. (ap is_some (early a), λ k. absurd (false≢true (sym (ap is_some (quiet refl s a h.held)) ∙ k)));
+    fails = λ s a h. (ap is_some (is_admitted.early a), λ k. absurd (false≢true (sym (ap is_some (quiet refl s a h.held)) ∙ k)));
     sound = looks.sound;
     whole = looks.whole;
     breaks = looks.told;
   }
-  halted_answers old new (Space Unchanged) P looks early quiet = record {
+  halted_answers old new (Space Unchanged) P looks is_admitted quiet = record {
     step = λ s a h. same_content g old new a (looks.stays s) (looks.no_other s) h;
-    fails = λ s a h. (ap is_some (early a), λ k. looks.told.0);
+    fails = λ s a h. (ap is_some (is_admitted.early a), λ k. looks.told.0);
     sound = looks.sound;
     whole = looks.whole;
     breaks = looks.told.1;
   }
-  halted_answers old new (Space Broken) P looks early quiet = record {
+  halted_answers old new (Space Broken) P looks is_admitted quiet = record {
     step = λ s a h b k. inl (h.only b (looks.no_other s b k));
     fails = λ s a h. tt;
     sound = looks.sound;
@@ -79,8 +99,7 @@ module _ {S : Type 0} (g : Ghosts S) (salt : List ℕ) (t : ℕ) (c : Call) wher
   }
 
   -- what follows a look
-  pub after_answers : {X : Type 0} (old mid new : S) (x : X) (P : Airspace → X → Type 0) (reply : Reply) → Looks g old mid (Ok x) P → Answers g salt t c mid new reply
-      → Answers g salt t c old new reply
+  pub after_answers : {X : Type 0} (old mid new : S) (x : X) (P : Airspace → X → Type 0) (reply : Reply) → Looks g old mid (Ok x) P → AnswersTo g q mid new reply → AnswersTo g q old new reply
   after_answers old mid new x P reply looks rest = record {
     step = λ s a h. rest.step s a (same_content g old mid a (looks.stays (rest.sound s)) (looks.no_other (rest.sound s)) h);
     fails = λ s a h. fails_from a t c reply (g.refusals old) (g.refusals mid) (g.refusals new) looks.told.0 (rest.fails s a (same_content g old mid a (looks.stays (rest.sound s)) (looks.no_other (rest.sound s)) h));
@@ -90,8 +109,7 @@ module _ {S : Type 0} (g : Ghosts S) (salt : List ℕ) (t : ℕ) (c : Call) wher
   }
 
   -- a call that changes nothing
-  pub read_answers : (old new : S) (facts : Facts) (made : Made) → made.change ≡ None → Looks g old new (Ok made) (Prepares salt t c facts) → (g.is_sound old → (a : Airspace) → g.holds old a → IsAirspace a) → (g.is_sound old → (a : Airspace) → g.holds old a → Decides t c a (Allowed facts))
-      → Answers g salt t c old new (Done made.answer)
+  pub read_answers : (old new : S) (facts : Facts) (made : Made) → made.change ≡ None → Looks g old new (Ok made) (Prepares q facts) → OfEachHeld g old IsAirspace → OfEachHeld g old (λ a. Decides q a (Allowed facts)) → AnswersTo g q old new (Done made.answer)
   read_answers old new facts made is looks proper given = record {
     step = λ s a h.
         let k = given (looks.sound s) a h.held in
@@ -104,10 +122,10 @@ module _ {S : Type 0} (g : Ghosts S) (salt : List ℕ) (t : ℕ) (c : Call) wher
   }
 
   -- a change that was made
-  pub change_done : (old new : S) (facts : Facts) (change : Change) (told : List ℕ) (answer : Answer) → Changes {T = Unit {0}} g.holds g.is_sound g.is_whole (g.is_broken old) old new (Ok tt) (changed change told)
+  pub change_done : (old new : S) (change : Change) (told : List ℕ) (answer : Answer) → Changes {T = Unit {0}} g.holds g.is_sound g.is_whole (g.is_broken old) old new (Ok tt) (changed change told)
       → Tells {T = Unit {0}} (g.refusals old) (g.refusals new) (g.is_broken old) (g.is_broken new) (Ok tt)
-      → (g.is_sound old → (a : Airspace) → g.holds old a → (first_broken a t c ≡ None) × Makes salt t c facts a (Some change) told answer) → Answers g salt t c old new (Done answer)
-  change_done old new facts change told answer changes tells given = record {
+      → OfEachHeld g old (λ a. Allows q a (Some change) told answer) → AnswersTo g q old new (Done answer)
+  change_done old new change told answer changes tells given = record {
     step = λ s a h.
         let k = given (changes.sound s) a h.held in
         let e : step salt a t c ≡ (changed change told a, Done answer) = step_done salt a t c k.0 ∙ k.1.effect in
@@ -119,12 +137,12 @@ module _ {S : Type 0} (g : Ghosts S) (salt : List ℕ) (t : ℕ) (c : Call) wher
   }
 
   -- a change that was not made, or of which nothing is known
-  pub change_failed : (old new : S) (facts : Facts) (change : Change) (told : List ℕ) (answer : Answer) (e : SpaceFault) → Changes {T = Unit {0}} g.holds g.is_sound g.is_whole (g.is_broken old) old new (Err e) (changed change told) → Tells {T = Unit {0}} (g.refusals old) (g.refusals new) (g.is_broken old) (g.is_broken new) (Err e)
-      → ((a : Airspace) → find (breaks a t c) early_rules ≡ None) → (g.is_sound old → (a : Airspace) → g.holds old a → (first_broken a t c ≡ None) × Makes salt t c facts a (Some change) told answer) → Answers g salt t c old new (reply_of (Space e))
-  change_failed old new facts change told answer Unchanged changes tells early given = record {
+  pub change_failed : (old new : S) (change : Change) (told : List ℕ) (answer : Answer) (e : SpaceFault) → Changes {T = Unit {0}} g.holds g.is_sound g.is_whole (g.is_broken old) old new (Err e) (changed change told) → Tells {T = Unit {0}} (g.refusals old) (g.refusals new) (g.is_broken old) (g.is_broken new) (Err e)
+      → IsAdmitted q → OfEachHeld g old (λ a. Allows q a (Some change) told answer) → AnswersTo g q old new (reply_of (Space e))
+  change_failed old new change told answer Unchanged changes tells is_admitted given = record {
     step = λ s a h. same_content g old new a (λ b. (changes.refused s refl b).0) (λ b. (changes.refused s refl b).1) h;
     fails = λ s a h. (
-      ap is_some (early a),
+      ap is_some (is_admitted.early a),
       λ k. elim (cases_lt (g.refusals old) greatest_count) [
         | inl lt ↦ inl (omega (arith, tells.counted, lt))
         | inr ge ↦ inr (omega (arith, tells.counted, ge))
@@ -134,7 +152,7 @@ module _ {S : Type 0} (g : Ghosts S) (salt : List ℕ) (t : ℕ) (c : Call) wher
     whole = changes.whole;
     breaks = tells.breaks;
   }
-  change_failed old new facts change told answer Broken changes tells early given = record {
+  change_failed old new change told answer Broken changes tells is_admitted given = record {
     step = λ s a h b k.
         let m = given (changes.sound s) a h.held in
         let e : step salt a t c ≡ (changed change told a, Done answer) = step_done salt a t c m.0 ∙ m.1.effect in
@@ -146,14 +164,4 @@ module _ {S : Type 0} (g : Ghosts S) (salt : List ℕ) (t : ℕ) (c : Call) wher
     sound = changes.sound;
     whole = changes.whole;
     breaks = tells.breaks;
-  }
-
-  -- an early rule is broken
-  pub early_answers : (old : S) (p : Rule) (m : Missing) → ((a : Airspace) → first_broken a t c ≡ Some p) → ((a : Airspace) → m ≡ told_missing a c p) → Answers g salt t c old old (Denied p m)
-  early_answers old p m first missing = record {
-    step = λ s a h. (step_denied salt a t c p m (first a) (missing a), h);
-    fails = λ s a h. tt;
-    sound = λ s. s;
-    whole = λ s w. w;
-    breaks = refl;
   }

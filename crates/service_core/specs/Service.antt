@@ -4,6 +4,7 @@ use Rattle.entity_core.specs.Airspace.{Airspace}
 use Rattle.space_core.specs.declared.space.Space.{Ghosts}
 use Rattle.space_core.specs.Space.{greatest_count, IsContent}
 use Rattle.policy_core.specs.declared.call.Call.{Call}
+use Rattle.service_step.specs.declared.admitted.Admitted.{Admitted}
 use Rattle.service_step.specs.declared.reply.Reply.{Reply}
 use Rattle.service_step.specs.declared.reply.Reply.TheVariants.{Done, Denied, Fault, Stopped}
 use Rattle.policy_core.specs.Policy.{breaks, early_rules, standing_rules}
@@ -53,3 +54,12 @@ pub record Answers {S : Type 0} (g : Ghosts S) (salt : List ℕ) (now : ℕ) (c 
   pub sound : g.is_sound new → g.is_sound old
   pub whole : g.is_sound new → g.is_whole old → g.is_whole new
   pub breaks : g.is_broken new ≡ (is_stopped reply || g.is_broken old)
+
+-- of a call that was admitted
+abbrev pub AnswersTo : {S : Type 0} → Ghosts S → Admitted → S → S → Reply → Type 0
+AnswersTo g admitted old new reply =
+    Answers g admitted.salt.now admitted.moment admitted.call.now old new reply
+
+-- P, of each airspace that a sound space may hold
+abbrev pub OfEachHeld : {S : Type 0} → Ghosts S → S → (Airspace → Type 0) → Type 0
+OfEachHeld g s P = g.is_sound s → (a : Airspace) → g.holds s a → P a

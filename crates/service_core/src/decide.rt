@@ -1,27 +1,24 @@
 //! What a call is: refused, or allowed.
-ghost use Rattle.std.specs.Prelude.{◌≡◌, ℕ, map, not, Ok, Err, Some, None, find, IfOk, IsErrOf, true};
+ghost use Rattle.std.specs.Prelude.{◌≡◌, map, not, Ok, Err, None, IfOk, IsErrOf, true};
 ghost use Rattle.entity_core.specs.Airspace.{Airspace};
 ghost use Rattle.grid_core.specs.Extent.{region_of};
-ghost use Rattle.policy_core.specs.Missing.{is_nothing, missing_for, missing_from, missing_with, needed_with};
-ghost use Rattle.policy_core.specs.Standing.{sub_of};
-ghost use Rattle.policy_core.specs.View.{view_of};
-ghost use Rattle.policy_core.specs.Policy.{breaks, breaks_given, early_rules, standing_rules};
-ghost use Rattle.service_step.specs.Looks.{Looks, facts_in, AreFacts, IsReady};
-ghost use Rattle.service_core.specs.Decision.{IsFirst, IsReadyIfAllowed, Decides, decision_of};
+ghost use Rattle.policy_core.specs.Missing.{is_nothing};
+ghost use Rattle.service_step.specs.Admitted.{IsAdmitted};
+ghost use Rattle.service_step.specs.Looks.{Looks, IsReady};
+ghost use Rattle.service_core.specs.Decision.{BreaksNoStanding, BreaksNoStandingBy, Decides, IsFirstBy, IsMissingFor, IsReadyIfAllowed, decision_of, missing_by, missing_kind_by};
 
-use entity_core::entity_id::EntityId;
 use entity_core::nature::Kind;
 use entity_core::subscription::Sub;
 use grid_core::volume::Area;
-use policy_core::call::{Call, Operation, Put};
+use policy_core::call::Operation;
 use policy_core::missing::needs_key;
 use policy_core::reference::{Missing, References};
 use policy_core::rule::Rule;
-use policy_core::scope::Caller;
 use policy_core::standing::standing;
+use service_step::admitted::Admitted;
 use service_step::halt::Halt;
 use service_step::look::{Facts, look};
-use service_step::needed::{missing_from, needed_with};
+use service_step::needed::{JudgedPut, missing_from, needed_with};
 use space_core::space::{Space, SpaceFault};
 use std::alloc::Global;
 
@@ -34,21 +31,26 @@ pub enum Decision {
     Allowed(Facts),
 }
 
-// All that is missing from the key of an operation, where this is the subscription that it names.
+// All that is missing from the key of a call, where this is the subscription that it names.
 #[tactic(auto, unfolding(policy_core::specs::Missing::missing_from))]
 fn missing_for<S: Space>(
     space: &mut S,
     alloc: Global,
-    caller: &Caller,
-    op: &Operation,
+    admitted: &Admitted<'_>,
     sub: &Option<Sub>,
 ) -> Result<Missing, Halt>
-    ensures { Looks S.Space space.old space.new result (λ a missing.
-        sub.now ≡ sub_of a op.now → missing ≡ missing_for a (Some caller.now) op.now) }
+    ensures { Looks S.Space space.old space.new result (IsMissingFor admitted.now sub.now) }
 {
-    match op {
-        Operation::Create(id, put) => missing_with(space, alloc, caller, *id, put, sub),
-        Operation::Update(id, _, put) => missing_with(space, alloc, caller, *id, put, sub),
+    match &admitted.call.op {
+        Operation::Create(id, put) | Operation::Update(id, _, put) => {
+            let judged = JudgedPut {
+                id: *id,
+                put,
+                sub,
+                caller: admitted.caller,
+            };
+            missing_with(space, alloc, &judged)
+        }
         _ => Ok(Missing::nothing(alloc)),
     }
 }
@@ -57,35 +59,29 @@ fn missing_for<S: Space>(
 fn missing_with<S: Space>(
     space: &mut S,
     alloc: Global,
-    caller: &Caller,
-    id: EntityId,
-    put: &Put,
-    sub: &Option<Sub>,
+    judged: &JudgedPut<'_>,
 ) -> Result<Missing, Halt>
     ensures { Looks S.Space space.old space.new result
-        (λ a missing. missing ≡ missing_with a caller.now sub.now id put.now) }
+        (λ a missing. missing ≡ missing_by a judged.now) }
 {
-    if !needs_key(put.nature) {
+    if !needs_key(judged.put.nature) {
         return Ok(Missing::nothing(alloc));
     }
-    missing_kinds(space, alloc, caller, id, put, sub)
+    missing_kinds(space, alloc, judged)
 }
 
 // What is missing from the key of a put that needs to know others.
 fn missing_kinds<S: Space>(
     space: &mut S,
     alloc: Global,
-    caller: &Caller,
-    id: EntityId,
-    put: &Put,
-    sub: &Option<Sub>,
+    judged: &JudgedPut<'_>,
 ) -> Result<Missing, Halt>
     ensures { Looks S.Space space.old space.new result
-        (λ a missing. missing ≡ missing_with a caller.now sub.now id put.now) }
+        (λ a missing. missing ≡ missing_by a judged.now) }
 {
-    let areas = put.volumes.areas(alloc)?;
-    let intents = missing_kind(space, alloc, Kind::Intent, caller, id, put, sub, &areas)?;
-    let constraints = missing_kind(space, alloc, Kind::Constraint, caller, id, put, sub, &areas)?;
+    let areas = judged.put.volumes.areas(alloc)?;
+    let intents = missing_kind(space, alloc, Kind::Intent, judged, &areas)?;
+    let constraints = missing_kind(space, alloc, Kind::Constraint, judged, &areas)?;
     Ok(Missing {
         intents,
         constraints,
@@ -97,20 +93,15 @@ fn missing_kind<S: Space>(
     space: &mut S,
     alloc: Global,
     kind: Kind,
-    caller: &Caller,
-    id: EntityId,
-    put: &Put,
-    sub: &Option<Sub>,
+    judged: &JudgedPut<'_>,
     areas: &[Area],
 ) -> Result<References, Halt>
-    requires areas { areas.now ≡ map region_of put.now.volumes }
-    ensures { Looks S.Space space.old space.new result (λ a references.
-        references ≡ map (view_of a caller.now.uss)
-        (missing_from put.now.key
-        (needed_with kind a (Some caller.now) sub.now id put.now))) }
+    requires areas { areas.now ≡ map region_of judged.now.put.now.volumes }
+    ensures { Looks S.Space space.old space.new result
+        (λ a references. references ≡ missing_kind_by kind a judged.now) }
 {
-    let needed = needed_with(space, alloc, kind, caller, id, put, sub, areas)?;
-    Ok(missing_from(alloc, &caller.uss, put.key.items(), &needed)?)
+    let needed = needed_with(space, alloc, kind, judged, areas)?;
+    Ok(missing_from(alloc, &judged.caller.uss, judged.put.key.items(), &needed)?)
 }
 
 // P14 KEY
@@ -124,26 +115,21 @@ fn breaks_key(missing: &Missing) -> bool
 fn judge<S: Space>(
     space: &mut S,
     alloc: Global,
-    now: u64,
-    call: &Call,
-    caller: &Caller,
+    admitted: &Admitted<'_>,
     facts: &Facts,
 ) -> Result<Option<(Rule, Missing)>, Halt>
-    requires caller { call.now.caller ≡ Some caller.now }
-    requires early { (a : Airspace) → find (breaks a now call.now) early_rules ≡ None }
-    ensures looks { Looks S.Space space.old space.new result
-        (λ a broken. AreFacts call.now.op a facts.now → IsFirst now call.now a broken) }
+    requires { IsAdmitted admitted.now }
+    ensures looks { Looks S.Space space.old space.new result (IsFirstBy admitted.now facts.now) }
     ensures ready { result ≡ Ok None
-        → IsReady call.now.op facts.now.found facts.now.sub }
-    ensures memory { result ≡ Err Halt.NoMemory
-        → find (breaks_given (facts_in facts.now) now call.now) standing_rules ≡ None }
+        → IsReady admitted.now.call.now.op facts.now.found facts.now.sub }
+    ensures memory { result ≡ Err Halt.NoMemory → BreaksNoStandingBy admitted.now facts.now }
 {
     let lent = facts.lent();
-    let findings = standing(now, call, &lent);
+    let findings = standing(admitted.moment, admitted.call, &lent);
     if let Some(broken) = findings.first {
         return Ok(Some((broken, Missing::nothing(alloc))));
     }
-    let missing = missing_for(space, alloc, caller, &call.op, &facts.sub)?;
+    let missing = missing_for(space, alloc, admitted, &facts.sub)?;
     if breaks_key(&missing) {
         return Ok(Some((Rule::Key, missing)));
     }
@@ -167,20 +153,17 @@ fn settled(facts: Facts, judged: Option<(Rule, Missing)>) -> Decision
 pub fn decide<S: Space>(
     space: &mut S,
     alloc: Global,
-    now: u64,
-    call: &Call,
-    caller: &Caller,
+    admitted: &Admitted<'_>,
 ) -> Result<Decision, Halt>
-    requires caller { call.now.caller ≡ Some caller.now }
-    requires early { (a : Airspace) → find (breaks a now call.now) early_rules ≡ None }
-    ensures looks { Looks S.Space space.old space.new result (Decides now call.now) }
-    ensures ready { IfOk result (IsReadyIfAllowed call.now.op) }
+    requires { IsAdmitted admitted.now }
+    ensures looks { Looks S.Space space.old space.new result (Decides admitted.now) }
+    ensures ready { IfOk result (IsReadyIfAllowed admitted.now.call.now.op) }
     ensures memory { result ≡ Err Halt.NoMemory → S.is_sound space.new → (a : Airspace)
-        → S.holds space.old a → find (breaks a now call.now) standing_rules ≡ None }
+        → S.holds space.old a → BreaksNoStanding admitted.now a }
     ensures broken { S.is_broken space.old ≡ true
         → IsErrOf result (Halt.Space SpaceFault.Broken) }
 {
-    let facts = look(space, &call.op)?;
-    let judged = judge(space, alloc, now, call, caller, &facts)?;
+    let facts = look(space, &admitted.call.op)?;
+    let judged = judge(space, alloc, admitted, &facts)?;
     Ok(settled(facts, judged))
 }

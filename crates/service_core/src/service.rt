@@ -1,17 +1,15 @@
 //! A service over a space.
-ghost use Rattle.std.specs.Prelude.{◌≡◌, ℕ, Some, None, find, IfSome, IfOk, OnErr, IsTrue, true, false, length, All};
+ghost use Rattle.std.specs.Prelude.{◌≡◌, ℕ, Some, IfOk, OnErr, true, false};
 ghost use Rattle.std.specs.Borrow.{Lends, sem};
 ghost use Rattle.entity_core.specs.Airspace.{Airspace, empty_at};
 ghost use Rattle.entity_core.specs.declared.entity.Entity.{Entity};
 ghost use Rattle.entity_core.specs.declared.nature.Kind.{Kind};
-ghost use Rattle.policy_core.specs.Policy.{breaks, early_rules, first_broken};
 ghost use Rattle.space_core.specs.Space.{IsContent};
 ghost use Rattle.service_core.specs.contracts.service.Service.{the_row};
-ghost use Rattle.service_step.specs.Looks.{IsReady, Makes};
-ghost use Rattle.service_core.specs.Decision.{Decides};
-ghost use Rattle.service_step.specs.Reply.{is_stopped};
-ghost use Rattle.service_core.specs.Service.{Answers, reply_of};
-ghost use Rattle.policy_core.specs.Missing.{nothing_missing};
+ghost use Rattle.service_step.specs.Admitted.{IsAdmitted};
+ghost use Rattle.service_step.specs.Looks.{IsReady};
+ghost use Rattle.service_core.specs.Decision.{Allows, Decides};
+ghost use Rattle.service_core.specs.Service.{AnswersTo, OfEachHeld, reply_of};
 ghost use Rattle.service_core.specs.Run.{Answered, IsReplyTo, has_stopped};
 ghost use Rattle.service_core.specs.Aware.{Aware};
 ghost use Rattle.service_core.specs.Count.{Counts};
@@ -23,8 +21,8 @@ use entity_core::salt::Salt;
 use policy_core::call::Call;
 use policy_core::early::early;
 use policy_core::reference::Missing;
-use policy_core::scope::Caller;
 use policy_core::sub_view::Ids;
+use service_step::admitted::Admitted;
 use service_step::effects::prepared;
 use service_step::halt::Halt;
 use service_step::look::Facts;
@@ -45,53 +43,36 @@ fn gave_up(halt: Halt) -> Reply
 }
 
 // The reply to a call that breaks no early rule.
-fn answered<S: Space>(
-    space: &mut S,
-    alloc: Global,
-    salt: &Salt,
-    now: u64,
-    call: &Call,
-    caller: &Caller,
-) -> Reply
-    requires caller { call.now.caller ≡ Some caller.now }
-    requires early { (a : Airspace) → find (breaks a now call.now) early_rules ≡ None }
-    ensures answers { Answers S.Space salt.now now call.now space.old space.new result }
+fn answered<S: Space>(space: &mut S, alloc: Global, admitted: &Admitted<'_>) -> Reply
+    requires { IsAdmitted admitted.now }
+    ensures answers { AnswersTo S.Space admitted.now space.old space.new result }
     ensures broken { S.is_broken space.old ≡ true → result ≡ Reply.Stopped }
 {
-    match decide(space, alloc, now, call, caller) {
+    match decide(space, alloc, admitted) {
         Ok(Decision::Refused(broken, missing)) => Reply::Denied(broken, missing),
-        Ok(Decision::Allowed(facts)) => allowed(space, alloc, salt, now, call, caller, &facts),
+        Ok(Decision::Allowed(facts)) => allowed(space, alloc, admitted, &facts),
         Err(halt) => gave_up(halt),
     }
 }
 
 // The reply to a call that breaks no rule.
-fn allowed<S: Space>(
-    space: &mut S,
-    alloc: Global,
-    salt: &Salt,
-    now: u64,
-    call: &Call,
-    caller: &Caller,
-    facts: &Facts,
-) -> Reply
-    requires caller { call.now.caller ≡ Some caller.now }
-    requires early { (a : Airspace) → find (breaks a now call.now) early_rules ≡ None }
-    requires ready { IsReady call.now.op facts.now.found facts.now.sub }
-    requires given { S.is_sound space.old → (a : Airspace) → S.holds space.old a
-        → Decides now call.now a (Decision.Allowed facts.now) }
-    ensures { Answers S.Space salt.now now call.now space.old space.new result }
+fn allowed<S: Space>(space: &mut S, alloc: Global, admitted: &Admitted<'_>, facts: &Facts) -> Reply
+    requires admitted { IsAdmitted admitted.now }
+    requires ready { IsReady admitted.now.call.now.op facts.now.found facts.now.sub }
+    requires given { OfEachHeld S.Space space.old (λ a.
+        Decides admitted.now a (Decision.Allowed facts.now)) }
+    ensures { AnswersTo S.Space admitted.now space.old space.new result }
 {
     let Made {
         change,
         notify,
         answer,
-    } = match prepared(space, alloc, salt, now, call, caller, facts) {
+    } = match prepared(space, alloc, admitted, facts) {
         Ok(made) => made,
         Err(halt) => return gave_up(halt),
     };
     match change {
-        Some(change) => changed(space, salt, now, call, facts, change, &notify, answer),
+        Some(change) => changed(space, admitted, change, &notify, answer),
         None => Reply::Done(answer),
     }
 }
@@ -99,21 +80,17 @@ fn allowed<S: Space>(
 // The change is made.
 fn changed<S: Space>(
     space: &mut S,
-    salt: &Salt,
-    now: u64,
-    call: &Call,
-    facts: &Facts,
+    admitted: &Admitted<'_>,
     change: Change,
     notify: &Ids,
     answer: Answer,
 ) -> Reply
-    requires early { (a : Airspace) → find (breaks a now call.now) early_rules ≡ None }
-    requires given { S.is_sound space.old → (a : Airspace) → S.holds space.old a
-        → (first_broken a now call.now ≡ None)
-        × Makes salt.now now call.now facts.now a (Some change) notify.now answer }
-    ensures { Answers S.Space salt.now now call.now space.old space.new result }
+    requires admitted { IsAdmitted admitted.now }
+    requires given { OfEachHeld S.Space space.old (λ a.
+        Allows admitted.now a (Some change) notify.now answer) }
+    ensures { AnswersTo S.Space admitted.now space.old space.new result }
 {
-    let (_salt, _now, _call, _facts) = (salt, now, call, facts);
+    let _admitted = admitted;
     match space.apply(change, notify.items()) {
         Ok(()) => Reply::Done(answer),
         Err(fault) => gave_up(Halt::Space(fault)),
@@ -190,7 +167,13 @@ impl<S: Space + Drop> Service<S> {
         let Some(caller) = &call.caller else {
             unreachable!();
         };
-        let reply = answered(&mut self.space, alloc, &self.salt, now, call, caller);
+        let admitted = Admitted {
+            salt: &self.salt,
+            moment: now,
+            call,
+            caller,
+        };
+        let reply = answered(&mut self.space, alloc, &admitted);
         self.stopped = reply.is_stopped();
         reply
     }

@@ -37,8 +37,11 @@ use Rattle.service_step.specs.declared.reply.Reply.{Reply}
 use Rattle.service_step.specs.declared.reply.Reply.TheVariants.{Done}
 use Rattle.service_step.specs.declared.look.Facts as own
 use Rattle.service_notices.specs.Notices.{notices_in, touched}
-use Rattle.service_step.specs.Step.{effect, effect_by, kept_as, kept_with, create_effect, put_effect, update_effect, delete_effect, sub_kept_as, seen_of, seen_sub, stored_reply, put_sub_effect, update_sub_effect, delete_sub_effect}
-use Rattle.service_step.specs.Looks.{CanTell, AreFacts, IsNotified, Makes, Prepares, PutsSub, changed_by}
+use Rattle.service_notices.specs.declared.notice.Notify.{Notify}
+use Rattle.service_step.specs.Step.{effect, effect_by, created, updated, kept_with, create_effect, put_effect, update_effect, delete_effect, sub_kept_as, seen_of, seen_sub, stored_reply, put_sub_effect, update_sub_effect, delete_sub_effect}
+use Rattle.service_step.specs.Admitted.{IsAdmitted}
+use Rattle.service_step.specs.declared.admitted.Admitted.{Admitted}
+use Rattle.service_step.specs.Looks.{Announces, AreFacts, Makes, Prepares, PutsEntity, PutsSub, changed_by}
 use Rattle.policy_core.proofs.Finds.{find_rest, none_passes}
 use Rattle.service_step.proofs.Keeps.{told_within}
 use Rattle.service_step.proofs.Notified.{notified_rise, notified_there, told_alike}
@@ -175,133 +178,130 @@ named_by_none a t c id version h op =
 
 -- ---- the effects
 
-makes_from : (salt : List ℕ) (t : ℕ) (c : Call) (g : own.Facts) (a : Airspace) (made : Made) (change : Option space_change.Change) (told : List ℕ) (answer : Answer)
-    → effect salt a c.caller c.op ≡ (changed_by change told a, Done answer) → made.change ≡ change → made.notify ≡ told → made.answer ≡ answer → IfSome change (λ x. Fits x told a) → Makes salt t c g a made.change made.notify made.answer
-makes_from salt t c g a made change told answer e one ids two fits = record {
-  effect = e ∙ (λ i. (changed_by (sym one i) (sym ids i) a, Done (sym two i)));
-  fits = subst (λ (x : Option space_change.Change). IfSome x (λ y. Fits y made.notify a)) (sym one) (subst (λ (k : List ℕ). IfSome change (λ y. Fits y k a)) (sym ids) fits);
-}
-
-effect_is : (salt : List ℕ) (a : Airspace) (c : Call) (caller : Caller) (op : Operation) → c.caller ≡ Some caller → c.op ≡ op → effect salt a c.caller c.op ≡ effect_by salt a caller op
-effect_is salt a c caller op who is = ap (λ (o : Option Caller). effect salt a o c.op) who ∙ ap (effect_by salt a caller) is
-
-next_is : (a : Airspace) (t : ℕ) (c : Call) (g : own.Facts) (next : ℕ) → first_broken a t c ≡ None → is_change c.op ≡ true → AreFacts c.op a g → (g.serial < greatest_serial → next ≡ g.serial + 1) → next ≡ a.serial + 1
-next_is a t c g next first is regards goes =
-    goes (subst (λ (k : ℕ). k < greatest_serial) (sym (ap (λ (f : Facts). f.serial) regards)) (room_of a t c first is)) ∙ ap (λ (f : Facts). f.serial + 1) regards
-
-found_is : (a : Airspace) (c : Call) (g : own.Facts) (op : Operation) (e : Entity) → c.op ≡ op → g.found ≡ Some e → AreFacts c.op a g → found_of a op ≡ Some e
-found_is a c g op e is found regards = ap (found_of a) (sym is) ∙ (sym (ap (λ (f : Facts). f.found) regards) ∙ found)
-
 same_view : (a : Airspace) (uss : List ℕ) (old : List Extent) (e x : Entity) → view_of (kept_with a old e) uss x ≡ view_of a uss x
 unfolding view_of
 same_view a uss old e x = refl
-
--- those whom a change of an entity notifies, by their ids
-abbrev ids_for : Airspace → Kind → List Region → List ℕ
-ids_for a kind areas = map (λ s. s.id) (subscribers_in a.subscriptions kind areas)
-
--- what is put, with those told whom that notifies
-put_made : (salt : List ℕ) (t : ℕ) (c : Call) (g : own.Facts) (a : Airspace) (e : Entity) (old : List Extent) (answer : Answer) (made : Made) → IsAirspace a
-    → effect salt a c.caller c.op ≡ (kept_with a old e, Done answer) → made.change ≡ Some (changes.Put e) → IsNotified a (kind_of e.nature) (touched old e.volumes) made → made.answer ≡ answer
-    → a.serial < greatest_serial → (e.serial ≡ a.serial + 1) × HasNamed a (subscription_of e.nature) → Makes salt t c g a made.change made.notify made.answer
-put_made salt t c g a e old answer made proper is one ids two room due =
-    let kind = kind_of e.nature in
-    let areas = touched old e.volumes in
-    makes_from salt t c g a made (Some (changes.Put e)) (ids_for a kind areas) answer
-    (is ∙ ap (λ (m : Subscriptions). (record (with_entity a e) { subscriptions = m }, Done answer)) (sym (told_alike a proper kind areas)))
-    one ids two (record { room = room; due = due; tells = notified_there a proper kind areas })
-
-pub makes_create : (salt : List ℕ) (t : ℕ) (c : Call) (g : own.Facts) (a : Airspace) (caller : Caller) (id : ℕ) (put : Put) (next : ℕ) (made : Made) → c.caller ≡ Some caller → c.op ≡ Create id put → (g.serial < greatest_serial → next ≡ g.serial + 1)
-    → (CanTell a (kind_of put.nature) (touched [] put.volumes) → IsNotified a (kind_of put.nature) (touched [] put.volumes) made × (made.change ≡ Some (changes.Put (kept_as salt next caller.uss 1 id put)))
-    × (made.answer ≡ answers.Created (view_of a caller.uss (kept_as salt next caller.uss 1 id put)) (notices_in a (kind_of put.nature) (touched [] put.volumes)))) → Prepares salt t c g a made
-makes_create salt t c g a caller id put next made who op goes makes proper first regards =
-    let n = next_is a t c g next first (ap is_change op) regards goes in
-    let room = room_of a t c first (ap is_change op) in
-    let is = makes (notified_rise a proper room (kind_of put.nature) (touched [] put.volumes)) in
-    let e = kept_as salt next caller.uss 1 id put in
-    let told = notices_in a (kind_of put.nature) (touched [] put.volumes) in
-    put_made salt t c g a e [] (answers.Created (view_of a caller.uss e) told) made proper
-    (effect_is salt a c caller (Create id put) who op ∙ (ap (λ (k : ℕ). create_effect a caller.uss (kept_as salt k caller.uss 1 id put)) (sym n)
-    ∙ ap (λ (r : Reference). (kept_with a [] e, Done (answers.Created r told))) (same_view a caller.uss [] e e)))
-    is.1 is.0 is.2 room (n, create_named a t c caller id put first who op)
-
-pub makes_update : (salt : List ℕ) (t : ℕ) (c : Call) (g : own.Facts) (a : Airspace) (caller : Caller) (id : ℕ) (ovn : List ℕ) (put : Put) (old : Entity) (next : ℕ) (made : Made) → c.caller ≡ Some caller → c.op ≡ Update id ovn put → g.found ≡ Some old
-    → (g.serial < greatest_serial → next ≡ g.serial + 1)
-    → (old.version < greatest_version → CanTell a (kind_of put.nature) (touched old.volumes put.volumes) → IsNotified a (kind_of put.nature) (touched old.volumes put.volumes) made
-    × (made.change ≡ Some (changes.Put (kept_as salt next old.manager (old.version + 1) id put)))
-    × (made.answer ≡ answers.Changed (view_of a caller.uss (kept_as salt next old.manager (old.version + 1) id put)) (notices_in a (kind_of put.nature) (touched old.volumes put.volumes)))) → Prepares salt t c g a made
-makes_update salt t c g a caller id ovn put old next made who op found goes makes proper first regards =
-    let n = next_is a t c g next first (ap is_change op) regards goes in
-    let there = found_is a c g (Update id ovn put) old op found regards in
-    let room = room_of a t c first (ap is_change op) in
-    let is = makes (unspent a t c id ovn put old first op there) (notified_rise a proper room (kind_of put.nature) (touched old.volumes put.volumes)) in
-    let e = kept_as salt next old.manager (old.version + 1) id put in
-    let told = notices_in a (kind_of put.nature) (touched old.volumes put.volumes) in
-    put_made salt t c g a e old.volumes (answers.Changed (view_of a caller.uss e) told) made proper
-    (effect_is salt a c caller (Update id ovn put) who op ∙ (ap (update_effect salt a caller.uss id put) there
-    ∙ (ap (λ (k : ℕ). put_effect a caller.uss old.volumes (kept_as salt k old.manager (old.version + 1) id put)) (sym n)
-    ∙ ap (λ (r : Reference). (kept_with a old.volumes e, Done (answers.Changed r told))) (same_view a caller.uss old.volumes e e))))
-    is.1 is.0 is.2 room (n, update_named a t c caller id ovn put first who op)
-
-pub makes_delete : (salt : List ℕ) (t : ℕ) (c : Call) (g : own.Facts) (a : Airspace) (caller : Caller) (kind : Kind) (id : ℕ) (ovn : List ℕ) (e : Entity) (made : Made) → c.caller ≡ Some caller → c.op ≡ Delete kind id ovn → g.found ≡ Some e
-    → (CanTell a kind (touched e.volumes []) → IsNotified a kind (touched e.volumes []) made × (made.change ≡ Some (changes.Remove kind id))
-    × (made.answer ≡ answers.Changed (view_of a caller.uss e) (notices_in a kind (touched e.volumes [])))) → Prepares salt t c g a made
-makes_delete salt t c g a caller kind id ovn e made who op found makes proper first regards =
-    let there = found_is a c g (Delete kind id ovn) e op found regards in
-    let room = room_of a t c first (ap is_change op) in
-    let areas = touched e.volumes [] in
-    let is = makes (notified_rise a proper room kind areas) in
-    let answer = answers.Changed (view_of a caller.uss e) (notices_in a kind areas) in
-    makes_from salt t c g a made (Some (changes.Remove kind id)) (ids_for a kind areas) answer
-    (effect_is salt a c caller (Delete kind id ovn) who op ∙ (ap (delete_effect a caller.uss (kind, id)) there
-    ∙ ap (λ (m : Subscriptions). (record (without_entity a (kind, id)) { subscriptions = m }, Done answer)) (sym (told_alike a proper kind areas))))
-    is.1 is.0 is.2 (record { room = room; due = ap is_some there; tells = notified_there a proper kind areas })
-
-pub makes_set : (salt : List ℕ) (t : ℕ) (c : Call) (g : own.Facts) (a : Airspace) (caller : Caller) (uss old : List ℕ) (availability : Availability) (next : ℕ) (made : Made) → c.caller ≡ Some caller → c.op ≡ SetAvail uss old availability
-    → (g.serial < greatest_serial → next ≡ g.serial + 1) → made.change ≡ Some (changes.Avail uss availability (ovn_text salt next)) → made.notify ≡ [] → made.answer ≡ answers.Avail uss availability (ovn_text salt next) → Prepares salt t c g a made
-makes_set salt t c g a caller uss old availability next made who op goes one ids two proper first regards =
-    let n = next_is a t c g next first (ap is_change op) regards goes in
-    makes_from salt t c g a made (Some (changes.Avail uss availability (ovn_text salt next))) [] (answers.Avail uss availability (ovn_text salt next))
-    (effect_is salt a c caller (SetAvail uss old availability) who op
-    ∙ ap (λ (k : ℕ). (with_availability a uss (availability, ovn_text salt k), Done (answers.Avail uss availability (ovn_text salt k)))) (sym n))
-    one ids two (record { room = room_of a t c first (ap is_change op); due = tt; tells = refl })
-
--- ---- the effects on subscriptions
-
-sub_is : (a : Airspace) (c : Call) (g : own.Facts) (op : Operation) (s : Sub) → c.op ≡ op → g.sub ≡ Some s → AreFacts c.op a g → sub_of a op ≡ Some s
-sub_is a c g op s is found regards = ap (sub_of a) (sym is) ∙ (sym (ap (λ (f : Facts). f.sub) regards) ∙ found)
 
 same_seen : (a : Airspace) (uss : List ℕ) (s x : Sub) → stored_reply (with_subscription a s) uss x ≡ stored_reply a uss x
 unfolding view_of
 same_seen a uss s x = refl
 
-put_sub_made : (salt : List ℕ) (t : ℕ) (c : Call) (g : own.Facts) (a : Airspace) (uss : List ℕ) (s : Sub) (made : Made) → effect salt a c.caller c.op ≡ put_sub_effect a uss s → PutsSub s a uss made → Fits (changes.PutSub s) [] a → Makes salt t c g a made.change made.notify made.answer
-put_sub_made salt t c g a uss s made e puts fits =
-    makes_from salt t c g a made (Some (changes.PutSub s)) [] (answers.SubStored (seen_sub a s) (seen_of kinds.Intent a uss s) (seen_of kinds.Constraint a uss s))
-    (e ∙ ap (λ (r : Reply). (with_subscription a s, r)) (same_seen a uss s s)) puts.0 puts.1 puts.2 fits
+-- those whom a change of an entity notifies, by their ids
+abbrev ids_for : Airspace → Kind → List Region → List ℕ
+ids_for a kind areas = map (λ s. s.id) (subscribers_in a.subscriptions kind areas)
 
-pub makes_create_sub : (salt : List ℕ) (t : ℕ) (c : Call) (g : own.Facts) (a : Airspace) (caller : Caller) (id : ℕ) (put : SubPut) (next : ℕ) (made : Made) → c.caller ≡ Some caller → c.op ≡ CreateSub id put → (g.serial < greatest_serial → next ≡ g.serial + 1)
-    → PutsSub (sub_kept_as salt next caller.uss 0 id put) a caller.uss made → Prepares salt t c g a made
-makes_create_sub salt t c g a caller id put next made who op goes puts proper first regards =
-    let n = next_is a t c g next first (ap is_change op) regards goes in
-    put_sub_made salt t c g a caller.uss (sub_kept_as salt next caller.uss 0 id put) made
-    (effect_is salt a c caller (CreateSub id put) who op ∙ ap (λ (k : ℕ). put_sub_effect a caller.uss (sub_kept_as salt k caller.uss 0 id put)) (sym n))
-    puts (record { room = room_of a t c first (ap is_change op); due = (n, omega arith); tells = refl })
+module _ (q : Admitted) (is_admitted : IsAdmitted q) (g : own.Facts) (a : Airspace) where
+  abbrev salt : List ℕ
+  salt = q.salt.now
 
-pub makes_update_sub : (salt : List ℕ) (t : ℕ) (c : Call) (g : own.Facts) (a : Airspace) (caller : Caller) (id : ℕ) (version : List ℕ) (put : SubPut) (old : Sub) (next : ℕ) (made : Made) → c.caller ≡ Some caller → c.op ≡ UpdateSub id version put → g.sub ≡ Some old
-    → (g.serial < greatest_serial → next ≡ g.serial + 1) → PutsSub (sub_kept_as salt next old.manager old.index id put) a caller.uss made → Prepares salt t c g a made
-makes_update_sub salt t c g a caller id version put old next made who op found goes puts proper first regards =
-    let n = next_is a t c g next first (ap is_change op) regards goes in
-    let there = sub_is a c g (UpdateSub id version put) old op found regards in
-    put_sub_made salt t c g a caller.uss (sub_kept_as salt next old.manager old.index id put) made
-    (effect_is salt a c caller (UpdateSub id version put) who op ∙ (ap (update_sub_effect salt a caller.uss id put) there
-    ∙ ap (λ (k : ℕ). put_sub_effect a caller.uss (sub_kept_as salt k old.manager old.index id put)) (sym n)))
-    puts (record { room = room_of a t c first (ap is_change op); due = (n, told_within a id old proper there); tells = refl })
+  abbrev call : Call
+  call = q.call.now
 
-pub makes_delete_sub : (salt : List ℕ) (t : ℕ) (c : Call) (g : own.Facts) (a : Airspace) (caller : Caller) (id : ℕ) (version : List ℕ) (s : Sub) (made : Made) → c.caller ≡ Some caller → c.op ≡ DeleteSub id version → g.sub ≡ Some s
-    → made.change ≡ Some (changes.RemoveSub id) → made.notify ≡ [] → made.answer ≡ answers.SubFound (seen_sub a s) → Prepares salt t c g a made
-makes_delete_sub salt t c g a caller id version s made who op found one ids two proper first regards =
-    let there = sub_is a c g (DeleteSub id version) s op found regards in
-    makes_from salt t c g a made (Some (changes.RemoveSub id)) [] (answers.SubFound (seen_sub a s))
-    (effect_is salt a c caller (DeleteSub id version) who op ∙ ap (delete_sub_effect a id) there)
-    one ids two (record { room = room_of a t c first (ap is_change op); due = (ap is_some there, named_by_none a t c id version first op); tells = refl })
+  abbrev uss : List ℕ
+  uss = q.caller.now.uss
+
+  makes_from : (made : Made) (change : Option space_change.Change) (told : List ℕ) (answer : Answer)
+      → effect salt a call.caller call.op ≡ (changed_by change told a, Done answer) → made.change ≡ change → made.notify ≡ told → made.answer ≡ answer → IfSome change (λ x. Fits x told a) → Makes q a made.change made.notify made.answer
+  makes_from made change told answer e one ids two fits = record {
+    effect = e ∙ (λ i. (changed_by (sym one i) (sym ids i) a, Done (sym two i)));
+    fits = subst (λ (x : Option space_change.Change). IfSome x (λ y. Fits y made.notify a)) (sym one) (subst (λ (k : List ℕ). IfSome change (λ y. Fits y k a)) (sym ids) fits);
+  }
+
+  effect_is : (op : Operation) → call.op ≡ op → effect salt a call.caller call.op ≡ effect_by salt a q.caller.now op
+  effect_is op is = ap (λ (o : Option Caller). effect salt a o call.op) is_admitted.caller ∙ ap (effect_by salt a q.caller.now) is
+
+  next_is : (next : ℕ) → first_broken a q.moment call ≡ None → is_change call.op ≡ true → AreFacts call.op a g → (g.serial < greatest_serial → next ≡ g.serial + 1) → next ≡ a.serial + 1
+  next_is next first is regards goes =
+      goes (subst (λ (k : ℕ). k < greatest_serial) (sym (ap (λ (f : Facts). f.serial) regards)) (room_of a q.moment call first is)) ∙ ap (λ (f : Facts). f.serial + 1) regards
+
+  found_is : (op : Operation) (e : Entity) → call.op ≡ op → g.found ≡ Some e → AreFacts call.op a g → found_of a op ≡ Some e
+  found_is op e is found regards = ap (found_of a) (sym is) ∙ (sym (ap (λ (f : Facts). f.found) regards) ∙ found)
+
+  -- what is put, with those told whom that notifies
+  put_made : (answer : Reference → List Notify → Answer) (old : List Extent) (e : Entity) (made : Made) → IsAirspace a
+      → effect salt a call.caller call.op ≡ (kept_with a old e, Done (answer (view_of (kept_with a old e) uss e) (notices_in a (kind_of e.nature) (touched old e.volumes))))
+      → PutsEntity answer uss old e a made → a.serial < greatest_serial → (e.serial ≡ a.serial + 1) × HasNamed a (subscription_of e.nature) → Makes q a made.change made.notify made.answer
+  put_made answer old e made proper is puts room due =
+      let kind = kind_of e.nature in
+      let areas = touched old e.volumes in
+      let told = notices_in a kind areas in
+      let it = puts (notified_rise a proper room kind areas) in
+      makes_from made (Some (changes.Put e)) (ids_for a kind areas) (answer (view_of a uss e) told)
+      (is ∙ (ap (λ (r : Reference). (kept_with a old e, Done (answer r told))) (same_view a uss old e e)
+      ∙ ap (λ (m : Subscriptions). (record (with_entity a e) { subscriptions = m }, Done (answer (view_of a uss e) told))) (sym (told_alike a proper kind areas))))
+      it.1 it.0 it.2 (record { room = room; due = due; tells = notified_there a proper kind areas })
+
+  pub makes_create : (id : ℕ) (put : Put) (next : ℕ) (made : Made) → call.op ≡ Create id put → (g.serial < greatest_serial → next ≡ g.serial + 1)
+      → PutsEntity answers.Created uss [] (created salt next uss id put) a made → Prepares q g a made
+  makes_create id put next made op goes puts proper first regards =
+      let n = next_is next first (ap is_change op) regards goes in
+      put_made answers.Created [] (created salt next uss id put) made proper
+      (effect_is (Create id put) op ∙ ap (λ (k : ℕ). create_effect a uss (created salt k uss id put)) (sym n))
+      puts (room_of a q.moment call first (ap is_change op)) (n, create_named a q.moment call q.caller.now id put first is_admitted.caller op)
+
+  pub makes_update : (id : ℕ) (ovn : List ℕ) (put : Put) (old : Entity) (next : ℕ) (made : Made) → call.op ≡ Update id ovn put → g.found ≡ Some old → (g.serial < greatest_serial → next ≡ g.serial + 1)
+      → (old.version < greatest_version → PutsEntity answers.Changed uss old.volumes (updated salt next id put old) a made) → Prepares q g a made
+  makes_update id ovn put old next made op found goes puts proper first regards =
+      let n = next_is next first (ap is_change op) regards goes in
+      let there = found_is (Update id ovn put) old op found regards in
+      put_made answers.Changed old.volumes (updated salt next id put old) made proper
+      (effect_is (Update id ovn put) op ∙ (ap (update_effect salt a uss id put) there ∙ ap (λ (k : ℕ). put_effect a uss old.volumes (updated salt k id put old)) (sym n)))
+      (puts (unspent a q.moment call id ovn put old first op there)) (room_of a q.moment call first (ap is_change op)) (n, update_named a q.moment call q.caller.now id ovn put first is_admitted.caller op)
+
+  pub makes_delete : (kind : Kind) (id : ℕ) (ovn : List ℕ) (e : Entity) (made : Made) → call.op ≡ Delete kind id ovn → g.found ≡ Some e
+      → Announces kind (touched e.volumes []) (changes.Remove kind id) (answers.Changed (view_of a uss e)) a made → Prepares q g a made
+  makes_delete kind id ovn e made op found makes proper first regards =
+      let there = found_is (Delete kind id ovn) e op found regards in
+      let room = room_of a q.moment call first (ap is_change op) in
+      let areas = touched e.volumes [] in
+      let is = makes (notified_rise a proper room kind areas) in
+      let answer = answers.Changed (view_of a uss e) (notices_in a kind areas) in
+      makes_from made (Some (changes.Remove kind id)) (ids_for a kind areas) answer
+      (effect_is (Delete kind id ovn) op ∙ (ap (delete_effect a uss (kind, id)) there
+      ∙ ap (λ (m : Subscriptions). (record (without_entity a (kind, id)) { subscriptions = m }, Done answer)) (sym (told_alike a proper kind areas))))
+      is.1 is.0 is.2 (record { room = room; due = ap is_some there; tells = notified_there a proper kind areas })
+
+  pub makes_set : (named old : List ℕ) (availability : Availability) (next : ℕ) (made : Made) → call.op ≡ SetAvail named old availability → (g.serial < greatest_serial → next ≡ g.serial + 1)
+      → made.change ≡ Some (changes.Avail named availability (ovn_text salt next)) → made.notify ≡ [] → made.answer ≡ answers.Avail named availability (ovn_text salt next) → Prepares q g a made
+  makes_set named old availability next made op goes one ids two proper first regards =
+      let n = next_is next first (ap is_change op) regards goes in
+      makes_from made (Some (changes.Avail named availability (ovn_text salt next))) [] (answers.Avail named availability (ovn_text salt next))
+      (effect_is (SetAvail named old availability) op
+      ∙ ap (λ (k : ℕ). (with_availability a named (availability, ovn_text salt k), Done (answers.Avail named availability (ovn_text salt k)))) (sym n))
+      one ids two (record { room = room_of a q.moment call first (ap is_change op); due = tt; tells = refl })
+
+  -- ---- the effects on subscriptions
+
+  sub_is : (op : Operation) (s : Sub) → call.op ≡ op → g.sub ≡ Some s → AreFacts call.op a g → sub_of a op ≡ Some s
+  sub_is op s is found regards = ap (sub_of a) (sym is) ∙ (sym (ap (λ (f : Facts). f.sub) regards) ∙ found)
+
+  put_sub_made : (s : Sub) (made : Made) → effect salt a call.caller call.op ≡ put_sub_effect a uss s → PutsSub s a uss made → Fits (changes.PutSub s) [] a → Makes q a made.change made.notify made.answer
+  put_sub_made s made e puts fits =
+      makes_from made (Some (changes.PutSub s)) [] (answers.SubStored (seen_sub a s) (seen_of kinds.Intent a uss s) (seen_of kinds.Constraint a uss s))
+      (e ∙ ap (λ (r : Reply). (with_subscription a s, r)) (same_seen a uss s s)) puts.0 puts.1 puts.2 fits
+
+  pub makes_create_sub : (id : ℕ) (put : SubPut) (next : ℕ) (made : Made) → call.op ≡ CreateSub id put → (g.serial < greatest_serial → next ≡ g.serial + 1)
+      → PutsSub (sub_kept_as salt next uss 0 id put) a uss made → Prepares q g a made
+  makes_create_sub id put next made op goes puts proper first regards =
+      let n = next_is next first (ap is_change op) regards goes in
+      put_sub_made (sub_kept_as salt next uss 0 id put) made
+      (effect_is (CreateSub id put) op ∙ ap (λ (k : ℕ). put_sub_effect a uss (sub_kept_as salt k uss 0 id put)) (sym n))
+      puts (record { room = room_of a q.moment call first (ap is_change op); due = (n, omega arith); tells = refl })
+
+  pub makes_update_sub : (id : ℕ) (version : List ℕ) (put : SubPut) (old : Sub) (next : ℕ) (made : Made) → call.op ≡ UpdateSub id version put → g.sub ≡ Some old → (g.serial < greatest_serial → next ≡ g.serial + 1)
+      → PutsSub (sub_kept_as salt next old.manager old.index id put) a uss made → Prepares q g a made
+  makes_update_sub id version put old next made op found goes puts proper first regards =
+      let n = next_is next first (ap is_change op) regards goes in
+      let there = sub_is (UpdateSub id version put) old op found regards in
+      put_sub_made (sub_kept_as salt next old.manager old.index id put) made
+      (effect_is (UpdateSub id version put) op ∙ (ap (update_sub_effect salt a uss id put) there
+      ∙ ap (λ (k : ℕ). put_sub_effect a uss (sub_kept_as salt k old.manager old.index id put)) (sym n)))
+      puts (record { room = room_of a q.moment call first (ap is_change op); due = (n, told_within a id old proper there); tells = refl })
+
+  pub makes_delete_sub : (id : ℕ) (version : List ℕ) (s : Sub) (made : Made) → call.op ≡ DeleteSub id version → g.sub ≡ Some s
+      → made.change ≡ Some (changes.RemoveSub id) → made.notify ≡ [] → made.answer ≡ answers.SubFound (seen_sub a s) → Prepares q g a made
+  makes_delete_sub id version s made op found one ids two proper first regards =
+      let there = sub_is (DeleteSub id version) s op found regards in
+      makes_from made (Some (changes.RemoveSub id)) [] (answers.SubFound (seen_sub a s))
+      (effect_is (DeleteSub id version) op ∙ ap (delete_sub_effect a id) there)
+      one ids two (record { room = room_of a q.moment call first (ap is_change op); due = (ap is_some there, named_by_none a q.moment call id version first op); tells = refl })

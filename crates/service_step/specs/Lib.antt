@@ -1,4 +1,5 @@
 pub mod Reply
 pub mod Step
+pub mod Admitted
 pub mod Looks
 pub mod Needed

@@ -1,6 +1,7 @@
 -- What the looks at a space tell and leave, before anything is changed.
 use Rattle.std.specs.List.{AllByRecursion}
-use Rattle.grid_core.specs.Extent.{Region}
+use Rattle.grid_core.specs.Extent.{Extent, Region}
+use Rattle.entity_core.specs.Entity.{kind_of}
 use Rattle.entity_core.specs.Search.{subscribers_in}
 use Rattle.entity_core.specs.Serial.{greatest_serial}
 use Rattle.entity_core.specs.declared.nature.Kind.{Kind}
@@ -12,11 +13,11 @@ use Rattle.space_core.specs.declared.space.Change.TheVariants as changes
 use Rattle.entity_core.specs.declared.nature.Kind.TheVariants as kinds
 use Rattle.entity_core.specs.Airspace.{Airspace, IsAirspace}
 use Rattle.space_core.specs.Space.{greatest_count, changed, Fits}
-use Rattle.policy_core.specs.declared.call.Call.{Call}
 use Rattle.policy_core.specs.declared.call.Operation.{Operation}
 use Rattle.policy_core.specs.declared.call.Operation.TheVariants.{Read, Update, Delete, ReadSub, UpdateSub, DeleteSub}
 use Rattle.entity_core.specs.declared.entity.Entity.{Entity}
 use Rattle.entity_core.specs.declared.subscription.Sub.{Sub}
+use Rattle.service_step.specs.declared.admitted.Admitted.{Admitted}
 use Rattle.service_step.specs.declared.halt.Halt.{Halt}
 use Rattle.service_step.specs.declared.halt.Halt.TheVariants.{NoMemory, Space}
 use Rattle.service_step.specs.declared.look.Facts as own
@@ -24,8 +25,12 @@ use Rattle.service_step.specs.declared.made.Made.{Made}
 use Rattle.service_step.specs.declared.reply.Answer.{Answer}
 use Rattle.service_step.specs.declared.reply.Answer.TheVariants.{SubStored}
 use Rattle.service_step.specs.declared.reply.Reply.TheVariants.{Done}
-use Rattle.policy_core.specs.Policy.{first_broken}
 use Rattle.policy_core.specs.Standing.{Facts, Regards}
+use Rattle.policy_core.specs.View.{view_of}
+use Rattle.policy_core.specs.declared.reference.Reference.{Reference}
+use Rattle.service_notices.specs.Notices.{notices_in, touched}
+use Rattle.service_notices.specs.declared.notice.Notify.{Notify}
+use Rattle.service_step.specs.Admitted.{BreaksNone}
 use Rattle.service_step.specs.Step.{effect, seen_of, seen_sub}
 
 -- P, but where the space broke
@@ -83,15 +88,17 @@ changed_by None told a = a
 changed_by (Some change) told a = changed change told a
 
 -- A change and an answer are the effect of a call that breaks no rule, and the change can be made.
-pub record Makes (salt : List ℕ) (now : ℕ) (c : Call) (g : own.Facts) (a : Airspace)
-    (change : Option Change) (told : List ℕ) (answer : Answer) : Type 0 where
-  pub effect : effect salt a c.caller c.op ≡ (changed_by change told a, Done answer)
+pub record Makes (admitted : Admitted) (a : Airspace) (change : Option Change) (told : List ℕ)
+    (answer : Answer) : Type 0 where
+  pub effect : effect admitted.salt.now a admitted.call.now.caller admitted.call.now.op
+      ≡ (changed_by change told a, Done answer)
   pub fits : IfSome change (λ change. Fits change told a)
 
 -- for each airspace that may be kept in which the call breaks no rule
-abbrev pub Prepares : List ℕ → ℕ → Call → own.Facts → Airspace → Made → Type 0
-Prepares salt now c g a made = IsAirspace a → first_broken a now c ≡ None → AreFacts c.op a g
-    → Makes salt now c g a made.change made.notify made.answer
+abbrev pub Prepares : Admitted → own.Facts → Airspace → Made → Type 0
+Prepares admitted g a made =
+    IsAirspace a → BreaksNone admitted a → AreFacts admitted.call.now.op a g
+    → Makes admitted a made.change made.notify made.answer
 
 -- A change puts a subscription and notifies nobody, and its answer is what a supplier sees of it and
 -- of what it is for.
@@ -108,3 +115,18 @@ CanTell a kind areas =
 abbrev pub IsNotified : Airspace → Kind → List Region → Made → Type 0
 IsNotified a kind areas made =
     made.notify ≡ map (λ s. s.id) (subscribers_in a.subscriptions kind areas)
+
+-- A change of a kind is this one; it notifies those that are for that and meet some area, and its
+-- answer tells what they are told. It does where the index of each can rise.
+abbrev pub Announces : Kind → List Region → Change → (List Notify → Answer) → Airspace → Made
+    → Type 0
+Announces kind areas change answer a made = CanTell a kind areas
+    → IsNotified a kind areas made × (made.change ≡ Some change)
+    × (made.answer ≡ answer (notices_in a kind areas))
+
+-- it puts an entity, where these were its volumes before, and the answer has its reference
+abbrev pub PutsEntity : (Reference → List Notify → Answer) → List ℕ → List Extent → Entity
+    → Airspace → Made → Type 0
+PutsEntity answer uss old e a made =
+    Announces (kind_of e.nature) (touched old e.volumes) (changes.Put e)
+    (answer (view_of a uss e)) a made

@@ -1,8 +1,11 @@
 -- What a put needs to know, beside the availabilities of those who manage it.
-use Rattle.std.specs.Prelude.{◌≡◌, length, map}
+use Rattle.std.specs.Prelude.{◌≡◌, List, Some, length, map}
 use Rattle.entity_core.specs.Airspace.{Airspace, availability_of}
 use Rattle.entity_core.specs.declared.availability.Availability.{Availability}
 use Rattle.entity_core.specs.declared.entity.Entity.{Entity}
+use Rattle.entity_core.specs.declared.nature.Kind.{Kind}
+use Rattle.policy_core.specs.Missing.{needed_with}
+use Rattle.service_step.specs.declared.needed.JudgedPut.{JudgedPut}
 use Rattle.service_step.specs.declared.needed.Needed.{Needed}
 
 -- the availability that the manager of an entity has in an airspace
@@ -16,3 +19,13 @@ IsPaired needed = length needed.availabilities.items ≡ length needed.entities.
 -- the availabilities are those of the managers in an airspace
 abbrev pub ArePresent : Airspace → Needed → Type 0
 ArePresent a needed = needed.availabilities.items ≡ map (manager_has a) needed.entities.items
+
+-- what a put that is judged needs to know of a kind
+abbrev pub needed_by : Kind → Airspace → JudgedPut → List Entity
+needed_by kind a judged =
+    needed_with kind a (Some judged.caller.now) judged.sub.now judged.id judged.put.now
+
+-- it is that, with the availabilities
+abbrev pub IsNeededFor : Kind → JudgedPut → Airspace → Needed → Type 0
+IsNeededFor kind judged a needed =
+    (needed.entities.items ≡ needed_by kind a judged) × ArePresent a needed

@@ -1,12 +1,12 @@
 //! The effects of the operations on entities.
-ghost use Rattle.std.specs.Prelude.{◌≡◌, ◌+◌, ◌<◌, IfOk, Some, None, map, [], ◌∷◌};
+ghost use Rattle.std.specs.Prelude.{◌≡◌, ◌+◌, ◌<◌, IfOk, None, map, [], ◌∷◌};
 ghost use Rattle.entity_core.specs.Serial.{greatest_serial};
-ghost use Rattle.entity_core.specs.Entity.{greatest_version, kind_of};
+ghost use Rattle.entity_core.specs.Entity.{greatest_version};
 ghost use Rattle.entity_core.specs.Search.{meeting_in, subscribers_in};
 ghost use Rattle.policy_core.specs.View.{view_of};
-ghost use Rattle.service_step.specs.Looks.{CanTell, IsNotified, Looks};
+ghost use Rattle.service_step.specs.Looks.{Announces, CanTell, Looks, PutsEntity};
 ghost use Rattle.service_notices.specs.Notices.{notices_in, notified_in, touched};
-ghost use Rattle.service_step.specs.Step.{kept_as};
+ghost use Rattle.service_step.specs.Step.{created, kept_as, updated};
 
 use crate::halt::Halt;
 use crate::look::{look_meeting, look_subscribers, reference, references};
@@ -153,12 +153,7 @@ pub fn creation<S: Space>(
     put: &Put,
 ) -> Result<Made, Halt>
     ensures { Looks S.Space space.old space.new result
-        (λ a made. CanTell a (kind_of put.now.nature) (touched [] put.now.volumes)
-        → IsNotified a (kind_of put.now.nature) (touched [] put.now.volumes) made
-        × (made.change ≡ Some (Change.Put (kept_as salt.now serial uss.now 1 id put.now)))
-        × (made.answer ≡ Answer.Created
-        (view_of a uss.now (kept_as salt.now serial uss.now 1 id put.now))
-        (notices_in a (kind_of put.now.nature) (touched [] put.now.volumes)))) }
+        (PutsEntity Answer.Created uss.now [] (created salt.now serial uss.now id put.now)) }
 {
     let entity = entity_of(alloc, salt, serial, uss, Version::first(), id, put)?;
     let shown = reference(space, uss, &entity)?;
@@ -185,13 +180,8 @@ pub fn update<S: Space>(
 ) -> Result<Made, Halt>
     ensures { Looks S.Space space.old space.new result
         (λ a made. old.now.version < greatest_version
-        → CanTell a (kind_of put.now.nature) (touched old.now.volumes put.now.volumes)
-        → IsNotified a (kind_of put.now.nature) (touched old.now.volumes put.now.volumes) made
-        × (made.change ≡ Some (Change.Put
-        (kept_as salt.now serial old.now.manager (old.now.version + 1) id put.now)))
-        × (made.answer ≡ Answer.Changed (view_of a uss.now
-        (kept_as salt.now serial old.now.manager (old.now.version + 1) id put.now))
-        (notices_in a (kind_of put.now.nature) (touched old.now.volumes put.now.volumes)))) }
+        → PutsEntity Answer.Changed uss.now old.now.volumes
+        (updated salt.now serial id put.now old.now) a made) }
 {
     let version = next_version(old.version);
     let entity = entity_of(alloc, salt, serial, &old.manager, version, id, put)?;
@@ -215,11 +205,8 @@ pub fn removal<S: Space>(
     entity: &Entity,
 ) -> Result<Made, Halt>
     ensures { Looks S.Space space.old space.new result
-        (λ a made. CanTell a kind (touched entity.now.volumes [])
-        → IsNotified a kind (touched entity.now.volumes []) made
-        × (made.change ≡ Some (Change.Remove kind id))
-        × (made.answer ≡ Answer.Changed (view_of a uss.now entity.now)
-        (notices_in a kind (touched entity.now.volumes [])))) }
+        (λ a made. Announces kind (touched entity.now.volumes []) (Change.Remove kind id)
+        (Answer.Changed (view_of a uss.now entity.now)) a made) }
 {
     let shown = reference(space, uss, entity)?;
     let areas = entity.volumes.areas(alloc)?;

@@ -2,6 +2,7 @@
 //! put needs to know, and what is made for a call before anything is changed.
 #![tactic(auto)]
 
+pub mod admitted;
 mod availability_effects;
 pub mod effects;
 mod entity_effects;

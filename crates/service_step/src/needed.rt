@@ -5,11 +5,11 @@ ghost use Rattle.grid_core.specs.Extent.{region_of};
 ghost use Rattle.entity_core.specs.Airspace.{Airspace};
 ghost use Rattle.entity_core.specs.Entity.{subscription_of};
 ghost use Rattle.entity_core.specs.declared.entity.Entity.{Entity};
-ghost use Rattle.policy_core.specs.Missing.{put_needs, is_for_constraints, excepted, needs_constraints, missing_from, needed_with, unspared};
+ghost use Rattle.policy_core.specs.Missing.{put_needs, is_for_constraints, excepted, needs_constraints, missing_from, unspared};
 ghost use Rattle.policy_core.specs.View.{view_of};
 ghost use Rattle.space_core.specs.Met.{met_of};
 ghost use Rattle.service_step.specs.Looks.{Looks};
-ghost use Rattle.service_step.specs.Needed.{ArePresent, IsPaired, manager_has};
+ghost use Rattle.service_step.specs.Needed.{ArePresent, IsNeededFor, IsPaired, manager_has};
 
 use crate::halt::Halt;
 use crate::look::look_meeting;
@@ -28,6 +28,15 @@ use policy_core::scope::{Caller, Scope};
 use space_core::met::Met;
 use space_core::space::Space;
 use std::alloc::{AllocError, Global};
+
+/// A put that is judged: its id, who makes it, and the subscription that it names, if that is there.
+#[derive(Clone, Copy)]
+pub struct JudgedPut<'c> {
+    pub id: EntityId,
+    pub put: &'c Put,
+    pub sub: &'c Option<Sub>,
+    pub caller: &'c Caller,
+}
 
 /// Entities that a put needs to know, in their order, and the present availability of the manager of
 /// each, at its place.
@@ -115,28 +124,22 @@ fn unspared(alloc: Global, met: Vec<Met>) -> Result<Needed, AllocError>
     })
 }
 
-/// What a put under an id needs to know of a kind, by rising ids, where this is the subscription
-/// that it names. The areas are its volumes'.
+/// What a put needs to know of a kind, by rising ids. The areas are its volumes'.
 pub fn needed_with<S: Space>(
     space: &mut S,
     alloc: Global,
     kind: Kind,
-    caller: &Caller,
-    id: EntityId,
-    put: &Put,
-    sub: &Option<Sub>,
+    judged: &JudgedPut<'_>,
     areas: &[Area],
 ) -> Result<Needed, Halt>
-    requires areas { areas.now ≡ map region_of put.now.volumes }
-    ensures looks { Looks S.Space space.old space.new result (λ a needed.
-        (needed.entities.items ≡ needed_with kind a (Some caller.now) sub.now id put.now)
-        × ArePresent a needed) }
+    requires areas { areas.now ≡ map region_of judged.now.put.now.volumes }
+    ensures looks { Looks S.Space space.old space.new result (IsNeededFor kind judged.now) }
     ensures paired { IfOk result IsPaired }
 {
-    if !put_needs(kind, caller, put, sub) {
+    if !put_needs(kind, judged.caller, judged.put, judged.sub) {
         return Ok(Needed::nothing(alloc));
     }
-    let met = look_meeting(space, kind, areas, excepted(kind, id))?;
+    let met = look_meeting(space, kind, areas, excepted(kind, judged.id))?;
     Ok(unspared(alloc, met)?)
 }
 

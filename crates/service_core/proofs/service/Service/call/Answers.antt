@@ -56,8 +56,11 @@ pub unreachable-requires : goal.unreachable-requires
 unreachable-requires g c =
     has_caller (empty_at 0) c.args.now c.args.call.now.caller c.args.call.now.op c.in_default-caller.is (sym (c.early.ensures (empty_at 0) c.args.now) ∙ c.in_default.is)
 
-pub answered-reply-requires-clause-early : goal.answered-reply-requires-clause-early
-answered-reply-requires-clause-early g c a = sym (c.early.ensures a c.args.now) ∙ c.in_default.is
+pub answered-reply-requires : goal.answered-reply-requires
+answered-reply-requires g c = record {
+  caller = c.in-Some-caller.is;
+  early = λ a. sym (c.early.ensures a c.args.now) ∙ c.in_default.is;
+}
 
 pub returns-in-Some-clause-stale : goal.returns-in-Some-clause-stale
 returns-in-Some-clause-stale g c n s a content kind y is =
