@@ -3,7 +3,7 @@ use Rattle.std.proofs.Common.{◌≡◌, ℕ, List, [], ◌++◌, refl, sym, ap,
 use Rattle.std.proofs.lemmas.List.{append-nil, take_all, length-drop}
 use Rattle.std.proofs.Math.Seq.{take-add}
 use Rattle.std.specs.Io.KnownBytes.{Appends, Consumes, IsAtEnd}
-use Rattle.wire_http.specs.Input.{Came, IsInput, known_bytes}
+use Rattle.wire_http.specs.Input.{IsInput, known_bytes}
 
 pub Appends_more : (a b c : Option (List ℕ)) (x y : List ℕ) → Appends a b x → Appends b c y → Appends a c (x ++ y)
 Appends_more None b c x y p q = tt
@@ -35,12 +35,6 @@ Appends_nil (Some s) = sym (append-nil s)
 pub Consumes_nil : (a : Option (List ℕ)) → Consumes a a []
 Consumes_nil None = tt
 Consumes_nil (Some s) = refl
-
-pub Came_nil : (a : Option (List ℕ)) (x : List ℕ) → Came a a x x
-Came_nil a x = ([], sym (append-nil x), Consumes_nil a)
-
-pub Came_more : (a b c : Option (List ℕ)) (x y z : List ℕ) → Came a b x y → Came b c y z → Came a c x z
-Came_more a b c x y z (m, e, p) (n, f, q) = (m ++ n, f ∙ ap (λ v. v ++ n) e ∙ append_assoc x m n, Consumes_more a b c m n p q)
 
 pub known_end : (a : Option (List ℕ)) → IsAtEnd a → known_bytes a ≡ []
 known_end None e = refl

@@ -1,10 +1,11 @@
 pub mod CallLaws
 pub mod CallUnique
-pub mod CountLaws
 pub mod KnownBytes
 pub mod NextLaws
+pub mod SourceLaws
 pub mod StopLaws
 pub mod StreamLaws
 pub mod StreamUnique
+pub mod Told
 pub mod TurnLaws
 pub mod Written

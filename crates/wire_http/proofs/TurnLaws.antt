@@ -23,6 +23,7 @@ use Rattle.wire_http.specs.declared.request.Next.{Next}
 use Rattle.wire_http.specs.declared.request.Next.TheVariants.{Request, Stop}
 use Rattle.wire_http.specs.declared.serve.Turn.{Turn}
 use Rattle.wire_http.specs.declared.serve.Turn.TheVariants.{Answered, Ended}
+use Rattle.wire_http.specs.declared.source.Source.{Source}
 use Rattle.wire_http.specs.Asked.{IsCallOf}
 use Rattle.wire_head.specs.Close.{closes_by}
 use Rattle.wire_http.specs.Fault.{GaveUpAnswering, GaveUpAsking, GaveUpReading, IsOfAnswering, IsOfAsking}
@@ -31,6 +32,7 @@ use Rattle.wire_head.specs.Found.{Covers}
 use Rattle.wire_http.specs.Next.{IsNext, NextFits, body_at}
 use Rattle.wire_http.specs.Reply.{Replies, RepliesPart}
 use Rattle.wire_head.specs.Rest.{after}
+use Rattle.wire_http.specs.Source.{HasGivenUp}
 use Rattle.wire_http.specs.Stop.{StopsAs}
 use Rattle.wire_http.specs.Text.{end_texts, rule_text}
 use Rattle.wire_http.specs.Turn.{Took, IsTurn, IsTurnPart, MayGoOn, StopsInRule}
@@ -56,12 +58,12 @@ unread_next b buffer rest left h len size e l fits d =
 
 module _ {M : Type 0} (Gives : M → ℕ → M → Type 0) (callers : Callers) where
   -- no moment was asked for
-  pub clock_read : (fault : StreamFault) (f f' : ℕ) (b : Bool) (k : ℕ) (left : List ℕ) (clock : M) → GaveUpReading fault f f' b k → ClockAfter Gives callers fault left clock clock
-  clock_read faults.Read f f' b k left clock g = refl
-  clock_read faults.Write f f' b k left clock g = absurd g
-  clock_read faults.Clock f f' b k left clock g = absurd g
-  clock_read faults.Memory f f' b k left clock g = inl refl
-  clock_read faults.Turns f f' b k left clock g = refl
+  clock_read : {R : Type 0} (a b : Source R) (fault : StreamFault) (left : List ℕ) (clock : M) → GaveUpReading a b fault → ClockAfter Gives callers fault left clock clock
+  clock_read a b faults.Read left clock g = refl
+  clock_read a b faults.Write left clock g = absurd g
+  clock_read a b faults.Clock left clock g = absurd g
+  clock_read a b faults.Memory left clock g = inl refl
+  clock_read a b faults.Turns left clock g = refl
 
   -- a moment was asked for, and perhaps taken
   clock_asked : (fault : StreamFault) (f f' : ℕ) (left : List ℕ) (h : RequestHead) (body : List ℕ) (clock clock' : M)
@@ -74,12 +76,12 @@ module _ {M : Type 0} (Gives : M → ℕ → M → Type 0) (callers : Callers) w
   clock_asked faults.Turns f f' left h body clock clock' x g t = absurd g
 
 -- what gives up reading, asking and answering
-of_reading : (fault : StreamFault) (f f' : ℕ) (b : Bool) (k : ℕ) → GaveUpReading fault f f' b k → IsOfAsking fault
-of_reading faults.Read f f' b k g = tt
-of_reading faults.Write f f' b k g = g
-of_reading faults.Clock f f' b k g = tt
-of_reading faults.Memory f f' b k g = tt
-of_reading faults.Turns f f' b k g = tt
+of_reading : {R : Type 0} (a b : Source R) (fault : StreamFault) → GaveUpReading a b fault → IsOfAsking fault
+of_reading a b faults.Read g = tt
+of_reading a b faults.Write g = g
+of_reading a b faults.Clock g = tt
+of_reading a b faults.Memory g = tt
+of_reading a b faults.Turns g = tt
 
 of_asking : (fault : StreamFault) (f f' : ℕ) → GaveUpAsking fault f f' → IsOfAsking fault
 of_asking faults.Read f f' g = tt
@@ -88,25 +90,25 @@ of_asking faults.Clock f f' g = tt
 of_asking faults.Memory f f' g = tt
 of_asking faults.Turns f f' g = tt
 
-of_answering : (fault : StreamFault) (f f' : ℕ) (b : Bool) → GaveUpAnswering fault f f' b → IsOfAnswering fault
-of_answering faults.Read f f' b g = g
-of_answering faults.Write f f' b g = tt
-of_answering faults.Clock f f' b g = g
-of_answering faults.Memory f f' b g = tt
-of_answering faults.Turns f f' b g = g
+pub of_answering : (f f' : ℕ) (b : Bool) (fault : StreamFault) → GaveUpAnswering f f' b fault → IsOfAnswering fault
+of_answering f f' b faults.Read g = g
+of_answering f f' b faults.Write g = tt
+of_answering f f' b faults.Clock g = g
+of_answering f f' b faults.Memory g = tt
+of_answering f f' b faults.Turns g = g
 
 module _ {S M : Type 0} (sp : Ghosts S) (Gives : M → ℕ → M → Type 0) (callers : Callers) (k : ℕ) where
   -- ---- no request
 
-  pub part_none : (u : Option (List ℕ)) (buffer : List ℕ) (s : Service S) (clock : M) (w : Option (List ℕ)) (fault : StreamFault) (f f' : ℕ) (b : Bool) (turns : ℕ)
-      → GaveUpReading fault f f' b turns → IsTurnPart sp Gives callers k s s clock clock w w u buffer fault
-  part_none u buffer s clock w fault f f' b turns g = (
+  pub part_none : {R : Type 0} (a b : Source R) (u : Option (List ℕ)) (buffer : List ℕ) (s : Service S) (clock : M) (w : Option (List ℕ)) (fault : StreamFault)
+      → HasGivenUp a b fault → IsTurnPart sp Gives callers k s s clock clock w w u buffer fault
+  part_none a b u buffer s clock w fault g = (
     known_bytes u,
     input_known u,
     inl (record {
-      fault_is = of_reading fault f f' b turns g;
+      fault_is = of_reading a b fault g.why;
       same = refl;
-      clock_is = clock_read Gives callers fault f f' b turns (buffer ++ known_bytes u) clock g;
+      clock_is = clock_read Gives callers a b fault (buffer ++ known_bytes u) clock g.why;
       written = Appends_nil w;
     }),
   )
@@ -131,15 +133,15 @@ module _ {S M : Type 0} (sp : Ghosts S) (Gives : M → ℕ → M → Type 0) (ca
         written = subst (λ (t : List ℕ). Appends w v (take size t)) one written;
       }
 
-  pub part_end : (a b : Option (List ℕ)) (old buffer : List ℕ) (fields : List HeaderSpan) (n : Next) (end : End) (s : Service S) (clock : M) (w v : Option (List ℕ)) (fault : StreamFault) (f f' : ℕ) (failed : Bool)
-      → n ≡ Stop end → Came a b old buffer → IsNext (known_bytes b) buffer fields n → GaveUpAnswering fault f f' failed
+  pub part_end : (a b : Option (List ℕ)) (old buffer : List ℕ) (fields : List HeaderSpan) (n : Next) (end : End) (s : Service S) (clock : M) (w v : Option (List ℕ)) (fault : StreamFault)
+      → n ≡ Stop end → Came a b old buffer → IsNext (known_bytes b) buffer fields n → IsOfAnswering fault
       → (size : ℕ) × (size < length (concat (end_texts end))) × Appends w v (take size (concat (end_texts end)))
       → IsTurnPart sp Gives callers k s s clock clock w v a old fault
-  part_end a b old buffer fields n end s clock w v fault f f' failed e (came, grown, p) h g (size, short, written) = (
+  part_end a b old buffer fields n end s clock w v fault e (came, grown, p) h of (size, short, written) = (
     came ++ known_bytes b,
     input_more a b came (known_bytes b) p (input_known b),
     inr (inr (subst (λ (rest : List ℕ). StopsInRule sp Gives callers k s s clock clock w v rest fault) (rest_at old buffer came (known_bytes b) grown)
-        (in_rule (buffer ++ known_bytes b) end s clock w v fault size (of_answering fault f f' failed g) (known_next (known_bytes b) buffer fields n (Stop end) e h) short written))),
+        (in_rule (buffer ++ known_bytes b) end s clock w v fault size of (known_next (known_bytes b) buffer fields n (Stop end) e h) short written))),
   )
 
   pub part_ask : (a b : Option (List ℕ)) (old buffer : List ℕ) (fields : List HeaderSpan) (n : Next) (spans : RequestSpans) (size : ℕ) (s : Service S) (clock clock' : M) (w : Option (List ℕ)) (fault : StreamFault) (f f' : ℕ)
@@ -232,12 +234,12 @@ module _ {S M : Type 0} (sp : Ghosts S) (Gives : M → ℕ → M → Type 0) (ca
       )
 
   pub part_answered : (a b : Option (List ℕ)) (front buffer bytes : List ℕ) (fields : List HeaderSpan) (m : Next) (spans : RequestSpans) (size : ℕ) (place : Option Place) (moment : ℕ) (call : Call) (n : ℕ)
-      (old new : Service S) (clock clock' : M) (before text : Option (List ℕ)) (fault : StreamFault) (f f' : ℕ) (failed : Bool)
-      → m ≡ Request spans size → bytes ≡ buffer → GaveUpAnswering fault f f' failed → Came a b front buffer → IsNext (known_bytes b) buffer fields m
+      (old new : Service S) (clock clock' : M) (before text : Option (List ℕ)) (fault : StreamFault)
+      → m ≡ Request spans size → bytes ≡ buffer → IsOfAnswering fault → Came a b front buffer → IsNext (known_bytes b) buffer fields m
       → Makes bytes fields spans size place call → Leaves bytes fields spans n → Gives clock moment clock'
       → RepliesPart sp old new moment call place (n == 0) before text
       → IsTurnPart sp Gives callers k old new clock clock' before text a front fault
-  part_answered a b front buffer bytes fields m spans size place moment call n old new clock clock' before text fault f f' failed e g gave (came, grown, p) h made leaves gives r =
+  part_answered a b front buffer bytes fields m spans size place moment call n old new clock clock' before text fault e g of (came, grown, p) h made leaves gives r =
       let x : IsNext (known_bytes b) buffer fields (Request spans size) = known_next (known_bytes b) buffer fields m (Request spans size) e h in
       let rest : List ℕ = buffer ++ known_bytes b in
       let next : List ℕ = drop (length (body_at buffer spans.len size)) (after x.0 rest) in
@@ -245,7 +247,7 @@ module _ {S M : Type 0} (sp : Ghosts S) (Gives : M → ℕ → M → Type 0) (ca
         came ++ known_bytes b,
         input_more a b came (known_bytes b) p (input_known b),
         inr (inl (record {
-          fault_is = of_answering fault f f' failed gave;
+          fault_is = of;
           asked = asked;
           reply = r.reply;
           n = n;

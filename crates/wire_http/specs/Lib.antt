@@ -7,6 +7,7 @@ pub mod Moments
 pub mod Next
 pub mod Received
 pub mod Reply
+pub mod Source
 pub mod Stop
 pub mod Text
 pub mod Turn

@@ -1,7 +1,6 @@
 //! A stream of HTTP/1.x requests over a reader and a writer, answered by a service.
 #![tactic(auto)]
 
-mod body;
 mod call;
 mod counted;
 mod end;

@@ -1,20 +1,17 @@
 //! The next request of a stream.
-ghost use Rattle.std.specs.Prelude.{◌≡◌, ◌≤◌, ◌++◌, ℕ, List, length, IsUtf8, OnOk, IfOk, IfErr};
+ghost use Rattle.std.specs.Prelude.{◌≡◌, ◌≤◌, ◌++◌, ℕ, List, length, IsUtf8, IfOk};
 ghost use Rattle.httparse.specs.Grammar.{RequestHead};
 ghost use Rattle.httparse.specs.Spans.{IsRequestWithin, span_bytes};
-ghost use Rattle.wire_http.specs.Counted.{inner_of, calls_of, failures_of, has_failed};
-ghost use Rattle.wire_http.specs.Count.{Spends};
-ghost use Rattle.wire_http.specs.Fault.{GaveUpReading};
-ghost use Rattle.wire_http.specs.Input.{Came, known_bytes};
+ghost use Rattle.wire_http.specs.Input.{known_bytes};
 ghost use Rattle.wire_head.specs.Rest.{IsKind, whole};
 ghost use Rattle.wire_head.specs.Found.{Covers};
 ghost use Rattle.wire_http.specs.Next.{IsNext, NextFits};
+ghost use Rattle.wire_http.specs.Source.{Reads, ahead_of, bytes_of};
 
-use crate::body::fill;
-use crate::counted::Counted;
 use crate::end::End;
 use crate::fault::StreamFault;
 use crate::head::{HEAD_LIMIT, find_head};
+use crate::source::Source;
 use httparse::spans::{HeaderSpan, RequestSpans};
 use std::io::Read;
 use wire_head::length::length_of;
@@ -32,64 +29,47 @@ pub(crate) enum Next {
 
 // The body that follows a head.
 fn take_body<R: Read>(
-    reader: &mut Counted<R>,
-    turns: &mut u32,
-    buffer: &mut Vec<u8>,
+    source: &mut Source<'_, R>,
     fields: &[HeaderSpan],
     spans: RequestSpans,
 ) -> Result<Next, StreamFault>
-    requires within { IsRequestWithin buffer.old.items fields.now spans }
-    requires text { IsUtf8 (span_bytes buffer.old.items spans.path) }
-    requires short { length buffer.old.items ≤ HEAD_LIMIT }
-    ensures came { OnOk result (Came (R.remaining (inner_of reader.old))
-        (R.remaining (inner_of reader.new)) buffer.old.items buffer.new.items) }
+    requires within { IsRequestWithin (bytes_of source.old) fields.now spans }
+    requires text { IsUtf8 (span_bytes (bytes_of source.old) spans.path) }
+    requires short { length (bytes_of source.old) ≤ HEAD_LIMIT }
+    ensures reads { Reads R.remaining source.old source.new result }
     ensures next { IfOk result (λ next. (h : RequestHead)
-        → ((later : List ℕ) → IsKind (buffer.old.items ++ later) (whole h))
-        → Covers buffer.old.items fields.now spans h
-        → IsNext (known_bytes (R.remaining (inner_of reader.new))) buffer.new.items fields.now
+        → ((later : List ℕ) → IsKind (bytes_of source.old ++ later) (whole h))
+        → Covers (bytes_of source.old) fields.now spans h
+        → IsNext (known_bytes (ahead_of R.remaining source.new)) (bytes_of source.new) fields.now
         next) }
-    ensures within { IfOk result (NextFits buffer.new.items fields.now) }
-    ensures turns { Spends turns.old turns.new (calls_of reader.old) (calls_of reader.new) }
-    ensures good { OnOk result (failures_of reader.new ≡ failures_of reader.old) }
-    ensures err { IfErr result (λ e.
-        GaveUpReading e (failures_of reader.old) (failures_of reader.new) (has_failed reader.new)
-        turns.new) }
+    ensures within { IfOk result (NextFits (bytes_of source.new) fields.now) }
 {
-    let size = match length_of(buffer.as_slice(), &fields[..spans.headers]) {
+    let size = match length_of(source.buffer.as_slice(), &fields[..spans.headers]) {
         Ok(size) => size,
         Err(rule) => return Ok(Next::Stop(End::Wire(rule))),
     };
-    if fill(reader, turns, buffer, spans.len + size)? {
+    if source.fill(spans.len + size)? {
         Ok(Next::Request(spans, size))
     } else {
         Ok(Next::Stop(End::Cut))
     }
 }
 
-/// Reads the next request of the unread input. The buffer holds the bytes that were read before and
-/// belong to no earlier request.
+/// Reads the next request of the unread input.
 pub(crate) fn next_request<R: Read>(
-    reader: &mut Counted<R>,
-    turns: &mut u32,
-    buffer: &mut Vec<u8>,
+    source: &mut Source<'_, R>,
     fields: &mut [HeaderSpan],
 ) -> Result<Next, StreamFault>
-    requires short { length buffer.old.items ≤ HEAD_LIMIT }
+    requires short { length (bytes_of source.old) ≤ HEAD_LIMIT }
     requires room { length fields.old ≡ FIELD_LIMIT }
-    ensures came { OnOk result (Came (R.remaining (inner_of reader.old))
-        (R.remaining (inner_of reader.new)) buffer.old.items buffer.new.items) }
+    ensures reads { Reads R.remaining source.old source.new result }
     // Whatever the pieces were in which the input came.
-    ensures next { IfOk result (λ next. IsNext (known_bytes (R.remaining (inner_of reader.new)))
-        buffer.new.items fields.new next) }
-    ensures within { IfOk result (NextFits buffer.new.items fields.new) }
-    ensures turns { Spends turns.old turns.new (calls_of reader.old) (calls_of reader.new) }
-    ensures good { OnOk result (failures_of reader.new ≡ failures_of reader.old) }
-    ensures err { IfErr result (λ e.
-        GaveUpReading e (failures_of reader.old) (failures_of reader.new) (has_failed reader.new)
-        turns.new) }
+    ensures next { IfOk result (IsNext (known_bytes (ahead_of R.remaining source.new))
+        (bytes_of source.new) fields.new) }
+    ensures within { IfOk result (NextFits (bytes_of source.new) fields.new) }
 {
-    match find_head(reader, turns, buffer, fields)? {
-        Found::Head(spans) => take_body(reader, turns, buffer, fields, spans),
+    match find_head(source, fields)? {
+        Found::Head(spans) => take_body(source, fields, spans),
         Found::Nothing => Ok(Next::Stop(End::End)),
         Found::Part => Ok(Next::Stop(End::Cut)),
         Found::Bad => Ok(Next::Stop(End::Wire(WireRule::Head))),

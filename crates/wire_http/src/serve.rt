@@ -5,16 +5,16 @@ ghost use Rattle.std.specs.Io.KnownBytes.{Appends};
 ghost use Rattle.token_conf.specs.TokenFile.{callers_of};
 ghost use Rattle.service_core.specs.Held.{Stays};
 ghost use Rattle.wire_http.specs.Counted.{inner_of, calls_of, failures_of, has_failed};
-ghost use Rattle.wire_http.specs.Count.{FailsLast, IsGreatest, Spends, one_more};
+ghost use Rattle.wire_http.specs.Count.{FailsLast, IsGreatest, one_more};
 ghost use Rattle.wire_http.specs.Count.{most_reads, most_requests};
-ghost use Rattle.wire_http.specs.Fault.{GaveUpAnswering};
+ghost use Rattle.wire_http.specs.Fault.{GaveUpAnswering, Tells};
 ghost use Rattle.wire_http.specs.Input.{IsInput};
 ghost use Rattle.wire_http.specs.Reply.{Replies, RepliesPart};
+ghost use Rattle.wire_http.specs.Source.{HasSpent, ahead_of, bytes_of};
 ghost use Rattle.wire_http.specs.Text.{end_texts};
 ghost use Rattle.wire_http.specs.Turn.{IsTurn, IsTurnPart, MayGoOn};
 ghost use Rattle.wire_http.specs.Wire.{Serves, ServesPart};
 
-use crate::body::shift;
 use crate::call::{Pending, Received, ask, left_after};
 use crate::counted::Counted;
 use crate::end::{End, Served};
@@ -22,6 +22,7 @@ use crate::fault::StreamFault;
 use crate::head::HEAD_LIMIT;
 use crate::moments::Moments;
 use crate::request::{Next, next_request};
+use crate::source::{Source, shift};
 use crate::text::{answer_text, rule_text};
 use crate::write::write_whole;
 use httparse::spans::EMPTY_HEADER_SPAN;
@@ -53,8 +54,7 @@ fn answer<S: Space + Drop, W: Write>(
         pending.now.moment pending.now.call pending.now.place closing
         (W.contents (inner_of writer.old)) (W.contents (inner_of writer.new))) }
     ensures good { OnOk result (failures_of writer.new ≡ failures_of writer.old) }
-    ensures err { IfErr result (λ e.
-        GaveUpAnswering e (failures_of writer.old) (failures_of writer.new)
+    ensures err { IfErr result (GaveUpAnswering (failures_of writer.old) (failures_of writer.new)
         (has_failed writer.new)) }
     ensures rises { calls_of writer.old ≤ calls_of writer.new }
     ensures stays { Stays S.Space service.old service.new }
@@ -77,8 +77,7 @@ fn end_with<W: Write>(alloc: Global, writer: &mut Counted<W>, end: End) -> Resul
         × Appends (W.contents (inner_of writer.old)) (W.contents (inner_of writer.new))
         (take size (concat (end_texts end)))) }
     ensures good { OnOk result (failures_of writer.new ≡ failures_of writer.old) }
-    ensures err { IfErr result (λ e.
-        GaveUpAnswering e (failures_of writer.old) (failures_of writer.new)
+    ensures err { IfErr result (GaveUpAnswering (failures_of writer.old) (failures_of writer.new)
         (has_failed writer.new)) }
     ensures rises { calls_of writer.old ≤ calls_of writer.new }
 {
@@ -103,55 +102,37 @@ enum Turn {
     Ended(End),
 }
 
-// Serves the next request of a stream that may have so many, or ends it. The buffer holds the bytes
-// that were read before and belong to no earlier request.
+// Serves the next request of a stream that may have so many, or ends it.
 fn serve_one<S: Space + Drop, M: Moments, R: Read, W: Write>(
     alloc: Global,
     routes: &Routes,
     service: &mut Service<S>,
     tokens: &TokenTable,
     moments: &mut M,
-    reader: &mut Counted<R>,
+    source: &mut Source<'_, R>,
     writer: &mut Counted<W>,
-    turns: &mut u32,
-    buffer: &mut Vec<u8>,
     count: u32,
 ) -> Result<Turn, StreamFault>
     requires some { 0 < count }
-    requires short { length buffer.old.items ≤ HEAD_LIMIT }
-    ensures turn { IfOk result (λ turn.
-        IsTurn S.Space M.gives (callers_of tokens.now) (count - 1)
+    requires short { length (bytes_of source.old) ≤ HEAD_LIMIT }
+    ensures turn { IfOk result (IsTurn S.Space M.gives (callers_of tokens.now) (count - 1)
         service.old service.new moments.old moments.new
         (W.contents (inner_of writer.old)) (W.contents (inner_of writer.new))
-        (R.remaining (inner_of reader.old)) (R.remaining (inner_of reader.new))
-        buffer.old.items buffer.new.items turn) }
-    ensures part { IfErr result (λ fault.
-        IsTurnPart S.Space M.gives (callers_of tokens.now) (count - 1)
+        (ahead_of R.remaining source.old) (ahead_of R.remaining source.new)
+        (bytes_of source.old) (bytes_of source.new)) }
+    ensures part { IfErr result (IsTurnPart S.Space M.gives (callers_of tokens.now) (count - 1)
         service.old service.new moments.old moments.new
         (W.contents (inner_of writer.old)) (W.contents (inner_of writer.new))
-        (R.remaining (inner_of reader.old)) buffer.old.items fault) }
-    ensures goes_on { IfOk result (MayGoOn count buffer.new.items) }
-
-    ensures read { result ≡ Err StreamFault.Read
-        → FailsLast (failures_of reader.old) (failures_of reader.new) (has_failed reader.new) }
-    ensures write { result ≡ Err StreamFault.Write
-        → FailsLast (failures_of writer.old) (failures_of writer.new) (has_failed writer.new) }
-    ensures clock { result ≡ Err StreamFault.Clock
-        → M.failures moments.new ≡ one_more (M.failures moments.old) }
+        (ahead_of R.remaining source.old) (bytes_of source.old)) }
+    ensures goes_on { IfOk result (MayGoOn count (bytes_of source.new)) }
+    ensures tells { Tells source.old source.new writer.old writer.new
+        (M.failures moments.old) (M.failures moments.new) result }
     ensures rises { calls_of writer.old ≤ calls_of writer.new }
-    ensures turns { Spends turns.old turns.new (calls_of reader.old) (calls_of reader.new) }
-    ensures no_turns { result ≡ Err StreamFault.Turns → turns.new ≡ 0 }
-    ensures good_reader { (result ≡ Err StreamFault.Read)
-        ⊎ (failures_of reader.new ≡ failures_of reader.old) }
-    ensures good_writer { (result ≡ Err StreamFault.Write)
-        ⊎ (failures_of writer.new ≡ failures_of writer.old) }
-    ensures good_clock { (result ≡ Err StreamFault.Clock)
-        ⊎ (M.failures moments.new ≡ M.failures moments.old) }
-
+    ensures spends { HasSpent source.old source.new }
     ensures stays { Stays S.Space service.old service.new }
 {
     let mut fields = [EMPTY_HEADER_SPAN; 64];
-    let (spans, size) = match next_request(reader, turns, buffer, &mut fields)? {
+    let (spans, size) = match next_request(source, &mut fields)? {
         Next::Request(spans, size) => (spans, size),
         Next::Stop(end) => {
             end_with(alloc, writer, end)?;
@@ -159,7 +140,7 @@ fn serve_one<S: Space + Drop, M: Moments, R: Read, W: Write>(
         }
     };
     let received = Received {
-        buffer: buffer.as_slice(),
+        buffer: source.buffer.as_slice(),
         fields: &fields,
         spans,
         size,
@@ -167,7 +148,7 @@ fn serve_one<S: Space + Drop, M: Moments, R: Read, W: Write>(
     let left = left_after(received, count - 1);
     let pending = ask(alloc, routes, tokens, moments, received)?;
     answer(alloc, service, writer, &pending, left == 0)?;
-    shift(buffer, spans.len + size);
+    shift(source.buffer, spans.len + size);
     Ok(Turn::Answered(left))
 }
 
@@ -230,8 +211,12 @@ pub fn serve_stream<S: Space + Drop, M: Moments, R: Read, W: Write>(
     // What stays, whatever came.
     ensures stays { Stays S.Space service.old service.new }
 {
-    let mut turns = TURNS;
     let mut buffer = Vec::new(alloc);
+    let mut source = Source {
+        reader,
+        turns: TURNS,
+        buffer: &mut buffer,
+    };
     let mut left = REQUESTS;
     let mut count = 0;
     'serving: while left > 0 {
@@ -241,10 +226,8 @@ pub fn serve_stream<S: Space + Drop, M: Moments, R: Read, W: Write>(
             service,
             tokens,
             moments,
-            reader,
+            &mut source,
             writer,
-            &mut turns,
-            &mut buffer,
             left,
         )? {
             Turn::Answered(then) => {

@@ -1,10 +1,7 @@
-//! Reading within the turns of a stream.
-ghost use Rattle.std.specs.Prelude.{◌≡◌, ◌<◌, ◌≤◌, ◌+◌, length, OnOk, IfOk, IfErr, false};
+//! The input of a stream, read within its turns.
+ghost use Rattle.std.specs.Prelude.{◌≡◌, ◌<◌, ◌≤◌, ◌+◌, max, length, drop, true, false, OnOk, IfOk};
 ghost use Rattle.std.specs.Io.KnownBytes.{IsAtEnd};
-ghost use Rattle.wire_http.specs.Counted.{inner_of, calls_of, failures_of, has_failed};
-ghost use Rattle.wire_http.specs.Input.{Came};
-ghost use Rattle.wire_http.specs.Count.{Spends};
-ghost use Rattle.wire_http.specs.Fault.{GaveUpReading};
+ghost use Rattle.wire_http.specs.Source.{Reads, ahead_of, bytes_of};
 
 use crate::counted::Counted;
 use crate::fault::StreamFault;
@@ -13,39 +10,69 @@ use std::io::Read;
 /// The most bytes that one read asks for.
 const PIECE: usize = 1024;
 
-/// Reads at most `room` bytes more to the end of the buffer, in one turn. `false` is the end of the
-/// input.
-pub(crate) fn read_more<R: Read>(
-    reader: &mut Counted<R>,
-    turns: &mut u32,
-    buffer: &mut Vec<u8>,
-    room: usize,
-) -> Result<bool, StreamFault>
-    requires { 0 < room }
-    ensures came { OnOk result (Came (R.remaining (inner_of reader.old))
-        (R.remaining (inner_of reader.new)) buffer.old.items buffer.new.items) }
-    ensures short { OnOk result (length buffer.new.items ≤ length buffer.old.items + room) }
-    ensures end { IfOk result (λ came. came ≡ false
-        → (buffer.new.items ≡ buffer.old.items) × IsAtEnd (R.remaining (inner_of reader.new))) }
-    ensures turns { Spends turns.old turns.new (calls_of reader.old) (calls_of reader.new) }
-    ensures fewer { OnOk result (turns.new + 1 ≡ turns.old) }
-    ensures good { OnOk result (failures_of reader.new ≡ failures_of reader.old) }
-    ensures err { IfErr result (λ e.
-        GaveUpReading e (failures_of reader.old) (failures_of reader.new) (has_failed reader.new)
-        turns.new) }
+/// The input of a stream.
+#[derive(Drop)]
+pub(crate) struct Source<'s, R> {
+    /// What gives it.
+    pub(crate) reader: &'s mut Counted<R>,
+    /// How many reads it may still take.
+    pub(crate) turns: u32,
+    /// The bytes that were read and belong to no earlier request. It is borrowed, since the proof
+    /// does not learn what becomes of the reader in a struct that owns memory.
+    pub(crate) buffer: &'s mut Vec<u8>,
+}
+
+impl<R: Read> Source<'_, R> {
+    /// Reads at most `room` bytes more to the end of the buffer, in one turn. `false` is the end of
+    /// the input.
+    pub(crate) fn read_more(&mut self, room: usize) -> Result<bool, StreamFault>
+        requires { 0 < room }
+        ensures reads { Reads R.remaining self.old self.new result }
+        ensures short { OnOk result (length (bytes_of self.new) ≤ length (bytes_of self.old) + room) }
+        ensures end { IfOk result (λ came. came ≡ false
+            → (bytes_of self.new ≡ bytes_of self.old) × IsAtEnd (ahead_of R.remaining self.new)) }
+        ensures fewer { OnOk result (self.new.turns + 1 ≡ self.old.turns) }
+    {
+        if self.turns == 0 {
+            return Err(StreamFault::Turns);
+        }
+        self.turns -= 1;
+        let mut piece = [0u8; PIECE];
+        let most = room.min(PIECE);
+        match self.reader.read(&mut piece[..most]) {
+            Ok(0) => Ok(false),
+            Ok(n) => match self.buffer.extend_from_slice(&piece[..n]) {
+                Ok(()) => Ok(true),
+                Err(_) => Err(StreamFault::Memory),
+            },
+            Err(_) => Err(StreamFault::Read),
+        }
+    }
+
+    /// Reads by what is missing until the buffer holds `count` bytes. `false`: the input ended
+    /// before.
+    pub(crate) fn fill(&mut self, count: usize) -> Result<bool, StreamFault>
+        ensures reads { Reads R.remaining self.old self.new result }
+        ensures short { OnOk result (length (bytes_of self.new)
+            ≤ max (length (bytes_of self.old)) count) }
+        ensures whole { IfOk result (λ whole. whole ≡ true → count ≤ length (bytes_of self.new)) }
+        ensures ended { IfOk result (λ whole. whole ≡ false
+            → (length (bytes_of self.new) < count) × IsAtEnd (ahead_of R.remaining self.new)) }
+    {
+        'filling: while self.buffer.len() < count {
+            let missing = count - self.buffer.len();
+            if !self.read_more(missing)? {
+                return Ok(false);
+            }
+        }
+        Ok(true)
+    }
+}
+
+/// Takes the first bytes off the buffer. It takes no memory.
+pub(crate) fn shift(buffer: &mut Vec<u8>, count: usize)
+    requires { count ≤ length buffer.old.items }
+    ensures { buffer.new.items ≡ drop count buffer.old.items }
 {
-    if *turns == 0 {
-        return Err(StreamFault::Turns);
-    }
-    *turns -= 1;
-    let mut piece = [0u8; PIECE];
-    let most = room.min(PIECE);
-    match reader.read(&mut piece[..most]) {
-        Ok(0) => Ok(false),
-        Ok(n) => match buffer.extend_from_slice(&piece[..n]) {
-            Ok(()) => Ok(true),
-            Err(_) => Err(StreamFault::Memory),
-        },
-        Err(_) => Err(StreamFault::Read),
-    }
+    buffer.drain(..count);
 }

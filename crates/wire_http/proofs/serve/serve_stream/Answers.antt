@@ -1,9 +1,10 @@
 use Rattle.std.proofs.Common.{◌≡◌, ◌∙◌, ◌-◌, suc, arith, rules}
+use Rattle.std.proofs.lemmas.Grind.{common_steps}
 use Rattle.std.proofs.lemmas.Result.{err_from_is_err_and}
 use Rattle.service_core.proofs.Runs.{stays_same, stays_then}
 use Rattle.token_conf.specs.TokenFile.{callers_of}
 use Rattle.wire_http.specs.Count.{most_requests}
-use Rattle.wire_http.proofs.CountLaws.{Spends_more}
+use Rattle.wire_http.specs.Source.{bytes_of}
 use Rattle.wire_http.proofs.StreamLaws.{goes_init, goes_more, goes_stop, goes_close, goes_part}
 use Rattle.wire_http.proofs.TurnLaws.{go_on_at, ok_told}
 use Rattle.wire_http.proofs.serve.serve_stream.Goals as goal
@@ -15,6 +16,7 @@ serving-init g c = record {
   short = search rules;
   bounded = search rules;
   turns = search rules;
+  reader = search rules;
   good_reader = search rules;
   good_writer = search rules;
   good_clock = search rules;
@@ -29,7 +31,7 @@ returns-in_err-then-clause-part g c =
     let some : c.serving.left ≡ suc (c.serving.left - 1) = omega (arith, c.serving-test.true) in
     rw (p.1, p.2) (
     goes_part g.S.Space g.M.Moments.gives (callers_of c.args.tokens.now)
-    _ _ c.serving.buffer.items most_requests c.args.service.now c.serving.service c.serve_one.new.service c.args.moments.now c.serving.moments c.serve_one.new.moments
+    _ _ (bytes_of c.serving.source) most_requests c.args.service.now c.serving.service c.serve_one.new.service c.args.moments.now c.serving.moments c.serve_one.new.moments
     _ _ _ c.serving.left (c.serving.left - 1) c.serving.count _
     inv.goes some c.in_err-then.ensures.part)
 
@@ -37,18 +39,19 @@ pub serving-preserved : goal.serving-preserved
 serving-preserved g c =
     let inv = c.serving.invariant in
     let some : c.serving.left ≡ suc (c.serving.left - 1) = omega (arith, c.serving-test.true) in
-    let on = go_on_at c.serving.left c.serve_one.new.buffer.items c.in_ok-then.field-0 c.in-Answered.then c.in-Answered.is c.in_ok-then.ensures.goes_on in
+    let on = go_on_at c.serving.left (bytes_of c.serve_one.new.source) c.in_ok-then.field-0 c.in-Answered.then c.in-Answered.is c.in_ok-then.ensures.goes_on in
     record {
       goes = goes_more g.S.Space g.M.Moments.gives (callers_of c.args.tokens.now)
-          _ _ _ c.serving.buffer.items c.serve_one.new.buffer.items most_requests c.args.service.now c.serving.service c.serve_one.new.service c.args.moments.now c.serving.moments c.serve_one.new.moments
+          _ _ _ (bytes_of c.serving.source) (bytes_of c.serve_one.new.source) most_requests c.args.service.now c.serving.service c.serve_one.new.service c.args.moments.now c.serving.moments c.serve_one.new.moments
           _ _ _ c.serving.left (c.serving.left - 1) c.serving.count c.in-Answered.then c.in_ok-then.field-0
           inv.goes some c.in-Answered.is c.in_ok-then.ensures.turn;
       short = on.1;
       bounded = omega (arith, inv.bounded, on.0);
-      turns = Spends_more _ _ _ _ _ _ inv.turns c.serve_one.ensures.turns;
-      good_reader = ok_told c.in_ok-then.field-0 _ _ c.in_ok-then.ensures.good_reader ∙ inv.good_reader;
-      good_writer = ok_told c.in_ok-then.field-0 _ _ c.in_ok-then.ensures.good_writer ∙ inv.good_writer;
-      good_clock = ok_told c.in_ok-then.field-0 _ _ c.in_ok-then.ensures.good_clock ∙ inv.good_clock;
+      turns = grind (arith, common_steps);
+      reader = c.serve_one.ensures.spends.reader ∙ inv.reader;
+      good_reader = ok_told c.in_ok-then.field-0 _ _ c.in_ok-then.ensures.tells.good_reader ∙ inv.good_reader;
+      good_writer = ok_told c.in_ok-then.field-0 _ _ c.in_ok-then.ensures.tells.good_writer ∙ inv.good_writer;
+      good_clock = ok_told c.in_ok-then.field-0 _ _ c.in_ok-then.ensures.tells.good_clock ∙ inv.good_clock;
       rises = omega (arith, inv.rises, c.serve_one.ensures.rises);
       stays = stays_then g.S.Space c.args.service.now c.serving.service c.serve_one.new.service inv.stays c.serve_one.ensures.stays;
     }
@@ -58,14 +61,14 @@ returns-in-Ended-clause-serves g c =
     let inv = c.serving.invariant in
     let some : c.serving.left ≡ suc (c.serving.left - 1) = omega (arith, c.serving-test.true) in
     goes_stop g.S.Space g.M.Moments.gives (callers_of c.args.tokens.now)
-    _ _ _ c.serving.buffer.items c.serve_one.new.buffer.items most_requests c.args.service.now c.serving.service c.serve_one.new.service c.args.moments.now c.serving.moments c.serve_one.new.moments
+    _ _ _ (bytes_of c.serving.source) (bytes_of c.serve_one.new.source) most_requests c.args.service.now c.serving.service c.serve_one.new.service c.args.moments.now c.serving.moments c.serve_one.new.moments
     _ _ _ c.serving.left (c.serving.left - 1) c.serving.count c.in-Ended.end c.in_ok-then.field-0
     inv.goes some c.in-Ended.is c.in_ok-then.ensures.turn
 
 pub returns-clause-serves : goal.returns-clause-serves
 returns-clause-serves g c =
     goes_close g.S.Space g.M.Moments.gives (callers_of c.args.tokens.now)
-    _ _ c.serving.buffer.items most_requests c.args.service.now c.serving.service c.args.moments.now c.serving.moments _ _ c.serving.left c.serving.count
+    _ _ (bytes_of c.serving.source) most_requests c.args.service.now c.serving.service c.args.moments.now c.serving.moments _ _ c.serving.left c.serving.count
     c.serving.invariant.goes (omega (arith, c.serving-test.false))
 
 pub returns-in_err-then-clause-stays : goal.returns-in_err-then-clause-stays
