@@ -27,7 +27,7 @@ serve::serve_stream
         early::early
         decide::decide
           look::look
-            single::read_entity
+            entity::read_entity
             subscription::read_subscription
           standing::standing
           needed::needed_with
