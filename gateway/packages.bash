@@ -1,6 +1,6 @@
 # Debian 12's packages of the gateway, for scripts that have set `top` to the folder of the repository.
 
-packages=(g++ make libs2-dev libcpp-httplib-dev nlohmann-json3-dev libtoml11-dev libssl-dev openssl curl)
+packages=(g++ make libs2-dev libboost-dev nlohmann-json3-dev libtoml11-dev libssl-dev openssl curl)
 
 # Installs those of the packages given that are not here.
 install_missing() {

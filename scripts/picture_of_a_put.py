@@ -1,4 +1,4 @@
-"""The way of a PUT of an operational intent over a database, as a text of SVG, read from the sources.
+"""The way of a PUT of an operational intent in `dss serve`, as a text of SVG, read from the sources.
 
 What is drawn is a list of functions, each below one that calls it. Where a function stands, and what is said of it, is read from the
 sources; that the one calls the other, itself or by functions of its crate, is looked for there. Where it is not so, nothing is drawn."""
@@ -11,55 +11,62 @@ import textwrap
 TOP = pathlib.Path(__file__).resolve().parent.parent
 # each a step in, below a function that calls it: the file and the function
 WAY = """
-serve::serve_stream
-  serve::serve_one
-    request::next_request
-      head::find_head
+serve::serve_clients
+  peer::turn
+    link::receive
+    connection::advance
+      held::next_held
         rest::head_so_far
-      request::take_body
-    call::ask
-      routes::find
-      place::kind
-      body::read_body
-      token_table::caller
-    serve::answer
+      call::ask
+        routes::find
+        place::kind
+        body::read_body
+        token_table::caller
       service::call
         early::early
         decide::decide
           look::look
-            entity::read_entity
-            subscription::read_subscription
+            indexed::entity
+            indexed_subscriptions::subscription
           standing::standing
           needed::needed_with
-            meeting::read_meeting
+            indexed::meeting
           needed::missing_from
             missing::missing
         effects::prepared
           ovn::ovn_of
-          subscriptions::find_subscribers
+          indexed_subscriptions::for_kind
           notice::notices_of
         change::make_change
           put::put_entity
           tell::tell_all
+        copy::follow
+          list::follow
       text::answer_text
         answer::reply_text
-      write::write_whole
+    link::send
 """
 # where a part of the way begins, and what it is
 PARTS = {
-    "serve::serve_stream": "the bytes of a connection",
-    "request::next_request": "a whole request",
+    "serve::serve_clients": "all connections",
+    "peer::turn": "a turn of one of them",
+    "connection::advance": "the next request, answered",
+    "held::next_held": "a whole request",
     "call::ask": "the call that it makes",
     "early::early": "the rules that look at the call alone",
-    "look::look": "what the call names",
+    "look::look": "what the call names, from the copy in memory",
     "standing::standing": "the rules on what was found",
     "needed::needed_with": "the key",
     "effects::prepared": "the change and the answer, made",
     "change::make_change": "one transaction",
+    "copy::follow": "and then the copy",
     "text::answer_text": "the answer, written",
 }
 # the columns: the crates of each, by how their names begin
-LANES = {"the wire": ("wire_", "token_conf"), "the service": ("service_",), "the rules": ("policy_", "entity_"), "tables": ("space_",)}
+LANES = {
+    "the wire": ("dss_", "wire_", "token_conf"), "the service": ("service_",), "the rules": ("policy_", "entity_"),
+    "tables and copy": ("space_",),
+}
 FUNCTION = re.compile(r"^( *)(?:pub(?:\(\w+\))? )?fn (\w+)", re.M)
 COMMENT = re.compile(r"((?:^ *//.*\n)+)(?: *#.*\n)*\Z", re.M)
 # a row, a column, a step within a column, a box, and what stands beside
@@ -104,14 +111,15 @@ def named(crate, name):
 
 @functools.cache
 def spaces():
-    """The calls of the trait of spaces, and the crate of the space over tables."""
+    """The calls of the trait of spaces, and the crates of the space over tables and of its copy in memory."""
     calls = [name for crate, file, name in functions() if (crate, file) == ("space_core", "space")]
-    over = [it for it in TOP.glob("crates/*/src/*.rt") if "Space for SqlSpace" in it.read_text()]
-    return calls, over[0].parent.parent.name
+    sources = sorted(TOP.glob("crates/*/src/*.rt"))
+    is_space = re.compile(r"Space for (SqlSpace|Mirror|ListSpace)\b")
+    return calls, [it.parent.parent.name for it in sources if is_space.search(it.read_text())]
 
 
 def calls(above, below):
-    """Whether a function calls another one, itself or by others of its crate; a call of a space goes to the one over tables."""
+    """Whether a function calls another one, itself or by others of its crate; a call of a space goes to the one over tables and its copy."""
     of_space, over = spaces()
     seen, open_ = set(), [place(above)]
     while open_:
@@ -123,7 +131,7 @@ def calls(above, below):
             for name in re.findall(r"\b(\w+)(?:::<[^>]*>)?\(", text.partition("{\n")[2]):
                 if name == place(below)[2]:
                     return True
-                open_ += named(at[0], name) + (named(over, name) if name in of_space else [])
+                open_ += named(at[0], name) + [it for space in over if name in of_space for it in named(space, name)]
     return False
 
 

@@ -6,11 +6,14 @@
 
 #include <s2/mutable_s2shape_index.h>
 #include <s2/s2cap.h>
+#include <s2/s2cell.h>
 #include <s2/s2cell_union.h>
 #include <s2/s2earth.h>
 #include <s2/s2error.h>
 #include <s2/s2latlng.h>
+#include <s2/s2latlng_rect.h>
 #include <s2/s2loop.h>
+#include <s2/s2region.h>
 #include <s2/s2region_coverer.h>
 #include <s2/s2shape_index_buffered_region.h>
 
@@ -28,8 +31,10 @@ constexpr double kLongestEdge = 0.157;  // 1,000 km
 constexpr double kNoise = 1e-9;         // 6 mm, for what floating point loses
 constexpr double kLargestCell = 1.6;    // in square kilometres, of the level
 constexpr double kLargestRadius = 1e6;
-constexpr size_t kCorners = 10000;
-constexpr double kEdges = 20000;        // in kilometres, of all outlines: a comb of many long teeth takes minutes
+// A comb of ten thousand vertices a hair apart takes minutes: its edges meet each cell by the thousand.
+constexpr size_t kCorners = 1000;
+constexpr double kClosest = 0.03 / kLeastRadius;  // 3 cm
+constexpr double kEdges = 20000;                  // in kilometres, of all outlines
 
 S2Point point(LatLng it) {
   // so that what is no number is refused, too
@@ -47,6 +52,28 @@ S2RegionCoverer coverer(int most) {
 
 }  // namespace
 
+namespace {
+
+// A region as far as a budget goes: then it meets nothing more, so that its covering ends.
+class Limited : public S2Region {
+ public:
+  Limited(const S2Region& region, const Budget& budget) : region_(region), budget_(budget) {}
+
+  S2Region* Clone() const override { return new Limited(region_, budget_); }
+  S2Cap GetCapBound() const override { return region_.GetCapBound(); }
+  S2LatLngRect GetRectBound() const override { return region_.GetRectBound(); }
+  void GetCellUnionBound(std::vector<S2CellId>* cells) const override { region_.GetCellUnionBound(cells); }
+  bool Contains(const S2Cell& cell) const override { return !budget_.is_spent() && region_.Contains(cell); }
+  bool MayIntersect(const S2Cell& cell) const override { return !budget_.is_spent() && region_.MayIntersect(cell); }
+  bool Contains(const S2Point& point) const override { return region_.Contains(point); }
+
+ private:
+  const S2Region& region_;
+  const Budget& budget_;
+};
+
+}  // namespace
+
 struct Outline::Region {
   MutableS2ShapeIndex index;  // what a buffered region refers to
   std::unique_ptr<S2Region> held;
@@ -60,7 +87,7 @@ Outline Outline::polygon(std::vector<LatLng> corners) {
   bool is_closed = corners.size() > 1 && corners.front().lat == corners.back().lat && corners.front().lng == corners.back().lng;
   if (is_closed) corners.pop_back();
   if (corners.size() < 3) throw GeometryRefusal(400, "a polygon has three different vertices or more");
-  if (corners.size() > kCorners) throw GeometryRefusal(413, "a polygon has at most 10,000 vertices: send fewer, around the same area");
+  if (corners.size() > kCorners) throw GeometryRefusal(413, "a polygon has at most 1,000 vertices: send fewer, around the same area");
   std::vector<S2Point> points;
   for (LatLng it : corners) points.push_back(point(it));
   auto loop = std::make_unique<S2Loop>();
@@ -68,12 +95,14 @@ Outline Outline::polygon(std::vector<LatLng> corners) {
   loop->Init(points);
   S2Error error;
   if (loop->FindValidationError(&error)) throw GeometryRefusal(400, error.text());
-  double longest = 0, sum = 0;
+  double longest = 0, shortest = kLongestEdge, sum = 0;
   for (size_t k = 0; k < points.size(); k++) {
     double edge = points[k].Angle(points[(k + 1) % points.size()]);
     longest = std::max(longest, edge);
+    shortest = std::min(shortest, edge);
     sum += edge;
   }
+  if (shortest < kClosest) throw GeometryRefusal(400, "two vertices that follow each other are less than 3 cm apart: leave one out");
   if (longest > kLongestEdge) throw GeometryRefusal(413, "an edge is over 1,000 km long: set vertices in between");
   loop->Normalize();
 
@@ -96,7 +125,11 @@ Outline Outline::circle(LatLng center, double metres) {
   return made;
 }
 
-Cells Outline::covering(int most) const { return coverer(most).GetCovering(*region_->held).Release(); }
+Cells Outline::covering(int most, const Budget& budget) const {
+  Cells cells = coverer(most).GetCovering(Limited(*region_->held, budget)).Release();
+  budget.check();
+  return cells;
+}
 
 long covered(const Cells& cells) {
   long sum = 0;
@@ -104,7 +137,16 @@ long covered(const Cells& cells) {
   return sum;
 }
 
-std::vector<Cells> coverings(const std::vector<Outline>& outlines) {
+std::vector<LatLng> corners(S2CellId cell) {
+  std::vector<LatLng> found;
+  for (int k = 0; k < 4; k++) {
+    S2LatLng it(S2Cell(cell).GetVertex(k));
+    found.push_back({it.lat().degrees(), it.lng().degrees()});
+  }
+  return found;
+}
+
+std::vector<Cells> coverings(const std::vector<Outline>& outlines, const Budget& budget) {
   double area = 0, edges = 0;
   for (const Outline& it : outlines) {
     area += it.square_kilometres();
@@ -116,7 +158,7 @@ std::vector<Cells> coverings(const std::vector<Outline>& outlines) {
                            "split it into several requests");
   // first with as many cells as the level needs, where that is not too many
   std::vector<Cells> found;
-  for (const Outline& it : outlines) found.push_back(it.covering(kRequestCells));
+  for (const Outline& it : outlines) found.push_back(it.covering(kRequestCells, budget));
   // the largest share that all can have: who needs less leaves the rest to the others
   size_t share = kVolumeCells;
   auto taken = [&] {
@@ -127,7 +169,7 @@ std::vector<Cells> coverings(const std::vector<Outline>& outlines) {
   while (taken() > kRequestCells) share--;
   long sum = 0;
   for (size_t k = 0; k < found.size(); k++) {
-    if (found[k].size() > share) found[k] = outlines[k].covering(int(share));
+    if (found[k].size() > share) found[k] = outlines[k].covering(int(share), budget);
     sum += covered(found[k]);
   }
   if (sum > kCovered)

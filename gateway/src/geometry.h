@@ -6,6 +6,8 @@
 
 #include <s2/s2cell_id.h>
 
+#include "budget.h"
+
 // The service's limits.
 constexpr int kLevel = 13;
 constexpr int kVolumeCells = 512;
@@ -30,8 +32,8 @@ class Outline {
 
   double square_kilometres() const { return square_kilometres_; }
   double edge_kilometres() const { return edge_kilometres_; }
-  // Cells none of which is finer than the level, at most `most` of them.
-  Cells covering(int most) const;
+  // Cells none of which is finer than the level, at most `most` of them; a Refusal where the budget does not suffice.
+  Cells covering(int most, const Budget& budget) const;
 
  private:
   Outline();
@@ -43,8 +45,11 @@ class Outline {
 // How many cells of the level are covered, each cell counted.
 long covered(const Cells& cells);
 
+// The four corners of a cell, against the clock.
+std::vector<LatLng> corners(S2CellId cell);
+
 // The coverings of all outlines of a request, within the service's limits.
-std::vector<Cells> coverings(const std::vector<Outline>& outlines);
+std::vector<Cells> coverings(const std::vector<Outline>& outlines, const Budget& budget);
 
 // At most `most` cells that hold all those given.
 Cells coarsened(Cells cells, size_t most);

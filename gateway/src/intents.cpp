@@ -76,8 +76,7 @@ void Intents::take_away(const std::string& subscription) {
   }
 }
 
-Answer Intents::put(const std::string& id, const std::optional<std::string>& ovn, const json& given) {
-  IntentPut put = intent_for_service(given);
+Answer Intents::put(const std::string& id, const std::optional<std::string>& ovn, IntentPut put) {
   if (put.wanted && wish_ == NewSubscription::refuse)
     throw Refusal(400, "new_subscription is not taken here: put a subscription, and name it by subscription_id");
   if (wish_ == NewSubscription::ignore) put.wanted.reset();

@@ -17,7 +17,7 @@ class Intents {
       : secret_(secret), wish_(wish), uss_(caller.uss), service_(service) {}
 
   // Creates the intent, or with an OVN updates it.
-  Answer put(const std::string& id, const std::optional<std::string>& ovn, const json& body);
+  Answer put(const std::string& id, const std::optional<std::string>& ovn, IntentPut put);
   Answer remove(const std::string& id, const std::string& ovn);
 
   // Whether the caller's subscription of this id was made for an intent.

@@ -16,14 +16,15 @@ constexpr long kLowest = -100'000, kHighest = 1'000'000;
 constexpr long kLastSecond = 253'402'300'799;
 constexpr long kDay = 86'400;
 constexpr size_t kVolumes = 32, kVolumesGiven = 256, kCorners = 50'000, kKey = 4096, kBaseUrl = 255, kOldVersion = 128;
-constexpr size_t kDepth = 64;
+constexpr size_t kDepth = 64, kValues = 100'000;
 
 enum class Rounding { down, up };
 
-// Builds the value of a text that is read, of limited depth.
+// Builds the value of a text that is read, of limited depth and of so many values: each takes many times the bytes of its text.
 class Reader : public nlohmann::json_sax<json> {
  public:
   json value;
+  size_t count = 0;
 
   bool null() override { return put(nullptr); }
   bool boolean(bool it) override { return put(it); }
@@ -47,18 +48,19 @@ class Reader : public nlohmann::json_sax<json> {
  private:
   // Only the last of those open grows, so that the others stay where they are.
   json& place(json it) {
+    count++;
     if (open_.empty()) return value = std::move(it);
     if (open_.back()->is_array()) return open_.back()->emplace_back(std::move(it));
     return (*open_.back())[name_] = std::move(it);
   }
   bool put(json it) {
     place(std::move(it));
-    return true;
+    return count <= kValues;
   }
   bool open(json it) {
     if (open_.size() == kDepth) return false;
     open_.push_back(&place(std::move(it)));
-    return true;
+    return count <= kValues;
   }
   bool close() {
     open_.pop_back();
@@ -214,7 +216,7 @@ Outline outline_of(const Member& volume) {
 }
 
 // Volumes of a put, each with its covering; over 32 of them, those with the same four bounds become one.
-json volumes_of(const Member& extents) {
+json volumes_of(const Member& extents, const Budget& budget) {
   std::vector<Bounds> bounds;
   std::vector<Outline> outlines;
   for (const Member& it : extents.items(1, kVolumesGiven)) {
@@ -225,8 +227,9 @@ json volumes_of(const Member& extents) {
     must_be_kept(it["time_start"], *bounds.back().time_start);
     must_be_kept(it["time_end"], *bounds.back().time_end);
     outlines.push_back(outline_of(it["volume"]));
+    budget.check();
   }
-  std::vector<Cells> cells = coverings(outlines);
+  std::vector<Cells> cells = coverings(outlines, budget);
   json volumes = json::array();
   if (outlines.size() <= kVolumes) {
     for (size_t k = 0; k < outlines.size(); k++) volumes.push_back(bounds[k].with_cells(cells[k]));
@@ -276,28 +279,30 @@ bool is_uss(const std::string& text) {
 
 json read_json(const std::string& text) {
   Reader reader;
-  if (!json::sax_parse(text, &reader) || !reader.value.is_object()) throw Refusal(400, "the body is no JSON object of at most 64 levels");
+  bool is_read = json::sax_parse(text, &reader);
+  if (reader.count > kValues) throw Refusal(413, "the body has over 100,000 values: send fewer volumes with fewer vertices");
+  if (!is_read || !reader.value.is_object()) throw Refusal(400, "the body is no JSON object of at most 64 levels");
   return std::move(reader.value);
 }
 
-json query_for_service(const json& body) {
+json query_for_service(const json& body, const Budget& budget) {
   Member area = Member(body)["area_of_interest"];
   Bounds bounds = bounds_of(area);
   for (auto* time : {&bounds.time_start, &bounds.time_end})
     if (*time) *time = std::clamp(**time, 0L, kLastSecond);  // what is kept lies within
   std::vector<Outline> outline;
   outline.push_back(outline_of(area["volume"]));
-  return {{"area_of_interest", bounds.with_cells(coverings(outline)[0])}};
+  return {{"area_of_interest", bounds.with_cells(coverings(outline, budget)[0])}};
 }
 
-json constraint_for_service(const json& body) {
+json constraint_for_service(const json& body, const Budget& budget) {
   Member given(body);
-  return {{"extents", volumes_of(given["extents"])}, {"uss_base_url", base_url_of(given["uss_base_url"])}};
+  return {{"extents", volumes_of(given["extents"], budget)}, {"uss_base_url", base_url_of(given["uss_base_url"])}};
 }
 
-IntentPut intent_for_service(const json& body) {
+IntentPut intent_for_service(const json& body, const Budget& budget) {
   Member given(body);
-  IntentPut put{constraint_for_service(body), std::nullopt};
+  IntentPut put{constraint_for_service(body, budget), std::nullopt};
   std::string state = given["state"].text();
   if (state != "Accepted" && state != "Activated" && state != "Nonconforming" && state != "Contingent")
     given["state"].refuse("must be Accepted, Activated, Nonconforming or Contingent");
@@ -337,7 +342,7 @@ json subscription_over(const json& extents, const WantedSubscription& wanted) {
           {"notify_for_constraints", wanted.for_constraints}};
 }
 
-json subscription_for_service(const json& body, long now) {
+json subscription_for_service(const json& body, long now, const Budget& budget) {
   Member given(body), extent = given["extents"];
   Bounds bounds = bounds_of(extent);
   fill_altitudes(bounds);
@@ -349,7 +354,7 @@ json subscription_for_service(const json& body, long now) {
   outline.push_back(outline_of(extent["volume"]));
   bool for_intents = given["notify_for_operational_intents"].truth(), for_constraints = given["notify_for_constraints"].truth();
   if (!for_intents && !for_constraints) throw Refusal(400, "one of notify_for_operational_intents and notify_for_constraints must be true");
-  return {{"extents", bounds.with_cells(coverings(outline)[0])},
+  return {{"extents", bounds.with_cells(coverings(outline, budget)[0])},
           {"uss_base_url", base_url_of(given["uss_base_url"])},
           {"notify_for_operational_intents", for_intents},
           {"notify_for_constraints", for_constraints}};

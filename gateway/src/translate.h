@@ -6,6 +6,8 @@
 
 #include <nlohmann/json.hpp>
 
+#include "budget.h"
+
 using json = nlohmann::json;
 
 // A JSON object. A number with a fraction or an exponent is kept as its text, so that it can be rounded exactly: as `binary`,
@@ -13,9 +15,9 @@ using json = nlohmann::json;
 json read_json(const std::string& text);
 
 // What the service is sent, of what a supplier sent. All bounds are rounded outwards; what does not fit is a Refusal.
-json query_for_service(const json& body);
-json constraint_for_service(const json& body);
-json subscription_for_service(const json& body, long now);
+json query_for_service(const json& body, const Budget& budget);
+json constraint_for_service(const json& body, const Budget& budget);
+json subscription_for_service(const json& body, long now, const Budget& budget);
 json availability_for_service(const json& body);
 
 // What a put of an intent asks for besides.
@@ -27,7 +29,7 @@ struct IntentPut {
   json body;
   std::optional<WantedSubscription> wanted;
 };
-IntentPut intent_for_service(const json& body);
+IntentPut intent_for_service(const json& body, const Budget& budget);
 
 // The put of a subscription for intents over all volumes of an intent's put: their cells, and the hull of their bounds.
 json subscription_over(const json& extents, const WantedSubscription& wanted);

@@ -3,49 +3,179 @@
 #include <chrono>
 #include <thread>
 
-#include <httplib.h>
+#include <boost/asio/io_context.hpp>
+#include <boost/asio/ip/tcp.hpp>
+#include <boost/asio/write.hpp>
+#include <boost/beast/core/flat_buffer.hpp>
+#include <boost/beast/core/tcp_stream.hpp>
+#include <boost/beast/http/parser.hpp>
+#include <boost/beast/http/read.hpp>
+#include <boost/beast/http/string_body.hpp>
+#include <sys/socket.h>
 
 #include "refusal.h"
 
+namespace net = boost::asio;
+namespace http = boost::beast::http;
+using boost::beast::error_code;
+
 namespace {
 
+using Clock = std::chrono::steady_clock;
+
 constexpr std::chrono::seconds kConnecting(2), kAnswering(30);
+// The service closes a connection that was silent for 60 seconds.
+constexpr std::chrono::seconds kKept(30);
 // The service is started anew after its last connection: so long it is tried again, as long as nothing was sent.
 constexpr std::chrono::milliseconds kRestart(2000), kPause(20);
+// The longest answer that is read, and from which size on one is alone: its JSON takes many times its bytes.
+constexpr size_t kAnswer = 16 << 20, kLarge = 1 << 20;
 
 }  // namespace
 
-Upstream::Upstream(int port, std::string token) : client_(std::make_unique<httplib::Client>("127.0.0.1", port)), token_(std::move(token)) {
-  client_->set_keep_alive(true);
-  client_->set_tcp_nodelay(true);
-  client_->set_url_encode(false);
-  client_->set_connection_timeout(kConnecting);
-  client_->set_read_timeout(kAnswering);
-  client_->set_write_timeout(kAnswering);
+// One connection, on which a thread waits for each step.
+class Connection {
+ public:
+  bool open(int port) {
+    error_code fault;
+    stream_.expires_after(kConnecting);
+    stream_.async_connect(net::ip::tcp::endpoint(net::ip::address_v4::loopback(), uint16_t(port)), [&](error_code it) { fault = it; });
+    wait();
+    if (fault) return false;
+    stream_.socket().set_option(net::ip::tcp::no_delay(true), fault);
+    return true;
+  }
+
+  // Whether the service has neither closed it nor sent what nobody asked for.
+  bool stands() {
+    char byte;
+    bool is_silent = recv(stream_.socket().native_handle(), &byte, 1, MSG_PEEK | MSG_DONTWAIT) < 0 && (errno == EAGAIN || errno == EWOULDBLOCK);
+    return is_silent && Clock::now() - used_ < kKept;
+  }
+
+  struct Got {
+    int status = 0;
+    std::string body;
+    bool is_whole = false, goes_on = false;  // an answer came, and the connection may be used again
+    bool was_closed = false;                 // and nothing of an answer came
+    bool is_too_long = false;
+    std::shared_ptr<void> alone;  // for a large one
+  };
+  // Asks once. A large answer is read while no other request has one.
+  Got exchange(const std::string& request, std::recursive_mutex& large);
+
+  bool is_used() const { return is_used_; }
+
+ private:
+  void wait() {
+    io_.restart();
+    io_.run();
+  }
+
+  net::io_context io_{1};
+  boost::beast::tcp_stream stream_{io_};
+  boost::beast::flat_buffer buffer_;
+  bool is_used_ = false;
+  Clock::time_point used_ = Clock::now();
+};
+
+Connection::Got Connection::exchange(const std::string& request, std::recursive_mutex& large) {
+  http::response_parser<http::string_body> parser;
+  parser.body_limit(kAnswer);
+  error_code fault;
+  auto note = [&](error_code it, size_t) { fault = it; };
+  stream_.expires_after(kAnswering);
+  net::async_write(stream_, net::buffer(request), note);
+  wait();
+  // what the service said before it closed is read all the same
+  if (fault != boost::beast::error::timeout) {
+    http::async_read_header(stream_, buffer_, parser, note);
+    wait();
+  }
+  Got got;
+  got.was_closed = fault && fault != boost::beast::error::timeout && !parser.got_some();
+  // looked at here, as the library forgets of it where more than the head came with it
+  got.is_too_long = fault == http::error::body_limit;
+  if (fault) return got;
+  if (parser.content_length().value_or(0) > kLarge) got.alone = std::make_shared<std::unique_lock<std::recursive_mutex>>(large);
+  stream_.expires_after(kAnswering);
+  http::async_read(stream_, buffer_, parser, note);
+  wait();
+  if (fault) return got;
+  auto answer = parser.release();
+  got.is_whole = is_used_ = true;
+  got.goes_on = answer.keep_alive() && buffer_.size() == 0;
+  got.status = int(answer.result_int());
+  got.body = std::move(answer.body());
+  used_ = Clock::now();
+  return got;
 }
 
-Upstream::~Upstream() = default;
+Service::Service(int port, size_t kept) : port_(port), kept_(kept) {}
+Service::~Service() = default;
+
+std::unique_ptr<Connection> Service::take() {
+  std::lock_guard<std::mutex> lock(mutex_);
+  while (!connections_.empty()) {
+    auto last = std::move(connections_.back());
+    connections_.pop_back();
+    if (last->stands()) return last;
+  }
+  return nullptr;
+}
+
+void Service::give_back(std::unique_ptr<Connection> connection) {
+  std::lock_guard<std::mutex> lock(mutex_);
+  if (connections_.size() < kept_) connections_.push_back(std::move(connection));
+}
+
+Upstream::Upstream(Service& service, std::string token) : service_(service), token_(std::move(token)) {}
+
+Upstream::~Upstream() {
+  if (connection_) service_.give_back(std::move(connection_));
+}
+
+// Has a connection that stands; it is tried for a while, as the service may be starting.
+void Upstream::connect() {
+  if (connection_ && connection_->stands()) return;
+  connection_ = service_.take();
+  auto until = Clock::now() + kRestart;
+  while (!connection_) {
+    auto made = std::make_unique<Connection>();
+    if (made->open(service_.port_)) {
+      connection_ = std::move(made);
+    } else {
+      if (Clock::now() >= until) throw Refusal(503, "the service is not there: nothing was done");
+      std::this_thread::sleep_for(kPause);
+    }
+  }
+}
 
 Answer Upstream::ask(const std::string& method, const std::string& path, const json& body) {
-  httplib::Request request;
-  request.method = method;
-  request.path = path;
-  request.headers = {{"Authorization", "Bearer " + token_}};
-  if (!body.is_null()) request.body = body.dump();
-  if (method == "PUT" || method == "POST") request.headers.emplace("Content-Length", std::to_string(request.body.size()));
-  auto until = std::chrono::steady_clock::now() + kRestart;
-  httplib::Result got = client_->send(request);
-  while (got.error() == httplib::Error::Connection && std::chrono::steady_clock::now() < until) {
-    std::this_thread::sleep_for(kPause);
-    got = client_->send(request);
-  }
+  std::string request = method + " " + path + " HTTP/1.1\r\nHost: 127.0.0.1\r\nAuthorization: Bearer " + token_ + "\r\n";
+  std::string text = body.is_null() ? "" : body.dump();
+  if (method == "PUT" || method == "POST") request += "Content-Length: " + std::to_string(text.size()) + "\r\n";
+  request += "\r\n" + text;
   bool is_change = method == "PUT" || method == "DELETE";
-  if (got.error() == httplib::Error::Connection || got.error() == httplib::Error::ConnectionTimeout)
-    throw Refusal(503, "the service is not there: nothing was done");
-  json answer = got ? json::parse(got->body, nullptr, false) : json();
+  connect();
+  bool was_used = connection_->is_used();
+  Connection::Got got = connection_->exchange(request, service_.large_);
+  // The service may close a connection that was kept just as a request goes out on it: then no byte of an answer comes. It may as
+  // well have done what it was asked and have been ended before it answered, and the two look alike. So only a reading is asked
+  // again. A change is not, though its version lets it be done only once: the second answer would say that it was refused (409, or
+  // 404 after a deletion) where the first had done it. That a connection which was closed before is not used at all, so that
+  // this is rare, is looked at in `connect`.
+  if (got.was_closed && was_used && !is_change) {
+    connection_.reset();
+    connect();
+    got = connection_->exchange(request, service_.large_);
+  }
+  if (!got.goes_on) connection_.reset();
+  if (got.is_too_long && !is_change) throw Refusal(413, "the answer is over 16 MiB: ask for a smaller area or a shorter time");
+  json answer = got.is_whole ? json::parse(got.body, nullptr, false) : json();
   if (!answer.is_object())
     throw Refusal(504, is_change ? "the service's answer was lost: the change may be done or not, read it" : "the service's answer was lost: ask again");
   // the file of tokens is read at the start of both programs
-  if (got->status == 401) throw Refusal(503, "the service does not know the gateway's tokens: its operator has to start both with one token file");
-  return {got->status, std::move(answer)};
+  if (got.status == 401) throw Refusal(503, "the service does not know the gateway's tokens: its operator has to start both with one token file");
+  return {got.status, std::move(answer), std::move(got.alone)};
 }

@@ -1,32 +1,55 @@
-// The service behind: one connection for all that a request asks of it.
+// The service behind, and the connections to it that are kept open.
 #pragma once
 
 #include <memory>
+#include <mutex>
 #include <string>
+#include <vector>
 
 #include "translate.h"
-
-namespace httplib {
-class Client;
-}
 
 struct Answer {
   int status;
   json body;
+  std::shared_ptr<void> alone;  // as long as a large one stands, no other request's does
 
   bool is_done() const { return status == 200 || status == 201; }
 };
 
-// As long as it stands, the service answers nobody else: what is asked over it comes without another's call in between.
+class Connection;
+
+class Service {
+ public:
+  // On this port of the machine. Of connections that nothing is asked on, so many are kept.
+  Service(int port, size_t kept);
+  ~Service();
+
+ private:
+  friend class Upstream;
+  // One that is kept and still stands, or none.
+  std::unique_ptr<Connection> take();
+  void give_back(std::unique_ptr<Connection> connection);
+
+  int port_;
+  size_t kept_;
+  std::mutex mutex_;
+  std::recursive_mutex large_;
+  std::vector<std::unique_ptr<Connection>> connections_;
+};
+
+// What one request asks of the service, one after the other on one connection, which no other request has meanwhile.
 class Upstream {
  public:
-  Upstream(int port, std::string token);
+  Upstream(Service& service, std::string token);
   ~Upstream();
 
-  // Asks once. A Refusal where no answer came: 503 where nothing was sent, 504 where the change may be done.
+  // A Refusal where no answer came: 503 where nothing was sent, 504 where the change may be done.
   Answer ask(const std::string& method, const std::string& path, const json& body = nullptr);
 
  private:
-  std::unique_ptr<httplib::Client> client_;
+  void connect();
+
+  Service& service_;
   std::string token_;
+  std::unique_ptr<Connection> connection_;
 };

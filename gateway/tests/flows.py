@@ -1,4 +1,5 @@
-"""Suppliers who speak the standard, by bytes over both programs."""
+"""Suppliers who speak the standard, by bytes over both programs: what is the gateway's own. What each service of the standard must do,
+`qualify/run --standard` holds it to."""
 import contextlib
 import json
 import random
@@ -8,8 +9,8 @@ import shapes
 from properties import translate
 from standard import check
 from world import (
-    ARBITRATION, BESIDE, CONSTRAINTS, FAR, FRONT, INTENTS, MANAGEMENT, MANHATTAN, MONITORING, PROCESSING, STRATEGIC,
-    SUBSCRIPTIONS, TOP, ZERO, Gateway, Recorded, Service, circle, expect, extent, intent, new_id, stamp)
+    BESIDE, FAR, INTENTS, MANHATTAN, MONITORING, STRATEGIC, SUBSCRIPTIONS, TOP, ZERO, Gateway, Recorded, Service, circle, expect, extent,
+    intent, new_id)
 
 URL = {"uss_base_url": "https://uss.example"}
 
@@ -31,9 +32,9 @@ class Place:
 
 
 @contextlib.contextmanager
-def over_tables(files, program, *options):
+def over_tables(files, program, *options, prepare=None):
     service = Service(files, database=f"{new_id()}.db")
-    gateway = Gateway(program, files, service.port, *options)
+    gateway = Gateway(program, files, service.port, *options, prepare=prepare)
     try:
         yield Place(files, gateway, service)
     finally:
@@ -56,74 +57,6 @@ def recorded(files, program, *options):
 
 def reference(answer):
     return answer.json["operational_intent_reference"]
-
-
-def two_suppliers(files, program):
-    """Create, conflict, key, update, query, read, delete."""
-    with over_tables(files, program) as place:
-        first, second, other = new_id(), new_id(), new_id()
-        start = int(time.time()) + 60
-        body = extent(MANHATTAN, 0.0, 119.95, start)
-        body["time_start"] = stamp(start, "%Y-%m-%dT%H:%M:%S.25Z")
-        created = place.a("PUT", f"{INTENTS}/{first}", intent(body))
-        expect(created, 201)
-        told = reference(created)
-        assert told["time_start"] == stamp(start) and told["manager"] == "uss-a" and told["subscription_id"] == ZERO and "ovn" in told
-        assert created.json["subscribers"] == []
-        denied = place.b("PUT", f"{INTENTS}/{second}", intent(extent(BESIDE, 100.04, 200)))
-        missing = expect(denied, 409, "P14 KEY")["missing_operational_intents"]
-        assert [it["id"] for it in missing] == [first] and "ovn" not in missing[0] and missing[0]["time_start"] == stamp(start)
-        allowed = place.b("PUT", f"{INTENTS}/{second}", intent(extent(BESIDE, 100.04, 200), key=[told["ovn"]]))
-        expect(allowed, 201)
-        expect(place.b("PUT", f"{INTENTS}/{other}", intent(extent(FAR, 0, 100))), 201)
-        expect(place.b("PUT", f"{INTENTS}/{new_id()}", intent(extent(MANHATTAN, 119.96, 200))), 409, "P14 KEY")
-        expect(place.b("PUT", f"{INTENTS}/{new_id()}", intent(extent(MANHATTAN, 200.1, 300))), 201)
-        expect(place.b("PUT", f"{INTENTS}/{first.upper()}", intent(extent(MANHATTAN))), 409, "P8 FRESH")
-        changed = intent(extent(MANHATTAN), key=[reference(allowed)["ovn"]], state="Activated")
-        updated = place.a("PUT", f"{INTENTS}/{first}/{told['ovn']}", changed)
-        expect(updated, 200)
-        assert reference(updated)["version"] == 2 and reference(updated)["state"] == "Activated"
-        expect(place.a("PUT", f"{INTENTS}/{first}/{told['ovn']}", changed), 409, "P10 VERSION")
-        found = expect(place.b("POST", f"{INTENTS}/query", {"area_of_interest": extent(MANHATTAN, 0, 150)}), 200)
-        assert {it["id"] for it in found["operational_intent_references"]} == {first, second}
-        expect(place.a("GET", f"{INTENTS}/{first}"), 200)
-        expect(place.b("DELETE", f"{INTENTS}/{first}/{reference(updated)['ovn']}"), 403, "P9 MANAGER")
-        expect(place.a("DELETE", f"{INTENTS}/{first}/{reference(updated)['ovn']}"), 200)
-        expect(place.a("GET", f"{INTENTS}/{first}"), 404, "P7 FOUND")
-
-
-def constraints(files, program):
-    with over_tables(files, program) as place:
-        manager = lambda *words: place.ask("uss-c", MANAGEMENT, *words)
-        both = lambda *words: place.ask("uss-b", f"{STRATEGIC} {PROCESSING}", *words)
-        name, own = new_id(), new_id()
-        created = expect(manager("PUT", f"{CONSTRAINTS}/{name}", {"extents": [extent(BESIDE, 0, 50)], **URL}), 201)
-        assert set(created) == {"constraint_reference", "subscribers"}
-        version = created["constraint_reference"]["ovn"]
-        denied = expect(both("PUT", f"{INTENTS}/{own}", intent(extent(BESIDE, 0, 50))), 409, "P14 KEY")
-        assert [it["id"] for it in denied["missing_constraints"]] == [name]
-        expect(both("PUT", f"{INTENTS}/{own}", intent(extent(BESIDE, 0, 50), key=[version])), 201)
-        expect(place.b("PUT", f"{INTENTS}/{new_id()}", intent(extent(circle(41, -73.9, 90)))), 201)
-        found = expect(both("POST", f"{CONSTRAINTS}/query", {"area_of_interest": extent(MANHATTAN)}), 200)
-        assert [it["id"] for it in found["constraint_references"]] == [name] and "ovn" not in found["constraint_references"][0]
-        expect(place.b("POST", f"{CONSTRAINTS}/query", {"area_of_interest": extent(MANHATTAN)}), 403, "P4 SCOPE")
-        expect(both("PUT", f"{CONSTRAINTS}/{name}/{version}", {"extents": [extent(BESIDE)], **URL}), 403, "P4 SCOPE")
-        updated = expect(manager("PUT", f"{CONSTRAINTS}/{name}/{version}", {"extents": [extent(BESIDE, 0, 60)], **URL}), 200)
-        expect(manager("DELETE", f"{CONSTRAINTS}/{name}/{updated['constraint_reference']['ovn']}"), 200)
-        expect(manager("GET", f"{CONSTRAINTS}/{name}"), 404, "P7 FOUND")
-
-
-def availability(files, program):
-    with over_tables(files, program) as place:
-        arbiter = lambda *words: place.ask("uss-v", ARBITRATION, *words)
-        path = f"{FRONT}uss_availability/uss-b"
-        assert expect(place.a("GET", path), 200) == {"status": {"availability": "Unknown", "uss": "uss-b"}, "version": ""}
-        expect(place.b("PUT", path, {"availability": "Down", "old_version": ""}), 403, "P4 SCOPE")
-        told = expect(arbiter("PUT", path, {"availability": "Down", "old_version": ""}), 200)
-        assert told["status"]["availability"] == "Down" and len(told["version"]) == 64
-        expect(arbiter("PUT", path, {"availability": "Normal", "old_version": ""}), 409, "P10 VERSION")
-        expect(arbiter("PUT", path, {"availability": "Normal", "old_version": told["version"]}), 200)
-        expect(arbiter("PUT", path, {"availability": "Up", "old_version": ""}), 400, "availability must be")
 
 
 def states_and_scopes(files, program):
@@ -303,5 +236,5 @@ def body_of_the_document(files, program):
 
 
 ALL = [
-    two_suppliers, constraints, availability, states_and_scopes, explicit_subscriptions, implicit_subscriptions,
-    shared_implicit_subscriptions, answers_lost_on_the_way, new_subscription_over_tables, drawn_outlines_meet, body_of_the_document]
+    states_and_scopes, explicit_subscriptions, implicit_subscriptions, shared_implicit_subscriptions, answers_lost_on_the_way,
+    new_subscription_over_tables, drawn_outlines_meet, body_of_the_document]

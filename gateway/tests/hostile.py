@@ -156,7 +156,7 @@ def comb(teeth, height):
 def hard_outlines_are_answered_soon(files, program):
     """Combs, whose covering asks much: they are covered, or refused before it."""
     with over_tables(files, program) as place:
-        for outline, status in ((comb(4_999, 0.9), 413), (comb(101, 0.9), 200), (comb(4_999, 0.017), 200)):
+        for outline, status in ((comb(499, 0.9), 413), (comb(101, 0.9), 200), (comb(499, 0.017), 200), (comb(4_999, 0.017), 413)):
             began = time.time()
             query = {"area_of_interest": {"volume": outline}}
             expect(check(place.gateway.ask(files.token("uss-a", STRATEGIC), "POST", f"{INTENTS}/query", query)), status)

@@ -38,7 +38,8 @@ def draw_center(random):
 
 def draw_outline(random, center, largest=40_000, corners=None):
     """An outline around a point, and points inside it."""
-    size = math.exp(random.uniform(0, math.log(largest)))
+    # many corners are so far from each other that they are taken
+    size = math.exp(random.uniform(math.log(100) if corners and corners > 100 else 0, math.log(largest)))
     if corners is None and random.random() < 0.3:
         inside = [center] + [away(center, random.uniform(0, 360), size * random.random() ** 0.5) for _ in range(2)]
         inside += [away(center, random.uniform(0, 360), size * (1 - 1e-12)) for _ in range(4)]

@@ -1,4 +1,5 @@
-"""Runs all cases over a gateway and one that is built with the sanitizers; the last line is 'N passed, N failed'.
+"""Runs all cases over a gateway and one that is built with the sanitizers; the last line is 'N passed, N failed', with ', N skipped'
+after it where something cannot be tried here.
 
     try_all.py FOLDER SANITIZED-FOLDER [NAME..]
 
@@ -9,26 +10,32 @@ import sys
 import time
 import traceback
 
+import bounds
 import flaws
 import flows
 import hostile
 import mapping
+import maps
 import properties
+import proxies
 import walk
 import world
 
 # What is tried over the plain program, as it asks much of it.
-PLAIN = [flows.drawn_outlines_meet, hostile.hard_outlines_are_answered_soon]
+PLAIN = [flows.drawn_outlines_meet, hostile.hard_outlines_are_answered_soon, *bounds.PLAIN]
 
 
 def run(name, case):
+    """What became of a case, and why where it is not that it passed."""
     began = time.time()
     try:
         case()
-        fault = None
+        how, why = "passed", None
+    except maps.Skipped as it:
+        how, why = "skipped", str(it)
     except Exception:
-        fault = traceback.format_exc(limit=-3)[-3000:]
-    return name, time.time() - began, fault
+        how, why = "FAILED", traceback.format_exc(limit=-3)[-3000:]
+    return name, time.time() - began, how, why
 
 
 def over_files(case, program):
@@ -36,6 +43,7 @@ def over_files(case, program):
     try:
         case(files, program)
     finally:
+        world.end_all()
         files.forget()
 
 
@@ -49,22 +57,25 @@ def run_named(name, built, sanitized):
     for case in properties.ALL:
         if case.__name__ == name:
             return [run(name, lambda: case(plain))]
-    case = next(it for module in (flows, hostile, mapping, walk) for it in module.ALL if it.__name__ == name)
+    for case in proxies.ALL:
+        if case.__name__ == name:
+            return [run(name, lambda: over_files(lambda files, _: case(files, built), plain))]
+    case = next(it for module in (bounds, flows, hostile, mapping, maps, walk) for it in module.ALL if it.__name__ == name)
     return [run(name, lambda: over_files(case, plain if case in PLAIN else tried))]
 
 
 def main(built, sanitized, *names):
-    known = ["points_inside_are_covered", "flaws", "a_service_that_is_not_there", "any_body_is_answered_with_sanitizers"]
-    known += [it.__name__ for module in (hostile, flows, walk, properties, mapping) for it in module.ALL if it.__name__ not in known]
-    passed = failed = 0
+    known = ["points_inside_are_covered", "flaws", "slow_clients_keep_nobody_out", "a_service_that_is_not_there", "any_body_is_answered_with_sanitizers"]
+    known += [it.__name__ for module in (bounds, proxies, hostile, maps, flows, walk, properties, mapping) for it in module.ALL if it.__name__ not in known]
+    counts = {"passed": 0, "failed": 0, "skipped": 0}
     with concurrent.futures.ProcessPoolExecutor(int(os.environ.get("JOBS") or os.cpu_count())) as pool:
         asked = [pool.submit(run_named, it, built, sanitized) for it in names or known]
         for each in concurrent.futures.as_completed(asked):
-            for name, seconds, fault in each.result():
-                passed, failed = passed + (fault is None), failed + (fault is not None)
-                print(f"gateway: {'passed' if fault is None else 'FAILED'} {name} ({seconds:.1f} s)", *([fault] if fault else []), sep="\n"[: bool(fault)], flush=True)
-    print(f"{passed} passed, {failed} failed")
-    return failed == 0
+            for name, seconds, how, why in each.result():
+                counts[how.lower()] += 1
+                print(f"gateway: {how} {name} ({seconds:.1f} s)", *([why] if why else []), sep="\n" if how == "FAILED" else ": ", flush=True)
+    print(f"{counts['passed']} passed, {counts['failed']} failed" + (f", {counts['skipped']} skipped" if counts["skipped"] else ""))
+    return counts["failed"] == 0
 
 
 if __name__ == "__main__":

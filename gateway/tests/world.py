@@ -22,9 +22,27 @@ ISSUER, AUDIENCE = "auth.example", "dss.example"
 SUPPLIERS = ["uss-a", "uss-b", "uss-c", "uss-v", "uss-d client@example"]
 STRATEGIC, PROCESSING, MANAGEMENT = "utm.strategic_coordination", "utm.constraint_processing", "utm.constraint_management"
 MONITORING, ARBITRATION = "utm.conformance_monitoring_sa", "utm.availability_arbitration"
+# connections to the service that gateways keep, where a case does not say
+KEPT = os.environ.get("KEPT", "16")
 ZERO = "00000000-0000-4000-8000-000000000000"
 FRONT = "/dss/v1/"
 INTENTS, CONSTRAINTS, SUBSCRIPTIONS = (FRONT + it for it in ("operational_intent_references", "constraint_references", "subscriptions"))
+
+
+RUNNING = []
+
+
+def started(words, **more):
+    """A process that is ended with its case, also where that fails."""
+    RUNNING.append(subprocess.Popen(words, stdout=subprocess.DEVNULL, **more))
+    return RUNNING[-1]
+
+
+def end_all():
+    for it in RUNNING:
+        it.kill()
+        it.wait()
+    RUNNING.clear()
 
 
 def free_port():
@@ -33,12 +51,14 @@ def free_port():
         return it.getsockname()[1]
 
 
-def wait_for(port):
+def wait_for(place):
+    """Until something listens on a port, or at a path."""
     for _ in range(4000):
-        with contextlib.suppress(OSError), socket.create_connection(("127.0.0.1", port), 1):
+        with contextlib.suppress(OSError), socket.socket(socket.AF_UNIX if isinstance(place, str) else socket.AF_INET) as it:
+            it.connect(place if isinstance(place, str) else ("127.0.0.1", place))
             return
         time.sleep(0.025)
-    raise AssertionError(f"nothing listens on {port}")
+    raise AssertionError(f"nothing listens on {place}")
 
 
 def key_pair(bits=2048):
@@ -83,14 +103,17 @@ class Answer:
 class Gateway:
     """A gateway in front of the service on a port."""
 
-    def __init__(self, program, files, service, *options):
+    def __init__(self, program, files, service, *options, path=None, prepare=None):
+        """On a port, or on a socket of Unix at a path; `prepare` is called in its process before it begins."""
         self.port, self.log = free_port(), tempfile.TemporaryFile(mode="w+")
         self.files = files
-        words = {"port": self.port, "service": service, "issuer": ISSUER, "audience": AUDIENCE}
+        words = {"socket": path} if path else {"port": self.port}
+        words |= {"service": service, "issuer": ISSUER, "audience": AUDIENCE}
         words |= {name: files.folder / f for name, f in (("tokens", "tokens.toml"), ("keys", "keys.pem"), ("secret", "secret"))}
-        words = [it for name, value in words.items() for it in (f"--{name}", str(value))]
-        self.process = subprocess.Popen([program, "serve", *words, *options], stderr=self.log)
-        wait_for(self.port)
+        self.words = [it for name, value in words.items() for it in (f"--{name}", str(value))] + list(options)
+        self.words += [] if "--kept-connections" in options else ["--kept-connections", KEPT]
+        self.process = started([program, "serve", *self.words], stderr=self.log, preexec_fn=prepare)
+        wait_for(str(path) if path else self.port)
 
     def end(self):
         """Ends it in order, and says whether it lived until then."""
@@ -135,7 +158,7 @@ class Service:
         self.start()
 
     def start(self):
-        self.process = subprocess.Popen(
+        self.process = started(
             [TOP / "dss", "serve", "--tokens", self.files.folder / "tokens.toml", "--db", self.database,
              "--port", str(self.port), "--count", "1000000"], stderr=subprocess.DEVNULL)
         wait_for(self.port)
@@ -191,6 +214,59 @@ class Recorded:
         return True
 
 
+class Counted:
+    """A service that answers the same, `{}` at first, on each connection that is opened, and counts: connections, requests, and those at once."""
+
+    def __init__(self, pause=0):
+        self.pause, self.opened, self.asked, self.now, self.at_once = pause, 0, [], 0, 0
+        self.last = None  # each so many answers, one is the last of its connection
+        self.drops = 0  # before so many answers the connection is closed
+        self.answer = b"{}"
+        self.lock, self.open = threading.Lock(), []
+        self.socket = socket.create_server(("127.0.0.1", 0), backlog=100)
+        self.port = self.socket.getsockname()[1]
+        threading.Thread(target=self.accept, daemon=True).start()
+
+    def accept(self):
+        with contextlib.suppress(OSError):
+            while True:
+                connection, _ = self.socket.accept()
+                self.opened += 1
+                self.open.append(connection)
+                threading.Thread(target=self.serve, args=(connection,), daemon=True).start()
+
+    def serve(self, connection):
+        with contextlib.suppress(OSError), connection, connection.makefile("rb") as reader:
+            while request := read_message(reader):
+                with self.lock:
+                    self.asked.append(request[0].split(b" ")[0].decode())
+                    self.now += 1
+                    self.at_once = max(self.now, self.at_once)
+                    drops, is_last = self.drops > 0, bool(self.last) and len(self.asked) % self.last == 0
+                    self.drops -= drops
+                time.sleep(self.pause)
+                with self.lock:
+                    self.now -= 1
+                if drops:
+                    return connection.shutdown(socket.SHUT_RDWR)
+                more = b"Connection: close\r\n" if is_last else b""
+                connection.sendall(b"HTTP/1.1 200 OK\r\nContent-Length: %d\r\n%s\r\n%s" % (len(self.answer), more, self.answer))
+                if is_last:
+                    return connection.shutdown(socket.SHUT_RDWR)
+
+    def close_all(self):
+        for it in self.open:
+            with contextlib.suppress(OSError):
+                it.shutdown(socket.SHUT_RDWR)
+        self.open.clear()
+
+    def end(self):
+        # the one that waits for connections would take one more
+        self.socket.shutdown(socket.SHUT_RDWR)
+        self.socket.close()
+        self.close_all()
+
+
 def read_message(reader):
     head, length = b"", 0
     while line := reader.readline():
@@ -232,6 +308,10 @@ def extent(volume, lower=0.0, upper=119.95, start=None, end=None):
 
 def intent(*extents, key=(), state="Accepted", **more):
     return {"extents": list(extents), "key": list(key), "state": state, "uss_base_url": "https://uss.example", **more}
+
+
+def query_of(volume):
+    return {"area_of_interest": {"volume": volume}}
 
 
 def new_id():

@@ -4,7 +4,12 @@ source, definition, script and test says what it has.
 What stands in backquotes is looked at word by word: a file must be there, the parts of `crate::item` must be made in
 that crate and those of `Type::call` in one file, an edit must stand among the edits of its crate, and any other name
 must be made in some code, outside comments. Words in upper case stand for others. Requests, answers and paths of HTTP
-are looked at by other tests."""
+are looked at by other tests.
+
+A name that is said to be in a file must be made there. In the tables of what is proved one must be made in the crate
+that it is said of: in README the crate of the row; in PROOF, of the contracts, the crate in brackets behind them or that
+of `crate::module` before them, and of the definitions the crate that stands with their file, or else one of those of the
+contracts."""
 import functools
 import json
 import os
@@ -38,7 +43,7 @@ OTHERS = set(
     89c25907 89c25909 89c2590b Host Date oauth2 libs2-dev s2geometry S2RegionCoverer RegionCoverer S2CellId CellID
     set_fixed_level set_max_cells min_level max_level max_cells GetCovering getCovering get_covering Covering region
     ToToken toToken to_token s2sphere s2-geometry-library-java github.com/golang/geo/s2 outline_polygon outline_circle
-    new_subscription 61""".split()
+    new_subscription 61 Start limit_req proxy_next_upstream""".split()
 )
 
 
@@ -148,6 +153,98 @@ def unknown():
     return found
 
 
+def of_crate(crate, folder="src"):
+    """The names that the sources, or the definitions, of a crate make, also those for which it has an `impl`."""
+    paths = [path for path in files() if path.startswith(f"crates/{crate}/{folder}/")]
+    return frozenset().union(*map(names_of, paths), *map(impls_in, paths))
+
+
+def is_made_in(crate, name):
+    """Whether a crate makes a name, or both parts of `Type::call`."""
+    return all(it in of_crate(crate) for it in re.findall(r"\w+", name))
+
+
+def is_crate(word):
+    return is_path(f"crates/{word}/src")
+
+
+def said_of_crates(cell):
+    """The names in a cell of contracts, each with the crate that it is said of, or None."""
+    pairs, waiting, before, last = [], [], None, None
+    for sign, opened, word in re.findall(r"(;)|(\()?`([^`]+)`", cell):
+        crate = word.partition("::")[0]
+        if sign:
+            before = None
+        elif opened and is_crate(crate):
+            pairs, waiting, last = pairs + [(it, crate) for it in waiting], [], crate
+        elif "::" in word and is_crate(crate):
+            before = last = crate
+        elif not FILE.fullmatch(word):
+            pairs, waiting = (pairs + [(word, before)], waiting) if before else (pairs, [*waiting, word])
+    return pairs + [(it, last) for it in waiting]
+
+
+def is_defined(name, file, crates):
+    """Whether a definition of that name stands in such a file of one of the crates, or in any file of theirs."""
+    if file is None:
+        return any(name in of_crate(it, "specs") for it in crates)
+    return any(name in names_of(path) for it in crates for path in files() if path == f"crates/{it}/specs/{file}")
+
+
+def undefined(cell, crates):
+    """The names in a cell of definitions that are not where the cell says."""
+    parts = [re.findall(r"(\bof )?`([^`]+)`", it) for it in cell.split(";")]
+    found = []
+    for part in parts:
+        told = [word for of, word in part if is_crate(word) and of]
+        file = None
+        for of, word in part:
+            if FILE.fullmatch(word):
+                file = word
+                found += [] if any(f"crates/{it}/specs/{word}" in files() for it in told or crates) else [word]
+            elif not (of and is_crate(word)) and not is_defined(word, file, told or crates):
+                found += [word]
+    return found
+
+
+def elsewhere():
+    """The names that a document says are in a file, and that the file does not make."""
+    found, said = [], re.compile(r"((?:`[\w:]+`(?:,\s+|\s+and\s+)?)+)\s+in\s+`([\w/]+\.(?:antt|rt))`")
+    for document in DOCUMENTS:
+        for names, file in said.findall(document.read_text()):
+            made = frozenset().union(*(names_of(path) for path in files() if f"/{path}".endswith(f"/{file}")))
+            unmade = set(re.findall(r"\w+", " ".join(re.findall(r"`([^`]+)`", names)))) - made
+            found += [f"{document.relative_to(TOP)}: {file} has no {it}" for it in sorted(unmade)]
+    return found
+
+
+def rows_of(document, begin):
+    """The rows of a document's table below a line that begins so: the number of the line, and the cells."""
+    lines = (TOP / document).read_text().splitlines()
+    first = next(at for at, it in enumerate(lines) if it.startswith(begin))
+    for number, line in enumerate(lines[first + 2 :], first + 3):
+        if not line.startswith("|"):
+            return
+        yield f"{document}:{number}", [it.strip() for it in line.strip("|").split("|")]
+
+
+def misplaced():
+    """The names in the tables of what is proved that are not made in the crate that they are said of."""
+    found, crates, rows = [], (), 0
+    for place, (crate, *cells) in rows_of("README.md", "| crate | beyond safety"):
+        rows += 1
+        names = [it for cell in cells for it in re.findall(r"`([^`]+)`", cell)]
+        found += [f"{place}: {crate} has no {it}" for it in names if not is_made_in(crate.strip("`"), it)]
+    for place, (_, definitions, contracts) in rows_of("docs/PROOF.md", "| promise | definition"):
+        rows += 1
+        pairs = said_of_crates(contracts)
+        crates = {it for _, it in pairs if it} | set(re.findall(r"`(\w+)::\w+`", contracts)) if "`" in contracts else crates
+        found += [f"{place}: of which crate is {it}?" for it, crate in pairs if crate is None]
+        found += [f"{place}: {crate} has no {it}" for it, crate in pairs if crate and not is_made_in(crate, it)]
+        found += [f"{place}: no {it} where it is said" for it in undefined(definitions, [it for it in crates if is_crate(it)])]
+    return found + elsewhere() + ([] if rows > 100 else [f"{rows} rows are no such tables"])
+
+
 def headless():
     """The sources, definitions, scripts and tests whose first line, after that of what runs them, does not say what they have."""
     begins = {".rt": "//! ", ".antt": "-- ", ".py": '"""', ".c": "/* ", ".bash": "# ", "": ('"""', "# ")}
@@ -167,4 +264,4 @@ def pictures_are_drawn():
     return found + (["a call is seen where there is none"] if is_blind else [])
 
 
-CASES = {"pictures": pictures_are_drawn, "names-in-docs": unknown, "first-lines": headless}
+CASES = {"pictures": pictures_are_drawn, "names-in-docs": unknown, "names-in-tables": misplaced, "first-lines": headless}

@@ -97,7 +97,7 @@ class Operation:
         said = item[method.lower()]
         self.name, self.path, self.method = said["operationId"], path, method
         self.words = {it["name"]: it for it in item.get("parameters", ())}
-        self.scopes = {scope for one in said["security"] for scope in one}
+        self.scopes, self.security = set(said["x-scopes"]), said["security"]
         self.body, self.bodies = None, {}
         if "requestBody" in said:
             self.body, self.bodies = schema_and_examples(said["requestBody"])
@@ -166,6 +166,7 @@ def is_document():
     for kind, parts in document.text["components"].items():
         unused = {f"#/components/{kind}/{it}" for it in parts} - used
         found += [f"{it} is not used" for it in sorted(unused) if kind != "securitySchemes"]
+    found += hard_to_generate_from(document)
     for operation in document.operations.values():
         words = set(re.findall(r"{(\w+)}", operation.path))
         found += [f"{operation.name}: other words than {words}"] if words != set(operation.words) else []
@@ -173,6 +174,32 @@ def is_document():
         unreached = {it for it in operation.answers if it.partition(" ")[2] in UNREACHED}
         wanted = {"503 stopped"} | ({"503 P15"} if operation.method in ("PUT", "DELETE") else set())
         found += [f"{operation.name}: {unreached}, not {wanted}"] if unreached != wanted else []
+    return found
+
+
+def schemas_in(value):
+    """All objects in a part of the document."""
+    if isinstance(value, dict):
+        yield value
+    for it in value.values() if isinstance(value, dict) else value if isinstance(value, list) else ():
+        yield from schemas_in(it)
+
+
+def hard_to_generate_from(document):
+    """What generators of clients trip over: no server, schemes that are alike, and schemas that are a choice without a
+    member that tells which."""
+    found = [] if document.text.get("servers") else ["no servers"]
+    schemes = [{it: []} for it in document.text["components"]["securitySchemes"]]
+    found += [f"{it.name}: {it.security}" for it in document.operations.values() if len(schemes) != 1 or it.security != schemes]
+    for schema in schemas_in(document.text):
+        found += [f"{it} in {schema}" for it in ("anyOf", "allOf", "not") if it in schema]
+        if "oneOf" in schema:
+            told = schema.get("discriminator", {"mapping": {}})["mapping"]
+            parts = [whole(it, document.text) for it in schema["oneOf"]]
+            found += [] if set(told.values()) == {it["$ref"] for it in schema["oneOf"]} else [f"{schema} lacks a discriminator"]
+            for value, to in told.items():
+                fit = [it["$ref"] for it, part in zip(schema["oneOf"], parts) if value in part["properties"]["message"]["enum"]]
+                found += [] if fit == [to] else [f"{value} leads to {to}, and is in {fit}"]
     return found
 
 
@@ -446,8 +473,8 @@ def others_denied():
 def scopes_open():
     """A token with one scope alone is denied by P4 exactly where the document does not list it with the operation."""
     document, found = the_document(), []
-    schemes = document.text["components"]["securitySchemes"]
-    tokens = {f"tok-{at}": ("uss-a", {scope}) for at, scope in enumerate(schemes)}
+    scopes = sorted(set().union(*(it.scopes for it in document.operations.values())))
+    tokens = {f"tok-{at}": ("uss-a", {scope}) for at, scope in enumerate(scopes)}
     cases = [(operation, text) for operation in document.operations.values() for text in tokens]
     requests = [operation.request(text) for operation, text in cases]
     status, output, error = serve(b"".join(requests), NOW, wire.token_file(tokens))

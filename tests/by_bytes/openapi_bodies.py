@@ -159,7 +159,7 @@ BODIES = {
         *of_volume(("extents",)),
         *of_urls(("uss_base_url",)),
         (("notify_for_constraints",), (NO_FLAGS, [None, ABSENT, True])),
-        (("notify_for_operational_intents",), ([False, None, ABSENT, *NO_FLAGS], [])),
+        (("notify_for_operational_intents",), (NO_FLAGS, [])),
         (("more",), ([], [None, 7, "x"])),
     ]),
     "querySubscriptions": Bodies({"area_of_interest": AREA}, OF_QUERY),
@@ -184,6 +184,8 @@ def in_query(text):
     return b'{"area_of_interest":{"cells":["89c25904"],%s}}' % text
 
 
+UNSUBSCRIBED = {"extents": VOLUME, "uss_base_url": "https://b.example", **SUBSCRIBED}
+
 # What the schemas let pass and the program refuses, as the document says in words.
 UNSAID = {
     "createIntent": [
@@ -193,6 +195,9 @@ UNSAID = {
         ("a negative zero", in_put([VOLUME]).replace(b'"altitude_lower": 0', b'"altitude_lower": -0')),
         ("a great number in a member of another name", in_put([VOLUME])[:-1] + b',"more":1e999}'),
         ("128 levels", in_put([VOLUME])[:-1] + b',"more":%s}' % json.dumps(nested(127)).encode()),
+    ],
+    "createSubscription": [
+        (f"for neither, with {it}", edited(UNSUBSCRIBED, ("notify_for_operational_intents",), it)) for it in (False, None, ABSENT)
     ],
     "queryIntents": [
         ("altitudes in no order", in_query(b'"altitude_lower":2,"altitude_upper":1')),

@@ -25,6 +25,8 @@ PATHS = {
     "DEBIAN/postrm": 0o755,
 }
 COMMANDS = "run", "serve", "report", "upgrade"
+# what keeps files, memory and programs of either unit from others
+KEPT = {"UMask=0077", "LimitCORE=0", "ProtectProc=invisible", "MemoryDenyWriteExecute=yes", "NoNewPrivileges=yes"}
 
 
 def paths(root):
@@ -52,14 +54,18 @@ def units(root):
     if not shutil.which("systemd-analyze"):
         return []
     hosts, folder, settings = TOP / "deploy" / "hosts", root / "units", "dss.service.d/hosts.conf"
-    places = {"/usr/bin/dss": f"{root}/usr/bin/dss", "/usr/local/lib/dss": f"{hosts}", "/usr/sbin/glusterfs": "/bin/true"}
+    places = {"/usr/bin/dss": f"{root}/usr/bin/dss", "/usr/local/lib/dss": f"{hosts}", "/usr/sbin/glusterfs": "/bin/true",
+              "/usr/local/bin/dss-gateway": "/bin/true"}
     files = {
         "dss.service": root / "usr/lib/systemd/system/dss.service",
+        "dss-gateway.service": TOP / "gateway" / "gateway.service",
         "dss-volume.service": hosts / "dss-volume.service",
         settings: hosts / settings,
     }
     found = []
-    for names in ["dss.service"], list(files):
+    for name in "dss.service", "dss-gateway.service":
+        found += difference(f"what {name} keeps from others", sorted(KEPT & set(files[name].read_text().splitlines())), sorted(KEPT))
+    for names in ["dss.service"], ["dss-gateway.service", "dss.service"], list(files):
         for name in names:
             text = files[name].read_text()
             for there, here in places.items():

@@ -1,15 +1,21 @@
-"""Clients that keep `serve` waiting: each is given up within its bound, and whoever waits behind it is served then."""
+"""How long `serve` waits for a client: each is given up within its bound, and keeps nobody waiting meanwhile."""
 import concurrent.futures
+import json
+import socket
 import time
 
-from serving import Service
+from serving import Service, until_closed
 from sockets import ANSWER, ASKED, CLOSING, LAST, difference
 import wire
 
-# seconds that one reading or writing waits, that a connection takes from its first byte, and that a busy machine adds
-WAIT, WHOLE, MORE = 10, 60, 5
-FAULT = b"dss: stream: fault 1 Read\n"
+# seconds that a client may ask nothing, take for a request, and take nothing of an answer, and that a busy machine adds
+IDLE, SENDING, TAKING, MORE = 60, 30, 30, 6
+# seconds in which a client beside it is answered
+AT_ONCE = 2
+READS, WRITES = b"dss: stream: fault 1 Read\n", b"dss: stream: fault 2 Write\n"
 PUT = wire.request("PUT", f"{wire.AVAILABILITY}/uss-b", "Bearer tok-v", b'{"old_version":"","availability":"Down"}')
+# answers to these take more than the buffers of both sides hold
+INTENTS_KEPT, FAR = 300, 4_000_000_000
 
 
 def drip(connection):
@@ -22,39 +28,75 @@ def drip(connection):
         time.sleep(1)
 
 
-def beside(name, sent, least, most, first=b"", slowly=False):
-    """A client that stops after some bytes gets what was answered till then, and the one behind it is served between
-    these bounds, in seconds, while the first still holds its connection."""
+def beside(name, sent, bound, answers=b"", faults=b"", slowly=False):
+    """A client that stops after some bytes gets what was answered till then and is closed within its bound, in seconds; one
+    beside it is answered at once."""
     with Service(count=2) as started, concurrent.futures.ThreadPoolExecutor(1) as aside:
         with started.connect() as held:
+            held.settimeout(bound + MORE)
             began = time.monotonic()
             held.sendall(sent)
             dripping = aside.submit(drip, held) if slowly else None
-            with started.connect() as next_one:
-                next_one.settimeout(WHOLE + 2 * WAIT + MORE)
-                next_one.sendall(CLOSING)
-                found = difference(f"{name}: the next", b"".join(iter(lambda: next_one.recv(1 << 16), b"")), LAST)
+            found = difference(f"{name}: the one beside it", started.exchange(CLOSING, ends=False), LAST)
+            waited = time.monotonic() - began
+            found += [] if waited <= AT_ONCE else [f"{name}: the one beside it waited {waited:.1f} s"]
+            found += difference(f"{name}: its answers", until_closed(held), answers)
             took = time.monotonic() - began
-            found += [] if least <= took <= most else [f"{name}: the next waited {took:.1f} s"]
-            held.settimeout(WAIT)
-            found += difference(f"{name}: its answers", held.recv(1 << 16), first)
+            found += [] if bound - 1 <= took <= bound + MORE else [f"{name}: closed after {took:.1f} s"]
             if dripping:
                 dripping.result()
-        return found + difference(f"{name}: the service", started.ended(), (0, b"", started.listening + FAULT))
+        return found + difference(f"{name}: the service", started.ended(), (0, b"", started.listening + faults))
+
+
+def kept_intents():
+    """Requests that create intents in one cell, of which no two meet."""
+    for at in range(INTENTS_KEPT):
+        volume = {"cells": ["89c25904"], "altitude_lower": 0, "altitude_upper": 10}
+        volume |= {"time_start": FAR + 100 * at, "time_end": FAR + 100 * at + 50}
+        body = {"extents": [volume], "key": [], "state": "Accepted", "uss_base_url": "https://a.example"}
+        target = f"{wire.INTENTS}/00000000-0000-4000-8000-{at:012x}"
+        yield wire.request("PUT", target, "Bearer tok-a", json.dumps(body).encode())
+
+
+def taking_nothing():
+    """A client that asks for much and takes nothing of it is closed."""
+    query = wire.request("POST", f"{wire.INTENTS}/query", "Bearer tok-a", b'{"area_of_interest":{"cells":["89c2591"]}}')
+    with Service() as started:
+        puts = list(kept_intents())
+        found = []
+        for at in range(0, INTENTS_KEPT, wire.MOST_REQUESTS):
+            statuses = {it[:12] for it in started.ask(puts[at : at + wire.MOST_REQUESTS])}
+            found += difference("creations", statuses, {b"HTTP/1.1 201"})
+        with socket.socket() as held:
+            held.setsockopt(socket.SOL_SOCKET, socket.SO_RCVBUF, 4096)
+            held.connect(("127.0.0.1", started.port))
+            held.sendall(query * wire.MOST_REQUESTS)
+            found += difference("the one beside it", started.exchange(CLOSING, ends=False), LAST)
+            errors, began = started.folder / "errors", time.monotonic()
+            # the buffers are full after some seconds
+            while errors.read_bytes() == started.listening and time.monotonic() - began < TAKING + 30:
+                time.sleep(0.5)
+            took = time.monotonic() - began
+            found += [] if took >= TAKING - 1 else [f"closed after {took:.1f} s"]
+            found += difference("what is told", errors.read_bytes(), started.listening + WRITES)
+        return found + difference("the next", started.exchange(CLOSING, ends=False), LAST)
 
 
 def impatient():
     """One that sends nothing, one that stops in a head, one that stops in a body, one that keeps its connection after an
-    answer, and one that sends a byte a second."""
+    answer, one that sends a byte a second, and one that takes nothing."""
     asked = [
-        ("silent", b"", WAIT - 1, WAIT + MORE),
-        ("half a head", ASKED[:40], WAIT - 1, WAIT + MORE),
-        ("half a body", PUT[:-1], WAIT - 1, WAIT + MORE),
-        ("kept", ASKED, WAIT - 1, WAIT + MORE, ANSWER),
-        ("slow", b"", WHOLE - 1, WHOLE + MORE, b"", True),
+        ("silent", b"", IDLE),
+        ("half a head", ASKED[:40], SENDING, b"", READS),
+        ("half a body", PUT[:-1], SENDING, b"", READS),
+        ("kept", ASKED, IDLE, ANSWER),
+        ("half a head after an answer", ASKED + ASKED[:40], SENDING, ANSWER, READS),
+        ("slow", b"", SENDING, b"", READS, True),
     ]
-    with concurrent.futures.ThreadPoolExecutor(len(asked)) as side_by_side:
-        return [it for found in side_by_side.map(lambda words: beside(*words), asked) for it in found]
+    with concurrent.futures.ThreadPoolExecutor(len(asked) + 1) as side_by_side:
+        full = side_by_side.submit(taking_nothing)
+        found = [it for found in side_by_side.map(lambda words: beside(*words), asked) for it in found]
+        return found + [f"taking nothing: {it}" for it in full.result()]
 
 
 CASES = {"serve-clients-that-wait": impatient}

@@ -10,10 +10,22 @@ import wire
 from program import BUILT, SECONDS
 
 
-def words(folder, port, count):
-    """The command line of the service over a folder with its token file and its database."""
+def words(folder, port, count, clients=None):
+    """The command line of the service over a folder with its token file and its database, for so many clients at once."""
+    at_once = [] if clients is None else ["--clients", f"{clients}"]
     files = ["--tokens", f"{folder}/tokens.toml", "--db", f"{folder}/dss.db"]
-    return [BUILT, "serve", *files, "--port", f"{port}", "--count", f"{count}"]
+    return [BUILT, "serve", *files, "--port", f"{port}", "--count", f"{count}", *at_once]
+
+
+def until_closed(connection):
+    """What comes until the other side closes."""
+    came = b""
+    try:
+        while piece := connection.recv(1 << 16):
+            came += piece
+    except ConnectionResetError:
+        pass
+    return came
 
 
 class Service:
@@ -22,9 +34,9 @@ class Service:
     # the seconds in which it has to listen
     patience = SECONDS
 
-    def __init__(self, tokens=None, count=1_000_000, disk=None, more=None):
+    def __init__(self, tokens=None, count=1_000_000, disk=None, more=None, clients=None):
         self.room = tempfile.TemporaryDirectory(dir=disk)
-        self.folder, self.count = pathlib.Path(self.room.name), count
+        self.folder, self.count, self.clients = pathlib.Path(self.room.name), count, clients
         self.environment = {**os.environ, **(more or {})}
         (self.folder / "tokens.toml").write_text(wire.token_file(tokens))
 
@@ -38,7 +50,7 @@ class Service:
 
     def command(self):
         """The command line of the program."""
-        return words(self.folder, self.port, self.count)
+        return words(self.folder, self.port, self.count, self.clients)
 
     def start(self):
         """Starts the program, and waits until it listens."""

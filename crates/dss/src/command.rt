@@ -4,6 +4,7 @@ use crate::{connections, loopback, report, run, upgrade};
 use dss_line::fault::LineFault;
 use dss_line::line::{Line, parse};
 use dss_report::cell::token_line;
+use sqlite::Start;
 use std::alloc::Global;
 use std::io::{Read, Write};
 
@@ -45,9 +46,10 @@ fn refused<O: Write, E: Write>(fault: LineFault, output: &mut O, error: &mut E) 
 }
 
 // Does what a command line asks for.
-fn done<R: Read, O: Write, E: Write>(
+fn done<F: Start, R: Read, O: Write, E: Write>(
     rt: &HostRuntime,
     line: Line<'_>,
+    start: F,
     input: &mut R,
     output: &mut O,
     error: &mut E,
@@ -65,21 +67,23 @@ fn done<R: Read, O: Write, E: Write>(
                 database,
                 requests,
             };
-            run::run(rt, &given, input, output)
+            run::run(rt, &given, start, input, output)
         }
         Line::Serve {
             tokens,
             database,
             port,
             count,
+            clients,
         } => {
             let given = connections::ServeLine {
                 tokens,
                 database,
                 port,
                 count,
+                clients,
             };
-            connections::serve(rt, &given, error)
+            connections::serve(rt, &given, start, error)
         }
         Line::Loopback {
             tokens,
@@ -94,24 +98,26 @@ fn done<R: Read, O: Write, E: Write>(
             loopback::loop_back(rt, &given, input, output)
         }
         Line::Cell { token } => cell(rt.alloc(), token, output),
-        Line::Report { database } => report::report(rt, database, output),
-        Line::Upgrade { database } => upgrade::upgrade(rt, database, output),
+        Line::Report { database } => report::report(rt, database, start, output),
+        Line::Upgrade { database } => upgrade::upgrade(rt, database, start, output),
     }
 }
 
 /// Runs one command line, whose first word is the program's name, over a reader and two writers,
-/// and answers the exit status: 0 where it is done, 1 after a fault, which is told on one line of
+/// where `start` stands for what the file and the log of its database hold, and answers the exit
+/// status: 0 where it is done, 1 after a fault, which is told on one line of
 /// `error`, and 2 for a command line that is refused.
-pub(crate) fn run_line<'a, R: Read, O: Write, E: Write>(
+pub(crate) fn run_line<'a, F: Start, R: Read, O: Write, E: Write>(
     rt: &HostRuntime,
     words: &'a [&'a str],
+    start: F,
     input: &mut R,
     output: &mut O,
     error: &mut E,
 ) -> u8 {
     match parse(rt.alloc(), words) {
         Ok(line) => {
-            let done = done(rt, line, input, output, error);
+            let done = done(rt, line, start, input, output, error);
             ended(done, error)
         }
         Err(fault) => refused(fault, output, error),

@@ -1,5 +1,9 @@
-//! The database of a command.
-ghost use Rattle.std.specs.Prelude.{IfSome};
+//! The database of a command. What is said of it is said for all that its file and log may hold, which
+//! `Start` stands for.
+ghost use Rattle.std.specs.Prelude.{IfOk, IfSome};
+ghost use Rattle.sqlite.specs.Files.{over_files};
+ghost use Rattle.sqlite.specs.WalFiles.{image_at};
+ghost use Rattle.space_sql.specs.Found.{FindsSpelt};
 ghost use Rattle.space_sql.specs.Listed.{IsAllOf};
 
 use crate::fault::Fault;
@@ -7,7 +11,7 @@ use mirror_tables::mirrored::mirrored;
 use space_core::space::Space;
 use space_reading::judgement::Listed;
 use space_sql::space::SqlSpace;
-use sqlite::{Alter, File, FileStore};
+use sqlite::{Alter, FileFrom, FileStore, Start};
 use std::alloc::Global;
 
 /// What a command does over a space, with all that it was given.
@@ -24,7 +28,7 @@ fn after_closing(done: Result<(), Fault>, closed: Result<(), Fault>) -> Result<(
 }
 
 /// Closes the database of a command.
-pub(crate) fn close(space: SqlSpace<FileStore<File>>) -> Result<(), Fault> {
+pub(crate) fn close<F: Start>(space: SqlSpace<FileStore<FileFrom<F>>>) -> Result<(), Fault> {
     match space.close() {
         Ok(()) => Ok(()),
         Err(_) => Err(Fault::DatabaseFailed),
@@ -40,13 +44,35 @@ fn performed<W: Work, A: Alter + Drop>(
     work.perform(space)
 }
 
-/// Does a command's work over the database in the file of that name, which is closed last.
-pub(crate) fn over_database<W: Work + Drop>(
+/// Opens the database in the file of that name, with all that it then holds where that was read. After
+/// a fault it is closed.
+pub(crate) fn opened<F: Start>(
     rt: &HostRuntime,
     name: &str,
+    start: F,
+) -> Result<(SqlSpace<FileStore<FileFrom<F>>>, Option<Listed>), Fault>
+    ensures finds { IfOk result (λ t. FindsSpelt (image_at F.Start)
+        ⟦<SqlSpace<FileStore<FileFrom<F>>> as Space>⟧ t.0) }
+    ensures all { IfOk result (λ t. IfSome t.1 (IsAllOf over_files t.0)) }
+{
+    match SqlSpace::open(rt, name, start) {
+        Ok(taken) => Ok(taken),
+        Err((fault, Some(conn))) => {
+            let _ = conn.close();
+            Err(Fault::Database(fault))
+        }
+        Err((fault, None)) => Err(Fault::Database(fault)),
+    }
+}
+
+/// Does a command's work over the database in the file of that name, which is closed last.
+pub(crate) fn over_database<W: Work + Drop, F: Start>(
+    rt: &HostRuntime,
+    name: &str,
+    start: F,
     work: W,
 ) -> Result<(), Fault> {
-    let space = SqlSpace::open(rt, name)?;
+    let (space, _) = opened(rt, name, start)?;
     let (done, space) = performed(work, space);
     after_closing(done, close(space))
 }
@@ -66,12 +92,13 @@ fn performed_with_copy<W: Work, A: Alter + Drop>(
 
 /// Does a command's work over the database in the file of that name, which is closed last, with a
 /// copy of it in memory as long as there is memory for it.
-pub(crate) fn over_copied_database<W: Work + Drop>(
+pub(crate) fn over_copied_database<W: Work + Drop, F: Start>(
     rt: &HostRuntime,
     name: &str,
+    start: F,
     work: W,
 ) -> Result<(), Fault> {
-    let (space, listed) = SqlSpace::open_listed(rt, name)?;
+    let (space, listed) = opened(rt, name, start)?;
     let (done, space) = performed_with_copy(rt.alloc(), work, space, listed);
     after_closing(done, close(space))
 }

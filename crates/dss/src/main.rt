@@ -7,13 +7,14 @@ mod connections;
 mod database;
 mod fault;
 mod loopback;
-mod patience;
 mod report;
 mod run;
+mod sockets;
 mod tokens;
 mod upgrade;
 
 use crate::command::run_line;
+use sqlite::Unknown;
 use std::process::ExitCode;
 use std::{env, io};
 
@@ -30,6 +31,7 @@ fn run_words(rt: &HostRuntime) -> io::Result<u8> {
     Ok(run_line(
         rt,
         words.as_slice(),
+        Unknown,
         &mut rt.reader(),
         &mut io::writer(rt),
         &mut rt.stderr(),

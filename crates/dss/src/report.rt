@@ -3,6 +3,7 @@ use crate::database::{Work, over_database};
 use crate::fault::Fault;
 use dss_report::report::report_text;
 use space_core::space::Space;
+use sqlite::Start;
 use std::alloc::Global;
 use std::io::Write;
 
@@ -34,14 +35,15 @@ impl<'a, W: Write> Work for Printing<'a, W> {
 }
 
 /// Runs the command over the database in the file of that name, which is closed last.
-pub(crate) fn report<W: Write>(
+pub(crate) fn report<F: Start, W: Write>(
     rt: &HostRuntime,
     database: &str,
+    start: F,
     output: &mut W,
 ) -> Result<(), Fault> {
     let printing = Printing {
         alloc: rt.alloc(),
         output,
     };
-    over_database(rt, database, printing)
+    over_database(rt, database, start, printing)
 }

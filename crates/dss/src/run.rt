@@ -6,6 +6,7 @@ use entity_core::salt::Salt;
 use service_core::service::Service;
 use space_core::space::Space;
 use space_list::list::ListSpace;
+use sqlite::Start;
 use std::alloc::Global;
 use std::fs::File;
 use std::io::{Read, Write};
@@ -99,9 +100,10 @@ impl<'a, R: Read, W: Write> Work for Serving<'a, R, W> {
 }
 
 /// Runs the command.
-pub(crate) fn run<R: Read, W: Write>(
+pub(crate) fn run<F: Start, R: Read, W: Write>(
     rt: &HostRuntime,
     given: &RunLine<'_>,
+    start: F,
     input: &mut R,
     output: &mut W,
 ) -> Result<(), Fault> {
@@ -116,7 +118,7 @@ pub(crate) fn run<R: Read, W: Write>(
         output,
     };
     match given.database {
-        Some(name) => over_database(rt, name, serving),
+        Some(name) => over_database(rt, name, start, serving),
         None => {
             let (served, _) = serving.perform(ListSpace::new(rt.alloc()));
             served

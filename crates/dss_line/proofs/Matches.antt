@@ -1,6 +1,6 @@
 -- What the getters of `clap`'s matches read, by the rows of the matches.
 use Rattle.std.proofs.Common.{◌≡◌, ◌<◌, ◌^◌, ℕ, List, Option, Some, None, codes, refl, sym, inl, inr, ap, ◌∙◌, arith, false}
-use Rattle.std.specs.Prelude.{IfNone, ◌⊎◌}
+use Rattle.std.specs.Prelude.{IfNone, is_some, option_map, true, ◌⊎◌}
 use Rattle.std.specs.Borrow.{Bor}
 use Rattle.std.specs.Str.{bytes_eq}
 use Rattle.std.specs.Str.Parse.{IsNumeral, digits_value, without_leading_plus}
@@ -8,12 +8,13 @@ use Rattle.std.proofs.lemmas.Bool.Decides.{not_from_Decides}
 use Rattle.std.proofs.lemmas.Slice.Eq.{bytes_eq-Decides}
 use Rattle.clap.specs.Matches.{one_text}
 use Rattle.clap.specs.Kinds.{IsAmong}
-use Rattle.clap.specs.Words.{Row, Text, rows_of}
+use Rattle.clap.specs.Words.{Row, Text, first_of, rows_of}
 use Rattle.clap.specs.declared.parser.matches.Found.{Found}
 use Rattle.clap.proofs.WalkLemmas.{one_text-rows}
 use Rattle.clap.specs.declared.error.kind.ErrorKind.{ErrorKind}
 use Rattle.clap.specs.declared.error.kind.ErrorKind.TheVariants.{DisplayHelp, DisplayVersion, OutOfMemory}
-use Rattle.dss_line.specs.Line.{AsksNothing, Explains, HasNumber, HasValues}
+use Rattle.dss_line.specs.Line.{AsksNothing, Explains, HasCount, HasNumber, HasNumberIn, HasValues}
+use Rattle.dss_line.specs.declared.line.TheConstants.{MOST_CONNECTIONS}
 use Rattle.dss_line.specs.LineFault.{IsFaultOf}
 use Rattle.dss_line.specs.declared.fault.LineFault.{LineFault}
 use Rattle.dss_line.specs.declared.fault.LineFault.TheVariants as fault
@@ -47,16 +48,16 @@ other a b differ same = not_from_Decides (bytes_eq a b) (bytes_eq-Decides a b) d
 -- the command `run` asks for nothing where no line of it has the values
 pub nothing_of_run : (rows : List Row) → ((tokens : Bor (List ℕ)) (now : ℕ) (database : Option (Bor (List ℕ))) (requests : Bor (List ℕ)) → HasValues rows (Run tokens now database requests) → ⊥) → AsksNothing (Some (codes "run", rows))
 nothing_of_run rows none (Run tokens now database requests) asks = none tokens now database requests asks.1
-nothing_of_run rows none (Serve tokens database port count) asks = other _ _ refl asks.0
+nothing_of_run rows none (Serve tokens database port count clients) asks = other _ _ refl asks.0
 nothing_of_run rows none (Loopback tokens now request) asks = other _ _ refl asks.0
 nothing_of_run rows none (Cell token) asks = other _ _ refl asks.0
 nothing_of_run rows none (Report database) asks = other _ _ refl asks.0
 nothing_of_run rows none (Upgrade database) asks = other _ _ refl asks.0
 
 -- the command `serve` asks for nothing where no line of it has the values
-pub nothing_of_serve : (rows : List Row) → ((tokens : Bor (List ℕ)) (database : Bor (List ℕ)) (port : ℕ) (count : ℕ) → HasValues rows (Serve tokens database port count) → ⊥) → AsksNothing (Some (codes "serve", rows))
+pub nothing_of_serve : (rows : List Row) → ((tokens : Bor (List ℕ)) (database : Bor (List ℕ)) (port : ℕ) (count : Option ℕ) (clients : ℕ) → HasValues rows (Serve tokens database port count clients) → ⊥) → AsksNothing (Some (codes "serve", rows))
 nothing_of_serve rows none (Run tokens now database requests) asks = other _ _ refl asks.0
-nothing_of_serve rows none (Serve tokens database port count) asks = none tokens database port count asks.1
+nothing_of_serve rows none (Serve tokens database port count clients) asks = none tokens database port count clients asks.1
 nothing_of_serve rows none (Loopback tokens now request) asks = other _ _ refl asks.0
 nothing_of_serve rows none (Cell token) asks = other _ _ refl asks.0
 nothing_of_serve rows none (Report database) asks = other _ _ refl asks.0
@@ -65,7 +66,7 @@ nothing_of_serve rows none (Upgrade database) asks = other _ _ refl asks.0
 -- the command `self` asks for nothing where no line of it has the values
 pub nothing_of_self : (rows : List Row) → ((tokens : Bor (List ℕ)) (now : ℕ) (request : Bor (List ℕ)) → HasValues rows (Loopback tokens now request) → ⊥) → AsksNothing (Some (codes "self", rows))
 nothing_of_self rows none (Run tokens now database requests) asks = other _ _ refl asks.0
-nothing_of_self rows none (Serve tokens database port count) asks = other _ _ refl asks.0
+nothing_of_self rows none (Serve tokens database port count clients) asks = other _ _ refl asks.0
 nothing_of_self rows none (Loopback tokens now request) asks = none tokens now request asks.1
 nothing_of_self rows none (Cell token) asks = other _ _ refl asks.0
 nothing_of_self rows none (Report database) asks = other _ _ refl asks.0
@@ -74,7 +75,7 @@ nothing_of_self rows none (Upgrade database) asks = other _ _ refl asks.0
 -- the command `cell` asks for nothing where no line of it has the values
 pub nothing_of_cell : (rows : List Row) → ((token : Bor (List ℕ)) → HasValues rows (Cell token) → ⊥) → AsksNothing (Some (codes "cell", rows))
 nothing_of_cell rows none (Run tokens now database requests) asks = other _ _ refl asks.0
-nothing_of_cell rows none (Serve tokens database port count) asks = other _ _ refl asks.0
+nothing_of_cell rows none (Serve tokens database port count clients) asks = other _ _ refl asks.0
 nothing_of_cell rows none (Loopback tokens now request) asks = other _ _ refl asks.0
 nothing_of_cell rows none (Cell token) asks = none token asks.1
 nothing_of_cell rows none (Report database) asks = other _ _ refl asks.0
@@ -83,7 +84,7 @@ nothing_of_cell rows none (Upgrade database) asks = other _ _ refl asks.0
 -- the command `report` asks for nothing where no line of it has the values
 pub nothing_of_report : (rows : List Row) → ((database : Bor (List ℕ)) → HasValues rows (Report database) → ⊥) → AsksNothing (Some (codes "report", rows))
 nothing_of_report rows none (Run tokens now database requests) asks = other _ _ refl asks.0
-nothing_of_report rows none (Serve tokens database port count) asks = other _ _ refl asks.0
+nothing_of_report rows none (Serve tokens database port count clients) asks = other _ _ refl asks.0
 nothing_of_report rows none (Loopback tokens now request) asks = other _ _ refl asks.0
 nothing_of_report rows none (Cell token) asks = other _ _ refl asks.0
 nothing_of_report rows none (Report database) asks = none database asks.1
@@ -92,7 +93,7 @@ nothing_of_report rows none (Upgrade database) asks = other _ _ refl asks.0
 -- the command `upgrade` asks for nothing where no line of it has the values
 pub nothing_of_upgrade : (rows : List Row) → ((database : Bor (List ℕ)) → HasValues rows (Upgrade database) → ⊥) → AsksNothing (Some (codes "upgrade", rows))
 nothing_of_upgrade rows none (Run tokens now database requests) asks = other _ _ refl asks.0
-nothing_of_upgrade rows none (Serve tokens database port count) asks = other _ _ refl asks.0
+nothing_of_upgrade rows none (Serve tokens database port count clients) asks = other _ _ refl asks.0
 nothing_of_upgrade rows none (Loopback tokens now request) asks = other _ _ refl asks.0
 nothing_of_upgrade rows none (Cell token) asks = other _ _ refl asks.0
 nothing_of_upgrade rows none (Report database) asks = other _ _ refl asks.0
@@ -106,6 +107,26 @@ absent found text none some = let bad : None ≡ Some text = sym none ∙ some i
 pub anyway : {A : Type 0} (o : Option A) (P : Type 0) → P → IfNone o P
 anyway None P p = p
 anyway (Some x) P p = tt
+
+-- where one fact leads to another, it does so where there is no value
+pub none_too : {A : Type 0} (o : Option A) (P Q : Type 0) → (P → Q) → IfNone o P → IfNone o Q
+none_too None P Q more p = more p
+none_too (Some x) P Q more p = tt
+
+-- a text that is not there is not found
+pub no_text : (o : Option (Bor (List ℕ))) (found : Option Text) → is_some o ≡ false → option_map (λ word. word.now) o ≡ found → found ≡ None
+no_text None found none is = sym is
+no_text (Some word) found none is = let bad : true ≡ false = none in cc
+
+-- one that is there is found
+pub some_text : (o : Option (Bor (List ℕ))) (found : Option Text) → is_some o ≡ true → option_map (λ word. word.now) o ≡ found → found ≡ None → ⊥
+some_text None found some is none = let bad : false ≡ true = some in cc
+some_text (Some word) found some is none = let bad : Some word.now ≡ None = is ∙ none in cc
+
+-- where the count is there and is no number of its range, there is no count
+pub no_count : (rows : List Row) → ((n : ℕ) → HasNumberIn (codes "count") 1 MOST_CONNECTIONS rows n → ⊥) → (first_of (codes "count") rows ≡ None → ⊥) → (count : Option ℕ) → HasCount rows count → ⊥
+no_count rows number there None has = there has
+no_count rows number there (Some n) has = number n has
 
 -- the fault of an error whose kind is a mistake of the words, or want of memory
 pub fault_of_kind : (mistakes : List ErrorKind) (subcommand : Option (Text × List Row)) (kind : ErrorKind) (found : LineFault) → (kind ≡ OutOfMemory) ⊎ IsAmong kind mistakes → IsFaultOf kind found → Explains mistakes subcommand found

@@ -3,7 +3,7 @@ use Rattle.std.specs.Prelude.{Some, codes, true}
 use Rattle.clap.specs.Simple.{on_top}
 use Rattle.clap.specs.Words.{App, Rule, Text, new_app, new_rule, with_rule, with_subcommand}
 use Rattle.clap.specs.declared.builder.value_parser.ValueParser.TheVariants.{Unsigned}
-use Rattle.dss_line.specs.declared.line.TheConstants.{LAST_MOMENT, LAST_PORT, MOST_CONNECTIONS}
+use Rattle.dss_line.specs.declared.line.TheConstants.{LAST_MOMENT, LAST_PORT, MOST_CLIENTS, MOST_CONNECTIONS}
 
 -- ---- arguments
 
@@ -36,11 +36,20 @@ port_rule = record (option_rule (codes "port")) {
   parser = Some (Unsigned 1 LAST_PORT);
 }
 
--- the value is a number from 1 to the most connections
+-- the value is a number from 1 to the most connections; it need not be there
 abbrev pub count_rule : Rule
-count_rule = record (option_rule (codes "count")) {
+count_rule = record (new_rule (codes "count")) {
+  long = Some (codes "count");
   value_names = 1;
   parser = Some (Unsigned 1 MOST_CONNECTIONS);
+}
+
+-- the value is a number from 1 to the most that are served at once; it need not be there
+abbrev pub clients_rule : Rule
+clients_rule = record (new_rule (codes "clients")) {
+  long = Some (codes "clients");
+  value_names = 1;
+  parser = Some (Unsigned 1 MOST_CLIENTS);
 }
 
 -- a word that has to be there
@@ -65,8 +74,10 @@ run_app =
 
 abbrev pub serve_app : App
 serve_app =
-    with_rule (with_rule (with_rule (with_rule (new_app (codes "serve")) tokens_rule) store_rule) port_rule)
-    count_rule
+    with_rule
+    (with_rule (with_rule (with_rule (with_rule (new_app (codes "serve")) tokens_rule) store_rule) port_rule)
+    count_rule)
+    clients_rule
 
 abbrev pub self_app : App
 self_app = with_rule (with_rule (with_rule (new_app (codes "self")) tokens_rule) now_rule) request_rule

@@ -8,7 +8,7 @@ use Rattle.clap.specs.declared.error.kind.ErrorKind.{ErrorKind}
 use Rattle.dss_line.specs.LineFault.{IsFaultOf}
 use Rattle.dss_line.specs.declared.fault.LineFault.{LineFault}
 use Rattle.dss_line.specs.declared.fault.LineFault.TheVariants as fault
-use Rattle.dss_line.specs.declared.line.TheConstants.{LAST_MOMENT, LAST_PORT, MOST_CONNECTIONS}
+use Rattle.dss_line.specs.declared.line.TheConstants.{LAST_MOMENT, LAST_PORT, MOST_CLIENTS, MOST_CONNECTIONS}
 use Rattle.dss_line.specs.declared.line.Line.{Line}
 use Rattle.dss_line.specs.declared.line.Line.TheVariants.{Cell, Loopback, Report, Run, Serve, Upgrade}
 
@@ -26,10 +26,21 @@ HasNumber id rows n =
 abbrev pub HasNumberIn : Text → ℕ → ℕ → List Row → ℕ → Type 0
 HasNumberIn id least greatest rows n = HasNumber id rows n × (least ≤ n) × (n ≤ greatest)
 
+-- the number of connections that are served, where the option is there
+abbrev pub HasCount : List Row → Option ℕ → Type 0
+HasCount rows None = first_of (codes "count") rows ≡ None
+HasCount rows (Some n) = HasNumberIn (codes "count") 1 MOST_CONNECTIONS rows n
+
+-- the number of connections that are served at once: the option's, or without it the most
+abbrev pub HasClients : List Row → ℕ → Type 0
+HasClients rows n =
+    HasNumberIn (codes "clients") 1 MOST_CLIENTS rows n
+    ⊎ ((first_of (codes "clients") rows ≡ None) × (n ≡ MOST_CLIENTS))
+
 -- the name of the command that asks for the line
 abbrev pub name_of : Line → Text
 name_of (Run tokens now database requests) = codes "run"
-name_of (Serve tokens database port count) = codes "serve"
+name_of (Serve tokens database port count clients) = codes "serve"
 name_of (Loopback tokens now request) = codes "self"
 name_of (Cell token) = codes "cell"
 name_of (Report database) = codes "report"
@@ -42,11 +53,12 @@ HasValues rows (Run tokens now database requests) =
     × HasNumberIn (codes "now") 0 LAST_MOMENT rows now
     × (first_of (codes "db") rows ≡ option_map (λ word. word.now) database)
     × (first_of (codes "requests") rows ≡ Some requests.now)
-HasValues rows (Serve tokens database port count) =
+HasValues rows (Serve tokens database port count clients) =
     (first_of (codes "tokens") rows ≡ Some tokens.now)
     × (first_of (codes "db") rows ≡ Some database.now)
     × HasNumberIn (codes "port") 1 LAST_PORT rows port
-    × HasNumberIn (codes "count") 1 MOST_CONNECTIONS rows count
+    × HasCount rows count
+    × HasClients rows clients
 HasValues rows (Loopback tokens now request) =
     (first_of (codes "tokens") rows ≡ Some tokens.now)
     × HasNumberIn (codes "now") 0 LAST_MOMENT rows now

@@ -4,6 +4,7 @@ ghost use Rattle.clap.specs.Words.{app_of, rule_of};
 ghost use Rattle.clap.specs.declared.builder.command.Command.TheViews.{out-Command};
 ghost use Rattle.dss_line.specs.Grammar.{
   cell_app,
+  clients_rule,
   count_rule,
   database_rule,
   dss_app,
@@ -23,7 +24,7 @@ ghost use Rattle.dss_line.specs.Grammar.{
   word_rule,
 };
 
-use crate::line::{LAST_MOMENT, LAST_PORT, MOST_CONNECTIONS};
+use crate::line::{LAST_MOMENT, LAST_PORT, MOST_CLIENTS, MOST_CONNECTIONS};
 use clap::builder::ValueParser;
 use clap::{Arg, Command};
 use std::alloc::{AllocError, Global};
@@ -89,10 +90,24 @@ fn count_option<'a>(alloc: Global) -> Arg<'a>
     ensures rule { rule_of result ≡ count_rule }
     ensures local { result.global ≡ false }
 {
-    option(alloc, "count")
+    Arg::new(alloc, "count")
+        .long("count")
         .value_name("NUMBER")
-        .help("How many connections to serve before it ends, from 1 to 1000000")
+        .help(
+            "How many connections to serve before it ends, from 1 to 1000000; without it as many as come",
+        )
         .value_parser(ValueParser::unsigned(1, MOST_CONNECTIONS))
+}
+
+fn clients_option<'a>(alloc: Global) -> Arg<'a>
+    ensures rule { rule_of result ≡ clients_rule }
+    ensures local { result.global ≡ false }
+{
+    Arg::new(alloc, "clients")
+        .long("clients")
+        .value_name("NUMBER")
+        .help("How many connections to serve at once, from 1 to 1000; without it 1000")
+        .value_parser(ValueParser::unsigned(1, MOST_CLIENTS))
 }
 
 // A word that has to be there.
@@ -147,11 +162,12 @@ fn serve_command<'a>(alloc: Global) -> Result<Command<'a>, AllocError>
         × ((out-Command command).has_globals ≡ false)) }
 {
     Command::new(alloc, "serve")
-        .about("Serves connections to a port of this machine, one after the other")
+        .about("Serves connections to a port of this machine, many at once")
         .arg(tokens_option(alloc))?
         .arg(store_option(alloc))?
         .arg(port_option(alloc))?
-        .arg(count_option(alloc))
+        .arg(count_option(alloc))?
+        .arg(clients_option(alloc))
 }
 
 fn self_command<'a>(alloc: Global) -> Result<Command<'a>, AllocError>

@@ -1,9 +1,9 @@
 //! What a command line asks for.
-ghost use Rattle.std.specs.Prelude.{ℕ, ◌≤◌, ◌≡◌, [], IfErr, IfNone, IfOk, IfSome, Some, codes};
+ghost use Rattle.std.specs.Prelude.{ℕ, ◌≤◌, ◌≡◌, [], IfErr, IfNone, IfOk, IfSome, Option, Some, codes};
 ghost use Rattle.clap.specs.Faults.{fault_of as mistakes_of};
 ghost use Rattle.clap.specs.Words.{found_of, rows_of, subcommand_of, subcommand_rows_of};
 ghost use Rattle.dss_line.specs.Grammar.{dss_app};
-ghost use Rattle.dss_line.specs.Line.{Asks, AsksNothing, Explains, HasNumberIn, texts};
+ghost use Rattle.dss_line.specs.Line.{Asks, AsksNothing, Explains, HasClients, HasCount, HasNumberIn, texts};
 
 use crate::fault::{LineFault, fault_of};
 use crate::grammar::command;
@@ -19,6 +19,9 @@ pub const LAST_PORT: u64 = 65_535;
 /// The most connections that one call may serve.
 pub const MOST_CONNECTIONS: u64 = 1_000_000;
 
+/// The most connections that are served at once, as many as are where the command line names no number.
+pub const MOST_CLIENTS: u64 = 1_000;
+
 /// What a command line asks for.
 #[derive(Clone, Copy, Debug, PartialEq, Eq)]
 pub enum Line<'a> {
@@ -33,7 +36,7 @@ pub enum Line<'a> {
         /// The name of the file of requests; `-` is the standard input.
         requests: &'a str,
     },
-    /// Serve connections to a port of this machine, one after the other.
+    /// Serve connections to a port of this machine.
     Serve {
         /// The name of the token file.
         tokens: &'a str,
@@ -41,8 +44,10 @@ pub enum Line<'a> {
         database: &'a str,
         /// The port, at least 1.
         port: u16,
-        /// How many connections, from 1 to a million.
-        count: u64,
+        /// How many connections, from 1 to a million, or as many as come.
+        count: Option<u64>,
+        /// How many of them at once, from 1 to a thousand.
+        clients: u64,
     },
     /// Serve one stream of requests in memory, through a socket of the program's own.
     Loopback {
@@ -116,6 +121,29 @@ fn port_in(matches: &ArgMatches<'_>) -> Option<u16>
     }
 }
 
+// How many connections are served, if a number is there; `None` where it is out of its range.
+fn count_in(matches: &ArgMatches<'_>) -> Option<Option<u64>>
+    ensures some { IfSome result (HasCount (rows_of (found_of matches.now))) }
+    ensures none { IfNone result ((count : Option ℕ) → HasCount (rows_of (found_of matches.now)) count
+        → ⊥) }
+{
+    if matches.get_str("count").is_none() {
+        return Some(None);
+    }
+    Some(Some(number_in(matches, "count", 1, MOST_CONNECTIONS)?))
+}
+
+// How many connections are served at once; `None` where a number is there and out of its range.
+fn clients_in(matches: &ArgMatches<'_>) -> Option<u64>
+    ensures some { IfSome result (HasClients (rows_of (found_of matches.now))) }
+    ensures none { IfNone result ((n : ℕ) → HasClients (rows_of (found_of matches.now)) n → ⊥) }
+{
+    if matches.get_str("clients").is_none() {
+        return Some(MOST_CLIENTS);
+    }
+    number_in(matches, "clients", 1, MOST_CLIENTS)
+}
+
 // The same of the subcommand `serve`.
 fn serve_line<'a>(matches: &ArgMatches<'a>) -> Option<Line<'a>>
     ensures some { IfSome result (Asks (Some (codes "serve", rows_of (found_of matches.now)))) }
@@ -126,7 +154,8 @@ fn serve_line<'a>(matches: &ArgMatches<'a>) -> Option<Line<'a>>
         tokens: matches.get_str("tokens")?,
         database: matches.get_str("db")?,
         port: port_in(matches)?,
-        count: number_in(matches, "count", 1, MOST_CONNECTIONS)?,
+        count: count_in(matches)?,
+        clients: clients_in(matches)?,
     })
 }
 

@@ -1,1 +1,3 @@
 pub mod Crashes
+pub mod Restarts
+pub mod Lives

@@ -1,12 +1,11 @@
 -- What a change in one transaction leaves.
 use Rattle.std.specs.Prelude.{◌≡◌, IsTrue, Result, OnOk, OnErr}
 use Rattle.sqlite_trees.specs.Tree.{Trees}
-use Rattle.sqlite.specs.Effect.{Database, IsDatabase}
 use Rattle.sqlite.specs.State.{State, HasCleanDisk, Survives}
 use Rattle.sqlite.specs.declared.error.Error.{Error}
 use Rattle.entity_core.specs.Airspace.{Airspace}
 use Rattle.space_tables.specs.Spelling.{Spells}
-use Rattle.space_tables.specs.Making.{IsSettled, IsUndone}
+use Rattle.space_tables.specs.Making.{AreOf, IsSettled, IsUndone}
 use Rattle.space_changes.specs.Numbering.{KeepsNumbers}
 
 -- trees that a commit may have left: those of a database that spells what comes of the airspace
@@ -14,8 +13,7 @@ use Rattle.space_changes.specs.Numbering.{KeepsNumbers}
 abbrev pub MayBeChanged : (P : Airspace → Type 0) (change : Airspace → Airspace)
     → State → Trees → Type 0
 MayBeChanged P change old trees =
-    (a : Airspace) → Spells old.now a → P a
-    → (db : Database) × (trees ≡ db.trees) × IsDatabase db × Spells db (change a)
+    (a : Airspace) → Spells old.now a → P a → AreOf (λ db. Spells db (change a)) trees
 
 -- What a change leaves of an airspace that the tables spell and of which P holds: the changed one,
 -- committed, in which who is kept keeps its number, or else the last commit as it was. A crash

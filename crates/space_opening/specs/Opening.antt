@@ -9,6 +9,7 @@ use Rattle.space_reading.specs.Judging.{listed_airspace}
 use Rattle.space_reading.specs.declared.judgement.Listed.{Listed}
 use Rattle.space_tables.specs.declared.format.Format.{Format}
 use Rattle.space_tables.specs.declared.format.Format.TheVariants.{One, Two}
+use Rattle.space_tables.specs.Making.{AreOf}
 use Rattle.space_tables.specs.Spelling.{Spells, SpellsAs}
 use Rattle.space_tables.specs.Tables.{first_schema}
 use Rattle.space_opening.specs.declared.open_fault.OpenFault.{OpenFault}
@@ -38,4 +39,4 @@ Moves old new (Err fault) = Refuses One old fault
 abbrev pub MayBeMoved : State → Trees → Type 0
 MayBeMoved old trees =
     old.now.schema ≡ first_schema → (a : Airspace) × SpellsAs One old.now a
-    × (db : Database) × (trees ≡ db.trees) × IsDatabase db × Spells db a
+    × AreOf (λ db. Spells db a) trees

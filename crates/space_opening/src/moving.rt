@@ -67,6 +67,7 @@ fn move_tables<S: Alter>(alloc: Global, conn: &mut Connection<S>) -> Result<(), 
         HasCleanDisk new → old.now.schema ≡ first_schema → Moves old.now new.now result }
     ensures settled { let new = state S.Store conn.new in
         HasCleanDisk new → OnOk result (IsSettled new) }
+    ensures clean { HasCleanDisk (state S.Store conn.new) → HasCleanDisk (state S.Store conn.old) }
     ensures back { let old = state S.Store conn.old in
         let new = state S.Store conn.new in
         HasCleanDisk new → IsTrue new.is_open → old.now.schema ≡ first_schema
@@ -112,6 +113,7 @@ pub fn moved<S: Alter>(alloc: Global, conn: &mut Connection<S>) -> Result<(), Op
         HasCleanDisk new → old.now.schema ≡ first_schema → Moves old.now new.now result }
     ensures settled { let new = state S.Store conn.new in
         HasCleanDisk new → OnOk result (IsSettled new) }
+    ensures clean { HasCleanDisk (state S.Store conn.new) → HasCleanDisk (state S.Store conn.old) }
     ensures at_rest { let old = state S.Store conn.old in
         let new = state S.Store conn.new in
         HasCleanDisk new → old.now.schema ≡ first_schema → IfErr result (λ fault. fault ≢ Store

@@ -9,3 +9,4 @@ pub mod Columns
 pub mod TypedRows
 pub mod Written
 pub mod MapEntries
+pub mod Alive

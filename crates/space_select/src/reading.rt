@@ -1,9 +1,10 @@
 //! What is known of a connection, and whether it still works.
-ghost use Rattle.std.specs.Prelude.{◌≡◌, false, OnOk, IsTrue};
+ghost use Rattle.std.specs.Prelude.{◌≡◌, false, Err, OnOk, IsTrue};
+ghost use Rattle.sqlite.specs.declared.error.Error.TheVariants.{InvalidQuery};
 ghost use Rattle.sqlite.specs.Held.{state};
 ghost use Rattle.sqlite.specs.State.{HasCleanDisk, IsLive, IsUnchanged, Survives};
 
-use sqlite::{Alter, Connection, Error};
+use sqlite::{Alter, Connection, Error, Row};
 
 /// What is known of a connection at any time. It does nothing.
 pub fn known<S: Alter>(conn: &Connection<S>)
@@ -15,7 +16,20 @@ pub fn known<S: Alter>(conn: &Connection<S>)
     let _ = conn.is_autocommit();
 }
 
-/// Tests whether the store still works. It writes nothing.
+// Whether a text without a statement was refused as such.
+fn refused(told: Result<Row, Error>) -> Result<(), Error>
+    ensures { OnOk result (told ≡ Err InvalidQuery) }
+{
+    match told {
+        Err(Error::InvalidQuery) => Ok(()),
+        Err(error) => Err(error),
+        Ok(_) => Err(Error::QueryReturnedNoRows),
+    }
+}
+
+/// Tests whether the store still works, by a text without a statement, which an open connection refuses
+/// to read. It writes nothing, and once it was asked it takes no memory, as long as the connection
+/// keeps the text.
 pub fn alive<S: Alter>(conn: &mut Connection<S>) -> Result<(), Error>
     requires { conn.old.in_transaction ≡ false }
     ensures outside { conn.new.in_transaction ≡ false }
@@ -23,8 +37,5 @@ pub fn alive<S: Alter>(conn: &mut Connection<S>) -> Result<(), Error>
         HasCleanDisk new → OnOk result (IsUnchanged (state S.Store conn.old) new) }
     ensures survives { Survives (state S.Store conn.old) (state S.Store conn.new) (λ _. ⊥) }
 {
-    match conn.prepare("SELECT serial FROM meta WHERE one = 1") {
-        Ok(_) => Ok(()),
-        Err(error) => Err(error),
-    }
+    refused(conn.query_row("", &[]))
 }

@@ -55,13 +55,13 @@ not_other : (db : Database) (a : Airspace) → Spells db a → IsOtherFormat db 
 unfolding format_in
 not_other db a p other = other.not_two (ap format_in (sym other.only ∙ p.meta))
 
-not_refused : (db : Database) (a : Airspace) (fault : OpenFault) → Spells db a → Refuses Two db fault → (fault ≡ Store → ⊥) → ⊥
+pub not_refused : (db : Database) (a : Airspace) (fault : OpenFault) → Spells db a → Refuses Two db fault → (fault ≡ Store → ⊥) → ⊥
 not_refused db a NotADss p r other = r.0 a p
 not_refused db a Version p r other = not_other db a p r
 not_refused db a Store p r other = other refl
 
 -- the fault is the one of the store, if each other one is impossible
-is_store : (fault : OpenFault) → ((fault ≡ Store → ⊥) → ⊥) → fault ≡ Store
+pub is_store : (fault : OpenFault) → ((fault ≡ Store → ⊥) → ⊥) → fault ≡ Store
 is_store NotADss h = absurd (h (λ e. cc))
 is_store Version h = absurd (h (λ e. cc))
 is_store Store h = refl

@@ -4,3 +4,5 @@ pub mod Changing
 pub mod Openings
 pub mod Crashes
 pub mod Listings
+pub mod Founds
+pub mod Restarts

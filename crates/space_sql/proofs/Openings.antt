@@ -26,7 +26,7 @@ ok_is_no_fault x fault = λ e. cc
 pub stands_seen : {seen own : Schema} {presence : Presence} → seen ≡ own → presence ≡ presence_in seen.tables → presence_in own.tables ≡ presence
 stands_seen same exact = ap (λ (s : Schema). presence_in s.tables) (sym same) ∙ sym exact
 
-stands_as : (format : Format) (schema : Schema) → schema ≡ schema_of format → presence_in schema.tables ≡ Whole format
+pub stands_as : (format : Format) (schema : Schema) → schema ≡ schema_of format → presence_in schema.tables ≡ Whole format
 stands_as One schema e = ap (λ (s : Schema). presence_in s.tables) e ∙ first_stands
 stands_as Two schema e = ap (λ (s : Schema). presence_in s.tables) e ∙ second_stands
 

@@ -4,3 +4,5 @@ pub mod Laws
 pub mod Opening
 pub mod Crash
 pub mod Listed
+pub mod Found
+pub mod Restart

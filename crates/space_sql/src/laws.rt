@@ -2,11 +2,13 @@
 //! contracts.
 ghost use Rattle.std.specs.Prelude.{◌≡◌, false};
 ghost use Rattle.space_sql.specs.Crash.{LeavesContent, LeavesHeld, LeftIsFound};
+ghost use Rattle.space_sql.specs.Found.{NewIsUnmade};
+ghost use Rattle.space_sql.specs.Restart.{LeavesFiles, LeavesTrees, NextRun};
 
 use crate::space::SqlSpace;
 use space_core::space::Space;
 use space_select::reading::known;
-use sqlite::{Alter, Connection, MemStore};
+use sqlite::{Alter, Connection, FileFrom, FileStore, MemStore, Start};
 
 /// Whatever a crash leaves of a space spells an airspace that the space holds; where it holds one
 /// and no other, that one. Which airspaces a space holds after each call is said by the clauses of
@@ -35,3 +37,32 @@ pub fn memory_is_sound(space: &SqlSpace<MemStore>)
 {
     let _broken = space.broken;
 }
+
+/// Gives up a space over files, and writes nothing more: what a crash leaves of the two files spells
+/// an airspace that the space held; where it held one and no other, that one.
+pub fn files_left<S: Start>(space: SqlSpace<FileStore<FileFrom<S>>>) -> FileStore<FileFrom<S>>
+    ensures { LeavesFiles space result }
+{
+    let _broken = space.broken;
+    space.release().into_store()
+}
+
+/// Gives up a connection over files, as one that came back after a fault, and writes nothing more:
+/// what a crash leaves of the two files is a database that a crash might have left of the connection.
+pub fn trees_left<S: Start>(conn: Connection<FileStore<FileFrom<S>>>) -> FileStore<FileFrom<S>>
+    ensures { LeavesTrees conn result }
+{
+    conn.into_store()
+}
+
+/// A database file without a byte is unmade, whatever its log holds.
+pub fn new_is_unmade()
+    ensures { NewIsUnmade }
+{}
+
+/// Where files spell an airspace in format 2, a space that is opened over them holds that airspace and
+/// no other, and of the faults of opening only `Store` comes. It is said of whatever
+/// `SqlSpace::open` answers, by its clauses `finds` and `refuses`.
+pub fn next_finds<S: Alter>()
+    ensures { NextRun S.Store ⟦<SqlSpace<S> as Space>⟧ }
+{}

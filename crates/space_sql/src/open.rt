@@ -1,6 +1,8 @@
 //! A space over tables is made, taken and given back.
-ghost use Rattle.std.specs.Prelude.{◌≡◌, ◌≢◌, ◌↔◌, codes, false, Err, IfErr, IfOk, IfSome, IsTrue};
-ghost use Rattle.sqlite.specs.Files.{over_files};
+ghost use Rattle.std.specs.Prelude.{◌≡◌, ◌≢◌, ◌↔◌, codes, false, Err, IfErr, IfOk, IfSome, IsErrAnd, IsTrue};
+ghost use Rattle.sqlite.specs.Files.{file_state, over_files};
+ghost use Rattle.sqlite.specs.Recovery.{Image};
+ghost use Rattle.sqlite.specs.WalFiles.{image_at};
 ghost use Rattle.sqlite.specs.Held.{state};
 ghost use Rattle.sqlite.specs.State.{HasCleanDisk, Survives};
 ghost use Rattle.sqlite.specs.Steps.{IsEmpty, over_memory};
@@ -17,8 +19,10 @@ ghost use Rattle.space_tables.specs.declared.format.Format.TheVariants.{One, Two
 ghost use Rattle.space_tables.specs.declared.presence.Presence.TheVariants.{Whole};
 ghost use Rattle.space_opening.specs.Opening.{MayBeMoved, Refuses};
 ghost use Rattle.space_opening.specs.declared.open_fault.OpenFault.TheVariants.{Store};
+ghost use Rattle.space_sql.specs.Found.{FindsSpelt, IsOpenedOver, RefusesFound};
 ghost use Rattle.space_sql.specs.Listed.{IsAllOf};
 ghost use Rattle.space_sql.specs.Opening.{HoldsSpelt, IsDueFault, IsFresh, MayBeOpened};
+ghost use Rattle.space_sql.specs.Restart.{ClosesFiles};
 
 use crate::listed::is_ours;
 use crate::space::SqlSpace;
@@ -31,7 +35,7 @@ use space_reading::judgement::Listed;
 use space_tables::format::Format;
 use space_tables::make::make_tables;
 use space_tables::presence::{Presence, presence_of};
-use sqlite::{Alter, Connection, Error, ErrorCode, File, FileStore, MemStore};
+use sqlite::{Alter, Connection, Error, ErrorCode, FileFrom, FileStore, Files, MemStore, Start};
 use std::alloc::Global;
 use std::io::Read;
 use std::{fs, io};
@@ -64,6 +68,8 @@ pub type Taking<S> = Result<(SqlSpace<S>, Option<Listed>), (OpenFault, Connectio
 // Makes the tables in a database that has none of them.
 fn make_new<S: Alter>(alloc: Global, mut conn: Connection<S>) -> Taking<S>
     requires { conn.in_transaction ≡ false }
+    ensures clean { IfOk result (λ t. HasCleanDisk (state S.Store t.0.conn)
+        → HasCleanDisk (state S.Store conn)) }
     ensures fresh { IfOk result (λ t. IsFresh S.Store ⟦<SqlSpace<S> as Space>⟧ t.0) }
     ensures made { IfOk result (λ t. ⟦<SqlSpace<S> as Space>⟧.is_sound t.0
         → (state S.Store conn).now.schema ≡ no_schema
@@ -85,6 +91,8 @@ fn make_new<S: Alter>(alloc: Global, mut conn: Connection<S>) -> Taking<S>
 // Takes tables of format 2 as they are.
 fn take_second<S: Alter>(alloc: Global, mut conn: Connection<S>) -> Taking<S>
     requires { conn.in_transaction ≡ false }
+    ensures clean { IfOk result (λ t. HasCleanDisk (state S.Store t.0.conn)
+        → HasCleanDisk (state S.Store conn)) }
     ensures fresh { IfOk result (λ t. IsFresh S.Store ⟦<SqlSpace<S> as Space>⟧ t.0) }
     ensures taken { IfOk result (λ t. ⟦<SqlSpace<S> as Space>⟧.is_sound t.0
         → (state S.Store conn).now.schema ≡ dss_schema
@@ -112,6 +120,8 @@ fn take_second<S: Alter>(alloc: Global, mut conn: Connection<S>) -> Taking<S>
 // Brings tables of format 1 to format 2, and takes them.
 fn take_first<S: Alter>(alloc: Global, mut conn: Connection<S>) -> Taking<S>
     requires { conn.in_transaction ≡ false }
+    ensures clean { IfOk result (λ t. HasCleanDisk (state S.Store t.0.conn)
+        → HasCleanDisk (state S.Store conn)) }
     ensures fresh { IfOk result (λ t. IsFresh S.Store ⟦<SqlSpace<S> as Space>⟧ t.0) }
     ensures taken { IfOk result (λ t. ⟦<SqlSpace<S> as Space>⟧.is_sound t.0
         → (state S.Store conn).now.schema ≡ first_schema
@@ -159,6 +169,8 @@ impl<S: Alter> SqlSpace<S> {
     /// makes them, and no other stands beside them.
     pub fn adopt(alloc: Global, conn: Connection<S>) -> Taking<S>
         requires { conn.in_transaction ≡ false }
+        ensures clean { IfOk result (λ t. HasCleanDisk (state S.Store t.0.conn)
+            → HasCleanDisk (state S.Store conn)) }
         ensures fresh { IfOk result (λ t. IsFresh S.Store ⟦<SqlSpace<S> as Space>⟧ t.0) }
         ensures made { IfOk result (λ t. ⟦<SqlSpace<S> as Space>⟧.is_sound t.0
             → (state S.Store conn).now.schema ≡ no_schema
@@ -212,16 +224,39 @@ impl<S: Alter> SqlSpace<S> {
     }
 }
 
+// Takes a connection that was opened over files, whatever these held.
+fn taken_over<S: Alter>(alloc: Global, conn: Connection<S>) -> Taking<S>
+    requires { conn.in_transaction ≡ false }
+    ensures fresh { IfOk result (λ t. IsFresh S.Store ⟦<SqlSpace<S> as Space>⟧ t.0) }
+    ensures all { IfOk result (λ t. (state S.Store conn).now.schema ≡ dss_schema
+        → IfSome t.1 (IsAllOf S.Store t.0)) }
+    ensures finds { (image : Image) → (HasCleanDisk (state S.Store conn)
+        → IsOpenedOver image (state S.Store conn))
+        → IfOk result (λ t. FindsSpelt image ⟦<SqlSpace<S> as Space>⟧ t.0) }
+    ensures refuses { (image : Image) → (HasCleanDisk (state S.Store conn)
+        → IsOpenedOver image (state S.Store conn))
+        → IfErr result (λ e. RefusesFound image (state S.Store e.1) e.0) }
+{
+    at_rest(&conn);
+    SqlSpace::adopt(alloc, conn)
+}
+
 // Takes a connection, with all that the space then holds where its tables are as they are made.
 fn taken_whole<S: Alter>(alloc: Global, conn: Connection<S>) -> Taking<S>
     requires { conn.in_transaction ≡ false }
     ensures fresh { IfOk result (λ t. IsFresh S.Store ⟦<SqlSpace<S> as Space>⟧ t.0) }
     ensures all { IfOk result (λ t. IfSome t.1 (IsAllOf S.Store t.0)) }
+    ensures finds { (image : Image) → (HasCleanDisk (state S.Store conn)
+        → IsOpenedOver image (state S.Store conn))
+        → IfOk result (λ t. FindsSpelt image ⟦<SqlSpace<S> as Space>⟧ t.0) }
+    ensures refuses { (image : Image) → (HasCleanDisk (state S.Store conn)
+        → IsOpenedOver image (state S.Store conn))
+        → IfErr result (λ e. RefusesFound image (state S.Store e.1) e.0) }
 {
     if is_ours(alloc, conn.schema()) {
-        return SqlSpace::adopt(alloc, conn);
+        return taken_over(alloc, conn);
     }
-    match SqlSpace::adopt(alloc, conn) {
+    match taken_over(alloc, conn) {
         Ok((space, _)) => Ok((space, None)),
         Err(refused) => Err(refused),
     }
@@ -278,60 +313,81 @@ fn unopened(rt: &HostRuntime, path: &str, error: &Error) -> OpenFault
     }
 }
 
-fn file(rt: &HostRuntime, path: &str) -> Result<Connection<FileStore<File>>, OpenFault>
+// Opens the file, or makes it.
+fn file<S: Start>(
+    rt: &HostRuntime,
+    path: &str,
+    start: S,
+) -> Result<Connection<FileStore<FileFrom<S>>>, OpenFault>
     ensures outside { IfOk result (λ conn. conn.in_transaction ≡ false) }
     ensures memory { path.now ≡ codes ":memory:" → result ≡ Err OpenFault.Store }
+    ensures opened { IfOk result (λ conn. HasCleanDisk (file_state conn)
+        → IsOpenedOver (image_at S.Start) (file_state conn)) }
 {
-    match Connection::open(rt, path) {
+    match Connection::open_from(rt, path, false, start) {
         Ok(conn) => Ok(conn),
-        Err(error) => Err(unopened(rt, path, &error)),
+        Err((error, _)) => Err(unopened(rt, path, &error)),
     }
 }
 
-impl SqlSpace<FileStore<File>> {
-    /// Opens a file, or makes it, and takes what it has (`adopt`). After a fault it is closed. The
-    /// name `:memory:` is refused.
-    pub fn open(rt: &HostRuntime, path: &str) -> Result<SqlSpace<FileStore<File>>, OpenFault>
-        ensures fresh { IfOk result (IsFresh over_files ⟦<SqlSpace<FileStore<File>> as Space>⟧) }
-        ensures memory { path.now ≡ codes ":memory:" → result ≡ Err OpenFault.Store }
-    {
-        match SqlSpace::adopt(rt.alloc(), file(rt, path)?) {
-            Ok((space, _)) => Ok(space),
-            Err((fault, conn)) => {
-                let _ = conn.close();
-                Err(fault)
-            }
-        }
-    }
+/// A space over a file, with all that it then holds where that was read; or a fault, with the
+/// connection that goes back, once there was one.
+pub type Opening<S> = Result<
+    (SqlSpace<FileStore<FileFrom<S>>>, Option<Listed>),
+    (OpenFault, Option<Connection<FileStore<FileFrom<S>>>>),
+>;
 
-    /// Opens a file, or makes it, as `open` does, with all that the space then holds. That is not
-    /// told where the tables were made or moved, or are not as they are made.
-    pub fn open_listed(
-        rt: &HostRuntime,
-        path: &str,
-    ) -> Result<(SqlSpace<FileStore<File>>, Option<Listed>), OpenFault>
+impl<S: Start> SqlSpace<FileStore<FileFrom<S>>> {
+    /// Opens a file, or makes it, and takes what it has (`adopt`), where `S` stands for what the
+    /// file and its log held; no clause ties these to the name. The name `:memory:` is refused.
+    ///
+    /// With the space comes all that it then holds. That is not told where the tables were made or
+    /// moved, or are not as they are made.
+    pub fn open(rt: &HostRuntime, path: &str, start: S) -> Opening<S>
         ensures fresh { IfOk result (λ t.
-            IsFresh over_files ⟦<SqlSpace<FileStore<File>> as Space>⟧ t.0) }
+            IsFresh over_files ⟦<SqlSpace<FileStore<FileFrom<S>>> as Space>⟧ t.0) }
+        ensures finds { IfOk result (λ t. FindsSpelt (image_at S.Start)
+            ⟦<SqlSpace<FileStore<FileFrom<S>>> as Space>⟧ t.0) }
         ensures all { IfOk result (λ t. IfSome t.1 (IsAllOf over_files t.0)) }
-        ensures memory { path.now ≡ codes ":memory:" → result ≡ Err OpenFault.Store }
+        ensures refuses { IfErr result (λ e. IfSome e.1
+            (λ conn. RefusesFound (image_at S.Start) (file_state conn) e.0)) }
+        ensures memory { path.now ≡ codes ":memory:"
+            → IsErrAnd result (λ e. e.0 ≡ OpenFault.Store) }
     {
-        match taken_whole(rt.alloc(), file(rt, path)?) {
+        let conn = match file(rt, path, start) {
+            Ok(conn) => conn,
+            Err(fault) => return Err((fault, None)),
+        };
+        match taken_whole(rt.alloc(), conn) {
             Ok(taken) => Ok(taken),
-            Err((fault, conn)) => {
-                let _ = conn.close();
-                Err(fault)
+            Err((fault, conn)) => Err((fault, Some(conn))),
+        }
+    }
+
+    /// Closes the files and gives them back. Its one fault is `Broken`; after it the space is gone,
+    /// too, and nothing is said of the files.
+    pub fn close_files(self) -> Result<Files<FileFrom<S>>, SpaceFault>
+        ensures broken { IfErr result (λ fault. fault ≡ SpaceFault.Broken) }
+        ensures closed { IfOk result (λ files. ClosesFiles self files) }
+    {
+        let conn = self.release();
+        at_rest(&conn);
+        match conn.close_files() {
+            Ok(files) => Ok(files),
+            Err((_, store)) => {
+                drop(store.close());
+                Err(SpaceFault::Broken)
             }
         }
     }
 
-    /// Closes the file. Its one fault is `Broken`; after it the space is gone, too, and nothing is
-    /// said of the file.
+    /// As `close_files`, and the files are closed.
     pub fn close(self) -> Result<(), SpaceFault>
         ensures broken { IfErr result (λ fault. fault ≡ SpaceFault.Broken) }
     {
-        match self.release().close() {
-            Ok(()) => Ok(()),
-            Err(_) => Err(SpaceFault::Broken),
+        match self.close_files() {
+            Ok(_) => Ok(()),
+            Err(fault) => Err(fault),
         }
     }
 }

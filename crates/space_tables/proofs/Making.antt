@@ -39,7 +39,7 @@ use Rattle.space_tables.proofs.Texts.{old_row_text, first_row_text}
 use Rattle.space_tables.specs.Spelling.{AreApart, IsStated, availability_values, meta_columns, entity_columns, six_columns, three_columns, sub_columns, five_columns, two_columns, later_rows}
 use Rattle.space_tables.proofs.Means.{old_row_is, old_row_plain, first_row_is, first_row_plain}
 use Rattle.space_tables.proofs.Steps.{cast_int, cast_null, inserts}
-use Rattle.space_tables.specs.Making.{HasRows, IsBare, SpellsEmpty, SpellsEmptyAs}
+use Rattle.space_tables.specs.Making.{HasRows, IsBare, IsMade, SpellsEmptyAs}
 use Rattle.space_tables.proofs.Steps.{went, same_value}
 
 -- a table is made beside others, whose rows stay
@@ -147,7 +147,7 @@ starts_first old new (Ok count) h bare =
     spells_empty One new.now (ap (λ (d : Database). d.schema) u.is) (at 0 ∙ step.rows ∙ first_stored 1 db bare.1.0)
     (at 1 ∙ step.tables.1.0 (λ e. cc) ∙ bare.1.1.0) (at 3 ∙ step.tables.1.1.0 (λ e. cc) ∙ bare.1.1.1.0) (at 5 ∙ step.tables.1.1.1.0 (λ e. cc) ∙ bare.1.1.1.1.0) (at 8 ∙ step.tables.1.1.1.1.0 (λ e. cc) ∙ bare.1.1.1.1.1.0) refl refl refl
 
-pub starts : (old new : State) (r : Result ℕ Error) → Executes first_row_text [] old new r → IsBare dss_schema old.now → OnOk r (SpellsEmpty new.now)
+pub starts : (old new : State) (r : Result ℕ Error) → Executes first_row_text [] old new r → IsBare dss_schema old.now → OnOk r (IsMade new.now)
 starts old new (Err e) h bare = tt
 starts old new (Ok count) h bare =
     let db = old.now.trees in
@@ -158,7 +158,9 @@ starts old new (Ok count) h bare =
     let step = one_step dss_schema Enforced db u.next (first_edit 2 db) (acts_on_none db) wrote in
     let at = λ (t : ℕ). ap (λ (d : Database). d.trees t) u.is in
     let kept = step.tables.1 in
-    let none = bare.1.1 in
-    spells_empty Two new.now (ap (λ (d : Database). d.schema) u.is) (at 0 ∙ step.rows ∙ first_stored 2 db bare.1.0)
-    (at 1 ∙ kept.0 (λ e. cc) ∙ none.0) (at 3 ∙ kept.1.0 (λ e. cc) ∙ none.1.0) (at 5 ∙ kept.1.1.0 (λ e. cc) ∙ none.1.1.0) (at 8 ∙ kept.1.1.1.0 (λ e. cc) ∙ none.1.1.1.0)
-    (at 10 ∙ kept.1.1.1.1.0 (λ e. cc) ∙ none.1.1.1.1.0) (at 12 ∙ kept.1.1.1.1.1.0 (λ e. cc) ∙ none.1.1.1.1.1.0) (at 15 ∙ kept.1.1.1.1.1.1.0 (λ e. cc) ∙ none.1.1.1.1.1.1.0)
+    let none = bare.1.1 in (
+      w.sound,
+      spells_empty Two new.now (ap (λ (d : Database). d.schema) u.is) (at 0 ∙ step.rows ∙ first_stored 2 db bare.1.0)
+          (at 1 ∙ kept.0 (λ e. cc) ∙ none.0) (at 3 ∙ kept.1.0 (λ e. cc) ∙ none.1.0) (at 5 ∙ kept.1.1.0 (λ e. cc) ∙ none.1.1.0) (at 8 ∙ kept.1.1.1.0 (λ e. cc) ∙ none.1.1.1.0)
+          (at 10 ∙ kept.1.1.1.1.0 (λ e. cc) ∙ none.1.1.1.1.0) (at 12 ∙ kept.1.1.1.1.1.0 (λ e. cc) ∙ none.1.1.1.1.1.0) (at 15 ∙ kept.1.1.1.1.1.1.0 (λ e. cc) ∙ none.1.1.1.1.1.1.0),
+    )

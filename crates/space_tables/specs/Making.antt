@@ -44,6 +44,15 @@ SpellsEmptyAs format db = SpellsAs format db (empty_at 0)
 abbrev pub SpellsEmpty : Database → Type 0
 SpellsEmpty db = SpellsEmptyAs Two db
 
+-- the database of an empty airspace: an `IsDatabase` is what an opening asks of its rows
+abbrev pub IsMade : Database → Type 0
+IsMade db = IsDatabase db × SpellsEmpty db
+
+-- trees that a commit may have left: those of a database of which P holds, whose trees obey its
+-- schema
+abbrev pub AreOf : (P : Database → Type 0) → Trees → Type 0
+AreOf P trees = (db : Database) × (trees ≡ db.trees) × IsDatabase db × P db
+
 -- what is seen is committed
 abbrev pub IsSettled : State → Type 0
 IsSettled s = IsTrue s.is_open × (s.committed ≡ s.now)
@@ -62,8 +71,7 @@ AreMadeFirst old new = (old.now.schema ≡ no_schema → SpellsEmptyAs One new.n
 
 -- trees that a commit may have left: those of an empty airspace, where there was no table
 abbrev pub MayBeMade : State → Trees → Type 0
-MayBeMade old trees = old.now.schema ≡ no_schema → (db : Database) × (trees ≡ db.trees)
-    × SpellsEmpty db
+MayBeMade old trees = old.now.schema ≡ no_schema → AreOf SpellsEmpty trees
 
 -- ---- from format 1 to format 2
 
@@ -116,5 +124,4 @@ AreUpgraded old new =
 -- trees that a commit may have left: those of format 2 with the airspace that was spelt in format 1
 abbrev pub MayBeUpgraded : State → Trees → Type 0
 MayBeUpgraded old trees =
-    (a : Airspace) → SpellsAs One old.now a
-    → (db : Database) × (trees ≡ db.trees) × IsDatabase db × SpellsAs Two db a
+    (a : Airspace) → SpellsAs One old.now a → AreOf (λ db. SpellsAs Two db a) trees

@@ -3,7 +3,7 @@ ghost use Rattle.std.specs.Prelude.{◌≡◌, false, OnOk, OnErr, IsTrue};
 ghost use Rattle.sqlite.specs.Held.{state};
 ghost use Rattle.sqlite.specs.State.{HasCleanDisk, Survives};
 ghost use Rattle.space_tables.specs.declared.format.Format.TheVariants.{One};
-ghost use Rattle.space_tables.specs.Making.{AreMade, AreMadeFirst, IsBare, IsUndone, Leads, MayBeMade, SpellsEmpty, SpellsEmptyAs};
+ghost use Rattle.space_tables.specs.Making.{AreMade, AreMadeFirst, IsBare, IsMade, IsUndone, Leads, MayBeMade, SpellsEmptyAs};
 ghost use Rattle.space_tables.specs.Tables.{no_schema, first_schema, dss_schema, schema_1, schema_2, schema_3, schema_4, schema_5};
 
 use crate::upgrade::make_later;
@@ -89,7 +89,7 @@ fn make_availability<S: Alter>(tx: &mut Transaction<'_, S>) -> Result<usize, Err
 fn add_first_row<S: Alter>(tx: &mut Transaction<'_, S>) -> Result<usize, Error>
     ensures same_reference { tx.new.conn.ghost_name ≡ tx.old.conn.ghost_name }
     ensures leads { let old = state S.Store tx.old.conn.now in
-        Leads (IsBare dss_schema) SpellsEmpty old (state S.Store tx.new.conn.now) result }
+        Leads (IsBare dss_schema) IsMade old (state S.Store tx.new.conn.now) result }
 {
     tx.execute(
         "INSERT INTO meta (one, format, serial) VALUES (1, 2, 0)",
@@ -178,7 +178,7 @@ fn make_both<S: Alter>(tx: &mut Transaction<'_, S>) -> Result<(), Error>
 fn make_all<S: Alter>(tx: &mut Transaction<'_, S>) -> Result<(), Error>
     ensures same_reference { tx.new.conn.ghost_name ≡ tx.old.conn.ghost_name }
     ensures leads { let old = state S.Store tx.old.conn.now in
-        Leads (IsBare no_schema) SpellsEmpty old (state S.Store tx.new.conn.now) result }
+        Leads (IsBare no_schema) IsMade old (state S.Store tx.new.conn.now) result }
 {
     make_both(tx)?;
     add_first_row(tx)?;

@@ -1,11 +1,15 @@
 pub mod CallLaws
 pub mod CallUnique
+pub mod HeldLaws
 pub mod KnownBytes
+pub mod ManyLaws
 pub mod NextLaws
 pub mod SourceLaws
+pub mod StepLaws
 pub mod StopLaws
 pub mod StreamLaws
 pub mod StreamUnique
 pub mod Told
 pub mod TurnLaws
+pub mod TurnsLaws
 pub mod Written

@@ -1,5 +1,5 @@
 -- From what was found at the front of the rest to the next request.
-use Rattle.std.proofs.Common.{◌≡◌, ℕ, ◌+◌, ◌-◌, ◌<◌, ◌≤◌, List, [], ◌∷◌, ◌++◌, length, take, drop, map, All, refl, sym, ap, subst, ◌∙◌, Ok, Err, inl, inr, true, false, cond, arith}
+use Rattle.std.proofs.Common.{◌≡◌, ℕ, ◌+◌, ◌-◌, ◌<◌, ◌≤◌, List, [], ◌∷◌, ◌++◌, length, take, drop, map, All, refl, sym, ap, subst, ◌∙◌, Ok, Err, inr, true, false, cond, arith}
 use Rattle.std.specs.Prelude.{nat_le, codes}
 use Rattle.std.specs.Str.Parse.{digits_value}
 use Rattle.std.proofs.lemmas.List.{append-nil, length-append, length-drop, length-take, drop-append-le, take-append-le}
@@ -12,11 +12,9 @@ use Rattle.httparse.specs.Spans.{IsRequestWithin, IsHeaderWithin, IsWithin, head
 use Rattle.wire_http.specs.declared.end.End.TheVariants as ends
 use Rattle.wire_head.specs.declared.rule.WireRule.{WireRule}
 use Rattle.wire_head.specs.declared.rule.WireRule.TheVariants as rules
-use Rattle.wire_head.specs.declared.rest.Found.{Found}
-use Rattle.wire_head.specs.declared.rest.Found.TheVariants as found
 use Rattle.wire_http.specs.declared.request.Next.TheVariants.{Request, Stop}
 use Rattle.wire_head.specs.Rest.{IsKind, whole, after}
-use Rattle.wire_head.specs.Found.{Finds, Covers}
+use Rattle.wire_head.specs.Found.{Covers}
 use Rattle.wire_head.specs.Fields.{Fields, values_of}
 use Rattle.wire_head.specs.Length.{length_of, refuse_coded, told_by, is_number}
 use Rattle.wire_http.specs.Asked.{fields_of}
@@ -24,11 +22,6 @@ use Rattle.wire_http.specs.Stop.{Breaks, HasRefused, StopsAs}
 use Rattle.wire_http.specs.Next.{IsNext, body_at}
 use Rattle.wire_head.proofs.KindLaws.{one_kind}
 use Rattle.wire_http.proofs.KnownBytes.{rest_at}
-
--- ---- no request
-
-pub after_part : (ahead buffer : List ℕ) (fields : List HeaderSpan) (f : Found) → f ≡ found.Part → Finds ahead buffer fields f → IsNext ahead buffer fields (Stop ends.Cut)
-after_part ahead buffer fields f e h = let part : Finds ahead buffer fields found.Part = subst (λ (v : Found). Finds ahead buffer fields v) e h in inl part
 
 -- ---- a head, and its body
 
@@ -96,7 +89,7 @@ ended ahead buffer more new fields spans size grown none short told h x c =
 
 -- ---- a buffer that has grown
 
-span_more : (x y : List ℕ) (n : ℕ) (s : Span) → IsWithin n s → n ≤ length x → span_bytes (x ++ y) s ≡ span_bytes x s
+pub span_more : (x y : List ℕ) (n : ℕ) (s : Span) → IsWithin n s → n ≤ length x → span_bytes (x ++ y) s ≡ span_bytes x s
 span_more x y n s (ordered, within) le =
     let fits : s.start ≤ length x = omega arith in
     let room : s.end - s.start ≤ length (drop s.start x) = omega (arith, length-drop s.start x) in

@@ -16,7 +16,6 @@ use Rattle.wire_http.specs.declared.end.End.{End}
 use Rattle.wire_http.specs.declared.end.End.TheVariants as ends
 use Rattle.wire_http.specs.declared.end.Served.{Served}
 use Rattle.wire_http.specs.declared.fault.StreamFault.{StreamFault}
-use Rattle.wire_http.specs.declared.fault.StreamFault.TheVariants as faults
 use Rattle.wire_http.specs.declared.serve.Turn.{Turn}
 use Rattle.wire_http.specs.declared.serve.Turn.TheVariants as turns
 use Rattle.wire_http.specs.Input.{IsInput, known_bytes}
@@ -30,7 +29,7 @@ length_more xs ys x y h = omega (arith, h, length-append xs (x ∷ []), length-a
 
 -- ---- the texts
 
-answers_more : (all : List Asked) (replies : List Reply) (a : Asked) (r : Reply) → length replies ≡ length all
+pub answers_more : (all : List Asked) (replies : List Reply) (a : Asked) (r : Reply) → length replies ≡ length all
     → answers (all ++ a ∷ []) (replies ++ r ∷ []) ≡ answers all replies ++ answer_text a.place a.closing r ∷ []
 answers_more [] [] a r e = refl
 answers_more [] (y ∷ replies) a r e = absurd (omega (arith, e))
@@ -40,7 +39,7 @@ answers_more (x ∷ all) (y ∷ replies) a r e = ap (λ v. answer_text x.place x
 concat_one : (t : List ℕ) → concat (t ∷ []) ≡ t
 concat_one t = append-nil t
 
-concat_more : (ts : List (List ℕ)) (t : List ℕ) → concat (ts ++ t ∷ []) ≡ concat ts ++ t
+pub concat_more : (ts : List (List ℕ)) (t : List ℕ) → concat (ts ++ t ∷ []) ≡ concat ts ++ t
 concat_more ts t = concat-append ts (t ∷ []) ∙ ap (λ v. concat ts ++ v) (concat_one t)
 
 others_shorter : (ts : List (List ℕ)) (k : ℕ) → length (concat (take k ts)) ≤ length (concat ts)
@@ -69,7 +68,7 @@ none_follows (suc n) left = inl refl
 -- ---- the requests
 
 module _ {M : Type 0} (Gives : M → ℕ → M → Type 0) (callers : Callers) where
-  leads_more : (bound : ℕ) (rest : List ℕ) (clock : M) (all : List Asked) (n k : ℕ) (left : List ℕ) (later : M) (a : Asked) (next : List ℕ) (mid : M)
+  pub leads_more : (bound : ℕ) (rest : List ℕ) (clock : M) (all : List Asked) (n k : ℕ) (left : List ℕ) (later : M) (a : Asked) (next : List ℕ) (mid : M)
       → Leads Gives callers bound rest clock all n left later → n ≡ suc k
       → Asks Gives callers left later a next mid → a.closing ≡ (left_after k a.head == 0)
       → Leads Gives callers bound rest clock (all ++ a ∷ []) (left_after k a.head) next mid

@@ -3,7 +3,7 @@ use Rattle.std.proofs.Common.{◌≡◌, ℕ, ◌+◌, ◌-◌, ◌<◌, ◌≤�
 use Rattle.std.specs.Prelude.{◌==◌}
 use Rattle.std.specs.List.{concat}
 use Rattle.std.specs.Io.KnownBytes.{Appends}
-use Rattle.std.proofs.lemmas.List.{append-nil, drop-append-le, drop-drop, length-drop}
+use Rattle.std.proofs.lemmas.List.{append-nil, drop-append-le, drop-drop}
 use Rattle.httparse.specs.declared.spans.HeaderSpan.{HeaderSpan}
 use Rattle.httparse.specs.declared.spans.RequestSpans.{RequestSpans}
 use Rattle.httparse.specs.Grammar.{RequestHead, print_request}
@@ -264,18 +264,15 @@ module _ {S M : Type 0} (sp : Ghosts S) (Gives : M → ℕ → M → Type 0) (ca
 -- ---- what stands after a request
 
 pub fits_at : (buffer : List ℕ) (fields : List HeaderSpan) (n : Next) (spans : RequestSpans) (size : ℕ) → n ≡ Request spans size → NextFits buffer fields n
-    → (spans.len + size ≤ length buffer) × (length buffer ≤ spans.len + size + 8192)
-fits_at buffer fields n spans size e h = let x : NextFits buffer fields (Request spans size) = subst (λ (v : Next). NextFits buffer fields v) e h in (x.2, x.3)
+    → spans.len + size ≤ length buffer
+fits_at buffer fields n spans size e h = let x : NextFits buffer fields (Request spans size) = subst (λ (v : Next). NextFits buffer fields v) e h in x.2
 
 pub fewer_left : (b : Bool) (n count : ℕ) → 0 < count → n ≡ cond b 0 (count - 1) → n < count
 fewer_left true n count some e = omega (arith, e, some)
 fewer_left false n count some e = omega (arith, e, some)
 
-pub short_left : (buffer left : List ℕ) (k : ℕ) → left ≡ drop k buffer → length buffer ≤ k + 8192 → length left ≤ 8192
-short_left buffer left k e le = omega (arith, ap length e, length-drop k buffer, le)
-
-pub go_on_at : (count : ℕ) (buffer : List ℕ) (t : Turn) (n : ℕ) → t ≡ Answered n → MayGoOn count buffer t → (n < count) × (length buffer ≤ 8192)
-go_on_at count buffer t n e h = subst (λ (v : Turn). MayGoOn count buffer v) e h
+pub go_on_at : (count : ℕ) (t : Turn) (n : ℕ) → t ≡ Answered n → MayGoOn count t → n < count
+go_on_at count t n e h = subst (λ (v : Turn). MayGoOn count v) e h
 
 -- an answer is no fault
 pub ok_told : {T E : Type 0} (x : T) (e : E) (A : Type 0) → (Ok x ≡ Err e) ⊎ A → A

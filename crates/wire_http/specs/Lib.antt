@@ -1,8 +1,11 @@
 pub mod Asked
 pub mod Input
 pub mod Count
+pub mod Connection
 pub mod Counted
 pub mod Fault
+pub mod Held
+pub mod Many
 pub mod Moments
 pub mod Next
 pub mod Received
@@ -11,4 +14,5 @@ pub mod Source
 pub mod Stop
 pub mod Text
 pub mod Turn
+pub mod Turns
 pub mod Wire

@@ -22,11 +22,10 @@ IsNext ahead buffer fields (Request spans size) =
     × Covers buffer fields spans h
 IsNext ahead buffer fields (Stop end) = StopsAs (buffer ++ ahead) end
 
--- the request lies in the buffer, and at most 8,192 bytes stand after it
+-- the request lies in the buffer
 abbrev pub NextFits : List ℕ → List HeaderSpan → Next → Type 0
 NextFits buffer fields (Request spans size) =
     IsRequestWithin buffer fields spans
     × IsUtf8 (span_bytes buffer spans.path)
     × (spans.len + size ≤ length buffer)
-    × (length buffer ≤ spans.len + size + 8192)
 NextFits buffer fields (Stop end) = Unit {0}

@@ -1,5 +1,5 @@
 -- What one turn of a stream gives: one request more, or the end.
-use Rattle.std.specs.Prelude.{◌≡◌, ◌<◌, ◌≤◌, ◌==◌, ◌⊎◌, ℕ, List, [], ◌++◌, length, take, Option}
+use Rattle.std.specs.Prelude.{◌≡◌, ◌<◌, ◌==◌, ◌⊎◌, ℕ, List, [], ◌++◌, length, take, Option}
 use Rattle.std.specs.List.{concat}
 use Rattle.std.specs.Io.KnownBytes.{Appends, Consumes}
 use Rattle.space_core.specs.declared.space.Space.{Ghosts}
@@ -17,10 +17,10 @@ use Rattle.wire_http.specs.Stop.{Breaks, StopsAs}
 use Rattle.wire_http.specs.Text.{answer_text, end_texts, rule_text}
 use Rattle.wire_http.specs.Wire.{Asked, Asks, ClockAfter, left_after}
 
--- after an answer fewer requests may follow, and the buffer has at most 8,192 bytes that are unread
-abbrev pub MayGoOn : ℕ → List ℕ → Turn → Type 0
-MayGoOn count buffer (Answered n) = (n < count) × (length buffer ≤ 8192)
-MayGoOn count buffer (Ended end) = Unit {0}
+-- after an answer fewer requests may follow
+abbrev pub MayGoOn : ℕ → Turn → Type 0
+MayGoOn count (Answered n) = n < count
+MayGoOn count (Ended end) = Unit {0}
 
 module _ {S M : Type 0} (g : Ghosts S) (Gives : M → ℕ → M → Type 0) (callers : Callers)
     (bound : ℕ) (old new : Service S) (clock clock' : M) (before text : Option (List ℕ)) where

@@ -2,11 +2,13 @@
 #![tactic(auto)]
 
 mod call;
+mod connection;
 mod counted;
 mod end;
 mod fault;
-mod head;
+mod held;
 pub mod laws;
+pub mod many;
 mod moments;
 mod request;
 mod serve;
@@ -14,6 +16,7 @@ mod source;
 mod text;
 mod write;
 
+pub use connection::{Connection, Step};
 pub use counted::Counted;
 pub use end::{End, Served};
 pub use fault::StreamFault;

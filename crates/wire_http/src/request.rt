@@ -1,22 +1,17 @@
 //! The next request of a stream.
-ghost use Rattle.std.specs.Prelude.{◌≡◌, ◌≤◌, ◌++◌, ℕ, List, length, IsUtf8, IfOk};
-ghost use Rattle.httparse.specs.Grammar.{RequestHead};
-ghost use Rattle.httparse.specs.Spans.{IsRequestWithin, span_bytes};
+ghost use Rattle.std.specs.Prelude.{◌≡◌, length, true, IfOk};
+ghost use Rattle.wire_http.specs.Held.{HeldFits, IsHeld};
 ghost use Rattle.wire_http.specs.Input.{known_bytes};
-ghost use Rattle.wire_head.specs.Rest.{IsKind, whole};
-ghost use Rattle.wire_head.specs.Found.{Covers};
 ghost use Rattle.wire_http.specs.Next.{IsNext, NextFits};
 ghost use Rattle.wire_http.specs.Source.{Reads, ahead_of, bytes_of};
 
 use crate::end::End;
 use crate::fault::StreamFault;
-use crate::head::{HEAD_LIMIT, find_head};
+use crate::held::{Held, next_held};
 use crate::source::Source;
 use httparse::spans::{HeaderSpan, RequestSpans};
 use std::io::Read;
-use wire_head::length::length_of;
-use wire_head::rest::{FIELD_LIMIT, Found};
-use wire_head::rule::WireRule;
+use wire_head::rest::FIELD_LIMIT;
 
 /// What the unread input gives next.
 #[derive(Clone, Copy)]
@@ -27,31 +22,15 @@ pub(crate) enum Next {
     Stop(End),
 }
 
-// The body that follows a head.
-fn take_body<R: Read>(
-    source: &mut Source<'_, R>,
-    fields: &[HeaderSpan],
-    spans: RequestSpans,
-) -> Result<Next, StreamFault>
-    requires within { IsRequestWithin (bytes_of source.old) fields.now spans }
-    requires text { IsUtf8 (span_bytes (bytes_of source.old) spans.path) }
-    requires short { length (bytes_of source.old) ≤ HEAD_LIMIT }
-    ensures reads { Reads R.remaining source.old source.new result }
-    ensures next { IfOk result (λ next. (h : RequestHead)
-        → ((later : List ℕ) → IsKind (bytes_of source.old ++ later) (whole h))
-        → Covers (bytes_of source.old) fields.now spans h
-        → IsNext (known_bytes (ahead_of R.remaining source.new)) (bytes_of source.new) fields.now
-        next) }
-    ensures within { IfOk result (NextFits (bytes_of source.new) fields.now) }
+// What the bytes give where the input ends after them.
+fn last_held(bytes: &[u8], fields: &mut [HeaderSpan]) -> Next
+    requires room { length fields.old ≡ FIELD_LIMIT }
+    ensures held { IsHeld bytes.now true fields.new (Held.Gives result) }
+    ensures fits { NextFits bytes.now fields.new result }
 {
-    let size = match length_of(source.buffer.as_slice(), &fields[..spans.headers]) {
-        Ok(size) => size,
-        Err(rule) => return Ok(Next::Stop(End::Wire(rule))),
-    };
-    if source.fill(spans.len + size)? {
-        Ok(Next::Request(spans, size))
-    } else {
-        Ok(Next::Stop(End::Cut))
+    match next_held(bytes, true, fields) {
+        Held::Gives(next) => next,
+        Held::Wants(_) => unreachable!(),
     }
 }
 
@@ -60,7 +39,6 @@ pub(crate) fn next_request<R: Read>(
     source: &mut Source<'_, R>,
     fields: &mut [HeaderSpan],
 ) -> Result<Next, StreamFault>
-    requires short { length (bytes_of source.old) ≤ HEAD_LIMIT }
     requires room { length fields.old ≡ FIELD_LIMIT }
     ensures reads { Reads R.remaining source.old source.new result }
     // Whatever the pieces were in which the input came.
@@ -68,11 +46,14 @@ pub(crate) fn next_request<R: Read>(
         (bytes_of source.new) fields.new) }
     ensures within { IfOk result (NextFits (bytes_of source.new) fields.new) }
 {
-    match find_head(source, fields)? {
-        Found::Head(spans) => take_body(source, fields, spans),
-        Found::Nothing => Ok(Next::Stop(End::End)),
-        Found::Part => Ok(Next::Stop(End::Cut)),
-        Found::Bad => Ok(Next::Stop(End::Wire(WireRule::Head))),
-        Found::Large => Ok(Next::Stop(End::Wire(WireRule::HeadSize))),
+    'reading: loop {
+        match next_held(source.buffer.as_slice(), false, fields) {
+            Held::Gives(next) => return Ok(next),
+            Held::Wants(count) => {
+                if !source.fill(count)? {
+                    return Ok(last_held(source.buffer.as_slice(), fields));
+                }
+            }
+        }
     }
 }

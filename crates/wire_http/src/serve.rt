@@ -19,7 +19,6 @@ use crate::call::{Pending, Received, ask, left_after};
 use crate::counted::Counted;
 use crate::end::{End, Served};
 use crate::fault::StreamFault;
-use crate::head::HEAD_LIMIT;
 use crate::moments::Moments;
 use crate::request::{Next, next_request};
 use crate::source::{Source, shift};
@@ -36,8 +35,8 @@ use wire_route::routes::Routes;
 // The most reads of a stream.
 const TURNS: u32 = 1_000_000;
 
-// The most requests of a stream.
-const REQUESTS: u32 = 100;
+/// The most requests of a stream.
+pub(crate) const REQUESTS: u32 = 100;
 
 // The reply to a call, asked for once, and its text written.
 fn answer<S: Space + Drop, W: Write>(
@@ -114,7 +113,6 @@ fn serve_one<S: Space + Drop, M: Moments, R: Read, W: Write>(
     count: u32,
 ) -> Result<Turn, StreamFault>
     requires some { 0 < count }
-    requires short { length (bytes_of source.old) ≤ HEAD_LIMIT }
     ensures turn { IfOk result (IsTurn S.Space M.gives (callers_of tokens.now) (count - 1)
         service.old service.new moments.old moments.new
         (W.contents (inner_of writer.old)) (W.contents (inner_of writer.new))
@@ -124,7 +122,7 @@ fn serve_one<S: Space + Drop, M: Moments, R: Read, W: Write>(
         service.old service.new moments.old moments.new
         (W.contents (inner_of writer.old)) (W.contents (inner_of writer.new))
         (ahead_of R.remaining source.old) (bytes_of source.old)) }
-    ensures goes_on { IfOk result (MayGoOn count (bytes_of source.new)) }
+    ensures goes_on { IfOk result (MayGoOn count) }
     ensures tells { Tells source.old source.new writer.old writer.new
         (M.failures moments.old) (M.failures moments.new) result }
     ensures rises { calls_of writer.old ≤ calls_of writer.new }

@@ -5,6 +5,7 @@ ghost use Rattle.wire_http.specs.Source.{Reads, ahead_of, bytes_of};
 
 use crate::counted::Counted;
 use crate::fault::StreamFault;
+use crate::held::HEAD_LIMIT;
 use std::io::Read;
 
 /// The most bytes that one read asks for.
@@ -49,19 +50,21 @@ impl<R: Read> Source<'_, R> {
         }
     }
 
-    /// Reads by what is missing until the buffer holds `count` bytes. `false`: the input ended
-    /// before.
+    /// Reads until the buffer holds `count` bytes, and at most as many as a head may have where they
+    /// are fewer. `false`: the input ended before.
     pub(crate) fn fill(&mut self, count: usize) -> Result<bool, StreamFault>
         ensures reads { Reads R.remaining self.old self.new result }
         ensures short { OnOk result (length (bytes_of self.new)
-            ≤ max (length (bytes_of self.old)) count) }
+            ≤ max (length (bytes_of self.old)) (max count HEAD_LIMIT)) }
         ensures whole { IfOk result (λ whole. whole ≡ true → count ≤ length (bytes_of self.new)) }
         ensures ended { IfOk result (λ whole. whole ≡ false
             → (length (bytes_of self.new) < count) × IsAtEnd (ahead_of R.remaining self.new)) }
+        ensures fewer { IfOk result (λ whole. whole ≡ true → length (bytes_of self.old) < count
+            → self.new.turns < self.old.turns) }
     {
         'filling: while self.buffer.len() < count {
-            let missing = count - self.buffer.len();
-            if !self.read_more(missing)? {
+            let room = count.max(HEAD_LIMIT) - self.buffer.len();
+            if !self.read_more(room)? {
                 return Ok(false);
             }
         }

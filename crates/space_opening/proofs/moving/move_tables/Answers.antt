@@ -46,7 +46,7 @@ returns-in-Err-commit-clause-left g c =
       refl,
       (λ has.
           let it = moves.done (omega (arith, c.commit.ensures.survives.clean)) has in
-          (it.0, it.1, last.now, is, it.3, it.2)),
+          (it.0, it.1, (last.now, is, it.3, it.2))),
     )) (survives_begin g.S.Store c.args.conn.now last _ moves.survives) c.commit.ensures.survives in
     let same : c.commit.new.self.0 ≡ c.conn-2-1.given.0 = search rules in
     subst (λ h. Survives old (state g.S.Store h) P) same whole

@@ -2,7 +2,7 @@ use Rattle.std.proofs.Common.{ap}
 use Rattle.sqlite.specs.Held.{state}
 use Rattle.space_tables.specs.Tables.{dss_schema}
 use Rattle.space_tables.proofs.Texts.{first_row_text}
-use Rattle.space_tables.specs.Making.{IsBare, SpellsEmpty}
+use Rattle.space_tables.specs.Making.{IsBare, IsMade}
 use Rattle.space_tables.proofs.Steps.{leads_on}
 use Rattle.space_tables.proofs.Making.{starts}
 use Rattle.space_tables.proofs.make.add_first_row.Goals as goal
@@ -11,5 +11,5 @@ pub returns-clause-leads : goal.returns-clause-leads
 returns-clause-leads g c =
     let old = state g.S.Store c.args.tx.now.conn.now in
     let new = state g.S.Store c.execute.new.self.conn.now in
-    leads_on old new first_row_text _ c.execute.result _ _ (IsBare dss_schema) SpellsEmpty c.execute.ensures.ended (λ off. ap (state g.S.Store) (c.execute.ensures.ended off).1) c.execute.ensures.runs c.execute.ensures.survives
+    leads_on old new first_row_text _ c.execute.result _ _ (IsBare dss_schema) IsMade c.execute.ensures.ended (λ off. ap (state g.S.Store) (c.execute.ensures.ended off).1) c.execute.ensures.runs c.execute.ensures.survives
     (starts old new c.execute.result)

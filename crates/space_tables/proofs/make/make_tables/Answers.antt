@@ -1,7 +1,5 @@
 use Rattle.std.proofs.Common.{◌≡◌, ◌∙◌, subst, sym, rules, arith, OnErr, OnOk}
 use Rattle.std.specs.Prelude.{IsTrue}
-use Rattle.sqlite.specs.Tree.{Trees}
-use Rattle.sqlite.specs.Effect.{Database}
 use Rattle.sqlite.specs.State.{HasCleanDisk, Survives}
 use Rattle.sqlite.specs.Held.{state}
 use Rattle.sqlite.proofs.StateLemmas.{survives_then}
@@ -9,7 +7,7 @@ use Rattle.sqlite.proofs.Callers.{survives_begin}
 use Rattle.entity_core.specs.Airspace.{empty_at}
 use Rattle.space_tables.specs.Tables.{no_schema}
 use Rattle.space_tables.specs.Spelling.{Spells}
-use Rattle.space_tables.specs.Making.{IsSettled}
+use Rattle.space_tables.specs.Making.{IsSettled, MayBeMade}
 use Rattle.space_tables.proofs.Steps.{on_err, ok_map}
 use Rattle.space_tables.proofs.make.make_tables.Goals as goal
 
@@ -31,10 +29,10 @@ returns-clause-crash g c =
     let old = c.args.conn.now in
     let last = c.make_all.new.tx.conn.now in
     let begun = c.transaction-tx.ensures.begun in
-    let P = λ (trees : Trees). (state g.S.Store old).now.schema ≡ no_schema → (db : Database) × (trees ≡ db.trees) × Spells db (empty_at 0) in
+    let P = MayBeMade (state g.S.Store old) in
     let ran = λ (clean : HasCleanDisk (state g.S.Store last)). rw begun at (c.in_ok-make_all.ensures.leads.done clean) in
     let whole = survives_then (state g.S.Store old) (state g.S.Store last) (state g.S.Store c.commit.new.self.0) _ _ P (λ _ db none. absurd none)
-    (λ clean db is has. ((state g.S.Store last).now, is, (ran (omega (arith, c.commit.ensures.survives.clean))).0 (has, tt))) (survives_begin g.S.Store old (state g.S.Store last) _ (rw begun at c.make_all.ensures.leads.survives)) c.commit.ensures.survives in
+    (λ clean db is has. let it = (ran (omega (arith, c.commit.ensures.survives.clean))).0 (has, tt) in ((state g.S.Store last).now, is, it.0, it.1)) (survives_begin g.S.Store old (state g.S.Store last) _ (rw begun at c.make_all.ensures.leads.survives)) c.commit.ensures.survives in
     let same : c.commit.new.self.0 ≡ c.conn-2-1.given.0 = search rules in
     subst (λ h. Survives (state g.S.Store old) (state g.S.Store h) P) same whole
 
@@ -47,4 +45,4 @@ returns-clause-done g c =
     let same : c.commit.new.self.0 ≡ c.conn-2-1.given.0 = search rules in
     subst (λ h. HasCleanDisk (state g.S.Store h) → OnOk c.commit.result (((state g.S.Store old).now.schema ≡ no_schema → Spells (state g.S.Store h).now (empty_at 0)) × IsSettled (state g.S.Store h))) same
     (λ clean. ok_map c.commit.result _ _ (c.commit.ensures.ok clean) (λ it.
-    ((λ has. subst (λ d. Spells d (empty_at 0)) (sym it.1.now_is) ((ran (omega (arith, c.commit.ensures.survives.clean))).0 (has, tt))), (it.1.is_open, it.1.committed_is ∙ sym it.1.now_is))))
+    ((λ has. subst (λ d. Spells d (empty_at 0)) (sym it.1.now_is) ((ran (omega (arith, c.commit.ensures.survives.clean))).0 (has, tt)).1), (it.1.is_open, it.1.committed_is ∙ sym it.1.now_is))))

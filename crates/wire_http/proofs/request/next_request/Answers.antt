@@ -1,10 +1,12 @@
-use Rattle.wire_http.specs.Source.{bytes_of}
-use Rattle.wire_http.proofs.NextLaws.{after_part}
-use Rattle.wire_http.proofs.SourceLaws.{Reads_more}
+use Rattle.wire_http.specs.Source.{ahead_of, bytes_of}
+use Rattle.wire_http.proofs.HeldLaws.{held_known, held_ended}
 use Rattle.wire_http.proofs.request.next_request.Goals as goal
 
-pub returns-in-Head-clause-reads : goal.returns-in-Head-clause-reads
-returns-in-Head-clause-reads g c = Reads_more _ _ _ _ c.take_body.result c.in_ok-spans.ensures.reads c.take_body.ensures.reads
+pub returns-in-Gives-clause-next : goal.returns-in-Gives-clause-next
+returns-in-Gives-clause-next g c =
+    held_known (bytes_of c.reading.source) _ c.next_held.new.fields _ c.in-Gives.next c.in-Gives.is (rw c.as_slice.ensures.value at c.next_held.ensures.held)
 
-pub returns-in-Part-clause-next : goal.returns-in-Part-clause-next
-returns-in-Part-clause-next g c = after_part _ (bytes_of c.find_head.new.source) c.find_head.new.fields _ c.in-Part.is c.in_ok-spans.ensures.found
+pub returns-then-not-branch-clause-next : goal.returns-then-not-branch-clause-next
+returns-then-not-branch-clause-next g c =
+    held_ended (bytes_of c.fill.new.self) (ahead_of g.R.Read.remaining c.fill.new.self) c.last_held.new.fields c.last_held.result
+    (c.in_ok-fill-in-Wants.ensures.ended c.if-not-branch.true).1 (rw c.as_slice-then-not-branch.ensures.value at c.last_held.ensures.held)

@@ -1,9 +1,9 @@
-use Rattle.std.proofs.Common.{◌-◌, ◌+◌, Err, ap}
+use Rattle.std.proofs.Common.{◌-◌, Err, ap}
 use Rattle.std.proofs.lemmas.Result.{err_from_is_err_and}
 use Rattle.token_conf.specs.TokenFile.{callers_of}
 use Rattle.wire_http.specs.Source.{bytes_of}
 use Rattle.wire_http.proofs.Told.{tells_answering, tells_good}
-use Rattle.wire_http.proofs.TurnLaws.{of_answering, part_none, part_end, part_ask, part_answered, turn_answered, turn_stopped, fits_at, fewer_left, short_left}
+use Rattle.wire_http.proofs.TurnLaws.{of_answering, part_none, part_end, part_ask, part_answered, turn_answered, turn_stopped, fits_at, fewer_left}
 use Rattle.wire_http.proofs.serve.serve_one.Goals as goal
 
 pub returns-in_err-spans-clause-part : goal.returns-in_err-spans-clause-part
@@ -45,15 +45,11 @@ returns-clause-turn g c =
     c.in_ok-pending.pending.place c.in_ok-pending.pending.moment c.in_ok-pending.pending.call c.left_after-left.result
     c.args.service.now c.answer.new.service c.args.moments.now c.ask.new.moments _ _
     c.in-Request.is c.as_slice.ensures.value c.in_ok-spans.ensures.reads.came c.in_ok-spans.ensures.next
-    (fits_at (bytes_of c.next_request.new.source) c.next_request.new.fields c.in_ok-spans.field-0 c.in-Request.spans c.in-Request.size c.in-Request.is c.in_ok-spans.ensures.within).0 c.shift.ensures
+    (fits_at (bytes_of c.next_request.new.source) c.next_request.new.fields c.in_ok-spans.field-0 c.in-Request.spans c.in-Request.size c.in-Request.is c.in_ok-spans.ensures.within) c.shift.ensures
     c.in_ok-pending.ensures.made c.left_after-left.ensures c.in_ok-pending.ensures.moment c.in_ok-answer.ensures.replies
 
 pub returns-clause-goes_on : goal.returns-clause-goes_on
-returns-clause-goes_on g c =
-    let fits = fits_at (bytes_of c.next_request.new.source) c.next_request.new.fields c.in_ok-spans.field-0 c.in-Request.spans c.in-Request.size c.in-Request.is c.in_ok-spans.ensures.within in (
-      fewer_left _ c.left_after-left.result c.args.count c.requires.some c.left_after-left.ensures,
-      short_left (bytes_of c.next_request.new.source) c.shift.new.buffer.items (c.in-Request.spans.len + c.in-Request.size) c.shift.ensures fits.1,
-    )
+returns-clause-goes_on g c = fewer_left _ c.left_after-left.result c.args.count c.requires.some c.left_after-left.ensures
 
 pub returns-in_err-answer-clause-tells : goal.returns-in_err-answer-clause-tells
 returns-in_err-answer-clause-tells g c = let p = err_from_is_err_and c.from_residual-in_err-answer.result c.from_residual-in_err-answer.ensures.1 in rw (p.1, p.2) (

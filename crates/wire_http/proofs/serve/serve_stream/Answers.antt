@@ -13,7 +13,6 @@ pub serving-init : goal.serving-init
 serving-init g c = record {
   goes = goes_init g.S.Space g.M.Moments.gives (callers_of c.args.tokens.now)
       _ c.new-buffer.result.items most_requests c.args.service.now c.args.moments.now _ c.new-buffer.ensures.items;
-  short = search rules;
   bounded = search rules;
   turns = search rules;
   reader = search rules;
@@ -39,14 +38,13 @@ pub serving-preserved : goal.serving-preserved
 serving-preserved g c =
     let inv = c.serving.invariant in
     let some : c.serving.left ≡ suc (c.serving.left - 1) = omega (arith, c.serving-test.true) in
-    let on = go_on_at c.serving.left (bytes_of c.serve_one.new.source) c.in_ok-then.field-0 c.in-Answered.then c.in-Answered.is c.in_ok-then.ensures.goes_on in
+    let on = go_on_at c.serving.left c.in_ok-then.field-0 c.in-Answered.then c.in-Answered.is c.in_ok-then.ensures.goes_on in
     record {
       goes = goes_more g.S.Space g.M.Moments.gives (callers_of c.args.tokens.now)
           _ _ _ (bytes_of c.serving.source) (bytes_of c.serve_one.new.source) most_requests c.args.service.now c.serving.service c.serve_one.new.service c.args.moments.now c.serving.moments c.serve_one.new.moments
           _ _ _ c.serving.left (c.serving.left - 1) c.serving.count c.in-Answered.then c.in_ok-then.field-0
           inv.goes some c.in-Answered.is c.in_ok-then.ensures.turn;
-      short = on.1;
-      bounded = omega (arith, inv.bounded, on.0);
+      bounded = omega (arith, inv.bounded, on);
       turns = grind (arith, common_steps);
       reader = c.serve_one.ensures.spends.reader ∙ inv.reader;
       good_reader = ok_told c.in_ok-then.field-0 _ _ c.in_ok-then.ensures.tells.good_reader ∙ inv.good_reader;

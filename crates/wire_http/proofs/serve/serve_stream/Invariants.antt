@@ -1,4 +1,4 @@
-use Rattle.std.proofs.Common.{◌≡◌, ◌+◌, ◌≤◌, length}
+use Rattle.std.proofs.Common.{◌≡◌, ◌+◌, ◌≤◌}
 use Rattle.token_conf.specs.TokenFile.{callers_of}
 use Rattle.service_core.specs.Held.{Stays}
 use Rattle.wire_http.specs.Counted.{inner_of, calls_of, failures_of}
@@ -13,7 +13,6 @@ invariant-serving g l = record {
       l.fn.service l.service l.fn.moments l.moments
       (g.W.Write.contents (inner_of l.fn.writer)) (g.W.Write.contents (inner_of l.writer))
       (g.R.Read.remaining (inner_of l.fn.reader)) (ahead_of g.R.Read.remaining l.source) (bytes_of l.source) l.left l.count;
-  short : length (bytes_of l.source) ≤ 8192;
   bounded : l.count + l.left ≤ most_requests;
   turns : Spends most_reads l.source.turns (calls_of l.fn.reader) (calls_of l.source.reader.now);
   reader : l.source.reader.ghost_name ≡ l.initial.source.reader.ghost_name;

@@ -1,0 +1,149 @@
+//! The sockets of the system, watched together.
+use dss_serve::sockets::{NotTaken, Socket, Sockets, Told};
+use mio::event::Event;
+use mio::net::{TcpListener, TcpStream};
+use mio::{Events, Interest, Poll, Token};
+use std::io;
+use std::io::{ErrorKind, Read, Write};
+use std::net::{Ipv4Addr, Shutdown, SocketAddr};
+use std::time::{Duration, Instant};
+
+// The token of the listener. A client's is the key under which it is watched, and is less.
+const LISTENER: usize = 1_000_000;
+
+// How many events are taken at once.
+const EVENTS: usize = 1_024;
+
+// What the system answers where it has no descriptor or no memory for one socket more.
+const NO_MEMORY: i32 = 12;
+
+const NO_DESCRIPTOR_IN_SYSTEM: i32 = 23;
+
+const NO_DESCRIPTOR: i32 = 24;
+
+const NO_BUFFER: i32 = 105;
+
+/// The socket of a client.
+#[derive(Drop)]
+pub(crate) struct Client {
+    stream: TcpStream,
+}
+
+impl Socket for Client {
+    ghost use Rattle.std.specs.Prelude.{None};
+
+    // nobody knows the bytes of a socket
+    ghost coming = { λ _. None };
+
+    ghost gone = { λ _. None };
+
+    fn receive(&mut self, piece: &mut [u8]) -> io::Result<usize> {
+        self.stream.read(piece)
+    }
+
+    fn send(&mut self, bytes: &[u8]) -> io::Result<usize> {
+        self.stream.write(bytes)
+    }
+
+    fn end_sending(&mut self) -> io::Result<()> {
+        self.stream.shutdown(Shutdown::Write)
+    }
+}
+
+/// The sockets of a port of this machine.
+#[derive(Drop)]
+pub(crate) struct PortSockets<'a> {
+    rt: &'a HostRuntime,
+    start: Instant,
+    poll: Poll,
+    listener: TcpListener,
+    events: Events,
+    told: Vec<Told>,
+    // how many of what was told were taken
+    taken: usize,
+}
+
+// What an event tells.
+fn told_by(event: &Event) -> Told {
+    let Token(token) = event.token();
+    Told {
+        key: if token == LISTENER { None } else { Some(token) },
+        readable: event.is_readable(),
+        writable: event.is_writable(),
+        ended: event.is_read_closed(),
+        reset: event.is_error() || event.is_write_closed(),
+    }
+}
+
+// Why the system gave no client.
+fn not_taken(cause: io::Error) -> NotTaken {
+    match cause.raw_os_error() {
+        Some(NO_MEMORY | NO_DESCRIPTOR_IN_SYSTEM | NO_DESCRIPTOR | NO_BUFFER) => NotTaken::Full,
+        _ => match cause.kind() {
+            ErrorKind::WouldBlock => NotTaken::NoneWaits,
+            ErrorKind::Interrupted | ErrorKind::ConnectionAborted => NotTaken::Gone,
+            _ => NotTaken::Failed(cause),
+        },
+    }
+}
+
+impl<'a> PortSockets<'a> {
+    /// Listens on a port of 127.0.0.1.
+    pub(crate) fn listen(rt: &'a HostRuntime, port: u16) -> io::Result<PortSockets<'a>> {
+        let mut listener = TcpListener::bind(rt, SocketAddr::from((Ipv4Addr::LOCALHOST, port)))?;
+        let poll = Poll::new(rt)?;
+        let interest = Interest::READABLE;
+        poll.registry()
+            .register(&mut listener, Token(LISTENER), interest)?;
+        Ok(PortSockets {
+            rt,
+            start: Instant::now(rt)?,
+            poll,
+            listener,
+            events: Events::with_capacity(rt.alloc(), EVENTS)?,
+            told: Vec::with_capacity(rt.alloc(), EVENTS)?,
+            taken: 0,
+        })
+    }
+}
+
+impl<'a> Sockets for PortSockets<'a> {
+    type Client = Client;
+
+    fn accept(&mut self) -> Result<Client, NotTaken> {
+        match self.listener.accept() {
+            Ok((stream, _)) => {
+                let _ = stream.set_nodelay(true);
+                Ok(Client { stream })
+            }
+            Err(cause) => Err(not_taken(cause)),
+        }
+    }
+
+    fn watch(&mut self, client: &mut Client, key: usize) -> io::Result<()> {
+        let interests = Interest::READABLE | Interest::WRITABLE;
+        self.poll
+            .registry()
+            .register(&mut client.stream, Token(key), interests)
+    }
+
+    fn wait(&mut self, patience: Option<Duration>) -> io::Result<()> {
+        self.poll.poll(&mut self.events, patience)?;
+        self.told.clear();
+        self.taken = 0;
+        for event in self.events.iter() {
+            self.told.push(told_by(event))?;
+        }
+        Ok(())
+    }
+
+    fn next_told(&mut self) -> Option<Told> {
+        let told = *self.told.get(self.taken)?;
+        self.taken = self.taken.saturating_add(1);
+        Some(told)
+    }
+
+    fn time(&self) -> io::Result<Duration> {
+        Ok(Instant::now(self.rt)?.saturating_duration_since(self.start))
+    }
+}

@@ -1,0 +1,11 @@
+//! The command `serve`, below the system: the requests of many clients, answered on one thread.
+#![tactic(auto)]
+
+mod desk;
+pub mod journal;
+pub mod limits;
+mod link;
+mod peer;
+mod port;
+pub mod serve;
+pub mod sockets;

@@ -1,0 +1,44 @@
+//! The limits of a service to many clients.
+
+/// The most clients that are served at once.
+pub const MOST_CLIENTS: usize = 1_000;
+
+// The bytes that one reading asks for.
+pub(crate) const PIECE: usize = 16_384;
+
+// What each client may have held, in bytes, and how many of them may have more held at once: a
+// request has at most a megabyte, so that all together hold at most some 130 megabytes.
+pub(crate) const SMALL: usize = 65_536;
+
+pub(crate) const LARGE_PLACES: usize = 64;
+
+// How long a client may keep silent that owes nothing, take from the first byte of a request to its
+// last, take nothing of its answers, and send nothing more after the last of them, in milliseconds.
+pub(crate) const IDLE: u64 = 60_000;
+
+pub(crate) const SENDING: u64 = 30_000;
+
+pub(crate) const TAKING: u64 = 30_000;
+
+pub(crate) const ENDING: u64 = 200;
+
+// The most pieces that are read of what a client still sends after its last answer.
+pub(crate) const LAST_PIECES: u32 = 64;
+
+// How often it is looked for clients that were waited for long enough, in milliseconds: with one
+// among them that has its last answer, and with none.
+pub(crate) const LOOKS_SOON: u64 = 50;
+
+pub(crate) const LOOKS: u64 = 1_000;
+
+// How long none is accepted after the system had no room for one more, in milliseconds.
+pub(crate) const FULL: u64 = 100;
+
+/// How many connections are accepted, and how many clients are served at once.
+#[derive(Clone, Copy, Debug, PartialEq, Eq)]
+pub struct Limits {
+    /// How many connections are accepted in all; without a number as many as come.
+    pub count: Option<u64>,
+    /// How many of them are open at once, at most.
+    pub clients: usize,
+}

@@ -1,0 +1,176 @@
+//! A client's socket with its connection, and the bytes that move between the two.
+ghost use Rattle.dss_serve.specs.Link.{connection_of, socket_of, IsFresh, Receives, Sends};
+
+use crate::desk::Desk;
+use crate::limits::PIECE;
+use crate::sockets::Socket;
+use service_core::service::Service;
+use space_core::space::Space;
+use std::alloc::Global;
+use std::io::ErrorKind;
+use wire_http::{Connection, Moments, Step, StreamFault};
+
+/// What a reading did.
+#[derive(Clone, Copy, Debug, PartialEq, Eq)]
+pub(crate) enum Came {
+    /// So many bytes came.
+    Piece(usize),
+    /// Nothing more comes.
+    End,
+    /// Nothing is there yet.
+    Nothing,
+}
+
+/// What a writing did.
+#[derive(Clone, Copy, Debug, PartialEq, Eq)]
+pub(crate) enum Went {
+    /// Bytes were taken.
+    Some,
+    /// None can be taken yet.
+    Nothing,
+}
+
+/// A client's socket with its connection.
+#[derive(Drop)]
+pub(crate) struct Link<T> {
+    socket: T,
+    connection: Connection,
+}
+
+impl<T: Socket> Link<T> {
+    ghost use Rattle.std.specs.Prelude.{◌≡◌, ◌<◌, ◌-◌, ◌↔◌, false, length, IfOk, IfErr, IsTrue};
+    ghost use Rattle.token_conf.specs.TokenFile.{callers_of};
+    ghost use Rattle.service_core.specs.Held.{Stays};
+    ghost use Rattle.wire_http.specs.Connection.{held_of, is_done, output_of, IsStep, IsStepPart};
+    ghost use Rattle.wire_http.specs.Held.{most_held};
+    ghost use Rattle.dss_serve.specs.Serve.{GoesOn};
+
+    /// A client of which nothing has come.
+    pub(crate) fn new(alloc: Global, socket: T) -> Link<T>
+        ensures socket { socket_of result ≡ socket }
+        ensures fresh { IsFresh (connection_of result) }
+    {
+        Link {
+            socket,
+            connection: Connection::new(alloc),
+        }
+    }
+
+    /// How many bytes of requests are held.
+    pub(crate) fn bytes_held(&self) -> usize
+        ensures { result ≡ length (held_of (connection_of self.now)) }
+    {
+        self.connection.bytes_held()
+    }
+
+    /// How many bytes more of requests may be held.
+    pub(crate) fn room(&self) -> usize
+        ensures { result ≡ most_held - length (held_of (connection_of self.now)) }
+    {
+        self.connection.room()
+    }
+
+    /// Whether bytes are held that belong to no earlier request.
+    pub(crate) fn holds_any(&self) -> bool
+        ensures { IsTrue result ↔ (0 < length (held_of (connection_of self.now))) }
+    {
+        self.connection.holds_any()
+    }
+
+    /// Whether bytes of answers are to be sent.
+    pub(crate) fn wants_write(&self) -> bool
+        ensures { IsTrue result ↔ (0 < length (output_of (connection_of self.now))) }
+    {
+        self.connection.wants_write()
+    }
+
+    /// Whether no request more is answered.
+    pub(crate) fn is_done(&self) -> bool
+        ensures { result ≡ is_done (connection_of self.now) }
+    {
+        self.connection.is_done()
+    }
+
+    /// Reads at most so many bytes of requests, and no more than there is room for.
+    pub(crate) fn receive(&mut self, most: usize) -> Result<Came, StreamFault>
+        ensures { IfOk result (Receives T.coming T.gone self.old self.new) }
+    {
+        let mut piece = [0; PIECE];
+        let most = most.min(self.connection.room()).min(PIECE);
+        if most == 0 {
+            return Ok(Came::Nothing);
+        }
+        match self.socket.receive(&mut piece[..most]) {
+            Ok(0) => {
+                self.connection.end_of_input();
+                Ok(Came::End)
+            }
+            Ok(count) => match self.connection.receive(&piece[..count]) {
+                Ok(()) => Ok(Came::Piece(count)),
+                Err(_) => Err(StreamFault::Memory),
+            },
+            Err(cause) => match cause.kind() {
+                ErrorKind::WouldBlock => Ok(Came::Nothing),
+                _ => Err(StreamFault::Read),
+            },
+        }
+    }
+
+    /// Sends what it can of the answers.
+    pub(crate) fn send(&mut self) -> Result<Went, StreamFault>
+        ensures { IfOk result (Sends T.coming T.gone self.old self.new) }
+    {
+        match self.socket.send(self.connection.output()) {
+            Ok(0) => Err(StreamFault::Write),
+            Ok(count) => {
+                self.connection.sent(count);
+                Ok(Went::Some)
+            }
+            Err(cause) => match cause.kind() {
+                ErrorKind::WouldBlock => Ok(Went::Nothing),
+                _ => Err(StreamFault::Write),
+            },
+        }
+    }
+
+    /// Answers the next request, if it is held whole, or ends the connection's requests.
+    pub(crate) fn ask<S: Space + Drop, M: Moments>(
+        &mut self,
+        desk: Desk<'_>,
+        service: &mut Service<S>,
+        moments: &mut M,
+    ) -> Result<Step, StreamFault>
+        requires open { is_done (connection_of self.old) ≡ false }
+        ensures step { IfOk result (IsStep S.Space M.gives (callers_of desk.entry.tokens.now)
+            service.old service.new moments.old moments.new
+            (connection_of self.old) (connection_of self.new)) }
+        ensures part { IfErr result (IsStepPart S.Space M.gives (callers_of desk.entry.tokens.now)
+            service.old service.new moments.old moments.new
+            (connection_of self.old) (connection_of self.new)) }
+        ensures socket { socket_of self.new ≡ socket_of self.old }
+        ensures goes_on { GoesOn S.Space (callers_of desk.entry.tokens.now)
+            service.old service.new }
+        ensures stays { Stays S.Space service.old service.new }
+    {
+        self.connection
+            .advance(desk.alloc, desk.routes, service, desk.tokens, moments)
+    }
+
+    /// Says that no answer more is sent. `false`: nobody is there to be told.
+    pub(crate) fn end_sending(&mut self) -> bool {
+        self.socket.end_sending().is_ok()
+    }
+
+    /// Reads one piece and forgets it.
+    pub(crate) fn skip(&mut self) -> Result<Came, StreamFault> {
+        let mut piece = [0; PIECE];
+        match self.socket.receive(&mut piece) {
+            Ok(0) => Ok(Came::End),
+            Ok(count) => Ok(Came::Piece(count)),
+            Err(cause) => match cause.kind() {
+                ErrorKind::WouldBlock => Ok(Came::Nothing),
+                _ => Err(StreamFault::Read),
+            },
+        }
+    }
+}

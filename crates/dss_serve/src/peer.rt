@@ -1,0 +1,356 @@
+//! One client: what it is waited for, and what a turn of it does.
+ghost use Rattle.token_conf.specs.TokenFile.{callers_of};
+ghost use Rattle.dss_serve.specs.Serve.{GoesOn};
+
+use crate::desk::Desk;
+use crate::limits::{ENDING, IDLE, LAST_PIECES, PIECE, SENDING, SMALL, TAKING};
+use crate::link::{Came, Link, Went};
+use crate::sockets::{Socket, Told};
+use service_core::service::Service;
+use space_core::space::Space;
+use std::alloc::Global;
+use std::time::Duration;
+use wire_http::{Moments, Step, StreamFault};
+
+/// What a client is waited for.
+#[derive(Clone, Copy, Debug, PartialEq, Eq)]
+enum Phase {
+    /// The first byte of a request.
+    Idle,
+    /// The rest of a request.
+    Sending,
+    /// That it takes its answers.
+    Taking,
+    /// The end of what it sends, after its last answer.
+    Ending,
+}
+
+impl Phase {
+    // How long it is waited for.
+    fn patience(self) -> Duration {
+        Duration::from_millis(match self {
+            Phase::Idle => IDLE,
+            Phase::Sending => SENDING,
+            Phase::Taking => TAKING,
+            Phase::Ending => ENDING,
+        })
+    }
+}
+
+/// What becomes of a client after a turn.
+#[derive(Clone, Copy, Debug, PartialEq, Eq)]
+pub(crate) enum Turned {
+    /// It may have another turn at once.
+    Again,
+    /// It waits for its socket.
+    Rests,
+    /// It waits for a place among those that hold a large request.
+    WantsPlace,
+    /// Its connection is to be closed.
+    Gone,
+    /// It is given up for this reason.
+    Failed(StreamFault),
+}
+
+// Another turn, where its socket is known to be ready.
+fn again_if(ready: bool) -> Turned {
+    if ready { Turned::Again } else { Turned::Rests }
+}
+
+/// A client.
+#[derive(Drop)]
+pub(crate) struct Peer<T> {
+    link: Link<T>,
+    phase: Phase,
+    until: Duration,
+    last_pieces: u32,
+    // What is known of its socket: each stays so until a call finds otherwise.
+    readable: bool,
+    writable: bool,
+    ended: bool,
+    reset: bool,
+    // Whether no whole request is held, so that it is read before it is asked again.
+    lacks: bool,
+    // Whether it may hold a large request, and whether it waits until it may.
+    has_place: bool,
+    wants_place: bool,
+    // Whether it stands among those that have a turn next.
+    queued: bool,
+}
+
+impl<T: Socket> Peer<T> {
+    /// A client of which nothing has come.
+    pub(crate) fn new(alloc: Global, socket: T, now: Duration) -> Peer<T> {
+        Peer {
+            link: Link::new(alloc, socket),
+            phase: Phase::Idle,
+            until: now.saturating_add(Phase::Idle.patience()),
+            last_pieces: 0,
+            readable: false,
+            writable: true,
+            ended: false,
+            reset: false,
+            lacks: true,
+            has_place: false,
+            wants_place: false,
+            queued: false,
+        }
+    }
+
+    /// Notes what the system told of its socket.
+    pub(crate) fn note(&mut self, told: Told) {
+        self.readable = self.readable || told.readable || told.ended || told.reset;
+        self.writable = self.writable || told.writable;
+        self.ended = self.ended || told.ended || told.reset;
+        self.reset = self.reset || told.reset;
+    }
+
+    /// Whether it stands among those that have a turn next.
+    pub(crate) fn is_queued(&self) -> bool {
+        self.queued
+    }
+
+    /// Notes whether it stands among those that have a turn next.
+    pub(crate) fn set_queued(&mut self, queued: bool) {
+        self.queued = queued;
+    }
+
+    /// Whether it was waited for long enough. A client that waits for its turn, or for a place, is not
+    /// late: it is the service that keeps it waiting.
+    pub(crate) fn is_late(&self, now: Duration) -> bool {
+        !self.queued && !self.wants_place && self.until < now
+    }
+
+    /// Whether it is being waited for after its last answer.
+    pub(crate) fn is_ending(&self) -> bool {
+        self.phase == Phase::Ending
+    }
+
+    /// Whether it waits for a place.
+    pub(crate) fn wants_place(&self) -> bool {
+        self.wants_place
+    }
+
+    /// Whether it has a place.
+    pub(crate) fn has_place(&self) -> bool {
+        self.has_place
+    }
+
+    /// Whether it has a place and no large request.
+    pub(crate) fn can_leave_place(&self) -> bool {
+        self.has_place && self.link.bytes_held() <= SMALL
+    }
+
+    /// It waits for a place.
+    pub(crate) fn ask_for_place(&mut self) {
+        self.wants_place = true;
+    }
+
+    /// It has a place, and the time for its request begins anew.
+    pub(crate) fn take_place(&mut self, now: Duration) {
+        self.has_place = true;
+        self.wants_place = false;
+        self.wait(Phase::Sending, now);
+    }
+
+    /// It has no place any more.
+    pub(crate) fn leave_place(&mut self) {
+        self.has_place = false;
+    }
+
+    /// The fault of a client that was waited for in vain. One that owes nothing has none.
+    pub(crate) fn late_fault(&self) -> Option<StreamFault> {
+        match self.phase {
+            Phase::Idle | Phase::Ending => None,
+            Phase::Sending => Some(StreamFault::Read),
+            Phase::Taking => Some(StreamFault::Write),
+        }
+    }
+
+    // It is waited for anew.
+    fn wait(&mut self, phase: Phase, now: Duration) {
+        self.phase = phase;
+        self.until = now.saturating_add(phase.patience());
+    }
+
+    // It is waited for until its next request.
+    fn wait_for_request(&mut self, now: Duration) {
+        if self.link.holds_any() {
+            self.wait(Phase::Sending, now);
+        } else {
+            self.wait(Phase::Idle, now);
+        }
+    }
+
+    /// Ends the connection, with nothing left to send. A socket that is closed before all its bytes
+    /// were read resets the connection, which takes away the answers that the client has not read.
+    pub(crate) fn end(&mut self, now: Duration) -> Turned {
+        if self.reset || !self.link.end_sending() {
+            return Turned::Gone;
+        }
+        self.wait(Phase::Ending, now);
+        self.readable = true;
+        Turned::Again
+    }
+
+    // Reads and forgets one piece of what it still sends.
+    fn skip(&mut self, now: Duration) -> Turned {
+        if !self.readable {
+            return Turned::Rests;
+        }
+        match self.link.skip() {
+            Ok(Came::Nothing) => {
+                self.readable = false;
+                Turned::Rests
+            }
+            Ok(Came::Piece(_)) => {
+                self.last_pieces = self.last_pieces.saturating_add(1);
+                if self.last_pieces >= LAST_PIECES {
+                    return Turned::Gone;
+                }
+                self.wait(Phase::Ending, now);
+                Turned::Again
+            }
+            Ok(Came::End) | Err(_) => Turned::Gone,
+        }
+    }
+
+    // How many bytes may be read now.
+    fn most(&self) -> usize {
+        let room = self.link.room().min(PIECE);
+        if self.has_place {
+            return room;
+        }
+        room.min(SMALL.saturating_sub(self.link.bytes_held()))
+    }
+
+    // Sends what can be sent of the answers. Each byte that is taken begins the time anew.
+    fn send(&mut self, now: Duration) -> Result<(), StreamFault> {
+        match self.link.send()? {
+            Went::Some => {
+                if self.link.wants_write() {
+                    self.wait(Phase::Taking, now);
+                }
+            }
+            Went::Nothing => {
+                self.writable = false;
+                if self.phase != Phase::Taking {
+                    self.wait(Phase::Taking, now);
+                }
+            }
+        }
+        Ok(())
+    }
+
+    // Reads one piece of a request. Answers what becomes of the client where nothing came.
+    fn receive(&mut self, now: Duration) -> Result<Option<Turned>, StreamFault> {
+        if !self.readable {
+            return Ok(Some(Turned::Rests));
+        }
+        let most = self.most();
+        if most == 0 {
+            return Ok(Some(Turned::WantsPlace));
+        }
+        match self.link.receive(most)? {
+            Came::Nothing => {
+                self.readable = false;
+                return Ok(Some(Turned::Rests));
+            }
+            Came::Piece(count) => {
+                if self.phase == Phase::Idle {
+                    self.wait(Phase::Sending, now);
+                }
+                // where it sends nothing more, no word of the system follows
+                self.readable = count == most || self.ended;
+            }
+            Came::End => {}
+        }
+        Ok(None)
+    }
+
+    // Sends what waits, and reads where no whole request is held. Answers what becomes of the client
+    // where it is not to be asked yet.
+    fn prepare(&mut self, now: Duration) -> Result<Option<Turned>, StreamFault> {
+        if self.link.wants_write() {
+            if !self.writable {
+                return Ok(Some(Turned::Rests));
+            }
+            self.send(now)?;
+            if self.link.wants_write() {
+                return Ok(Some(again_if(self.writable)));
+            }
+            self.wait_for_request(now);
+        }
+        if self.link.is_done() || !self.lacks {
+            return Ok(None);
+        }
+        self.receive(now)
+    }
+
+    // What becomes of the client after a step, whose answer is sent as far as it can be.
+    fn answered(&mut self, step: Step, now: Duration) -> Result<Turned, StreamFault> {
+        self.lacks = match step {
+            Step::Waits => true,
+            Step::Answered(left) => left > 0 && !self.link.holds_any(),
+            Step::Ended(_) => false,
+        };
+        if step == Step::Waits {
+            return Ok(again_if(self.readable));
+        }
+        if self.link.wants_write() {
+            if self.writable {
+                self.send(now)?;
+            } else {
+                self.wait(Phase::Taking, now);
+            }
+        }
+        if self.link.wants_write() {
+            return Ok(again_if(self.writable));
+        }
+        self.wait_for_request(now);
+        Ok(again_if(self.readable || !self.lacks || self.link.is_done()))
+    }
+
+    // Answers the next request, for which one piece is read where it is not held.
+    fn serve<S: Space + Drop, M: Moments>(
+        &mut self,
+        desk: Desk<'_>,
+        service: &mut Service<S>,
+        moments: &mut M,
+        now: Duration,
+    ) -> Result<Turned, StreamFault>
+        ensures { GoesOn S.Space (callers_of desk.entry.tokens.now) service.old service.new }
+    {
+        if let Some(turned) = self.prepare(now)? {
+            return Ok(turned);
+        }
+        if self.link.is_done() {
+            return Ok(self.end(now));
+        }
+        let step = self.link.ask(desk, service, moments)?;
+        self.answered(step, now)
+    }
+
+    /// One turn: at most one piece is read, one request answered, and two pieces sent. Of a client
+    /// that is known to be gone no request is answered any more.
+    pub(crate) fn turn<S: Space + Drop, M: Moments>(
+        &mut self,
+        desk: Desk<'_>,
+        service: &mut Service<S>,
+        moments: &mut M,
+        now: Duration,
+    ) -> Turned
+        ensures { GoesOn S.Space (callers_of desk.entry.tokens.now) service.old service.new }
+    {
+        if self.is_ending() {
+            return self.skip(now);
+        }
+        if self.reset {
+            return Turned::Failed(StreamFault::Read);
+        }
+        match self.serve(desk, service, moments, now) {
+            Ok(turned) => turned,
+            Err(fault) => Turned::Failed(fault),
+        }
+    }
+}

@@ -1,0 +1,332 @@
+//! All clients of a port, and whose turn it is.
+ghost use Rattle.token_conf.specs.TokenFile.{callers_of};
+ghost use Rattle.dss_serve.specs.Serve.{GoesOn};
+
+use crate::desk::Desk;
+use crate::journal::Journal;
+use crate::limits::{FULL, LARGE_PLACES, LOOKS, LOOKS_SOON, Limits, MOST_CLIENTS};
+use crate::peer::{Peer, Turned};
+use crate::sockets::{NotTaken, Sockets, Told};
+use service_core::service::Service;
+use slab::Slab;
+use space_core::space::Space;
+use std::alloc::{AllocError, Global};
+use std::collections::VecDeque;
+use std::time::Duration;
+use std::{io, mem};
+use wire_http::Moments;
+
+/// All clients of a port.
+#[derive(Drop)]
+pub(crate) struct Port<N: Sockets> {
+    alloc: Global,
+    sockets: N,
+    peers: Slab<Peer<N::Client>>,
+    clients: usize,
+    // the keys of those that have a turn next, an empty list for those after them, and the keys of
+    // those that wait for a place
+    next: Vec<usize>,
+    spare: Vec<usize>,
+    wanting: VecDeque<usize>,
+    places: usize,
+    // how many connections may still be accepted, if they are counted, whether one may wait, and until when the system
+    // has no room for it
+    left: Option<u64>,
+    waiting: bool,
+    full_until: Duration,
+    // how many clients have their last answer, and when it was last looked for late ones
+    ending: usize,
+    looked: Duration,
+}
+
+impl<N: Sockets + Drop> Port<N> {
+    /// A port without clients. What it needs of memory for the most of them is taken here, so that no
+    /// client is forgotten later for want of it.
+    pub(crate) fn new(alloc: Global, sockets: N, limits: Limits) -> Result<Port<N>, AllocError> {
+        let clients = limits.clients.min(MOST_CLIENTS);
+        let peers = Slab::with_capacity(alloc, clients)?;
+        let next = Vec::with_capacity(alloc, clients)?;
+        let spare = Vec::with_capacity(alloc, clients)?;
+        let wanting = VecDeque::with_capacity(alloc, clients)?;
+        Ok(Port {
+            alloc,
+            sockets,
+            peers,
+            clients,
+            next,
+            spare,
+            wanting,
+            places: LARGE_PLACES,
+            left: limits.count,
+            waiting: true,
+            full_until: Duration::from_millis(0),
+            ending: 0,
+            looked: Duration::from_millis(0),
+        })
+    }
+
+    /// Whether no connection may come and none is left.
+    pub(crate) fn is_done(&self) -> bool {
+        self.left == Some(0) && self.peers.is_empty()
+    }
+
+    /// The time since some start.
+    pub(crate) fn time(&self) -> io::Result<Duration> {
+        self.sockets.time()
+    }
+
+    // Whether a client may be taken in, if the system has room for it.
+    fn has_room(&self) -> bool {
+        self.waiting && self.left != Some(0) && self.peers.len() < self.clients
+    }
+
+    // How long the system may wait for something to tell.
+    fn patience(&self, now: Duration) -> Option<Duration> {
+        if !self.next.is_empty() {
+            return Some(Duration::from_millis(0));
+        }
+        if self.has_room() {
+            return Some(self.full_until.saturating_sub(now));
+        }
+        if self.ending > 0 {
+            return Some(Duration::from_millis(LOOKS_SOON));
+        }
+        if self.peers.is_empty() {
+            None
+        } else {
+            Some(Duration::from_millis(LOOKS))
+        }
+    }
+
+    // Gives a client a turn next.
+    fn queue(&mut self, key: usize) {
+        if let Some(peer) = self.peers.get_mut(key)
+            && !peer.is_queued()
+        {
+            peer.set_queued(self.next.push(key).is_ok());
+        }
+    }
+
+    // Notes what the system told.
+    fn note(&mut self, told: Told) {
+        let Some(key) = told.key else {
+            self.waiting = true;
+            return;
+        };
+        if let Some(peer) = self.peers.get_mut(key) {
+            peer.note(told);
+        }
+        self.queue(key);
+    }
+
+    /// Waits until a client or the system has something to tell, and notes it.
+    pub(crate) fn wait(&mut self, now: Duration) -> io::Result<()> {
+        let patience = self.patience(now);
+        self.sockets.wait(patience)?;
+        for _ in 0..usize::MAX {
+            match self.sockets.next_told() {
+                Some(told) => self.note(told),
+                None => return Ok(()),
+            }
+        }
+        Ok(())
+    }
+
+    // Takes in a client. One that cannot be watched, or kept for want of memory, is closed.
+    fn take_in(&mut self, mut socket: N::Client, now: Duration) {
+        if let Some(left) = self.left {
+            self.left = Some(left.saturating_sub(1));
+        }
+        let key = self.peers.vacant_key();
+        if self.sockets.watch(&mut socket, key).is_ok() {
+            let _ = self.peers.insert(Peer::new(self.alloc, socket, now));
+        }
+    }
+
+    /// Accepts the connections that wait, as far as there is room. Where the system has none, it is
+    /// tried again a little later.
+    pub(crate) fn accept(&mut self, now: Duration) -> io::Result<()> {
+        for _ in 0..MOST_CLIENTS {
+            if !self.has_room() || now < self.full_until {
+                return Ok(());
+            }
+            match self.sockets.accept() {
+                Ok(socket) => self.take_in(socket, now),
+                Err(NotTaken::NoneWaits) => self.waiting = false,
+                Err(NotTaken::Gone) => {}
+                Err(NotTaken::Full) => {
+                    self.full_until = now.saturating_add(Duration::from_millis(FULL));
+                }
+                Err(NotTaken::Failed(cause)) => return Err(cause),
+            }
+        }
+        Ok(())
+    }
+
+    // Gives the places that are free to those that wait for one, in the order in which they came.
+    fn give_places(&mut self, now: Duration) {
+        for _ in 0..usize::MAX {
+            if self.places == 0 {
+                return;
+            }
+            let Some(key) = self.wanting.pop_front() else {
+                return;
+            };
+            if let Some(peer) = self.peers.get_mut(key)
+                && peer.wants_place()
+            {
+                peer.take_place(now);
+                self.places = self.places.saturating_sub(1);
+                self.queue(key);
+            }
+        }
+    }
+
+    // Lets a client wait for a place. For want of memory it is late some time.
+    fn ask_for_place(&mut self, key: usize, now: Duration) {
+        if let Some(peer) = self.peers.get_mut(key)
+            && !peer.wants_place()
+            && self.wanting.push_back(key).is_ok()
+        {
+            peer.ask_for_place();
+        }
+        self.give_places(now);
+    }
+
+    // Takes the place from a client that needs it no more.
+    fn free_place(&mut self, key: usize, now: Duration) {
+        if let Some(peer) = self.peers.get_mut(key)
+            && peer.can_leave_place()
+        {
+            peer.leave_place();
+            self.places = self.places.saturating_add(1);
+            self.give_places(now);
+        }
+    }
+
+    // Closes a client.
+    fn close(&mut self, key: usize, now: Duration) {
+        let Some(peer) = self.peers.try_remove(key) else {
+            return;
+        };
+        if peer.is_ending() {
+            self.ending = self.ending.saturating_sub(1);
+        }
+        if peer.has_place() {
+            self.places = self.places.saturating_add(1);
+            self.give_places(now);
+        }
+    }
+
+    // Gives up a client: what was sent before is still to be read by it.
+    fn give_up(&mut self, key: usize, now: Duration) -> Turned {
+        match self.peers.get_mut(key) {
+            Some(peer) => peer.end(now),
+            None => Turned::Gone,
+        }
+    }
+
+    // Does with a client what its turn has shown.
+    fn settle<J: Journal>(&mut self, key: usize, turned: Turned, now: Duration, journal: &mut J) {
+        let turned = match turned {
+            Turned::Failed(fault) => {
+                journal.failed(fault);
+                self.give_up(key, now)
+            }
+            _ => turned,
+        };
+        match turned {
+            Turned::Again => self.queue(key),
+            Turned::Rests => {}
+            Turned::WantsPlace => return self.ask_for_place(key, now),
+            Turned::Gone | Turned::Failed(_) => return self.close(key, now),
+        }
+        self.free_place(key, now);
+    }
+
+    // Whether a client has its last answer.
+    fn is_ending(&self, key: usize) -> bool {
+        match self.peers.get(key) {
+            Some(peer) => peer.is_ending(),
+            None => false,
+        }
+    }
+
+    // Counts a client that has its last answer now.
+    fn count_ending(&mut self, key: usize, was_ending: bool) {
+        if !was_ending && self.is_ending(key) {
+            self.ending = self.ending.saturating_add(1);
+        }
+    }
+
+    // Gives a client its turn.
+    fn turn<S: Space + Drop, M: Moments, J: Journal>(
+        &mut self,
+        key: usize,
+        desk: Desk<'_>,
+        service: &mut Service<S>,
+        moments: &mut M,
+        now: Duration,
+        journal: &mut J,
+    )
+        ensures { GoesOn S.Space (callers_of desk.entry.tokens.now) service.old service.new }
+    {
+        let Some(peer) = self.peers.get_mut(key) else {
+            return;
+        };
+        peer.set_queued(false);
+        let was_ending = peer.is_ending();
+        let turned = peer.turn(desk, service, moments, now);
+        self.count_ending(key, was_ending);
+        self.settle(key, turned, now, journal);
+    }
+
+    /// Gives each client that has one its turn.
+    pub(crate) fn round<S: Space + Drop, M: Moments, J: Journal>(
+        &mut self,
+        desk: Desk<'_>,
+        service: &mut Service<S>,
+        moments: &mut M,
+        now: Duration,
+        journal: &mut J,
+    )
+        ensures { GoesOn S.Space (callers_of desk.entry.tokens.now) service.old service.new }
+    {
+        let spare = mem::replace(&mut self.spare, Vec::new(self.alloc));
+        let mut keys = mem::replace(&mut self.next, spare);
+        for key in &keys {
+            self.turn(*key, desk, service, moments, now, journal);
+        }
+        keys.clear();
+        self.spare = keys;
+    }
+
+    // Ends a client that was waited for long enough.
+    fn end_late<J: Journal>(&mut self, key: usize, now: Duration, journal: &mut J) {
+        let Some(peer) = self.peers.get(key) else {
+            return;
+        };
+        if !peer.is_late(now) {
+            return;
+        }
+        let was_ending = peer.is_ending();
+        let turned = match peer.late_fault() {
+            Some(fault) => Turned::Failed(fault),
+            None => Turned::Gone,
+        };
+        self.settle(key, turned, now, journal);
+        self.count_ending(key, was_ending);
+    }
+
+    /// Ends those that were waited for long enough.
+    pub(crate) fn look<J: Journal>(&mut self, now: Duration, journal: &mut J) {
+        let gap = if self.ending > 0 { LOOKS_SOON } else { LOOKS };
+        if now.saturating_sub(self.looked) < Duration::from_millis(gap) {
+            return;
+        }
+        self.looked = now;
+        for key in 0..MOST_CLIENTS {
+            self.end_late(key, now, journal);
+        }
+    }
+}

@@ -1,0 +1,57 @@
+//! The service to many clients at once, on one thread.
+ghost use Rattle.token_conf.specs.TokenFile.{callers_of};
+ghost use Rattle.dss_serve.specs.Serve.{ServesAll};
+
+use crate::desk::Desk;
+use crate::journal::Journal;
+use crate::limits::Limits;
+use crate::port::Port;
+use crate::sockets::Sockets;
+use service_core::service::Service;
+use space_core::space::Space;
+use std::alloc::Global;
+use std::io;
+use token_conf::token_table::TokenTable;
+use wire_http::Moments;
+use wire_route::routes::Routes;
+
+/// Answers the requests of the clients that are accepted, until so many connections were accepted as
+/// the limits tell and the last of them is closed; without such a number it goes on.
+///
+/// Calls are made one after the other: whatever the clients do, and in whatever order, the service
+/// was asked one list of calls, each made by a request that bears the token of its caller. Each
+/// client that has something to do has a turn before any has its second.
+///
+/// An error is one of the system that ends the service; the calls before it stand. A fault of a
+/// client is told to the journal, and ends that client's connection alone.
+pub fn serve_clients<S: Space + Drop, M: Moments, N: Sockets + Drop, J: Journal>(
+    alloc: Global,
+    routes: &Routes,
+    tokens: &TokenTable,
+    service: &mut Service<S>,
+    moments: &mut M,
+    sockets: N,
+    limits: Limits,
+    journal: &mut J,
+) -> io::Result<()>
+    ensures { ServesAll S.Space (callers_of tokens.now) service.old service.new }
+{
+    let desk = Desk {
+        alloc,
+        routes,
+        tokens,
+    };
+    let mut port = Port::new(alloc, sockets, limits)?;
+    let mut now = port.time()?;
+    for _ in 0..u64::MAX {
+        if port.is_done() {
+            return Ok(());
+        }
+        port.wait(now)?;
+        now = port.time()?;
+        port.accept(now)?;
+        port.round(desk, service, moments, now, journal);
+        port.look(now, journal);
+    }
+    Ok(())
+}

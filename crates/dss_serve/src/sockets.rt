@@ -1,0 +1,82 @@
+//! What the service needs of the system: sockets that do not block, and what is told of them.
+use std::io;
+use std::time::Duration;
+
+/// The socket of a client. No call of it waits.
+///
+/// `coming`: the bytes that it will give from here on, `gone`: those that it took, where they are
+/// known.
+pub trait Socket: Drop {
+    ghost use Rattle.std.specs.Prelude.{ℕ, List, Option};
+    ghost use Rattle.std.specs.Io.{ReadsAtMost, WritesAtMost};
+    ghost use Rattle.std.specs.Io.KnownBytes.{Keeps, ReadConsumes, WriteAppends};
+
+    ghost coming: { Self → Option (List ℕ) };
+
+    ghost gone: { Self → Option (List ℕ) };
+
+    /// Reads bytes that came into the piece. 0: the client sends nothing more.
+    fn receive(&mut self, piece: &mut [u8]) -> io::Result<usize>
+        ensures bound { ReadsAtMost result piece.new }
+        ensures bytes { ReadConsumes (coming self.old) (coming self.new) result piece.new }
+        ensures kept { Keeps (gone self.old) (gone self.new) };
+
+    /// Takes the first of these bytes, to be sent.
+    fn send(&mut self, bytes: &[u8]) -> io::Result<usize>
+        ensures bound { WritesAtMost result bytes.now }
+        ensures bytes { WriteAppends (gone self.old) (gone self.new) result bytes.now }
+        ensures kept { Keeps (coming self.old) (coming self.new) };
+
+    /// Says that nothing more is sent.
+    fn end_sending(&mut self) -> io::Result<()>
+        ensures gone { Keeps (gone self.old) (gone self.new) }
+        ensures coming { Keeps (coming self.old) (coming self.new) };
+}
+
+/// What the system tells of a socket.
+#[derive(Clone, Copy, Debug)]
+pub struct Told {
+    /// Under which key it is watched, or none, where a client may be accepted.
+    pub key: Option<usize>,
+    /// Whether it may be read.
+    pub readable: bool,
+    /// Whether it may be written.
+    pub writable: bool,
+    /// Whether the client sends nothing more.
+    pub ended: bool,
+    /// Whether the connection is gone, so that nobody takes an answer any more.
+    pub reset: bool,
+}
+
+/// Why no client was accepted.
+#[derive(Debug)]
+pub enum NotTaken {
+    /// None waits.
+    NoneWaits,
+    /// The one that waited is gone.
+    Gone,
+    /// The system has no descriptor or no memory for one more, for now.
+    Full,
+    /// It cannot be done.
+    Failed(io::Error),
+}
+
+/// The sockets of a service, watched together.
+pub trait Sockets {
+    type Client: Socket;
+
+    /// Accepts the next client.
+    fn accept(&mut self) -> Result<Self::Client, NotTaken>;
+
+    /// Has the system tell of that client under that key.
+    fn watch(&mut self, client: &mut Self::Client, key: usize) -> io::Result<()>;
+
+    /// Waits until there is something to tell, for at most so long where a time is given.
+    fn wait(&mut self, patience: Option<Duration>) -> io::Result<()>;
+
+    /// What was told, one after the other.
+    fn next_told(&mut self) -> Option<Told>;
+
+    /// The time since some start, which never falls.
+    fn time(&self) -> io::Result<Duration>;
+}

@@ -1,0 +1,126 @@
+-- What a service over files leaves in its whole life: run after run, each ended by a stop or a crash.
+use Rattle.std.specs.Prelude.{◌≡◌, ◌⊎◌, ℕ, List, [], ◌∷◌, ◌++◌, false}
+use Rattle.sqlite_disk.specs.declared.Disk as disk
+use Rattle.sqlite_disk.specs.declared.Files.{Files}
+use Rattle.sqlite_store.specs.declared.store.FileStore.{FileStore}
+use Rattle.sqlite_store.specs.FileStore as store
+use Rattle.sqlite_trees.specs.View.{IsClean}
+use Rattle.sqlite.specs.Files.{file_state}
+use Rattle.sqlite.specs.Held.{Held}
+use Rattle.sqlite.specs.Recovery.{Image}
+use Rattle.sqlite.specs.WalReads.{AreClean}
+use Rattle.entity_core.specs.Airspace.{Airspace, empty_at}
+use Rattle.space_core.specs.Space.{IsContent}
+use Rattle.space_core.specs.declared.space.Space as spaces
+use Rattle.service_step.specs.declared.reply.Reply.{Reply}
+use Rattle.service_core.specs.declared.service.Service.{Service}
+use Rattle.service_core.specs.Held.{is_shut, salt_of, space_of}
+use Rattle.service_core.specs.Run.{AskedInOrder, MayHaveStepped, Timed, airspace_after, answered_calls, has_stopped}
+use Rattle.space_tables.specs.declared.format.Format.{Format}
+use Rattle.space_opening.specs.declared.open_fault.OpenFault.{OpenFault}
+use Rattle.space_sql.specs.Found.{AreUnmade, FilesSpell, FindsSpelt, RefusesFound}
+use Rattle.space_sql.specs.Holding.{Kept}
+use Rattle.space_sql.specs.Restart.{ClosesFiles, FilesHave, FilesLeft, LeavesFiles, LeavesTrees, without_log}
+
+-- files stand for the airspace: they spell it in a format, or have no table, and it is the empty one
+abbrev pub StandFor : Image → Airspace → Type 0
+StandFor image a =
+    ((format : Format) × FilesSpell format image a) ⊎ (AreUnmade image × (a ≡ empty_at 0))
+
+-- a run of a service over files: its salt, the calls that it was asked, and its replies
+pub record Run : Type 0 where
+  pub salt : List ℕ
+  pub calls : List Timed
+  pub replies : List Reply
+
+-- the run of a service that was asked these calls
+abbrev pub run_of : {S : Type 0} → Service S → List Timed → List Reply → Run
+run_of old calls replies = record { salt = salt_of old; calls = calls; replies = replies }
+
+-- a run whose opening failed
+abbrev pub unasked : Run
+unasked = record { salt = []; calls = []; replies = [] }
+
+-- The airspace may have come of another one in this run: by the policy's steps for the calls that
+-- were answered, and for the one that was answered `Stopped`, if there is one, by its step or not.
+abbrev pub MayCome : Airspace → Run → Airspace → Type 0
+MayCome a run b = MayHaveStepped run.salt a run.calls run.replies b
+
+-- files that stood for an airspace before the run stand after it for one that may have come of that
+abbrev pub Continues : Image → Run → Image → Type 0
+Continues before run after =
+    (a : Airspace) → StandFor before a → ∥ ((b : Airspace) × MayCome a run b × StandFor after b) ∥₁
+
+-- A space was opened over files, a service over it was asked calls in order, each once, it was given
+-- up, and a crash left of the files what it may.
+abbrev pub ContinuesServed : {D : Type 0} {g : disk.Ghosts D}
+    → spaces.Ghosts (Kept (FileStore D g)) → Type 0
+ContinuesServed {D} {g} space =
+    (before after : Image) (old new : Service (Kept (FileStore D g)))
+    (calls : List Timed) (replies : List Reply) (last : FileStore D g)
+    → is_shut old ≡ false → FindsSpelt before space (space_of old)
+    → AskedInOrder space old calls replies new
+    → LeavesFiles (space_of new) last → IsClean (store.view last) → FilesLeft last after
+    → Continues before (run_of old calls replies) after
+
+-- The same where the space was closed, also where then the log is gone.
+abbrev pub ContinuesClosed : {D : Type 0} {g : disk.Ghosts D}
+    → spaces.Ghosts (Kept (FileStore D g)) → Type 0
+ContinuesClosed {D} {g} space =
+    (before after : Image) (old new : Service (Kept (FileStore D g)))
+    (calls : List Timed) (replies : List Reply) (files : Files D)
+    → is_shut old ≡ false → FindsSpelt before space (space_of old)
+    → AskedInOrder space old calls replies new
+    → ClosesFiles (space_of new) files → AreClean g files.log files.db → FilesHave g files after
+    → Continues before (run_of old calls replies) after
+    × Continues before (run_of old calls replies) (without_log after)
+
+-- A space was not opened over files, the connection that came back was given up, and a crash left of
+-- the files what it may.
+abbrev pub ContinuesRefused : {D : Type 0} → disk.Ghosts D → Type 0
+ContinuesRefused {D} g =
+    (before after : Image) (back : Held (FileStore D g)) (fault : OpenFault)
+    (last : FileStore D g)
+    → RefusesFound before (file_state back) fault
+    → LeavesTrees back last → IsClean (store.view last) → FilesLeft last after
+    → Continues before unasked after
+
+-- runs one after the other, each over what the one before left
+abbrev pub Lives : Image → List Run → Image → Type 0
+Lives before [] after = after ≡ before
+Lives before (run ∷ runs) after =
+    (left : Image) × Continues before run left × Lives left runs after
+
+-- the airspace may have come of another one in these runs
+abbrev pub MayComeOfAll : Airspace → List Run → Airspace → Type 0
+MayComeOfAll a [] b = b ≡ a
+MayComeOfAll a (run ∷ runs) b = (c : Airspace) × MayCome a run c × MayComeOfAll c runs b
+
+-- After all of them the files stand for an airspace that may have come of the first one.
+abbrev pub LifeLeaves : Type 0
+LifeLeaves =
+    (before after : Image) (runs : List Run) (a : Airspace)
+    → StandFor before a → Lives before runs after
+    → ∥ ((b : Airspace) × MayComeOfAll a runs b × StandFor after b) ∥₁
+
+-- And a space that is opened over them holds such an airspace and no other.
+abbrev pub LifeIsFound : {T : Type 0} → spaces.Ghosts (Kept T) → Type 0
+LifeIsFound {T} again =
+    (before after : Image) (runs : List Run) (a : Airspace) (next : Kept T)
+    → StandFor before a → Lives before runs after
+    → FindsSpelt after again next → again.is_sound next
+    → ∥ ((b : Airspace) × MayComeOfAll a runs b × IsContent again.holds next b) ∥₁
+
+-- Where no call of a run was answered `Stopped`, one airspace alone may come of it: the policy's,
+-- after all calls that were answered.
+abbrev pub UnstoppedIsDue : Type 0
+UnstoppedIsDue =
+    (a b : Airspace) (run : Run) → has_stopped run.replies ≡ false → MayCome a run b
+    → b ≡ airspace_after run.salt a (answered_calls run.calls run.replies)
+
+-- What is asked over several connections, one after the other, is one list of calls.
+abbrev pub AskedOn : {S : Type 0} → spaces.Ghosts S → Type 0
+AskedOn {S} space =
+    (old mid new : Service S) (calls more : List Timed) (replies later : List Reply)
+    → AskedInOrder space old calls replies mid → AskedInOrder space mid more later new
+    → AskedInOrder space old (calls ++ more) (replies ++ later) new

@@ -1,0 +1,58 @@
+-- From what was found, asked and answered to what one step of a connection does.
+use Rattle.std.proofs.Common.{◌≡◌, ℕ, zero, suc, ◌<◌, ◌≤◌, List, [], ◌++◌, length, drop, Bool, refl, sym, ap, subst, ◌∙◌, Option, Some, arith}
+use Rattle.std.proofs.lemmas.List.{append-nil, drop-append-le}
+use Rattle.httparse.specs.declared.spans.HeaderSpan.{HeaderSpan}
+use Rattle.httparse.specs.declared.spans.RequestSpans.{RequestSpans}
+use Rattle.policy_core.specs.declared.call.Call.{Call}
+use Rattle.space_core.specs.declared.space.Space.{Ghosts}
+use Rattle.service_core.specs.declared.service.Service.{Service}
+use Rattle.wire_route.specs.declared.place.Place.{Place}
+use Rattle.wire_http.specs.declared.end.End.{End}
+use Rattle.wire_http.specs.declared.held.Held.{Held}
+use Rattle.wire_http.specs.declared.held.Held.TheVariants.{Gives, Wants}
+use Rattle.wire_http.specs.declared.request.Next.{Next}
+use Rattle.wire_http.specs.declared.request.Next.TheVariants.{Request, Stop}
+use Rattle.wire_http.specs.Held.{IsHeld, MayCome}
+use Rattle.wire_http.specs.Input.{Came}
+use Rattle.wire_http.specs.Next.{IsNext}
+use Rattle.wire_http.specs.Reply.{Replies, RepliesPart}
+use Rattle.wire_http.specs.Stop.{StopsAs}
+use Rattle.wire_http.specs.Wire.{Finishes}
+
+-- nothing came
+pub came_none : (x : List ℕ) → Came (Some []) (Some []) x x
+came_none x = ([], sym (append-nil x), refl)
+
+-- what is held is so with nothing ahead
+pub held_next : (bytes : List ℕ) (over : Bool) (fields : List HeaderSpan) (n : Next) → IsHeld bytes over fields (Gives n) → IsNext [] bytes fields n
+held_next bytes over fields n h = h [] (λ _. refl)
+
+-- it stops the stream, whatever may still come
+pub held_stops : (bytes : List ℕ) (over : Bool) (fields : List HeaderSpan) (r : Held) (n : Next) (end : End) → r ≡ Gives n → n ≡ Stop end
+    → IsHeld bytes over fields r → (later : List ℕ) → MayCome over later → StopsAs (bytes ++ later) end
+held_stops bytes over fields r n end e f h later may =
+    let x : IsHeld bytes over fields (Gives (Stop end)) = subst (λ (v : Next). IsHeld bytes over fields (Gives v)) f (subst (λ (v : Held). IsHeld bytes over fields v) e h) in x later may
+
+-- what was found there is held so
+pub held_request : (bytes : List ℕ) (over : Bool) (fields : List HeaderSpan) (r : Held) (n : Next) (spans : RequestSpans) (size : ℕ) → r ≡ Gives n → n ≡ Request spans size
+    → IsHeld bytes over fields r → IsHeld bytes over fields (Gives (Request spans size))
+held_request bytes over fields r n spans size e f h = subst (λ (v : Next). IsHeld bytes over fields (Gives v)) f (subst (λ (v : Held). IsHeld bytes over fields v) e h)
+
+pub held_wants : (bytes : List ℕ) (over : Bool) (fields : List HeaderSpan) (r : Held) (count : ℕ) → r ≡ Wants count → IsHeld bytes over fields r
+    → IsHeld bytes over fields (Wants count)
+held_wants bytes over fields r count e h = subst (λ (v : Held). IsHeld bytes over fields v) e h
+
+pub finishes : (n : ℕ) (rest : List ℕ) (end : End) → 0 < n → StopsAs rest end → Finishes n rest end
+finishes zero rest end some h = absurd (omega (arith, some))
+finishes (suc n) rest end some h = h
+
+-- what was put behind the pending bytes stands behind those that are not sent
+pub unsent_more : (sent : ℕ) (p q t : List ℕ) → sent ≤ length p → q ≡ p ++ t → drop sent q ≡ drop sent p ++ t
+unsent_more sent p q t fits e = ap (λ v. drop sent v) e ∙ drop-append-le sent p t fits
+
+module _ {S : Type 0} (g : Ghosts S) (old new : Service S) (moment : ℕ) (call : Call) (place : Option Place) (closing : Bool) (sent : ℕ) (p q : List ℕ) (fits : sent ≤ length p) where
+  pub replies_unsent : Replies g old new moment call place closing (Some p) (Some q) → Replies g old new moment call place closing (Some (drop sent p)) (Some (drop sent q))
+  replies_unsent r = record { reply = r.reply; is_reply = r.is_reply; written = unsent_more sent p q _ fits r.written }
+
+  pub part_unsent : RepliesPart g old new moment call place closing (Some p) (Some q) → RepliesPart g old new moment call place closing (Some (drop sent p)) (Some (drop sent q))
+  part_unsent r = record { reply = r.reply; is_reply = r.is_reply; size = r.size; short = r.short; written = unsent_more sent p q _ fits r.written }

@@ -1,0 +1,77 @@
+-- What one connection holds, and what a step of it does.
+use Rattle.std.specs.Prelude.{◌≡◌, ◌<◌, ◌≤◌, ◌-◌, ℕ, Bool, true, false, List, [], ◌++◌, length, drop, Some}
+use Rattle.std.specs.List.{concat}
+use Rattle.space_core.specs.declared.space.Space.{Ghosts}
+use Rattle.service_core.specs.declared.service.Service.{Service}
+use Rattle.token_conf.specs.TokenFile.{Callers}
+use Rattle.wire_http.specs.declared.connection.Connection.{Connection}
+use Rattle.wire_http.specs.declared.connection.Step.{Step}
+use Rattle.wire_http.specs.declared.connection.Step.TheVariants as steps
+use Rattle.wire_http.specs.declared.fault.StreamFault.{StreamFault}
+use Rattle.wire_http.specs.declared.serve.Turn.TheVariants as turns
+use Rattle.wire_http.specs.Held.{HasNoRequest, MayCome, most_held}
+use Rattle.wire_http.specs.Text.{end_texts}
+use Rattle.wire_http.specs.Turn.{IsTurn, IsTurnPart}
+use Rattle.wire_http.specs.Wire.{Finishes}
+
+-- the bytes that came and belong to no earlier request
+abbrev pub held_of : Connection → List ℕ
+held_of c = c.held.items
+
+-- how many requests may still be answered
+abbrev pub left_of : Connection → ℕ
+left_of c = c.left
+
+-- whether nothing more comes
+abbrev pub has_ended : Connection → Bool
+has_ended c = c.ended
+
+-- whether no request more is answered
+abbrev pub is_done : Connection → Bool
+is_done c = c.done
+
+-- the bytes of answers that are not sent yet
+abbrev pub output_of : Connection → List ℕ
+output_of c = drop c.sent c.answers.items
+
+-- there is room for these bytes
+abbrev pub HasRoom : Connection → List ℕ → Type 0
+HasRoom c bytes = length bytes ≤ most_held - length (held_of c)
+
+-- nothing that a connection holds has changed
+pub record IsSame (c c' : Connection) : Type 0 where
+  pub held : held_of c' ≡ held_of c
+  pub output : output_of c' ≡ output_of c
+  pub left : left_of c' ≡ left_of c
+  pub ended : has_ended c' ≡ has_ended c
+  pub done : is_done c' ≡ is_done c
+
+module _ {S M : Type 0} (g : Ghosts S) (Gives : M → ℕ → M → Type 0) (callers : Callers)
+    (old new : Service S) (clock clock' : M) (c c' : Connection) where
+  -- Nothing was done: a request may still come, none is held whole, and there is room for more. Or
+  -- one more was answered, as one turn of a stream whose reader has nothing more to give. Or the
+  -- stream ended, whatever may still come.
+  abbrev pub IsStep : Step → Type 0
+  IsStep steps.Waits =
+      (new ≡ old) × (clock' ≡ clock) × IsSame c c' × (0 < left_of c) × (has_ended c ≡ false)
+      × HasNoRequest (held_of c) × (length (held_of c) < most_held)
+  IsStep (steps.Answered n) =
+      (0 < left_of c)
+      × IsTurn g Gives callers (left_of c - 1) old new clock clock' (Some (output_of c))
+      (Some (output_of c')) (Some []) (Some []) (held_of c) (held_of c') (turns.Answered n)
+      × (left_of c' ≡ n) × (has_ended c' ≡ has_ended c) × (is_done c' ≡ is_done c)
+  IsStep (steps.Ended end) =
+      (new ≡ old) × (clock' ≡ clock)
+      × ((later : List ℕ) → MayCome (has_ended c) later
+      → Finishes (left_of c) (held_of c ++ later) end)
+      × (output_of c' ≡ output_of c ++ concat (end_texts end))
+      × (held_of c' ≡ held_of c) × (left_of c' ≡ left_of c) × (is_done c' ≡ true)
+
+  -- A fault came: a turn was given up, no byte of its text is to be sent, and no request more is
+  -- answered.
+  abbrev pub IsStepPart : StreamFault → Type 0
+  IsStepPart fault =
+      (0 < left_of c)
+      × IsTurnPart g Gives callers (left_of c - 1) old new clock clock' (Some (output_of c))
+      (Some (output_of c')) (Some []) (held_of c) fault
+      × (output_of c' ≡ output_of c) × (held_of c' ≡ held_of c) × (is_done c' ≡ true)

@@ -1,0 +1,70 @@
+-- What was served of one connection among many, whatever was asked on the others in between.
+use Rattle.std.specs.Prelude.{◌≡◌, ℕ, false, List, [], ◌∷◌, ◌++◌, length}
+use Rattle.std.specs.List.{concat}
+use Rattle.space_core.specs.declared.space.Space.{Ghosts}
+use Rattle.service_core.specs.declared.service.Service.{Service}
+use Rattle.service_core.specs.Run.{IsReplyTo}
+use Rattle.service_step.specs.declared.reply.Reply.{Reply}
+use Rattle.token_conf.specs.TokenFile.{Callers}
+use Rattle.wire_http.specs.declared.connection.Connection.{Connection}
+use Rattle.wire_http.specs.declared.connection.Step.{Step}
+use Rattle.wire_http.specs.declared.connection.Step.TheVariants as steps
+use Rattle.wire_http.specs.declared.end.End.{End}
+use Rattle.wire_http.specs.Connection.{has_ended, held_of, is_done, left_of, output_of}
+use Rattle.wire_http.specs.Count.{most_requests}
+use Rattle.wire_http.specs.Held.{MayCome}
+use Rattle.wire_http.specs.Text.{end_texts}
+use Rattle.wire_http.specs.Wire.{Asked, Finishes, Leads, answers}
+
+-- the moments are those of a clock that the other connections ask, too
+abbrev pub AnyMoment : Unit {0} → ℕ → Unit {0} → Type 0
+AnyMoment clock moment clock' = Unit {0}
+
+-- Of what came, whatever follows, these requests are the first, and they lead to so many that may
+-- still come and to that rest.
+abbrev pub Spells : Callers → List ℕ → List Asked → ℕ → List ℕ → Type 0
+Spells callers came all n rest = Leads AnyMoment callers most_requests came tt all n rest tt
+
+-- These bytes have come, these requests of them were asked and answered so, and the answers are what
+-- was sent and what is to be sent.
+pub record IsServed (callers : Callers) (came : List ℕ) (all : List Asked) (replies : List Reply)
+    (sent : List ℕ) (c : Connection) : Type 0 where
+  pub one_each : length replies ≡ length all
+  pub spells : (later : List ℕ)
+      → Spells callers (came ++ later) all (left_of c) (held_of c ++ later)
+  pub texts : sent ++ output_of c ≡ concat (answers all replies)
+  pub goes_on : is_done c ≡ false
+
+-- The whole of an input was served so: its requests were asked and answered, and then it ended, as a
+-- stream of that input is served alone.
+pub record IsServedWhole (callers : Callers) (input : List ℕ) (all : List Asked)
+    (replies : List Reply) (end : End) (text : List ℕ) : Type 0 where
+  pub n : ℕ
+  pub rest : List ℕ
+  pub spells : Spells callers input all n rest
+  pub finishes : Finishes n rest end
+  pub text_is : text ≡ concat (answers all replies ++ end_texts end)
+
+-- the next call: at the clock's next moment, its request is the next of the connection, and it is
+-- answered there
+pub record IsNextCall {S M : Type 0} (g : Ghosts S) (Gives : M → ℕ → M → Type 0)
+    (callers : Callers) (old new : Service S) (clock clock' : M) (came : List ℕ) (all : List Asked)
+    (replies : List Reply) (sent : List ℕ) (c : Connection) : Type 0 where
+  pub asked : Asked
+  pub reply : Reply
+  pub moment : Gives clock asked.moment clock'
+  pub is_reply : IsReplyTo g old new asked.moment asked.call reply
+  pub served : IsServed callers came (all ++ asked ∷ []) (replies ++ reply ∷ []) sent c
+
+-- how a connection is served after a step: as before it, with its next call, or whole, whatever may
+-- still come
+abbrev pub IsServedAfter : {S M : Type 0} → Ghosts S → (M → ℕ → M → Type 0) → Callers → Service S
+    → Service S → M → M → List ℕ → List Asked → List Reply → List ℕ → Connection → Connection → Step
+    → Type 0
+IsServedAfter g Gives callers old new clock clock' came all replies sent c c' steps.Waits =
+    IsServed callers came all replies sent c'
+IsServedAfter g Gives callers old new clock clock' came all replies sent c c' (steps.Answered n) =
+    IsNextCall g Gives callers old new clock clock' came all replies sent c'
+IsServedAfter g Gives callers old new clock clock' came all replies sent c c' (steps.Ended end) =
+    (later : List ℕ) → MayCome (has_ended c) later
+    → IsServedWhole callers (came ++ later) all replies end (sent ++ output_of c')

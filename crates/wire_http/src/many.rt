@@ -1,0 +1,124 @@
+//! Laws of many connections: each is served as a stream of its own, and the calls of all are one list.
+ghost use Rattle.std.specs.Prelude.{◌≡◌, ℕ, List, [], ◌∷◌, ◌++◌, take, drop, false};
+ghost use Rattle.service_core.specs.declared.service.Service.{Service};
+ghost use Rattle.service_core.specs.Run.{Answered, IsReplyTo, Timed};
+ghost use Rattle.service_step.specs.declared.reply.Reply.{Reply};
+ghost use Rattle.token_conf.specs.TokenFile.{Callers};
+ghost use Rattle.wire_http.specs.declared.connection.Connection.{Connection};
+ghost use Rattle.wire_http.specs.declared.connection.Step.{Step};
+ghost use Rattle.wire_http.specs.declared.connection.Step.TheVariants as steps;
+ghost use Rattle.wire_http.specs.declared.end.End.{End};
+ghost use Rattle.wire_http.specs.declared.fault.StreamFault.{StreamFault};
+ghost use Rattle.wire_http.specs.Connection.{held_of, has_ended, is_done, left_of, output_of, IsStep, IsStepPart};
+ghost use Rattle.wire_http.specs.Count.{most_requests};
+ghost use Rattle.wire_http.specs.Held.{MayCome};
+ghost use Rattle.wire_http.specs.Many.{IsNextCall, IsServed, IsServedAfter, IsServedWhole};
+ghost use Rattle.wire_http.specs.Turns.{AreServed, AreServedAfter, MadeCall, asked_for, replies_for, set_at};
+ghost use Rattle.wire_http.specs.Wire.{Asked};
+
+use crate::moments::Moments;
+use space_core::space::Space;
+
+/// A new connection is served: nothing came, and nothing was asked.
+pub fn served_at_first()
+    ensures { (callers : Callers) (c : Connection) → held_of c ≡ [] → output_of c ≡ []
+        → left_of c ≡ most_requests → is_done c ≡ false → IsServed callers [] [] [] [] c }
+{}
+
+/// It stays so where nothing came or went, and nothing was asked: as a connection waits, and as its
+/// input ends.
+pub fn served_as_it_rests()
+    ensures { (callers : Callers) (came : List ℕ) (all : List Asked) (replies : List Reply)
+        (sent : List ℕ) (c next : Connection) → IsServed callers came all replies sent c
+        → held_of next ≡ held_of c → output_of next ≡ output_of c → left_of next ≡ left_of c
+        → is_done next ≡ is_done c → IsServed callers came all replies sent next }
+{}
+
+/// It stays so as bytes come.
+pub fn served_as_bytes_come()
+    ensures { (callers : Callers) (came more : List ℕ) (all : List Asked) (replies : List Reply)
+        (sent : List ℕ) (c next : Connection) → IsServed callers came all replies sent c
+        → held_of next ≡ held_of c ++ more → output_of next ≡ output_of c
+        → left_of next ≡ left_of c → is_done next ≡ is_done c
+        → IsServed callers (came ++ more) all replies sent next }
+{}
+
+/// It stays so as bytes are sent.
+pub fn served_as_bytes_go()
+    ensures { (callers : Callers) (came : List ℕ) (all : List Asked) (replies : List Reply)
+        (sent : List ℕ) (n : ℕ) (c next : Connection) → IsServed callers came all replies sent c
+        → held_of next ≡ held_of c → output_of next ≡ drop n (output_of c)
+        → left_of next ≡ left_of c → is_done next ≡ is_done c
+        → IsServed callers came all replies (sent ++ take n (output_of c)) next }
+{}
+
+/// It stays so as a request is answered, whatever was asked on other connections before.
+pub fn served_as_requests_are_answered<S: Space, M: Moments>()
+    ensures { (callers : Callers) (old new : Service S) (clock later : M) (came : List ℕ)
+        (all : List Asked) (replies : List Reply) (sent : List ℕ) (n : ℕ) (c next : Connection)
+        → IsServed callers came all replies sent c
+        → IsStep S.Space M.gives callers old new clock later c next (steps.Answered n)
+        → IsNextCall S.Space M.gives callers old new clock later came all replies sent next }
+{}
+
+/// Where it ends, it was served as a stream of all that came and of what may still come.
+pub fn served_whole<S: Space, M: Moments>()
+    ensures { (callers : Callers) (old new : Service S) (clock later : M) (came : List ℕ)
+        (all : List Asked) (replies : List Reply) (sent : List ℕ) (end : End) (c next : Connection)
+        → IsServed callers came all replies sent c
+        → IsStep S.Space M.gives callers old new clock later c next (steps.Ended end)
+        → (more : List ℕ) → MayCome (has_ended c) more
+        → IsServedWhole callers (came ++ more) all replies end (sent ++ output_of next) }
+{}
+
+/// So it is served at each step, whichever it is.
+pub fn served_at_each_step<S: Space, M: Moments>()
+    ensures { (callers : Callers) (old new : Service S) (clock later : M) (came : List ℕ)
+        (all : List Asked) (replies : List Reply) (sent : List ℕ) (step : Step)
+        (c next : Connection) → IsServed callers came all replies sent c
+        → IsStep S.Space M.gives callers old new clock later c next step
+        → IsServedAfter S.Space M.gives callers old new clock later came all replies sent c next
+        step }
+{}
+
+/// The calls of all connections, in the order in which they were made, are one list, and answered as
+/// one.
+pub fn one_list<S: Space>()
+    ensures { (first old new : Service S) (cs : List Timed) (rs : List Reply) (c : Timed)
+        (r : Reply) → Answered S.Space first cs rs old → IsReplyTo S.Space old new c.0 c.1 r
+        → Answered S.Space first (cs ++ c ∷ []) (rs ++ r ∷ []) new }
+{}
+
+/// A turn of one connection among many: its calls are the next of the one list, and all are served so
+/// on.
+pub fn turn_of_each<S: Space, M: Moments>()
+    ensures { (callers : Callers) (first old new : Service S) (clock later : M)
+        (log : List MadeCall) (came sent : ℕ → List ℕ) (connections : ℕ → Connection) (who : ℕ)
+        (next : Connection) (step : Step)
+        → AreServed S.Space callers first old log came sent connections
+        → is_done (connections who) ≡ false
+        → IsStep S.Space M.gives callers old new clock later (connections who) next step
+        → AreServedAfter S.Space callers first new log came sent connections who next }
+{}
+
+/// The same of a turn that was given up: its call, if it was made, is the next of the list.
+pub fn turn_given_up<S: Space, M: Moments>()
+    ensures { (callers : Callers) (first old new : Service S) (clock later : M)
+        (log : List MadeCall) (came sent : ℕ → List ℕ) (connections : ℕ → Connection) (who : ℕ)
+        (next : Connection) (fault : StreamFault)
+        → AreServed S.Space callers first old log came sent connections
+        → is_done (connections who) ≡ false
+        → IsStepPart S.Space M.gives callers old new clock later (connections who) next fault
+        → AreServedAfter S.Space callers first new log came sent connections who next }
+{}
+
+/// As bytes come to one of them and go from it, all are served so on.
+pub fn each_on_its_own<S: Space>()
+    ensures { (callers : Callers) (first now : Service S) (log : List MadeCall)
+        (came sent : ℕ → List ℕ) (connections : ℕ → Connection) (who : ℕ)
+        (came_there sent_there : List ℕ) (next : Connection)
+        → AreServed S.Space callers first now log came sent connections
+        → IsServed callers came_there (asked_for who log) (replies_for who log) sent_there next
+        → AreServed S.Space callers first now log (set_at came who came_there)
+        (set_at sent who sent_there) (set_at connections who next) }
+{}

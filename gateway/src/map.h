@@ -1,0 +1,34 @@
+// The map: a page, and what it shows of the airspace as JSON and as GeoJSON.
+#pragma once
+
+#include <optional>
+#include <string>
+
+#include "server.h"
+#include "survey.h"
+
+class Map {
+ public:
+  struct Options {
+    std::string tokens;  // a file: a line with the token of the service that it asks with, and one with the token of its viewers
+    std::string area;    // tokens of cells, with commas
+  };
+  Map(const Options& options, Service& service);
+
+  // What a request for a path of the map is to have done; none for other paths, a Refusal where it is not let in.
+  std::optional<Task> admit(const Head& head, Note& note);
+
+ private:
+  struct Tokens {
+    std::string service, viewer;
+  };
+  Map(const Tokens& tokens, const Options& options, Service& service);
+  static Tokens tokens_of(const std::string& file);
+  void check_viewer(const Head& head) const;
+
+  std::string viewer_;
+  Survey survey_;
+};
+
+// For a new file of `tokens`: the token of a supplier of the service's token file that opens queries, and a drawn one.
+std::string make_map_tokens(const std::string& token_file, const std::string& uss);

@@ -1,0 +1,450 @@
+"""The map: its data by bytes, and its page in Chromium without a window, where there is one."""
+import contextlib
+import json
+import random
+import subprocess
+import time
+
+import pywraps2 as s2
+
+import browser
+import shapes
+from flows import Place
+from properties import translate
+from world import (
+    CONSTRAINTS, INTENTS, MANAGEMENT, MANHATTAN, STRATEGIC, ZERO, Counted, Gateway, Service, circle, expect, extent, intent, new_id, ovn)
+
+AREA = "89c25"  # New York, 32 cells of level 13 a side
+INSIDE = ["89c25904", "89c2590c"]  # the cells of MANHATTAN
+SCREENS = [(1600, 900, "light", "wide"), (800, 900, "dark", "middle"), (360, 740, "light", "narrow")]
+
+
+class Skipped(Exception):
+    """Cannot be tried here."""
+
+
+def map_tokens(files, program):
+    """A file as `--map-token` takes it, and the token of viewers in it."""
+    with open(files.folder / "suppliers", "r+") as it:
+        if "map\n" not in it.read():
+            it.write("map\n")
+    made = subprocess.run([program, "tokens", "--secret", files.folder / "secret", "--suppliers", files.folder / "suppliers"],
+                          stdout=subprocess.PIPE, check=True)
+    (files.folder / "tokens.toml").write_bytes(made.stdout)
+    drawn = subprocess.run([program, "map-token", "--tokens", files.folder / "tokens.toml", "--supplier", "map"],
+                           stdout=subprocess.PIPE, check=True, text=True).stdout
+    (files.folder / "map-token").write_text(drawn)
+    return files.folder / "map-token", drawn.split()[1]
+
+
+@contextlib.contextmanager
+def over_map(files, program, area=AREA):
+    """A place whose gateway has a map, and `read` of its paths by the token of viewers."""
+    file, viewer = map_tokens(files, program)
+    service = Service(files, database=f"{new_id()}.db")
+    gateway = Gateway(program, files, service.port, "--map-token", str(file), "--map-area", area)
+    place = Place(files, gateway, service)
+    place.program, place.viewer = program, viewer
+    place.read = lambda path: gateway.ask(viewer, "GET", path)
+    try:
+        yield place
+    finally:
+        service.end()
+        lived = gateway.end()
+    assert lived, gateway.lines()[-3000:]
+
+
+def until(find, holds, seconds=40):
+    end = time.time() + seconds
+    while not holds(found := find()):
+        assert time.time() < end, str(found)[:3000]
+        time.sleep(0.3)
+    return found
+
+
+def settled(place, count):
+    """The airspace as the page has it, once each of so many references was looked for to the end."""
+    return until(lambda: expect(place.read("/map/airspace.json"), 200),
+                 lambda it: len(it["references"]) == count and all(one["in"] and not one["perhaps"] for one in it["references"]))
+
+
+def features(place, query=""):
+    return {it["id"]: it for it in expect(place.read(f"/map/airspace.geojson{query}"), 200)["features"]}
+
+
+def put_constraint(place, volume, *bounds):
+    name = new_id()
+    body = {"extents": [extent(volume, *bounds)], "uss_base_url": "https://c.example"}
+    expect(place.ask("uss-c", MANAGEMENT, "PUT", f"{CONSTRAINTS}/{name}", body), 201)
+    return name
+
+
+def put_intent(place, *extents, **more):
+    name = new_id()
+    return name, ovn(expect(place.a("PUT", f"{INTENTS}/{name}", intent(*extents, **more)), 201))
+
+
+# ---- the data
+
+def who_may_look(files, program):
+    """Data is for the token of viewers alone, in a field; it opens nothing else, and no other opens the map."""
+    with over_map(files, program) as place:
+        for path in ("/map/airspace.json", "/map/airspace.geojson", f"/map/cell.json?cell={AREA}"):
+            for token in (None, "x", place.viewer[:-1], place.viewer[:-1] + "x", place.viewer + "x", files.token("uss-a", STRATEGIC)):
+                refused = place.gateway.ask(token, "GET", path)
+                expect(refused, 401)
+                assert refused.headers["WWW-Authenticate"] == "Bearer"
+            expect(place.gateway.ask(None, "GET", f"{path}{'&' if '?' in path else '?'}token={place.viewer}"), 401)
+            expect(place.gateway.ask(place.viewer, "POST", path, {}), 405)
+        expect(place.gateway.ask(place.viewer, "GET", f"{INTENTS}/{new_id()}"), 401)
+        for path in ("/map/", "/map/other", "/map/map.js/", "/mapx"):
+            expect(place.read(path), 404)
+        for query in ("at=x", "at=-1", "at=", "altitude=1.5", "altitude=100001", "altitude=-", "at=99999999999999999999"):
+            expect(place.read(f"/map/airspace.json?{query}"), 400)
+        for cell in ("", "x", "89c2", "89c25904000000001", "89c259041", "1", "89c3c", AREA.upper()):
+            expect(place.read(f"/map/cell.json?cell={cell}"), 400)
+        expect(place.read(f"/map/cell.json?cell={INSIDE[0]}&at=0"), 200)
+        lines = place.gateway.lines()
+        assert place.viewer not in lines and "?" not in lines and "gateway: map GET map/cell.json 200 " in lines, lines
+
+
+def without_the_option_there_is_no_map(files, program):
+    file, viewer = map_tokens(files, program)
+    service = Counted()
+    gateway = Gateway(program, files, service.port)
+    for path in ("/map", "/map/map.js", "/map/airspace.json"):
+        expect(gateway.ask(viewer, "GET", path), 404)
+    assert gateway.end()
+    service.end()
+    short = files.folder / "short"
+    short.write_text("0123456789abcdef0123456789abcdef\n0123456789\n")
+    for options in (["--map-token", file], ["--map-area", AREA], ["--map-token", short, "--map-area", AREA],
+                    *(["--map-token", file, "--map-area", it] for it in ("", "x", "89c", "89c25904c", "89c25,89c25", "89c25,89c25904", "89c25,,"))):
+        done = subprocess.run([program, "serve", *gateway.words, *options], capture_output=True, text=True, timeout=20)
+        assert done.returncode == 1 and done.stderr.startswith("gateway: ") and done.stderr.count("\n") == 1, (options, done)
+        assert viewer not in done.stderr
+
+
+def where_things_are(files, program):
+    """Each is found in just its cells, by time and altitude, as it changes, and shown without its OVN."""
+    now = int(time.time())
+    with over_map(files, program) as place:
+        first, version = put_intent(place, extent(MANHATTAN, 0, 100, now, now + 3600))
+        # the first reading has it already, somewhere
+        assert set(features(place)) == {first}
+        other = put_constraint(place, circle(40.6, -74.1, 300), 200, 300, now + 1800, now + 7200)
+        found = {it["id"]: it for it in settled(place, 2)["references"]}
+        assert sorted(found[first]["in"]) == INSIDE, found
+        shown = {"id": first, "manager": "uss-a", "uss_availability": "Unknown", "version": 1, "state": "Accepted", "time_start": now,
+                 "time_end": now + 3600, "uss_base_url": "https://uss.example", "subscription_id": ZERO, "kind": "intent"}
+        assert {name: it for name, it in found[first].items() if name not in ("in", "perhaps", "is_there")} == shown, found
+        at = [set(features(place, it)) for it in ("", f"?at={now + 60}", f"?at={now + 60}&altitude=100", f"?at={now + 60}&altitude=101",
+                                                  f"?at={now + 2000}", f"?at={now + 2000}&altitude=250", f"?at={now + 7201}")]
+        assert at == [{first, other}, {first}, {first}, set(), {first, other}, {other}, set()], at
+        feature = features(place)[first]
+        assert feature["properties"] == {**shown, "is_settled": True} and feature["geometry"]["type"] == "MultiPolygon"
+        rings = [it[0] for it in feature["geometry"]["coordinates"]]
+        assert len(rings) == 2 and all(len(it) == 5 and it[0] == it[4] for it in rings)
+        # against the clock, and over Manhattan
+        turns = [sum((b[0] - a[0]) * (b[1] + a[1]) for a, b in zip(it, it[1:])) for it in rings]
+        assert all(it < 0 for it in turns) and all(abs(lng + 73.98) < 0.03 and abs(lat - 40.745) < 0.03 for it in rings for lng, lat in it)
+        listed = expect(place.read(f"/map/cell.json?cell={INSIDE[0]}&at={now + 60}&altitude=50"), 200)["references"]
+        assert listed == [shown], listed
+        assert expect(place.read(f"/map/cell.json?cell={INSIDE[0]}&at={now + 60}&altitude=101"), 200)["references"] == []
+        # it moves
+        moved = expect(place.a("PUT", f"{INTENTS}/{first}/{version}", intent(extent(circle(40.6, -74.1, 10), 0, 100, now, now + 3600))), 200)
+        until(lambda: features(place), lambda it: it[first]["properties"]["version"] == 2 and it[first]["properties"]["is_settled"])
+        assert {tuple(it["in"]) for it in settled(place, 2)["references"]} >= {tuple(found[other]["in"])}
+        texts = [place.read(it).text for it in ("/map/airspace.json", "/map/airspace.geojson", f"/map/cell.json?cell={AREA}")]
+        assert all(first in it and ovn(moved) not in it and '"ovn"' not in it for it in texts)
+        expect(place.a("DELETE", f"{INTENTS}/{first}/{ovn(moved)}"), 200)
+        until(lambda: set(features(place)), lambda it: it == {other})
+
+
+def many_are_found_together(files, program):
+    """Flights that lie beside and over each other: each is in just the cells that the service was given."""
+    draw = random.Random(3)
+    with over_map(files, program) as place:
+        bodies = [intent(extent(circle(40.65 + draw.uniform(-0.1, 0.1), -74.05 + draw.uniform(-0.1, 0.1), draw.uniform(10, 3000)), 10 * k, 10 * k + 5))
+                  for k in range(40)]
+        given = {}
+        for body, sent in zip(bodies, translate(program, [("intent", it) for it in bodies])):
+            name = new_id()
+            given[name] = {it for token in sent["extents"][0]["cells"] for it in fine(token)}
+            expect(place.a("PUT", f"{INTENTS}/{name}", body), 201)
+        found = {it["id"]: set(it["in"]) for it in settled(place, len(given))["references"]}
+        assert found == given
+
+
+def fine(token):
+    """The cells of level 13 in a cell."""
+    low, high = (it >> 35 for it in shapes.span(token))
+    return {f"{(it << 35) + (1 << 34):016x}".rstrip("0") for it in range(low, high + 1)}
+
+
+def a_wide_area_and_what_is_large(files, program):
+    """What has many cells stays in coarser ones that hold it, in an area of several pieces."""
+    with over_map(files, program, "89c24,89c3c,89e84") as place:
+        put_constraint(place, circle(40.7, -74.0, 25_000), 0, 100)
+        name, _ = put_intent(place, extent(MANHATTAN))
+        found = {it["id"]: it for it in settled(place, 2)["references"]}
+        assert sorted(found.pop(name)["in"]) == INSIDE
+        (large,) = found.values()
+        assert len(large["in"]) <= 64 and any(INSIDE[0].startswith(it[:-1]) for it in large["in"]), large
+
+
+def queries_are_few(files, program):
+    """However many look, and none where nobody does."""
+    file, viewer = map_tokens(files, program)
+    service = Counted()
+    gateway = Gateway(program, files, service.port, "--map-token", str(file), "--map-area", AREA)
+    try:
+        time.sleep(1)
+        assert not service.asked, service.asked
+        began = time.time()
+        for k in range(4):
+            gateway.ask(viewer, "GET", f"/map/airspace.json?at={k}")
+        answer = expect(gateway.ask(viewer, "GET", "/map/airspace.json"), 200)
+        spent = time.time() - began
+        assert 2 <= len(service.asked) <= 8 * spent + 2 and set(service.asked) == {"POST"}, (service.asked, spent)
+        # `{}` is no answer to a query
+        assert answer["asked"] == 0 and answer["references"] == [] and answer["fault"], answer
+    finally:
+        lived = gateway.end()
+        service.end()
+    assert lived
+
+
+def the_service_gone_and_back(files, program):
+    with over_map(files, program) as place:
+        name, _ = put_intent(place, extent(MANHATTAN))
+        asked = settled(place, 1)["asked"]
+        place.service.end()
+        gone = until(lambda: expect(place.read("/map/airspace.json"), 200), lambda it: "fault" in it)
+        assert gone["fault"] == "the service is not there: nothing was done" and [it["id"] for it in gone["references"]] == [name]
+        assert asked <= gone["asked"] < gone["now"]
+        expect(place.read(f"/map/cell.json?cell={INSIDE[0]}"), 503)
+        place.service.start()
+        back = until(lambda: expect(place.read("/map/airspace.json"), 200), lambda it: "fault" not in it)
+        assert back["asked"] > gone["asked"]
+
+
+# ---- the page
+
+@contextlib.contextmanager
+def opened(place, width=1200, height=800, scheme="light"):
+    """The page, let in; nothing must go wrong in it, and it must ask nobody but the gateway."""
+    if not browser.program():
+        raise Skipped("there is no chromium: apt-get install chromium")
+    page = browser.Browser(width, height)
+    try:
+        page.size(width, height, scheme)
+        page.open(f"http://127.0.0.1:{place.gateway.port}/map")
+        yield page
+        assert not page.faults, page.faults
+        asked = {it.split("?")[0] for it in page.requests if not it.startswith("data:")}
+        assert asked and all(it.startswith(f"http://127.0.0.1:{place.gateway.port}/map") for it in asked), asked
+        assert not any(place.viewer in it for it in page.requests)
+    finally:
+        page.end()
+
+
+def let_in(page, token):
+    page.value("document.getElementById('token').value = ''; document.getElementById('token').focus()")
+    page.type(token)
+    page.key("Enter")
+
+
+def enter(page, token):
+    let_in(page, token)
+    page.until("!document.getElementById('view').hidden && document.getElementById('asked').textContent.startsWith('As of')")
+
+
+def text(page, name):
+    return page.value(f"document.getElementById('{name}').innerText")
+
+
+def drawn(page):
+    """A number for what is on the canvas."""
+    return page.value("(() => { const c = document.getElementById('map'); const d = c.getContext('2d').getImageData(0, 0, c.width, c.height).data;"
+                      "let h = 0; for (let k = 0; k < d.length; k += 4) h = (h * 31 + d[k] * 65536 + d[k + 1] * 256 + d[k + 2]) | 0; return h; })()")
+
+
+def slide(page, name, expression):
+    page.value(f"(() => {{ const it = document.getElementById('{name}'); it.value = {expression};"
+               "it.dispatchEvent(new Event('input', { bubbles: true })); })()")
+
+
+def the_page(files, program):
+    """The door, what appears, sliders, a click, the keyboard, the service gone and back, the gateway gone."""
+    now = int(time.time())
+    with over_map(files, program) as place, opened(place) as page:
+        let_in(page, "0" * 48)
+        page.until("document.getElementById('entry-fault').textContent.includes('does not know')")
+        let_in(page, "no letter ü")
+        page.until("document.getElementById('entry-fault').textContent === 'This is no token.'")
+        enter(page, place.viewer)
+        page.until("document.getElementById('counts').textContent === '0 of 0 are there'")
+        empty = drawn(page)
+        first, version = put_intent(place, extent(MANHATTAN, 0, 100, now, now + 3600))
+        page.until("document.getElementById('counts').textContent === '1 of 1 are there'")
+        assert drawn(page) != empty
+        a_click_lists_it(page, first, version)
+        sliders_take_it_away(page, place, now)
+        the_keyboard_alone(page, first)
+        pairs_are_listed(page, place, first, version)
+        what_does_not_answer_is_told(page, place)
+
+
+def middle(page):
+    """The middle of the canvas, once the map has gone to the cell that was found by the list."""
+    return page.value("(() => { const b = document.getElementById('map').getBoundingClientRect(); return [b.x + b.width / 2, b.y + b.height / 2]; })()")
+
+
+def a_click_lists_it(page, first, version):
+    page.value("document.querySelectorAll('details').forEach((it) => it.open = true)")
+    page.until("document.querySelector('#all button')")
+    page.value("document.querySelector('#all button').click()")
+    page.until(f"document.getElementById('selected-list').innerText.includes('{first}')")
+    page.value("document.getElementById('nearer').click()")
+    time.sleep(0.3)
+    page.click(*middle(page))
+    page.until("/^Cell 89c25904: 1|^Cell 89c2590c: 1/.test(document.getElementById('selected-title').textContent)")
+    listed = text(page, "selected-list")
+    assert all(it in listed for it in (first, "Accepted", "uss-a (Unknown)", "https://uss.example")) and version not in listed, listed
+    assert version not in page.value("document.documentElement.outerHTML")
+    page.click(20, 20)
+    page.until("document.getElementById('selected-title').textContent === 'Nothing is here'")
+
+
+def sliders_take_it_away(page, place, now):
+    for name, to in (("altitude", "14"), ("time", "it.max")):
+        if name == "time":  # another that lasts longer
+            put_constraint(place, circle(40.6, -74.1, 300), 0, 100, now, now + 9000)
+            page.until("Number(document.getElementById('time').max) > 8000 && "
+                       "document.getElementById('counts').textContent === '2 of 2 are there'")
+            before = 2
+        else:
+            before = 1
+        slide(page, name, to)
+        page.until(f"document.getElementById('counts').textContent === '{before - 1} of {before} are there'")
+        slide(page, name, "0")
+        page.until(f"document.getElementById('counts').textContent === '{before} of {before} are there'")
+    assert text(page, "time-shown") == "now" and text(page, "altitude-shown") == "all"
+
+
+def the_keyboard_alone(page, first):
+    page.value("document.getElementById('map').focus()")
+    page.key("Home")
+    whole = drawn(page)
+    for key in ("ArrowLeft", "ArrowUp", "+", "-"):
+        page.key(key)
+        time.sleep(0.1)
+    assert drawn(page) != whole
+    page.value("[...document.querySelectorAll('#all button')].find((it) => it.textContent.startsWith('Accepted')).focus()")
+    page.key("Enter")
+    page.until(f"document.getElementById('selected-list').innerText.includes('{first}')")
+    page.value("document.getElementById('map').focus()")
+    page.key("Enter")
+    page.until("/^Cell \\w+: 1/.test(document.getElementById('selected-title').textContent)")
+    page.key("Escape")
+    page.until("document.getElementById('selected').hidden")
+    before = page.value("document.getElementById('altitude').value")
+    page.value("document.getElementById('altitude').focus()")
+    page.key("ArrowRight")
+    page.until("document.getElementById('altitude-shown').textContent === '0 m'")
+    page.key("ArrowLeft")
+    page.until(f"document.getElementById('altitude').value === '{before}'")
+
+
+def pairs_are_listed(page, place, first, version):
+    second, _ = put_intent(place, extent(MANHATTAN, 50, 60), key=[version])
+    page.until("document.querySelectorAll('#pairs button').length === 1")
+    listed = text(page, "pairs")
+    assert first[:8] in listed and second[:8] in listed, listed
+    page.value("document.querySelector('#pairs button').click()")
+    page.until("/: 2$/.test(document.getElementById('selected-title').textContent)")
+    page.value("document.getElementById('by-supplier').click()")
+    page.until("document.getElementById('legend').innerText.includes('uss-c')")
+
+
+def what_does_not_answer_is_told(page, place):
+    place.service.end()
+    page.until("document.getElementById('fault').textContent.startsWith('The service does not answer since ')", 60)
+    assert "3 of 3 are there" in text(page, "counts")
+    place.service.start()
+    page.until("document.getElementById('fault').textContent === ''", 60)
+    place.gateway.end()
+    page.until("document.getElementById('fault').textContent.startsWith('The gateway does not answer since ')", 60)
+    place.gateway.process = subprocess.Popen([place.program, "serve", *place.gateway.words], stderr=place.gateway.log)
+    page.until("document.getElementById('fault').textContent === ''", 60)
+
+
+# ---- its bounds
+
+def shapes_of_the_page(files, program):
+    """At three widths nothing is cut off, nor wider than the window."""
+    with over_map(files, program) as place:
+        put_intent(place, extent(MANHATTAN), uss_base_url="https://<b>" + "w" * 200)
+        for width, height, scheme, _ in SCREENS:
+            with opened(place, width, height, scheme) as page:
+                enter(page, place.viewer)
+                page.value("document.querySelectorAll('details').forEach((it) => it.open = true)")
+                page.until("document.querySelector('#all button')")
+                page.value("document.querySelector('#all button').click()")
+                page.until("!document.getElementById('selected').hidden")
+                # what a supplier wrote is text
+                assert "https://<b>www" in text(page, "selected-list")
+                wide = page.value("[document.documentElement.scrollWidth, ...[...document.querySelectorAll('body *')]"
+                                  ".map((it) => Math.ceil(it.getBoundingClientRect().right))]")
+                assert max(wide) <= width, (width, max(wide))
+                ground = page.value("getComputedStyle(document.body).backgroundColor")
+                assert (sum(map(int, ground[4:-1].split(","))) > 380) == (scheme == "light"), ground
+                assert page.value("document.getElementById('map').clientHeight") > 300
+
+
+def many_references(count):
+    """An airspace as the gateway gives it to the page, each reference in two cells that lie side by side."""
+    draw, now, cells, references = random.Random(5), int(time.time()), {}, []
+    first = s2.S2CellId.FromToken("89c3").range_min().parent(13)
+    numbers = [first.id() % 2**64 + k * 2**35 for k in range(4**7)]
+
+    def outline(number):
+        cell = s2.S2Cell(s2.S2CellId(number))
+        corners = [s2.S2LatLng(cell.GetVertex(k)) for k in range(4)]
+        return [round(it, 6) for corner in corners for it in (corner.lng().degrees(), corner.lat().degrees())]
+    for k in range(count):
+        at = draw.randrange(len(numbers) - 1)
+        tokens = [f"{it:016x}".rstrip("0") for it in numbers[at : at + 2]]
+        cells |= {token: outline(it) for token, it in zip(tokens, numbers[at : at + 2]) if token not in cells}
+        references.append({
+            "id": new_id(), "kind": "intent", "state": draw.choice(("Accepted", "Activated", "Nonconforming", "Contingent")), "version": 1,
+            "manager": f"uss-{draw.randrange(12)}", "uss_availability": "Normal", "uss_base_url": "https://uss.example", "time_start": now - 60,
+            "time_end": now + draw.randrange(100, 9000), "in": tokens, "perhaps": [], "is_there": True})
+    return {"now": now, "asked": now, "at": now - now % 10, "cells": cells, "references": references, "area": [outline(first.parent(6).id() % 2**64)]}
+
+
+def frames(page, count, act):
+    """Seconds of processors that each of so many pictures takes, before which something is done with the number `k`."""
+    before = page.processor_seconds()
+    page.value(f"(async () => {{ for (let k = 0; k < {count}; k++) {{ {act}; await new Promise(requestAnimationFrame); }} }})()")
+    return (page.processor_seconds() - before) / count
+
+
+def ten_thousand_in_view(files, program):
+    """The page draws them soon, by time of processors, without a graphics processor's help."""
+    with over_map(files, program) as place, opened(place, 1600, 900) as page:
+        page.answer_with("*/map/airspace.json*", json.dumps(many_references(10_000)))
+        enter(page, place.viewer)
+        page.until("document.getElementById('counts').textContent === '10000 of 10000 are there'")
+        moving = frames(page, 20, """document.getElementById('map').dispatchEvent(
+            new KeyboardEvent('keydown', { key: k % 2 ? 'ArrowLeft' : 'ArrowRight' }))""")
+        sliding = frames(page, 10, """(() => { const it = document.getElementById('time'); it.value = 300 + 300 * k;
+            it.dispatchEvent(new Event('input', { bubbles: true })); })()""")
+        assert moving < 0.1 and sliding < 0.4, (moving, sliding)
+        left = int(text(page, "counts").split()[0])
+        assert 4000 < left < 9000, left
+
+
+ALL = [who_may_look, without_the_option_there_is_no_map, where_things_are, many_are_found_together, a_wide_area_and_what_is_large, queries_are_few,
+       the_service_gone_and_back, the_page, shapes_of_the_page, ten_thousand_in_view]

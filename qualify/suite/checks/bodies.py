@@ -1,0 +1,48 @@
+"""Bodies and limits, as the profile has them."""
+import json
+
+from suite.check import check
+from suite.trial import INTENTS
+
+VERSION = "0123456789abcdef0123456789abcdef"
+
+
+@check("In a body other members are ignored, null counts as absent, the last of a member counts, and numbers are whole",
+       "Formats", only="profile")
+def a_body_is_read_as_json(it):
+    site = it.site()
+    good = json.dumps(it.intent_body(it.volume(site)))
+    low = '"altitude_lower": 0'
+    assert low in good
+    taken = [good[:-1] + ', "other": {"x": [1.5e3, null]}, "key": null}', good.replace('"key": []', '"key": null, "subscription_id": null'),
+             good.replace('"state": "Accepted"', '"state": "Ended", "state": "Accepted"')]
+    refused = [good.replace(low, f'"altitude_lower": {text}') for text in ("0.0", "-0", "0e0", '"0"', "null")]
+    refused += [good[:-1] + f', "x": {text}}}' for text in ("1e999", '"\\ud800"', "[" * 127 + "]" * 127)] + [good + "x"]
+    for body in refused:
+        it.a.put(INTENTS, it.id(), body).must(400, "P5 FORM")
+    for body in taken:
+        id_ = it.id()
+        told = it.a.put(INTENTS, id_, body).must(201).reference
+        it.a.delete(INTENTS, id_, told["ovn"]).must(200)
+
+
+@check("Limits hold on both their sides: cells, volumes, entries of a key, addresses, altitudes, times", "Formats", only="profile")
+def limits_hold(it):
+    cells = [it.site()]
+    wide = it.volume(*cells)
+    extreme = {**wide, "altitude_lower": -100_000, "altitude_upper": 1_000_000, "time_start": 0, "time_end": 253_402_300_799}
+    body = it.intent_body(wide)
+    rows = [
+        (body | {"extents": [extreme]}, 201), (body | {"extents": [{**wide, "altitude_lower": -100_001}]}, 400),
+        (body | {"extents": [{**wide, "altitude_upper": 1_000_001}]}, 400), (body | {"extents": [{**wide, "time_start": -1}]}, 400),
+        (body | {"extents": [{**wide, "time_end": 253_402_300_800}]}, 400), (body | {"extents": [{**wide, "cells": cells * 512}]}, 201),
+        (body | {"extents": [{**wide, "cells": cells * 513}]}, 400), (body | {"extents": [{**wide, "cells": []}]}, 400),
+        (body | {"extents": [{**wide, "cells": ["f" * 16]}]}, 400), (body | {"extents": [{**wide, "cells": ["g"]}]}, 400),
+        (body | {"extents": [wide] * 32}, 201), (body | {"extents": [wide] * 33}, 400), (body | {"key": [VERSION] * 4096}, 201),
+        (body | {"key": [VERSION] * 4097}, 400), (body | {"key": ["x" * 15]}, 400), (body | {"key": ["x" * 129]}, 400),
+        (body | {"uss_base_url": "h" * 255}, 201), (body | {"uss_base_url": "h" * 256}, 400), (body | {"uss_base_url": "h h"}, 400)]
+    for value, status in rows:
+        id_ = it.id()
+        answer = it.a.put(INTENTS, id_, value).must(status, "P5 FORM" if status == 400 else None)
+        if status == 201:
+            it.a.delete(INTENTS, id_, answer.reference["ovn"]).must(200)

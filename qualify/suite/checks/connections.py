@@ -1,0 +1,70 @@
+"""Paths, methods and connections, as the profile has them: what a proxy in front of the service may answer by rules of its own."""
+from suite.check import check
+from suite.trial import AVAILABILITY, CONSTRAINTS, INTENTS, SUBSCRIPTIONS
+
+VERSION = "0123456789abcdef0123456789abcdef"
+
+
+def raw(it, supplier, *head, body=b""):
+    return it.taken(supplier, it.client.raw(supplier.caller, head, body))
+
+
+@check("A path that is none is 404, with a token or without", "P1 ROUTE", only="profile")
+def a_path_that_is_none(it):
+    id_ = it.id()
+    for path in ("/dss/v1/reports", INTENTS, f"{INTENTS}/", f"{INTENTS}/{id_}/", f"{INTENTS}/{id_}/{VERSION}/x",
+                 f"{INTENTS}/query/{VERSION}", f"{AVAILABILITY}/uss-a/{VERSION}", f"/dss/v1/%73ubscriptions/{id_}",
+                 f"/DSS/v1/subscriptions/{id_}", "/"):
+        for supplier in (it.a, it.nobody):
+            supplier.ask("GET", path).must(404, "P1 ROUTE")
+    it.a.ask("GET", f"{INTENTS}/{id_}?x=%2f").must(404, "P7 FOUND")
+
+
+@check("A method that a path does not take is 405, and those that it takes are told", "P2 METHOD", only="profile")
+def a_method_that_is_not_taken(it):
+    id_ = it.id()
+    for method, path, allowed in (
+            ("GET", f"{INTENTS}/query", "POST"), ("DELETE", f"{INTENTS}/{id_}", "GET, PUT"),
+            ("GET", f"{CONSTRAINTS}/{id_}/{VERSION}", "PUT, DELETE"), ("POST", f"{AVAILABILITY}/uss-a", "GET, PUT"),
+            ("PATCH", f"{SUBSCRIPTIONS}/{id_}", "GET, PUT"), ("put", f"{SUBSCRIPTIONS}/{id_}", "GET, PUT")):
+        answer = it.nobody.ask(method, path).must(405, "P2 METHOD")
+        answer.need(answer.exchange.fields.get("allow") == allowed, f"Allow: {allowed}")
+
+
+@check("What is no request of HTTP is refused by the rule that it breaks, and the connection closes",
+       "H1 HEAD, H2 HEADSIZE, H3 TRANSFER, H4 LENGTH, H5 BODYSIZE", only="profile")
+def what_is_no_request(it):
+    line = f"GET {AVAILABILITY}/uss-a HTTP/1.1"
+    put = f"PUT {INTENTS}/{it.id()} HTTP/1.1"
+    many = [f"X-{k}: 1" for k in range(70)]
+    for head, status, message in (
+            ([line.replace(" ", "  ", 1)], 400, "H1 HEAD"), ([line.replace("1.1", "2.0")], 400, "H1 HEAD"),
+            ([line, "X y: 1"], 400, "H1 HEAD"),
+            ([line, *many], 431, "H2 HEADSIZE"), ([line, "X: " + "x" * 9000], 431, "H2 HEADSIZE"),
+            ([put, "Transfer-Encoding: chunked"], 501, "H3 TRANSFER"),
+            ([put, "Content-Length: 1", "Content-Length: 1"], 400, "H4 LENGTH"), ([put, "Content-Length: +1"], 400, "H4 LENGTH"),
+            ([put, "Content-Length: 1048577"], 413, "H5 BODYSIZE")):
+        answer = raw(it, it.a, *head).must(status, message)
+        answer.need(answer.exchange.fields.get("connection") == "close", "Connection: close")
+
+
+@check("A connection takes a hundred requests, closes after the hundredth, and after one that asks for it", "Formats", only="profile")
+def a_connection_takes_a_hundred(it):
+    uss = it.a.uss
+    last = it.a.ask("GET", f"{AVAILABILITY}/{uss}", fields={"Connection": "close"}).must(200)
+    last.need(last.exchange.fields.get("connection") == "close", "Connection: close, as was asked")
+    older = raw(it, it.a, f"GET {AVAILABILITY}/{uss} HTTP/1.0").must(200)
+    older.need(older.exchange.fields.get("connection") == "close", "Connection: close after HTTP/1.0")
+    for exchange in it.client.many(it.a.caller, "GET", f"{AVAILABILITY}/{uss}", 100):
+        answer = it.taken(it.a, exchange).must(200)
+        wanted = "close" if exchange.number == 100 else None
+        said = "Connection: close" if wanted else "no field Connection"
+        answer.need(exchange.fields.get("connection") == wanted, f"{said} in answer {exchange.number} of the connection")
+
+
+@check("The word Bearer may have any case, and two fields Authorization are none", "P3 TOKEN", only="profile")
+def a_token_is_one_field(it):
+    path, field = f"{AVAILABILITY}/{it.a.uss}", f"{it.a.caller.token}"
+    for value, status in ((f"bEaReR   {field}", 200), (f"Basic {field}", 401), (field, 401), (f"Bearer {field} {field}", 401)):
+        raw(it, it.nobody, f"GET {path} HTTP/1.1", f"authorization: {value}").must(status, "P3 TOKEN" if status == 401 else None)
+    raw(it, it.a, f"GET {path} HTTP/1.1", f"Authorization: Bearer {field}").must(401, "P3 TOKEN")

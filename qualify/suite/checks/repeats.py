@@ -1,0 +1,119 @@
+"""Answers that were lost, requests that are sent again, and two suppliers at once."""
+from suite.check import AVAILABILITY as SETTINGS, INTENT, SUBSCRIPTION, check
+from suite.trial import AVAILABILITY, INTENTS, SUBSCRIPTIONS
+
+
+def sent_twice(it, supplier, method, path, body=None):
+    """The answer to a request that was sent before, and whose answer was lost."""
+    if method == "PUT":
+        it.may_be_kept(supplier, path)
+    lost = it.client.lose(supplier.caller, method, path, body)
+    it.exchanges.append(lost)
+    return supplier.ask(method, path, body)
+
+
+@check("A creation whose answer was lost is done once: sent again it is 409, and the reference is one's own",
+       "P8 FRESH", [INTENT["create"], INTENT["get"]])
+def a_lost_creation_is_done_once(it):
+    id_, site = it.id(), it.site()
+    sent_twice(it, it.a, "PUT", f"{INTENTS}/{id_}", it.intent_body(it.volume(site))).must(409, "P8 FRESH")
+    read = it.a.get(INTENTS, id_).must(200)
+    read.need("ovn" in read.reference, "the OVN, as it is one's own")
+    read.need(it.dialect.is_standard or read.reference["version"] == 1, "version 1")
+    it.a.delete(INTENTS, id_, read.reference["ovn"]).must(200)
+
+
+@check("An update whose answer was lost is done once: sent again it is 409, and its OVN is read",
+       "P10 VERSION", [INTENT["update"], INTENT["get"]])
+def a_lost_update_is_done_once(it):
+    id_, site = it.id(), it.site()
+    first = it.a.intent(id_, it.volume(site)).must(201).reference
+    body = it.intent_body(it.volume(site), state="Activated")
+    sent_twice(it, it.a, "PUT", f"{INTENTS}/{id_}/{first['ovn']}", body).must(409, "P10 VERSION")
+    read = it.a.get(INTENTS, id_).must(200)
+    read.need(read.reference["state"] == "Activated" and read.reference["ovn"] != first["ovn"], "what the update made")
+    read.need(it.dialect.is_standard or read.reference["version"] == 2, "version 2")
+
+
+@check("A deletion whose answer was lost is done: sent again it is 404", "P7 FOUND", [INTENT["delete"]])
+def a_lost_deletion_is_done(it):
+    id_ = it.id()
+    ovn = it.a.intent(id_, it.volume(it.site())).must(201).reference["ovn"]
+    sent_twice(it, it.a, "DELETE", f"{INTENTS}/{id_}/{ovn}").must(404, "P7 FOUND")
+
+
+@check("A subscription whose answer was lost is there once, and tells",
+       "P8 FRESH, P10 VERSION", [SUBSCRIPTION["create"], SUBSCRIPTION["update"]])
+def a_lost_subscription_is_there_once(it):
+    id_, site = it.id(), it.site()
+    path = f"{SUBSCRIPTIONS}/{id_}"
+    body = it.subscription_body(it.volume(site))
+    sent_twice(it, it.a, "PUT", path, body).must(409, "P8 FRESH")
+    told = it.a.get(SUBSCRIPTIONS, id_).must(200).reference
+    sent_twice(it, it.a, "PUT", f"{path}/{told['version']}", body).must(409, "P10 VERSION")
+    answer = it.b.intent(it.id(), it.volume(site)).must(201)
+    answer.need(answer.indexes.get(id_) == 1, "the subscription, once, with index 1")
+
+
+@check("A setting whose answer was lost is done once: sent again it is 409, and what it set is read",
+       "P10 VERSION", [SETTINGS["set"], SETTINGS["get"]])
+def a_lost_setting_is_done_once(it):
+    uss = it.b.uss
+    old = it.arbiter.availability(uss).must(200)
+    was = old.value["status"]["availability"]
+    new = "Down" if was != "Down" else "Normal"
+    it.settings.setdefault(uss, it.seen.get(uss))
+    body = {"availability": new, "old_version": old.value["version"]}
+    sent_twice(it, it.arbiter, "PUT", f"{AVAILABILITY}/{uss}", body).must(409, "P10 VERSION")
+    read = it.arbiter.availability(uss).must(200)
+    read.need(read.value["status"]["availability"] == new, f"{uss} is {new}")
+
+
+def at_once(it, *asked):
+    """The answers to requests that are sent at once."""
+    for supplier, method, path, _ in asked:
+        if method == "PUT":
+            it.may_be_kept(supplier, path)
+    exchanges = it.client.at_once([(supplier.caller, *words) for supplier, *words in asked])
+    return [it.taken(supplier, exchange) for (supplier, *_), exchange in zip(asked, exchanges)]
+
+
+@check("Of two suppliers that put what meets at once, one is kept, and the other is told of it", "P14 KEY", [INTENT["create"]])
+def one_of_two_is_kept(it):
+    for _ in range(4):
+        site, ids = it.site(), (it.id(), it.id())
+        asked = [(supplier, "PUT", f"{INTENTS}/{id_}", it.intent_body(it.volume(site))) for supplier, id_ in zip((it.a, it.b), ids)]
+        answers = at_once(it, *asked)
+        won = [k for k, answer in enumerate(answers) if answer.status == 201]
+        answers[-1].need(len(won) == 1, "one 201 of the two")
+        denied = answers[1 - won[0]].must(409, "P14 KEY")
+        denied.need([entity["id"] for entity in denied.missing()] == [ids[won[0]]], "the other's intent is missing")
+        found = it.a.query(INTENTS, site).must(200)
+        found.need(found.ids == [ids[won[0]]], "the one that is kept")
+
+
+@check("Of two updates over one OVN that are sent at once, one is done", "P10 VERSION", [INTENT["update"]])
+def one_of_two_updates_is_done(it):
+    id_, site = it.id(), it.site()
+    first = it.a.intent(id_, it.volume(site)).must(201).reference
+    path = f"{INTENTS}/{id_}/{first['ovn']}"
+    asked = [(it.a, "PUT", path, it.intent_body(it.volume(site), state=state)) for state in ("Accepted", "Activated")]
+    answers = at_once(it, *asked)
+    won = [k for k, answer in enumerate(answers) if answer.status == 200]
+    answers[-1].need(len(won) == 1, "one 200 of the two")
+    answers[1 - won[0]].must(409, "P10 VERSION")
+    read = it.a.get(INTENTS, id_).must(200)
+    read.need(read.reference["state"] == ("Accepted", "Activated")[won[0]], "what the one that was done made")
+
+
+@check("Changes that are sent at once each tell a subscription by an index of its own, none twice and none left out",
+       "Effects", [INTENT["create"]])
+def indexes_of_changes_at_once_differ(it):
+    id_, site = it.id(), it.site()
+    it.a.subscription(id_, it.volume(site, low=0, high=1000)).must(200)
+    bodies = [it.intent_body(it.volume(site, low=150 * k, high=150 * k + 100)) for k in range(4)]
+    asked = [((it.a, it.b)[k % 2], "PUT", f"{INTENTS}/{it.id()}", body) for k, body in enumerate(bodies)]
+    answers = [answer.must(201) for answer in at_once(it, *asked)]
+    answers[-1].need(sorted(answer.indexes.get(id_, 0) for answer in answers) == [1, 2, 3, 4], "the indexes 1 to 4, each once")
+    read = it.a.get(SUBSCRIPTIONS, id_).must(200)
+    read.need(read.reference["notification_index"] == 4, "index 4")

@@ -1,0 +1,108 @@
+"""The command line of the suite."""
+import argparse
+import pathlib
+import secrets
+import shlex
+import signal
+import sys
+import time
+
+from suite import report
+from suite.callers import Lacking, mint_tokens, read_tokens
+from suite.check import CHECKS
+from suite.dialect import Profile, Standard
+from suite.run import NoPlace, Run, chosen
+
+EPILOG = """
+It puts intents, constraints and subscriptions of its own far out in the South Pacific, in a place that it first finds empty, and deletes
+them; it sets the availability of one of its suppliers, and sets it back. Of a service of the standard it needs tokens of two suppliers at
+least. Exit status: 0 where all held, 1 where something did not, 2 where it could not begin.
+"""
+
+
+def arguments(words):
+    parser = argparse.ArgumentParser(
+        "qualify/run", description="Holds a discovery and synchronization service to the rules of this interface, or of the standard's.",
+        epilog=EPILOG)
+    parser.add_argument("--url", help="the service, up to where /dss/v1 begins: http://127.0.0.1:8080")
+    parser.add_argument("--tokens", metavar="FILE", help="the tokens of its suppliers, in the form of the service's own token file")
+    parser.add_argument("--standard", action="store_true", help="hold it to the DSS interface of ASTM F3548-21 in place of the profile")
+    parser.add_argument("--mint", metavar="COMMAND", help="prints a token; two words are added to it, a supplier and its scopes")
+    parser.add_argument("--suppliers", default="uss-a,uss-b,uss-c,uss-v", help="for whom tokens are minted: two that meet, one that "
+                        "manages constraints, one that sets availabilities (default: %(default)s)")
+    parser.add_argument("--behind-proxy", action="store_true", help="leave out paths, methods and connections, where what stands before the "
+                        "service has rules of its own")
+    parser.add_argument("--seed", help="chooses the place and all that is drawn (default: another each time)")
+    parser.add_argument("--rate", type=float, default=50, metavar="N", help="never more requests a second (default: %(default)s)")
+    parser.add_argument("--requests", type=int, default=4000, metavar="N", help="never more requests (default: %(default)s)")
+    parser.add_argument("--seconds", type=float, default=600, metavar="N", help="begin nothing after so many (default: %(default)s)")
+    parser.add_argument("--ca", metavar="FILE", help="certificates that sign the service's, where the machine does not know them")
+    parser.add_argument("--result", default="qualify-result", metavar="FOLDER",
+                        help="where result.html and result.xml go (default: %(default)s)")
+    parser.add_argument("--list", action="store_true", help="list the checks, and ask nothing")
+    parser.add_argument("names", nargs="*", metavar="CHECK", help="checks or groups of them, in place of all")
+    given = parser.parse_args(words)
+    if given.list:
+        return given
+    if not given.url or not (given.mint if given.standard else given.tokens):
+        parser.error("--url and " + ("--mint are" if given.standard else "--tokens are") + " needed")
+    if given.rate <= 0 or given.requests < 1 or given.seconds <= 0:
+        parser.error("--rate, --requests and --seconds are above 0")
+    unknown = [it for it in given.names if not any(it in (check.name, check.group) for check in CHECKS)]
+    if unknown:
+        parser.error(f"no check is named {' '.join(unknown)}: --list names them")
+    return given
+
+
+def callers_of(given):
+    if given.standard:
+        suppliers = [it for it in given.suppliers.split(",") if it]
+        if len(set(suppliers)) < 2:
+            raise Lacking("--suppliers must name two suppliers at least")
+        return mint_tokens(shlex.split(given.mint), suppliers)
+    return read_tokens(given.tokens)
+
+
+def main(words):
+    given = arguments(words)
+    dialect = (Standard if given.standard else Profile)(int(time.time()))
+    checks = [it for it in chosen(dialect, given.names) if not (given.behind_proxy and it.group == "connections")]
+    if given.list:
+        for check in checks:
+            print(f"{check.group} {check.name}: {check.sentence}. ({report.sources(check, given.standard)})")
+        return 0
+    # told to end, it cleans up as it does after an interrupt
+    signal.signal(signal.SIGTERM, signal.default_int_handler)
+    try:
+        bounds = given.rate, given.requests, given.seconds
+        run = Run(given.url, callers_of(given), dialect, given.seed or secrets.token_hex(4), *bounds, given.ca)
+        run.settle()
+    except (Lacking, NoPlace, ValueError, OSError) as fault:
+        print(f"qualify: {fault}", file=sys.stderr)
+        return 2
+    except KeyboardInterrupt:
+        print("qualify: interrupted before anything was put", file=sys.stderr)
+        return 2
+    results = []
+    for result in run.results(checks):
+        results.append(result)
+        if result.why is not None:
+            print(f"qualify: BROKEN {result.check.name}: {result.check.sentence}. Expected: {result.why} "
+                  f"({report.sources(result.check, given.standard)})", flush=True)
+    return told(given, run, results)
+
+
+def told(given, run, results):
+    """Writes what was found, and says whether all held."""
+    folder = pathlib.Path(given.result)
+    try:
+        folder.mkdir(parents=True, exist_ok=True)
+        (folder / "result.html").write_text(report.page(run, results), encoding="utf-8", errors="replace")
+        (folder / "result.xml").write_bytes(report.junit(run, results))
+    except OSError as fault:
+        print(f"qualify: {fault}", file=sys.stderr)
+        return 2
+    broken = sum(it.why is not None for it in results)
+    print(f"qualify: seed {run.seed}, {run.pace.sent} requests, {folder}/result.html, {folder}/result.xml")
+    print(f"{len(results) - broken} held, {broken} broken")
+    return 1 if broken or not results else 0

@@ -1,0 +1,121 @@
+"""What a run found, as a page that stands alone and as JUnit XML."""
+import html
+import json
+import time
+import xml.etree.ElementTree as tree
+
+from suite.check import CHECKS
+
+GROUPS = {
+    "intents": "Operational intents", "keys": "Keys", "constraints": "Constraints", "subscriptions": "Subscriptions",
+    "availability": "Availability", "callers": "Who may what", "repeats": "Lost answers, and two at once",
+    "bodies": "Bodies and limits", "connections": "Paths, methods and connections"}
+MOST_SHOWN = 800
+
+STYLE = """
+:root { color-scheme: light dark; --line: #8886; --held: #1a7f37; --broken: #c62828; --soft: #8882; }
+body { font: 15px/1.45 system-ui, sans-serif; margin: 0 auto; max-width: 74rem; padding: 1rem; }
+h1 { font-size: 1.5rem; } h2 { font-size: 1.15rem; margin: 1.6rem 0 .4rem; }
+table { border-collapse: collapse; width: 100%; table-layout: fixed; }
+th, td { border-top: 1px solid var(--line); padding: .3rem .5rem; text-align: left; vertical-align: top; overflow-wrap: anywhere; }
+td, code, pre { font: 12.5px/1.4 ui-monospace, monospace; } th { font-weight: 600; }
+pre { margin: .2rem 0 0; white-space: pre-wrap; } .rule { opacity: .75; font-size: 13px; display: block; margin-left: 5.9em; }
+details { border-top: 1px solid var(--line); padding: .35rem 0; } summary { cursor: pointer; }
+.mark { display: inline-block; min-width: 5.2em; font-weight: 600; } .held { color: var(--held); } .broken { color: var(--broken); }
+.why { background: var(--soft); padding: .4rem .6rem; margin: .4rem 0; } .scroll { overflow-x: auto; }
+"""
+
+
+def cut(text):
+    return text if len(text) <= MOST_SHOWN else f"{text[:MOST_SHOWN]} .. ({len(text)} characters)"
+
+
+def shown(body):
+    text = body if isinstance(body, str) else "" if body is None else json.dumps(body)
+    return cut(text)
+
+
+def mark(holds):
+    return f'<span class="mark {"held" if holds else "broken"}">{"held" if holds else "BROKEN"}</span>'
+
+
+def sources(check, is_standard):
+    """The rules or the operations that a check holds to."""
+    rules = f"docs/POLICY.md: {', '.join(check.rules)}" if any(check.rules) else ""
+    operations = f"ASTM F3548-21: {', '.join(check.operations)}" if check.operations else ""
+    return "; ".join(it for it in ((operations, rules) if is_standard else (rules, operations)) if it)
+
+
+def row(exchange):
+    came = exchange.text if exchange.status is None else f"{exchange.status} {exchange.text}"
+    asked = f"{exchange.who}: {exchange.method} {exchange.path}"
+    expected = "".join(f"<div>{mark(holds)}{html.escape(what)}</div>" for what, holds in exchange.expected)
+    body = html.escape(shown(exchange.body))
+    return (f"<tr><td>{html.escape(cut(asked))}{f'<pre>{body}</pre>' if body else ''}</td>"
+            f"<td>{html.escape(cut(came))}</td><td>{expected}</td></tr>")
+
+
+def block(result, is_standard):
+    holds = result.why is None
+    why = "" if holds else f'<p class="why">Expected and not so: {html.escape(result.why)}</p>'
+    left = f'<p class="why">Left behind: {html.escape(", ".join(result.left))}</p>' if result.left else ""
+    rows = "".join(map(row, result.exchanges))
+    return (f'<details{"" if holds else " open"} id="{result.check.name}"><summary>{mark(holds)}{html.escape(result.check.sentence)}.'
+            f'<span class="rule">{html.escape(sources(result.check, is_standard))}</span></summary>{why}{left}'
+            f'<div class="scroll"><table><tr><th>asked</th><th>came</th><th>expected</th></tr>{rows}</table></div></details>')
+
+
+def page(run, results):
+    """The page as a text."""
+    is_standard = run.dialect.is_standard
+    broken = sum(it.why is not None for it in results)
+    what = "the DSS interface of ASTM F3548-21, as far as this suite looks" if is_standard else "the profile of dss, docs/POLICY.md"
+    when = time.strftime("%Y-%m-%d %H:%M:%S UTC", time.gmtime(run.began))
+    parts = [
+        f"<p>{html.escape(run.url)} was held to {what}, on {when}, with the seed {html.escape(str(run.seed))}: "
+        f"{len(results) - broken} checks held, {broken} broken; {run.pace.sent} requests. Each check has, below its sentence, the rules "
+        "and operations that it holds to, and inside what was asked, what came and what was expected. Of each answer it is expected, too, "
+        "that there is one, that it has its form and shows no OVN of another supplier, and that no OVN is given twice; that is told only "
+        "where it is not so. Requests that clean up are not shown.</p>"]
+    left_out = sum(it.only in (None, run.dialect.name) for it in CHECKS) - len(results)
+    parts += [f"<p>{left_out} checks were left out, as was asked.</p>"] if left_out else []
+    links = "".join(f'<li><a href="#{it.check.name}">{html.escape(it.check.sentence)}</a></li>' for it in results if it.why is not None)
+    parts += [f"<h2>Broken</h2><ul>{links}</ul>"] if links else []
+    for group, title in GROUPS.items():
+        of_group = [it for it in results if it.check.group == group]
+        if of_group:
+            parts += [f"<h2>{title}</h2>", *(block(it, is_standard) for it in of_group)]
+    verdict = "All held" if not broken else f"{broken} broken"
+    return ('<!DOCTYPE html>\n<html lang="en"><head><meta charset="utf-8">'
+            '<meta name="viewport" content="width=device-width, initial-scale=1">'
+            f"<title>{verdict}: {html.escape(run.url)}</title><style>{STYLE}</style></head>"
+            f"<body><h1>{verdict}: {html.escape(run.url)}</h1>{''.join(parts)}</body></html>\n")
+
+
+def plain(text):
+    """The text without what XML does not take."""
+    return "".join(it if it in "\t\n" or " " <= it <= "\ud7ff" or "\ue000" <= it <= "\ufffd" or it > "\uffff" else "?" for it in text)
+
+
+def junit(run, results):
+    """JUnit XML as bytes."""
+    broken = sum(it.why is not None for it in results)
+    suite = tree.Element("testsuite", {
+        "name": f"qualify {run.dialect.name}", "tests": str(len(results)), "failures": str(broken), "errors": "0", "skipped": "0",
+        "time": f"{sum(it.seconds for it in results):.3f}", "hostname": plain(run.url),
+        "timestamp": time.strftime("%Y-%m-%dT%H:%M:%S", time.gmtime(run.began))})
+    for it in results:
+        named = {"classname": f"qualify.{it.check.group}", "name": it.check.name}
+        case = tree.SubElement(suite, "testcase", {**named, "time": f"{it.seconds:.3f}"})
+        last = next((exchange for exchange in reversed(it.exchanges) if any(not holds for _, holds in exchange.expected)), None)
+        lines = [f"{it.check.sentence}.", sources(it.check, run.dialect.is_standard)]
+        if it.why is not None:
+            if last:
+                lines += [f"asked: {last.who}: {last.method} {last.path} {shown(last.body)}", f"came: {last.status} {cut(last.text)}"]
+            failure = tree.SubElement(case, "failure", {"message": plain(f"expected: {it.why}")})
+            failure.text = plain("\n".join([*lines, f"expected: {it.why}"]))
+        else:
+            tree.SubElement(case, "system-out").text = plain("\n".join(lines))
+    root = tree.Element("testsuites")
+    root.append(suite)
+    return tree.tostring(root, encoding="utf-8", xml_declaration=True)

@@ -1,0 +1,111 @@
+"""A run of the checks over a service: the place that it is at, what came of each check, and that it leaves nothing behind."""
+import dataclasses
+import random
+import time
+import traceback
+
+from suite import checks
+from suite.check import CHECKS
+from suite.trial import CONSTRAINTS, INTENTS, SUBSCRIPTIONS, Broken, Knowledge, Trial
+from suite.wire import Client, OutOfBounds, Pace
+
+# how many places are tried before the run gives up
+MOST_HOMES = 20
+
+
+class NoPlace(Exception):
+    """There is no empty place, or the service does not say so."""
+
+
+@dataclasses.dataclass
+class Result:
+    check: object
+    exchanges: list
+    # what does not hold, in words, or None
+    why: str
+    left: list
+    seconds: float
+
+
+def chosen(dialect, names=()):
+    """The checks of a dialect, or those named, in their order."""
+    groups = [it.__name__.rpartition(".")[2] for it in checks.GROUPS]
+    fitting = [it for it in CHECKS if it.only in (None, dialect.name) and (not names or it.name in names or it.group in names)]
+    return sorted(fitting, key=lambda it: groups.index(it.group))
+
+
+class Run:
+    """One run, by a seed."""
+
+    def __init__(self, url, callers, dialect, seed, rate=50, most_requests=4000, most_seconds=600, ca=None):
+        self.pace = Pace(rate, most_requests, most_seconds)
+        self.client = Client(url, self.pace, ca)
+        self.url, self.callers, self.dialect, self.seed = url, callers, dialect, seed
+        self.knowledge, self.draw = Knowledge(), random.Random(f"run {seed}")
+        self.home, self.places, self.used = None, [], 0
+        self.began = time.time()
+
+    def site(self):
+        """A place that was not given yet in this check."""
+        self.used += 1
+        return self.places[(self.used - 1) % len(self.places)]
+
+    def settle(self):
+        """Finds a place where nothing is."""
+        homes, trial = self.dialect.homes(self.seed), Trial(self)
+        # the forms of answers are for the checks
+        trial.is_watched = False
+        for _ in range(MOST_HOMES):
+            home = next(homes)
+            area = self.dialect.everywhere(home)
+            asked = [(trial.a, INTENTS), (trial.b_processing, CONSTRAINTS), (trial.a, SUBSCRIPTIONS), (trial.b, SUBSCRIPTIONS)]
+            try:
+                answers = [supplier.query(kind, area=area).must(200) for supplier, kind in asked]
+                is_empty = all(answer.ids == [] for answer in answers)
+            except (Broken, OutOfBounds, TypeError, KeyError) as fault:
+                last = trial.exchanges[-1] if trial.exchanges else None
+                came = f": {last.method} {last.path} was answered {last.status} {' '.join(last.text.split())[:300]}" if last else ""
+                raise NoPlace(f"{fault} was expected of a query of its place{came}") from fault
+            if is_empty:
+                self.home, self.places = home, self.dialect.sites(home, self.seed)
+                return
+        raise NoPlace(f"none of {MOST_HOMES} places by the seed {self.seed} is empty: take another seed")
+
+    def results(self, chosen):
+        """What comes of each check, as it comes."""
+        for check in chosen:
+            began, trial = time.monotonic(), Trial(self)
+            is_interrupted, why = False, None
+            try:
+                why = broken_in(check, trial)
+            except KeyboardInterrupt:
+                is_interrupted, why = True, "interrupted"
+            left = trial.clean()
+            if left and not why:
+                why = f"left behind, as it could not be deleted: {', '.join(left)}"
+            self.hide_tokens(trial.exchanges)
+            yield Result(check, trial.exchanges, why, left, time.monotonic() - began)
+            if is_interrupted:
+                break
+        self.client.close()
+
+    def hide_tokens(self, exchanges):
+        """Takes tokens out of what is shown."""
+        for text in sorted({it.token for it in self.callers.values()}, key=len, reverse=True):
+            for it in exchanges:
+                it.text = it.text.replace(text, "(a token)")
+                if isinstance(it.body, str):
+                    it.body = it.body.replace(text, "(a token)")
+
+
+def broken_in(check, trial):
+    """What does not hold, in words, or None."""
+    try:
+        check.body(trial)
+    except (Broken, OutOfBounds) as fault:
+        return str(fault) or "it does not hold"
+    except Exception as fault:
+        # a body of another form than the one that was looked at
+        where = traceback.extract_tb(fault.__traceback__)[-1]
+        return f"an answer that can be read ({type(fault).__name__}: {fault}, {where.name})"
+    return None

@@ -1,0 +1,272 @@
+"""What a check has in hand: suppliers that ask, places of its own, and what it says must hold. It takes away what it has put."""
+import contextlib
+import json
+import uuid
+
+import suite.forms as forms
+from suite.dialect import URL
+from suite.wire import OutOfBounds
+
+FRONT = "/dss/v1/"
+INTENTS, CONSTRAINTS = f"{FRONT}operational_intent_references", f"{FRONT}constraint_references"
+SUBSCRIPTIONS, AVAILABILITY = f"{FRONT}subscriptions", f"{FRONT}uss_availability"
+REFERENCE = {INTENTS: "operational_intent_reference", CONSTRAINTS: "constraint_reference", SUBSCRIPTIONS: "subscription"}
+
+
+class Broken(Exception):
+    """Something that must hold does not."""
+
+
+class Knowledge:
+    """What the suite knows over a whole run: each OVN that a supplier was given, and whose name each supplier has."""
+
+    def __init__(self):
+        self.given, self.names = {}, {}
+
+
+class Answer:
+    """An exchange, and what is asked of it."""
+
+    def __init__(self, trial, exchange):
+        self.trial, self.exchange = trial, exchange
+        self.status, self.value = exchange.status, exchange.value
+
+    def must(self, status, message=None, standard=None):
+        """The status that must have come, and of the profile the message of a denial. The standard may leave a choice."""
+        is_standard = self.trial.dialect.is_standard
+        allowed = (standard or (status,)) if is_standard else (status,)
+        said = " or ".join(map(str, allowed)) + (f" {message}" if message and not is_standard else "")
+        holds = self.status in allowed
+        if holds and message and not is_standard:
+            holds = isinstance(self.value, dict) and self.value.get("message") == message
+        self.need(holds, said)
+        return self
+
+    def need(self, holds, what):
+        """Notes what is expected of the answer; where it does not hold, the check is broken."""
+        self.exchange.expected.append((what, bool(holds)))
+        if not holds:
+            raise Broken(what)
+        return self
+
+    def always(self, holds, what):
+        """The same of what is expected of each answer, which is told only where it does not hold."""
+        return self if holds else self.need(False, what)
+
+    def part(self, name):
+        self.need(isinstance(self.value, dict) and name in self.value, f"the answer has {name}")
+        return self.value[name]
+
+    @property
+    def reference(self):
+        """The reference or the subscription that the answer has."""
+        return self.part(next((it for it in REFERENCE.values() if it in (self.value or {})), "a reference"))
+
+    @property
+    def ids(self):
+        """The ids of what a query found."""
+        names = [it for it in (f"{name}s" for name in REFERENCE.values()) if it in (self.value or {})]
+        return [it["id"] for it in self.part(names[0] if names else "references")]
+
+    @property
+    def indexes(self):
+        """The new index of each subscription that is to be told."""
+        told = [it for by_url in self.part("subscribers") for it in by_url["subscriptions"]]
+        return {it["subscription_id"]: it["notification_index"] for it in told}
+
+    def missing(self, kind=INTENTS):
+        name = {INTENTS: "missing_operational_intents", CONSTRAINTS: "missing_constraints"}[kind]
+        return (self.value or {}).get(name) or []
+
+
+class Supplier:
+    """Who asks, with one token."""
+
+    def __init__(self, trial, caller):
+        self.trial, self.caller, self.uss = trial, caller, caller.uss if caller else None
+
+    def ask(self, method, path, body=None, fields=None):
+        trial = self.trial
+        if method == "PUT":
+            trial.may_be_kept(self, path)
+        return trial.taken(self, trial.client.ask(self.caller, method, path, body, fields))
+
+    def get(self, kind, id_):
+        return self.ask("GET", f"{kind}/{id_}")
+
+    def delete(self, kind, id_, version):
+        return self.ask("DELETE", f"{kind}/{id_}/{version}")
+
+    def query(self, kind, *places, area=None):
+        area = self.trial.dialect.area(places) if area is None else area
+        return self.ask("POST", f"{kind}/query", {"area_of_interest": area})
+
+    def put(self, kind, id_, body, over=None):
+        return self.ask("PUT", f"{kind}/{id_}" + (f"/{over}" if over else ""), body)
+
+    def intent(self, id_, *volumes, over=None, **more):
+        return self.put(INTENTS, id_, self.trial.intent_body(*volumes, **more), over)
+
+    def constraint(self, id_, *volumes, over=None, url="c"):
+        return self.put(CONSTRAINTS, id_, {"extents": list(volumes), "uss_base_url": URL.format(url)}, over)
+
+    def subscription(self, id_, volume, over=None, **more):
+        return self.put(SUBSCRIPTIONS, id_, self.trial.subscription_body(volume, **more), over)
+
+    def availability(self, uss):
+        answer = self.ask("GET", f"{AVAILABILITY}/{uss}")
+        if answer.status == 200 and isinstance(answer.value, dict):
+            self.trial.seen.setdefault(uss, (answer.value.get("status") or {}).get("availability"))
+        return answer
+
+    def set_availability(self, uss, availability, old):
+        self.trial.settings.setdefault(uss, self.trial.seen.get(uss))
+        return self.ask("PUT", f"{AVAILABILITY}/{uss}", {"availability": availability, "old_version": old})
+
+
+class Trial:
+    """One check as it runs."""
+
+    def __init__(self, run):
+        self.run, self.client, self.dialect, self.knowledge = run, run.client, run.dialect, run.knowledge
+        # what may be there to take away, and the availabilities that were set and what they were when first seen
+        self.exchanges, self.kept, self.settings, self.seen = [], {}, {}, {}
+        self.is_watched = True
+        self.suppliers = {name: Supplier(self, it) for name, it in run.callers.items()}
+        self.nobody = Supplier(self, None)
+        self.a, self.b, self.b_processing, self.a_monitoring, self.b_monitoring, self.manager, self.arbiter = (
+            self.suppliers[it] for it in ("A", "B", "B processing", "A monitoring", "B monitoring", "constraint manager", "arbiter"))
+
+    # ---- what is put
+
+    def id(self):
+        """A new id, by the seed of the run."""
+        return str(uuid.UUID(int=self.run.draw.getrandbits(128), version=4))
+
+    def site(self):
+        """A place where no other check puts anything."""
+        return self.run.site()
+
+    def volume(self, *places, **bounds):
+        return self.dialect.volume(places, **bounds)
+
+    def intent_body(self, *volumes, state="Accepted", key=(), subscription=None, url="a", **more):
+        body = {"extents": list(volumes), "key": list(key), "state": state, "uss_base_url": URL.format(url)}
+        if subscription:
+            body["subscription_id"] = subscription
+        elif self.dialect.needs_subscription(state):
+            body["new_subscription"] = {"uss_base_url": URL.format(url)}
+        return body | more
+
+    def subscription_body(self, volume, intents=True, constraints=False, url="a"):
+        return {
+            "extents": volume, "uss_base_url": URL.format(url), "notify_for_operational_intents": intents,
+            "notify_for_constraints": constraints}
+
+    # ---- what comes
+
+    def taken(self, supplier, exchange):
+        """The answer, after what holds of each."""
+        self.exchanges.append(exchange)
+        answer = Answer(self, exchange)
+        if self.is_watched:
+            answer.always(exchange.status is not None, "an answer")
+            self.has_form(answer)
+            self.hides_ovns(supplier, answer)
+        self.learn(supplier, answer)
+        return answer
+
+    def has_form(self, answer):
+        exchange = answer.exchange
+        kind, _, rest = exchange.path.removeprefix(FRONT).partition("/")
+        named = exchange.fields.get("content-type", "").partition(";")[0].strip()
+        answer.always(isinstance(exchange.value, dict) and named == "application/json", "a body of application/json")
+        if exchange.status < 300 and kind:
+            form = forms.forms_of(kind, rest, self.dialect)
+        else:
+            form = forms.denial(exchange.status == 409 and kind == "operational_intent_references")
+        why = form.fault(exchange.value, self.dialect)
+        answer.always(why is None, "the answer's form" + (f": {why}" if why else ""))
+        if not self.dialect.is_standard:
+            compact = json.dumps(exchange.value, separators=(",", ":"), sort_keys=True, ensure_ascii=False)
+            answer.always(compact == exchange.text, "compact JSON, members in the order of their names")
+
+    def hides_ovns(self, supplier, answer):
+        """No answer has an OVN that another supplier was given."""
+        text, uss = answer.exchange.text, supplier.uss
+        shown = [it for it, (owner, _) in self.knowledge.given.items() if owner != uss and it in text]
+        answer.always(not shown, "no OVN or version of another supplier")
+
+    def learn(self, supplier, answer):
+        """Keeps in mind which OVN or version a put gave, and that none is given twice."""
+        exchange = answer.exchange
+        if exchange.method != "PUT" or exchange.status not in (200, 201) or not isinstance(exchange.value, dict):
+            return
+        for name in REFERENCE.values():
+            given = exchange.value.get(name)
+            if isinstance(given, dict):
+                ovn = given.get("version" if name == "subscription" else "ovn")
+                if self.is_watched:
+                    answer.always(isinstance(ovn, str) and len(ovn) >= 1, "the new OVN or version")
+                    answer.always(ovn not in self.knowledge.given, "an OVN or version that was never given before")
+                if isinstance(ovn, str) and len(ovn) >= 16:
+                    self.knowledge.given[ovn] = supplier.uss, exchange.path
+
+    # ---- what is taken away
+
+    def may_be_kept(self, supplier, path):
+        kind = next((it for it in (INTENTS, CONSTRAINTS, SUBSCRIPTIONS) if path.startswith(f"{it}/")), None)
+        if kind:
+            id_ = path.removeprefix(f"{kind}/").partition("/")[0].lower()
+            self.kept.setdefault((kind, id_), set()).add(supplier.caller.name if supplier.caller else "A")
+            self.client.pace.reserve = 3 * len(self.kept) + 9
+
+    def clean(self):
+        """Deletes what the check has put, and sets availabilities back. What cannot be taken away is told."""
+        self.is_watched, self.client.is_cleaning, shown = False, True, len(self.exchanges)
+        # intents first, as they may name subscriptions
+        order = [INTENTS, CONSTRAINTS, SUBSCRIPTIONS]
+        left = dict.fromkeys(sorted(self.kept, key=lambda it: order.index(it[0])))
+        with contextlib.suppress(OutOfBounds):
+            for kind, id_ in list(left):
+                if self.take_away(kind, id_, self.kept[kind, id_]):
+                    del left[kind, id_]
+                elif self.exchanges[-1].status is None:
+                    break
+            for uss, before in self.settings.items():
+                self.put_back(uss, before)
+        self.client.is_cleaning, self.client.pace.reserve = False, 0
+        # requests that clean up are no part of what the check tells
+        del self.exchanges[shown:]
+        return [f"{kind.removeprefix(FRONT)}/{id_}" for kind, id_ in left]
+
+    def take_away(self, kind, id_, names):
+        """Whether a thing is gone."""
+        for _ in range(2):
+            for name in self.by_scope(kind, names):
+                supplier = self.suppliers[name]
+                found = supplier.get(kind, id_)
+                if found.status in (400, 404):
+                    return True
+                if found.status is None:
+                    return False
+                reference = (found.value or {}).get(REFERENCE[kind]) if isinstance(found.value, dict) else None
+                version = reference.get("version" if kind == SUBSCRIPTIONS else "ovn") if isinstance(reference, dict) else None
+                if found.status == 200 and version and supplier.delete(kind, id_, version).status == 200:
+                    return True
+        return False
+
+    def by_scope(self, kind, names):
+        """Who may delete it: whoever put it, by a token that may."""
+        may = {
+            INTENTS: ["A", "B", "A monitoring", "B monitoring"], CONSTRAINTS: ["constraint manager"],
+            SUBSCRIPTIONS: ["A", "B", "B processing"]}
+        return sorted(may[kind], key=lambda it: it not in names)
+
+    def put_back(self, uss, before):
+        now = self.arbiter.availability(uss)
+        if isinstance(now.value, dict) and now.status == 200:
+            version = now.value.get("version", "")
+            if now.value.get("status", {}).get("availability") != (before or "Unknown"):
+                self.arbiter.set_availability(uss, before or "Unknown", version)
+

@@ -1,0 +1,227 @@
+"""Requests to the service that is held to its rules, and what came: one connection at a time, never more requests a second, in
+all, or for longer than was allowed."""
+import contextlib
+import dataclasses
+import http.client
+import json
+import socket
+import ssl
+import threading
+import time
+import urllib.parse
+
+# The requests, the idle seconds and the seconds after which a connection is closed. The service closes one later, so that no request
+# is sent as it does.
+MOST_ON_ONE, MOST_IDLE, MOST_OPEN = 90, 1.0, 30.0
+PATIENCE = 30.0
+# seconds for cleaning up, beyond those that were allowed
+GRACE = 60.0
+
+
+class OutOfBounds(Exception):
+    """As many requests, or as much time, as was allowed."""
+
+
+@dataclasses.dataclass
+class Exchange:
+    """What was asked and by whom, what came, and what was expected of it."""
+
+    who: str
+    method: str
+    path: str
+    body: object = None
+    status: int = None
+    fields: dict = dataclasses.field(default_factory=dict)
+    text: str = ""
+    value: object = None
+    # sentences, each with whether it held
+    expected: list = dataclasses.field(default_factory=list)
+    # which request it was on its connection, where that matters
+    number: int = None
+
+    def take(self, status, fields, text):
+        self.status, self.text = status, text
+        self.fields = {name.lower(): it for name, it in fields}
+        with contextlib.suppress(ValueError):
+            self.value = json.loads(text) if text else None
+
+    def fail(self, why):
+        self.text = f"no answer: {why}"
+
+
+class Pace:
+    """When the next request may be sent, and whether one may be."""
+
+    def __init__(self, rate, most_requests, most_seconds):
+        self.step, self.left, self.until = 1 / rate, most_requests, time.monotonic() + most_seconds
+        self.next, self.lock, self.sent = 0.0, threading.Lock(), 0
+        # requests that are kept for what has to be cleaned up
+        self.reserve = 0
+
+    def wait(self, is_cleaning=False):
+        with self.lock:
+            reserve = 0 if is_cleaning else self.reserve
+            if self.left <= reserve:
+                raise OutOfBounds("no more requests are allowed")
+            if time.monotonic() > self.until + (GRACE if is_cleaning else 0):
+                raise OutOfBounds("no more time is allowed")
+            self.left, self.sent = self.left - 1, self.sent + 1
+            now = time.monotonic()
+            at = self.next = max(now, self.next + self.step)
+        time.sleep(max(0.0, at - now))
+
+    def hold(self, steps):
+        """Sends nothing for so many steps, after requests that were sent at once."""
+        with self.lock:
+            self.next = time.monotonic() + steps * self.step
+
+
+class Client:
+    """Asks a service. A connection is kept for what comes next, and closed before another is opened."""
+
+    def __init__(self, url, pace, ca=None):
+        parts = urllib.parse.urlsplit(url)
+        if parts.scheme not in ("http", "https") or not parts.hostname:
+            raise ValueError(f"{url} is no URL of HTTP")
+        self.is_tls, self.host, self.port = parts.scheme == "https", parts.hostname, parts.port
+        self.front = parts.path.rstrip("/")
+        self.context = ssl.create_default_context(cafile=ca) if self.is_tls else None
+        self.pace, self.is_cleaning = pace, False
+        self.kept, self.count, self.opened, self.used = None, 0, 0.0, 0.0
+
+    def open(self):
+        if self.is_tls:
+            return http.client.HTTPSConnection(self.host, self.port, timeout=PATIENCE, context=self.context)
+        return http.client.HTTPConnection(self.host, self.port, timeout=PATIENCE)
+
+    def close(self):
+        if self.kept:
+            self.kept.close()
+        self.kept = None
+
+    def connection(self):
+        """The connection that is kept, or a new one."""
+        now = time.monotonic()
+        is_old = self.count >= MOST_ON_ONE or now - self.used > MOST_IDLE or now - self.opened > MOST_OPEN
+        if self.kept and is_old:
+            self.close()
+        if not self.kept:
+            self.kept, self.count, self.opened = self.open(), 0, now
+        self.count, self.used = self.count + 1, now
+        return self.kept
+
+    def send(self, connection, caller, exchange, fields=None):
+        body = exchange.body
+        if body is not None and not isinstance(body, (str, bytes)):
+            body = json.dumps(body)
+        named = {"Authorization": f"Bearer {caller.token}"} if caller and caller.token else {}
+        if body is not None:
+            named["Content-Type"] = "application/json"
+        data = body.encode() if isinstance(body, str) else body
+        connection.request(exchange.method, self.front + exchange.path, data, named | (fields or {}))
+
+    def ask(self, caller, method, path, body=None, fields=None):
+        """The exchange of one request."""
+        self.pace.wait(self.is_cleaning)
+        exchange = Exchange(caller.name if caller else "nobody", method, path, body)
+        try:
+            connection = self.connection()
+            self.send(connection, caller, exchange, fields)
+            answer = connection.getresponse()
+            exchange.take(answer.status, answer.getheaders(), answer.read().decode("utf-8", "replace"))
+            if answer.will_close:
+                self.close()
+        except (OSError, http.client.HTTPException) as fault:
+            self.close()
+            exchange.fail(f"{type(fault).__name__}: {fault}")
+        except KeyboardInterrupt:
+            # the answer is still to come on it
+            self.close()
+            raise
+        return exchange
+
+    def lose(self, caller, method, path, body=None):
+        """Asks, waits until an answer begins to come, and goes without it."""
+        self.close()
+        self.pace.wait(self.is_cleaning)
+        exchange = Exchange(caller.name, method, path, body)
+        connection = self.open()
+        with contextlib.closing(connection):
+            try:
+                self.send(connection, caller, exchange, {"Connection": "close"})
+                connection.sock.recv(1)
+            except (OSError, http.client.HTTPException) as fault:
+                exchange.fail(f"{type(fault).__name__}: {fault}")
+                return exchange
+        exchange.text = "the answer was not read"
+        return exchange
+
+    def at_once(self, asked):
+        """The exchanges of requests that are sent at once, each (caller, method, path, body) on a connection of its own."""
+        self.close()
+        for _ in asked:
+            self.pace.wait(self.is_cleaning)
+        exchanges = [Exchange(caller.name, method, path, body) for caller, method, path, body in asked]
+        start = threading.Barrier(len(asked))
+
+        def one(caller, exchange):
+            with contextlib.closing(self.open()) as connection:
+                try:
+                    start.wait()
+                    self.send(connection, caller, exchange, {"Connection": "close"})
+                    answer = connection.getresponse()
+                    exchange.take(answer.status, answer.getheaders(), answer.read().decode("utf-8", "replace"))
+                except (OSError, http.client.HTTPException) as fault:
+                    exchange.fail(f"{type(fault).__name__}: {fault}")
+
+        threads = [threading.Thread(target=one, args=(it[0], exchange)) for it, exchange in zip(asked, exchanges)]
+        try:
+            for it in threads:
+                it.start()
+        finally:
+            # also where the run is interrupted, so that what was sent is done before it cleans up
+            for it in threads:
+                if it.ident:
+                    it.join()
+        self.pace.hold(len(asked) - 1)
+        return exchanges
+
+    def many(self, caller, method, path, count):
+        """The exchanges of so many requests on one new connection, up to the answer that closes it."""
+        self.close()
+        with contextlib.closing(self.open()) as connection:
+            for number in range(1, count + 1):
+                self.pace.wait(self.is_cleaning)
+                exchange = Exchange(caller.name, method, path, number=number)
+                try:
+                    self.send(connection, caller, exchange)
+                    answer = connection.getresponse()
+                    exchange.take(answer.status, answer.getheaders(), answer.read().decode("utf-8", "replace"))
+                    is_last = answer.will_close
+                except (OSError, http.client.HTTPException) as fault:
+                    exchange.fail(f"{type(fault).__name__}: {fault}")
+                    is_last = True
+                yield exchange
+                if is_last:
+                    return
+
+    def raw(self, caller, head, body=b""):
+        """The exchange of a head as it is written, line by line, and the bytes after it, on a connection of their own."""
+        self.close()
+        self.pace.wait(self.is_cleaning)
+        method, path, *_ = [*head[0].split(" "), ""]
+        exchange = Exchange(caller.name if caller else "nobody", method, path, "; ".join(it[:100] for it in head[1:]) or None)
+        named = [f"Authorization: Bearer {caller.token}"] if caller else []
+        first = head[0].replace("/dss/", f"{self.front}/dss/", 1)
+        data = "\r\n".join([first, f"Host: {self.host}", *named, *head[1:], "", ""]).encode() + body
+        try:
+            with socket.create_connection((self.host, self.port or (443 if self.is_tls else 80)), PATIENCE) as plain:
+                with self.context.wrap_socket(plain, server_hostname=self.host) if self.is_tls else plain as connection:
+                    connection.sendall(data)
+                    answer = http.client.HTTPResponse(connection, method=method)
+                    with contextlib.closing(answer):
+                        answer.begin()
+                        exchange.take(answer.status, answer.getheaders(), answer.read().decode("utf-8", "replace"))
+        except (OSError, http.client.HTTPException) as fault:
+            exchange.fail(f"{type(fault).__name__}: {fault}")
+        return exchange

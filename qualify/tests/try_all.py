@@ -1,0 +1,80 @@
+"""Runs all cases; the last line is 'N passed, N failed'.
+
+    try_all.py GATEWAY [CASE..]
+
+JOBS of them run side by side, as many as there are processors where it is not said."""
+import concurrent.futures
+import os
+import pathlib
+import sys
+import time
+import traceback
+
+sys.path.insert(1, str(pathlib.Path(__file__).resolve().parents[1]))
+
+import whole
+from faults import FAULTS
+from place import Before, Plain
+
+# how many faults are tried over one service
+AT_ONCE = 8
+
+
+def try_case(name, case, *given):
+    """The name, the seconds, and what went wrong or None."""
+    began = time.monotonic()
+    try:
+        case(*given)
+        fault = None
+    except Exception:
+        fault = traceback.format_exc(limit=-3)[-6000:]
+    return name, time.monotonic() - began, fault
+
+
+def is_named(place, name, checks):
+    """That each check that a fault has beside it is broken by it, and that the run says so."""
+    held, _ = place.over(FAULTS[name].plant, *checks, seed=name)
+    assert held.status == 1 and held.broken == set(checks), f"broken: {sorted(held.broken)}, and not all of {checks}\n{held}"
+    for check in checks:
+        assert f"BROKEN {check}:" in held.text and f'id="{check}"' in held.page, held
+
+
+def try_faults(dialect, gateway, names):
+    known = whole.suite_checks(*["--standard"] * (dialect == "standard"))
+    with Plain() if dialect == "profile" else Before(gateway) as place:
+        return [try_case(f"{dialect}: {name}", is_named, place, name, [it for it in FAULTS[name].checks if it in known]) for name in names]
+
+
+def jobs(gateway, wanted):
+    """What is done side by side: a function and its words each, which give results."""
+    for name, case in whole.CASES.items():
+        if not wanted or name in wanted:
+            yield try_one, name, gateway
+    for dialect in ("profile", "standard"):
+        names = [it for it, fault in FAULTS.items() if fault.only in (None, dialect) and (not wanted or it in wanted)]
+        for at in range(0, len(names), AT_ONCE):
+            yield try_faults, dialect, gateway, names[at : at + AT_ONCE]
+
+
+def try_one(name, gateway):
+    return [try_case(name, whole.CASES[name], gateway)]
+
+
+def main(gateway, *wanted):
+    unknown = [it for it in wanted if it not in whole.CASES and it not in FAULTS]
+    if unknown:
+        print(f"no case is named {' '.join(unknown)}\n0 passed, 1 failed")
+        return False
+    passed = failed = 0
+    with concurrent.futures.ProcessPoolExecutor(int(os.environ.get("JOBS") or os.cpu_count())) as pool:
+        asked = [pool.submit(*it) for it in jobs(gateway, wanted)]
+        for each in concurrent.futures.as_completed(asked):
+            for name, seconds, fault in each.result():
+                passed, failed = passed + (fault is None), failed + (fault is not None)
+                print(f"qualify: {'FAILED' if fault else 'passed'} {name} ({seconds:.1f} s)", *([fault] if fault else []), flush=True)
+    print(f"{passed} passed, {failed} failed")
+    return failed == 0 and passed > 0
+
+
+if __name__ == "__main__":
+    sys.exit(not main(*sys.argv[1:]))

@@ -1,0 +1,249 @@
+"""Cases of whole runs: all holds where nothing is wrong, nothing is left behind, and bounds are kept."""
+import html
+import re
+import signal
+import socket
+import ssl
+import subprocess
+import time
+
+from faults import FAULTS
+from place import TOP, Before, Plain, free_port
+from proxy import Proxy
+from suite import forms
+from suite.dialect import Standard
+
+AREA = "operational_intent_references/query"
+LEAST = {"profile": 75, "standard": 60}
+
+
+def suite_checks(*words):
+    """The names of the checks that the suite lists."""
+    done = subprocess.run([TOP / "qualify" / "run", "--list", *words], capture_output=True, text=True, check=True)
+    return [it.split(" ")[1].rstrip(":") for it in done.stdout.splitlines()]
+
+
+def all_holds(gateway):
+    """The service holds to the profile, by four seeds, and keeps nothing after."""
+    with Plain() as place:
+        for seed in "1234":
+            held = place.run(seed=seed)
+            held.must_hold(LEAST["profile"])
+            assert sorted(it.get("name") for it in held.cases) == sorted(suite_checks())
+        for uss in ("uss-a", "uss-b"):
+            assert place.ask("tok-a", "GET", f"uss_availability/{uss}")["status"]["availability"] == "Unknown"
+        assert place.left() == []
+
+
+def all_holds_to_the_standard(gateway):
+    """The gateway holds to what both promise, by two seeds, and the service before which it stands keeps nothing after."""
+    with Before(gateway) as place:
+        for seed in "12":
+            held = place.run(seed=seed)
+            held.must_hold(LEAST["standard"])
+            assert sorted(it.get("name") for it in held.cases) == sorted(suite_checks("--standard"))
+        assert place.left() == []
+
+
+def each_check_can_break(gateway):
+    """Of each check there is a fault that it must name."""
+    for dialect, words in (("profile", []), ("standard", ["--standard"])):
+        named = {check for fault in FAULTS.values() if fault.only in (None, dialect) for check in fault.checks}
+        assert set(suite_checks(*words)) <= named, set(suite_checks(*words)) - named
+
+
+def all_holds_through_the_proxy(gateway):
+    """What breaks a check is the fault, and not the proxy that plants it."""
+    with Plain() as place:
+        place.over(None)[0].must_hold(LEAST["profile"])
+    with Before(gateway) as place:
+        place.over(None)[0].must_hold(LEAST["standard"])
+
+
+def all_holds_over_tls(gateway):
+    """Over TLS all holds where the certificate is known, and nothing is asked where it is not."""
+    with Plain() as place:
+        key, certificate = place.folder / "tls.key", place.folder / "tls.crt"
+        subprocess.run(["openssl", "req", "-x509", "-newkey", "rsa:2048", "-nodes", "-days", "2", "-subj", "/CN=127.0.0.1", "-addext",
+                        "subjectAltName=IP:127.0.0.1", "-keyout", key, "-out", certificate], check=True, capture_output=True)
+        context = ssl.SSLContext(ssl.PROTOCOL_TLS_SERVER)
+        context.load_cert_chain(certificate, key)
+        proxy = Proxy(place.port, context=context)
+        # the last of words that are given twice counts
+        url = ["--url", f"https://127.0.0.1:{proxy.port}"]
+        place.run(*url, "--ca", certificate).must_hold(LEAST["profile"])
+        seen = len(proxy.times)
+        held = place.run(*url)
+        assert held.status == 2 and "CERTIFICATE_VERIFY_FAILED" in held.errors and len(proxy.times) == seen, held
+        proxy.end()
+
+
+def the_gateway_adds_no_member(gateway):
+    """The standard lets an answer have more than it names; the gateway's have not, whatever a run asks it."""
+    dialect, faults, asked_of = Standard(0), [], set()
+    dialect.is_open = False
+
+    def noted(world, asked, pass_on):
+        answer = pass_on(asked)
+        kind, word, _ = asked.words
+        if answer and kind:
+            form = forms.forms_of(kind, word, dialect) if answer.status < 300 else forms.denial(answer.status == 409)
+            faults.append(form.fault(answer.value, dialect))
+            asked_of.add((kind, asked.method, answer.status < 300))
+        return answer
+    with Before(gateway) as place:
+        place.over(noted)[0].must_hold(LEAST["standard"])
+    assert len(asked_of) >= 26 and set(faults) == {None}, (set(faults), len(asked_of))
+
+
+def nothing_is_left_where_checks_break(gateway):
+    """A broken check stops in its middle, and what it has put is deleted all the same."""
+    def denied(world, asked, pass_on):
+        answer = pass_on(asked)
+        return answer.with_status(418) if answer.status in (403, 404, 409) and asked.method in ("PUT", "DELETE") else answer
+    with Plain() as place:
+        held, _ = place.over(denied)
+        assert held.status == 1 and len(held.broken) > 20, held
+        assert "Left behind" not in held.page and place.left() == []
+
+
+def what_is_there_is_left_alone(gateway):
+    """A place that is not empty is passed over."""
+    with Plain() as place:
+        now, taken = int(time.time()), home_of(place)
+        body = {"extents": [{"cells": [taken], "altitude_lower": 0, "altitude_upper": 10, "time_start": now, "time_end": now + 9000}],
+                "state": "Accepted", "uss_base_url": "https://a.example"}
+        path = "operational_intent_references/00000000-0000-4000-8000-0000000000a1"
+        told = place.ask("tok-a", "PUT", path, body)["operational_intent_reference"]
+        assert home_of(place) != taken
+        place.run().must_hold(LEAST["profile"])
+        assert place.ask("tok-a", "GET", path)["operational_intent_reference"] == told
+
+
+def home_of(place):
+    """The cell in which a run by the first seed settles."""
+    homes = []
+
+    def noted(world, asked, pass_on):
+        if asked.path.endswith("/query"):
+            homes.append((asked.value or {}).get("area_of_interest", {}).get("cells", [""])[0])
+        return pass_on(asked)
+    place.over(noted, "nothing_said_is_unknown")
+    return homes[-1]
+
+
+def bounds_are_kept(gateway):
+    """Never more requests, never more a second, never longer than was said; what was put until then is deleted."""
+    with Plain() as place:
+        held, proxy = place.over(None, "--requests", "150")
+        assert held.status == 1 and len(proxy.times) <= 150 and "no more requests are allowed" in held.text, (held, len(proxy.times))
+        held, proxy = place.over(None, "intents", "repeats", rate="60")
+        held.must_hold(10)
+        seconds = [sum(first <= it < first + 1 for it in proxy.times) for first in proxy.times]
+        # those that came late by a little fall into the next second
+        assert max(seconds) <= 70, max(seconds)
+        began = time.monotonic()
+        held, proxy = place.over(None, "--seconds", "1", rate="30")
+        assert held.status == 1 and "no more time is allowed" in held.text and time.monotonic() - began < 30, held
+        assert place.left() == []
+
+
+def one_that_is_ended_cleans_up(gateway):
+    """A run that is interrupted, or told to end, deletes what it has put, and says that not all held."""
+    for how in (signal.SIGINT, signal.SIGTERM):
+        with Plain() as place:
+            def told(world, asked, pass_on, how=how, place=place):
+                answer = pass_on(asked)
+                # in the middle of a check that has put three intents
+                if asked.method == "PUT" and len(world.references) == 3:
+                    world.references[None] = None
+                    place.suite.send_signal(how)
+                return answer
+            held, _ = place.over(told, "a_query_finds_what_meets_its_area", "all_that_is_missing_is_told")
+            assert held.status == 1 and "interrupted" in held.text and len(held.cases) == 1, held
+            assert place.left() == []
+
+
+def a_service_that_goes(gateway):
+    """One that is gone in the middle breaks what is left, and the run ends."""
+    def gone(world, asked, pass_on):
+        world.asked = getattr(world, "asked", 0) + 1
+        return pass_on(asked) if world.asked < 100 else None
+    with Plain() as place:
+        held, _ = place.over(gone)
+        assert held.status == 1 and len(held.broken) > 50 and len(held.cases) >= LEAST["profile"], held
+        assert "no answer" in held.page
+
+
+def runs_that_cannot_begin(gateway):
+    """One line, and status 2."""
+    with Plain() as place:
+        few = place.folder / "few.toml"
+        few.write_text('salt = "x"\n[[token]]\ntext = "tok-a"\nuss = "uss-a"\nscopes = ["utm.strategic_coordination"]\n')
+        other = place.folder / "other.toml"
+        other.write_text((TOP / "examples" / "tokens.toml").read_text().replace('text = "', 'text = "other-'))
+        good = place.tokens[1]
+        for words, port, why in (
+                (["--tokens", few], None, "lacks tokens"), (["--tokens", place.folder / "none"], None, "is no token file"),
+                (["--tokens", other], None, "was answered 401"), (["--tokens", good], free_port(), "no answer"),
+                (["--standard", "--mint", "false"], None, "gives no token"),
+                (["--standard", "--mint", "/nonesuch"], None, "gives no token"),
+                (["--standard", "--mint", "echo", "--suppliers", "one"], None, "two suppliers")):
+            place.tokens = words
+            held = place.run(port=port)
+            assert held.status == 2 and why in held.errors and held.errors.count("\n") == 1 and not held.page, (words, held)
+        place.tokens = ["--tokens", good]
+        for words, why in ((["nonesuch"], "no check is named"), (["--rate", "0"], "above 0"), (["--requests", "x"], "invalid")):
+            held = place.run(*words)
+            assert held.status == 2 and why in held.errors, held
+
+
+def pages_stand_alone(gateway):
+    """The page asks for nothing, shows what was asked, came and was expected of each check with its rules, and no token."""
+    with Plain() as place, Before(gateway) as before:
+        for held, names in ((place.run(), suite_checks()), (before.run(), suite_checks("--standard"))):
+            assert not re.search(r'<(script|link|img|iframe)|src=|href="[^#]|url\(|@import', held.page)
+            assert "tok-a" not in held.page + held.xml and "eyJ" not in held.page + held.xml
+            for name in names:
+                assert f'id="{name}"' in held.page
+            texts = [it.findtext("system-out") for it in held.cases]
+            assert all(("docs/POLICY.md: " in it or "ASTM F3548-21: " in it) for it in texts)
+            assert held.page.count("<th>asked</th><th>came</th><th>expected</th>") == len(names)
+
+
+def answers_are_shown_as_text(gateway):
+    """What a service answers is text on the page, whatever it has."""
+    def wrote(world, asked, pass_on):
+        answer = pass_on(asked)
+        if answer.status == 404:
+            answer.put({"message": "<script>alert(1)</script>\u0000\ufffe"})
+        return answer
+    with Plain() as place:
+        held, _ = place.over(wrote, "a_deleted_intent_is_gone")
+        assert held.status == 1 and "<script" not in held.page and html.escape("<script>alert(1)") in held.page, held
+        failure = held.cases[0].find("failure")
+        assert "P7 FOUND" in failure.get("message") and "came: 404" in failure.text and "asked: " in failure.text, failure.text
+
+
+def a_token_that_is_not_ours(gateway):
+    """The run asks its own URL alone."""
+    with Plain() as place, socket.create_server(("127.0.0.1", 0)) as other:
+        other.settimeout(0.2)
+
+        def moved(world, asked, pass_on):
+            answer = pass_on(asked)
+            answer.set("Location", f"http://127.0.0.1:{other.getsockname()[1]}/")
+            return answer.with_status(307) if asked.method == "GET" else answer
+        held, _ = place.over(moved, "an_intent_is_created_and_read")
+        assert held.status == 1, held
+        try:
+            other.accept()
+        except TimeoutError:
+            return
+        raise AssertionError("another address was asked")
+
+
+CASES = {it.__name__: it for it in (
+    all_holds, all_holds_to_the_standard, each_check_can_break, all_holds_through_the_proxy, all_holds_over_tls,
+    the_gateway_adds_no_member, nothing_is_left_where_checks_break, what_is_there_is_left_alone, bounds_are_kept,
+    one_that_is_ended_cleans_up, a_service_that_goes, runs_that_cannot_begin, pages_stand_alone, answers_are_shown_as_text, a_token_that_is_not_ours)}

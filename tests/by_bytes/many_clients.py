@@ -1,0 +1,373 @@
+"""Many clients of `serve` at once: each gets the answers to its own requests, in whatever pieces its bytes come and whatever the
+others do."""
+import copy
+import random
+import resource
+import signal
+import socket
+import struct
+import time
+
+import drawn_calls
+import plain_policy
+import wire
+from connections import HEADS
+from served_calls import AHEAD
+from serving import Service, until_closed
+from sockets import ANSWER, ASKED, CLOSING, LAST, difference
+
+SEED = 51
+FAULTS = {b"dss: stream: fault 1 Read", b"dss: stream: fault 2 Write", b""}
+
+
+def raised_limit():
+    """Lets this program, and those that it starts, have as many descriptors as the system allows."""
+    soft, hard = resource.getrlimit(resource.RLIMIT_NOFILE)
+    resource.setrlimit(resource.RLIMIT_NOFILE, (hard, hard))
+    return hard
+
+
+def reset(connection):
+    """Closes a connection so that the other side is told that it was reset."""
+    connection.setsockopt(socket.SOL_SOCKET, socket.SO_LINGER, struct.pack("ii", 1, 0))
+    connection.close()
+
+
+def answers_from(connection, count):
+    """So many answers of a connection that stays open."""
+    came = b""
+    while len(wire.answers_of(came)) < count and (piece := connection.recv(1 << 16)):
+        came += piece
+    return came
+
+
+def in_pieces(draw, stream):
+    """The stream, cut at drawn places."""
+    most = min(len(stream) - 1, draw.choice((1, 5, 40)))
+    cuts = sorted(draw.sample(range(1, len(stream)), most)) if len(stream) > 1 else []
+    return [stream[at:to] for at, to in zip([0, *cuts], [*cuts, len(stream)])]
+
+
+def cut_among_others():
+    """All rules of the wire, on as many connections at once, in pieces that come in a drawn order among those of the others: each
+    connection gets what its bytes alone would."""
+    draw, found = random.Random(SEED), []
+    table = [*HEADS, ("a hundred", ASKED * 99 + CLOSING, ANSWER * 99 + LAST), ("a hundred and one", ASKED * 101, ANSWER * 99 + LAST)]
+    with Service() as started:
+        for turn in range(6):
+            open_ones = [(name, started.connect(), in_pieces(draw, stream), wanted) for name, stream, wanted in table]
+            left = [(connection, pieces) for _, connection, pieces, _ in open_ones]
+            while left:
+                at = draw.randrange(len(left))
+                connection, pieces = left[at]
+                try:
+                    if pieces:
+                        connection.sendall(pieces.pop(0))
+                    if not pieces:
+                        connection.shutdown(socket.SHUT_WR)
+                except OSError:
+                    # the service has answered, and closed
+                    pieces.clear()
+                if not pieces:
+                    left.pop(at)
+            for name, connection, _, wanted in open_ones:
+                with connection:
+                    found += difference(f"turn {turn}, {name}", until_closed(connection), wanted)
+        started.kill()
+    return found
+
+
+def reset_anywhere():
+    """Connections that are reset in each place of a request, and of answers, take no place and no answer from others."""
+    with Service() as started:
+        for _ in range(6):
+            for at in range(0, len(ASKED) + 1):
+                connection = started.connect()
+                connection.sendall(ASKED[:at])
+                reset(connection)
+        whole = ANSWER * 50
+        for at in range(0, len(whole), len(whole) // 120):
+            connection = started.connect()
+            connection.sendall(ASKED * 50)
+            while at > 0 and (piece := connection.recv(at)):
+                at -= len(piece)
+            reset(connection)
+        found = difference("the next", started.exchange(CLOSING, ends=False), LAST)
+        lines = set((started.folder / "errors").read_bytes().removeprefix(started.listening).split(b"\n"))
+        return found + difference("other lines", lines - FAULTS, set())
+
+
+def dropped():
+    """What a client asked that was reset before its turn is not done, whether it was served before or has just come."""
+    body = b'{"old_version":"","availability":"Down"}'
+    setting = wire.request("PUT", f"{wire.AVAILABILITY}/uss-b", "Bearer tok-v", body)
+    with Service() as started:
+        found = []
+        for is_known in True, False:
+            connection = started.connect()
+            if is_known:
+                connection.sendall(ASKED)
+                found += difference("known", answers_from(connection, 1), ANSWER)
+            # what is sent and reset meanwhile, the service learns at once
+            started.program.send_signal(signal.SIGSTOP)
+            connection.sendall(setting)
+            reset(connection)
+            started.program.send_signal(signal.SIGCONT)
+            found += difference("the setting was not made", started.exchange(CLOSING, ends=False), LAST)
+        wanted = started.listening + 2 * b"dss: stream: fault 1 Read\n"
+        return found + difference("what is told", (started.folder / "errors").read_bytes(), wanted)
+
+
+def two_thousand():
+    """Two thousand connections at once: a thousand are served, the others wait, and all are answered."""
+    if raised_limit() < 4_500:
+        return []
+    with Service() as started:
+        all_ = [started.connect() for _ in range(2_000)]
+        for connection in all_:
+            connection.sendall(ASKED)
+        found = []
+        for at, connection in enumerate(all_):
+            with connection:
+                found += difference(f"connection {at}", answers_from(connection, 1), ANSWER)
+        found += difference("the next", started.exchange(CLOSING, ends=False), LAST)
+        return found + difference("what is told", (started.folder / "errors").read_bytes(), started.listening)
+
+
+class Narrow(Service):
+    """A service that may have 64 descriptors."""
+
+    def command(self):
+        return ["prlimit", "--nofile=64", *super().command()]
+
+
+def few_descriptors():
+    """Where the system has no descriptor for one more connection, those that are open are served, and it is tried again."""
+    with Narrow() as started:
+        all_ = [started.connect() for _ in range(100)]
+        for connection in all_:
+            connection.sendall(ASKED)
+        found, served = [], 0
+        for connection in all_:
+            connection.settimeout(0.5)
+            try:
+                found += difference(f"connection {served}", answers_from(connection, 1), ANSWER)
+            except TimeoutError:
+                break
+            served += 1
+        found += [] if 30 <= served <= 64 else [f"{served} connections were served at once"]
+        for connection in all_[:served]:
+            connection.close()
+        for at, connection in enumerate(all_[served:], served):
+            connection.settimeout(10)
+            with connection:
+                found += difference(f"connection {at}, later", answers_from(connection, 1), ANSWER)
+        return found + difference("what is told", (started.folder / "errors").read_bytes(), started.listening)
+
+
+def settings(supplier, versions):
+    """Settings of a supplier's availability, each with the version before it."""
+    for at, version in enumerate(versions):
+        body = wire.compact({"old_version": version, "availability": ("Down", "Normal")[at % 2]}).encode()
+        yield wire.request("PUT", f"{wire.AVAILABILITY}/{supplier}", "Bearer tok-v", body)
+
+
+def pipelined_beside_one():
+    """A client that sends its next requests all at once has one turn as often as another has: of two, the one with a single
+    request does not wait for all of the other's."""
+    with Service() as started:
+        found = []
+        with started.connect() as many, started.connect() as one:
+            # both are known to the service
+            for connection in many, one:
+                connection.sendall(ASKED)
+                found += difference("first", answers_from(connection, 1), ANSWER)
+            many.sendall(b"".join(settings("uss-b", ["", *(wire.ovn(at) for at in range(1, 98))])))
+            one.sendall(b"".join(settings("uss-a", [""])))
+            answer = answers_from(one, 1)
+            serial = next((at for at in range(1, 100) if wire.ovn(at).encode() in answer), 0)
+            found += [] if 1 <= serial <= 60 else [f"the single request came after {serial - 1} others: {answer!r}"]
+            statuses = [it[:12] for it in wire.answers_of(answers_from(many, 98))]
+            # the versions of the many fit until the one's setting took a serial of theirs
+            found += difference("all are answered", len(statuses), 98)
+        return found
+
+
+def half_closed():
+    """A client that sends no more gets all that it asked for."""
+    with Service() as started:
+        found = difference("ninety-nine", started.exchange(ASKED * 99), ANSWER * 99)
+        found += difference("part of a request after them", started.exchange(ASKED * 5 + ASKED[:20]), ANSWER * 5)
+        return found
+
+
+def ends_with_the_last():
+    """`--count` counts connections that were accepted: the program goes on until the last of them is closed."""
+    with Service(count=3) as started:
+        with started.connect() as first, started.connect() as second:
+            for connection in first, second:
+                connection.sendall(ASKED)
+            found = [it for each in (first, second) for it in difference("kept", answers_from(each, 1), ANSWER)]
+            found += difference("the third", started.exchange(CLOSING, ends=False), LAST)
+            time.sleep(0.5)
+            found += [] if started.program.poll() is None else ["it ended with two connections open"]
+            for connection in first, second:
+                connection.sendall(CLOSING)
+                found += difference("and still served", until_closed(connection), LAST)
+        return found + difference("the service", started.ended(), (0, b"", started.listening))
+
+
+def one_at_a_time():
+    """With `--clients 1` the second connection is served when the first is closed."""
+    with Service(count=2, clients=1) as started:
+        with started.connect() as first, started.connect() as second:
+            first.sendall(ASKED)
+            found = difference("the first", answers_from(first, 1), ANSWER)
+            second.sendall(CLOSING)
+            second.settimeout(0.5)
+            try:
+                found += [f"the second was served beside it: {second.recv(1 << 16)!r}"]
+            except TimeoutError:
+                pass
+            first.sendall(CLOSING)
+            found += difference("the first, again", until_closed(first), LAST)
+            second.settimeout(10)
+            found += difference("the second", until_closed(second), LAST)
+        return found + difference("the service", started.ended(), (0, b"", started.listening))
+
+
+def large_bodies():
+    """Two hundred clients that each send most of a megabyte make the service hold some of them: who waits for a place gets its
+    turn, each is answered, and the memory stays within its bound."""
+    body = b'{"old_version":"none","availability":"Down","x":"' + b"x" * 1_000_000 + b'"}'
+    sent = wire.request("PUT", f"{wire.AVAILABILITY}/uss-b", "Bearer tok-v", body, ["Connection: close"])
+    with Service() as started:
+        before = started.memory()
+        all_ = []
+        for _ in range(200):
+            connection = started.connect()
+            connection.setblocking(False)
+            try:
+                all_.append([connection, connection.send(sent[:900_000])])
+            except BlockingIOError:
+                all_.append([connection, 0])
+        until = time.monotonic() + 2
+        while time.monotonic() < until:
+            for it in all_:
+                try:
+                    it[1] += it[0].send(sent[it[1] : 900_000]) if it[1] < 900_000 else 0
+                except BlockingIOError:
+                    pass
+        grown = started.memory() - before
+        found = [] if grown <= 160_000 else [f"it grew by {grown} kB"]
+        wanted = {b"HTTP/1.1 409"}
+        waiting = list(all_)
+        answered = []
+        until = time.monotonic() + 60
+        while waiting and time.monotonic() < until:
+            for it in list(waiting):
+                try:
+                    it[1] += it[0].send(sent[it[1] :]) if it[1] < len(sent) else 0
+                    if it[1] == len(sent):
+                        answered.append(it[0].recv(1 << 16))
+                        waiting.remove(it)
+                except BlockingIOError:
+                    pass
+        for connection, _ in all_:
+            connection.close()
+        found += difference("all are answered", len(answered), 200)
+        return found + difference("statuses", {it[:12] for it in answered}, wanted)
+
+
+class Round:
+    """Calls that were made at once, and what was answered: whether some order of them explains all answers."""
+
+    def __init__(self, airspace, calls, answers):
+        self.calls, self.answers = calls, answers
+        self.order = self.explained(airspace, frozenset(range(len(calls))))
+
+    def explained(self, airspace, left):
+        """The airspace after the calls that are left, in some order in which each is answered as it was; or None."""
+        left = set(left)
+        changes = []
+        for at in sorted(left):
+            after = copy.deepcopy(airspace)
+            outcome = after.ask(*self.calls[at])
+            if outcome.text() != self.answers[at]:
+                continue
+            if after.serial == airspace.serial:
+                left.discard(at)
+            else:
+                changes.append((at, after))
+        if not left:
+            return airspace
+        for at, after in changes:
+            done = self.explained(after, left - {at})
+            if done is not None:
+                return done
+        return None
+
+
+def drawn_at_once():
+    """Drawn calls of 24 clients with kept connections, sent at once again and again: some order of those of each round explains
+    each answer by the plain policy."""
+    now, clients, found = int(time.time()), 24, []
+    airspace = plain_policy.Airspace(now, drawn_calls.ALL_TOKENS)
+    draw = drawn_calls.Draw(SEED)
+    with Service(drawn_calls.ALL_TOKENS) as started:
+        connections = [started.connect() for _ in range(clients)]
+        for number in range(90):
+            drawn = drawn_calls.Drawn(draw, airspace, AHEAD)
+            calls = [drawn.call() for _ in range(clients)]
+            for connection, call in zip(connections, calls):
+                connection.sendall(wire.request(*call))
+            answers = [answers_from(connection, 1) for connection in connections]
+            after = Round(airspace, calls, answers).order
+            if after is None:
+                told = [(call, answer) for call, answer in zip(calls, answers)]
+                return [f"round {number}: no order explains {told!r}"]
+            airspace = after
+        for connection in connections:
+            connection.close()
+    print(f"{90 * clients} calls at once, serial {airspace.serial}")
+    return found
+
+
+def drawn_in_turn():
+    """Drawn calls of 32 clients with kept connections, one after the other, are answered as one list of calls."""
+    airspace = plain_policy.Airspace(int(time.time()), drawn_calls.ALL_TOKENS)
+    drawn = drawn_calls.Drawn(drawn_calls.Draw(SEED + 1), airspace, AHEAD)
+    draw = random.Random(SEED)
+    with Service(drawn_calls.ALL_TOKENS) as started:
+        connections = [[started.connect(), 0] for _ in range(32)]
+        for number in range(2_500):
+            at = draw.randrange(32)
+            if connections[at][1] == wire.MOST_REQUESTS:
+                connections[at][0].close()
+                connections[at] = [started.connect(), 0]
+            connections[at][1] += 1
+            call = drawn.call()
+            connections[at][0].sendall(wire.request(*call))
+            wanted = airspace.ask(*call).text(closes=connections[at][1] == wire.MOST_REQUESTS)
+            got = answers_from(connections[at][0], 1)
+            if got != wanted:
+                return [f"call {number}: {call!r}: wanted {wanted!r}, got {got!r}"]
+        for connection, _ in connections:
+            connection.close()
+    return []
+
+
+CASES = {
+    "many-cut-among-others": cut_among_others,
+    "many-reset-anywhere": reset_anywhere,
+    "many-reset-before-the-call": dropped,
+    "many-two-thousand": two_thousand,
+    "many-few-descriptors": few_descriptors,
+    "many-pipelined-beside-one": pipelined_beside_one,
+    "many-half-closed": half_closed,
+    "many-count-ends-with-the-last": ends_with_the_last,
+    "many-one-at-a-time": one_at_a_time,
+    "many-large-bodies": large_bodies,
+    "many-drawn-at-once": drawn_at_once,
+    "many-drawn-in-turn": drawn_in_turn,
+}
