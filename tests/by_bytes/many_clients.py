@@ -1,6 +1,7 @@
 """Many clients of `serve` at once: each gets the answers to its own requests, in whatever pieces its bytes come and whatever the
 others do."""
 import copy
+import os
 import random
 import resource
 import signal
@@ -108,8 +109,11 @@ def dropped():
             if is_known:
                 connection.sendall(ASKED)
                 found += difference("known", answers_from(connection, 1), ANSWER)
-            # what is sent and reset meanwhile, the service learns at once
+            # once another has its answer, the service has done what it was asked here, and waits
+            found += difference("another", started.exchange(CLOSING, ends=False), LAST)
+            # what is sent and reset while it stands still, it learns at once
             started.program.send_signal(signal.SIGSTOP)
+            os.waitid(os.P_PID, started.program.pid, os.WSTOPPED | os.WNOWAIT)
             connection.sendall(setting)
             reset(connection)
             started.program.send_signal(signal.SIGCONT)

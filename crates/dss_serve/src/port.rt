@@ -29,8 +29,8 @@ pub(crate) struct Port<N: Sockets> {
     spare: Vec<usize>,
     wanting: VecDeque<usize>,
     places: usize,
-    // how many connections may still be accepted, if they are counted, whether one may wait, and until when the system
-    // has no room for it
+    // how many connections may still be accepted, if they are counted, whether one may wait, and until
+    // when the system has no room for it
     left: Option<u64>,
     waiting: bool,
     full_until: Duration,
@@ -277,8 +277,8 @@ impl<N: Sockets + Drop> Port<N> {
         peer.set_queued(false);
         let was_ending = peer.is_ending();
         let turned = peer.turn(desk, service, moments, now);
-        self.count_ending(key, was_ending);
         self.settle(key, turned, now, journal);
+        self.count_ending(key, was_ending);
     }
 
     /// Gives each client that has one its turn.
