@@ -15,9 +15,14 @@ MEMORY_DISK = "/dev/shm"
 CHANGES = 5_000
 
 
+def memory_disk():
+    """The folder of a memory disk, where there is one."""
+    return MEMORY_DISK if pathlib.Path(MEMORY_DISK).is_dir() else None
+
+
 def memory_folder():
     """A folder for a while, on a memory disk where there is one."""
-    return tempfile.TemporaryDirectory(dir=MEMORY_DISK if pathlib.Path(MEMORY_DISK).is_dir() else None)
+    return tempfile.TemporaryDirectory(dir=memory_disk())
 
 
 def built(folder):
