@@ -1,1 +1,1 @@
-pub mod Urls
+pub mod Told

@@ -1,20 +1,18 @@
 //! What is told of a change to those whom it notifies.
-ghost use Rattle.std.specs.Prelude.{◌≡◌, ◌<◌, IfOk, OnOk, length, map};
+ghost use Rattle.std.specs.Prelude.{◌≡◌, ◌<◌, List, [], ◌∷◌, ◌++◌, IfOk, OnOk, map};
 ghost use Rattle.std.specs.List.{AllByRecursion};
-ghost use Rattle.std.specs.List.Sorted.{IsBinarySearchResult, IsSearchInRange};
-ghost use Rattle.std.specs.FinMap.Entries.{put};
-ghost use Rattle.entity_core.specs.Airspace.{text_cmp, told_again};
-ghost use Rattle.entity_core.specs.IdTexts.{same_text};
+ghost use Rattle.entity_core.specs.Airspace.{told_again};
 ghost use Rattle.entity_core.specs.Serial.{greatest_serial};
-ghost use Rattle.entity_lists.specs.Sorted.{Rise, keyed};
-ghost use Rattle.service_notices.specs.Notices.{alone, notices_of, states_at, urls_of};
+ghost use Rattle.entity_core.specs.declared.subscription.Sub.{Sub};
+ghost use Rattle.service_notices.specs.Notices.{notices_of};
+ghost use Rattle.service_notices.specs.Told.{IsToldOf};
 
 use entity_core::base_url::BaseUrl;
 use entity_core::entity_id::EntityId;
 use entity_core::subscription::Sub;
 use policy_core::sub_view::Ids;
 use std::alloc::{AllocError, Global};
-use std::cmp::Ordering;
+use std::collections::BTreeMap;
 use std::marker::Model;
 
 /// Ids of subscriptions, each with its index, in their order. Contracts see their list.
@@ -32,11 +30,19 @@ impl Model for States {
 }
 
 impl States {
-    // These. It takes no memory.
-    fn from_vec(items: Vec<(EntityId, u64)>) -> States
-        ensures { result ≡ items.items }
+    // One alone.
+    fn one(alloc: Global, state: (EntityId, u64)) -> Result<States, AllocError>
+        ensures { IfOk result (λ states. states ≡ state ∷ []) }
     {
-        States { items }
+        let items = vec![in alloc; state]?;
+        Ok(States { items })
+    }
+
+    // One more, after the others.
+    fn push(&mut self, state: (EntityId, u64)) -> Result<(), AllocError>
+        ensures { OnOk result (self.new ≡ self.old ++ state ∷ []) }
+    {
+        Ok(self.items.push(state)?)
     }
 
     /// They, in their order.
@@ -107,69 +113,49 @@ pub fn ids_of(alloc: Global, subs: &[Sub]) -> Result<Ids, AllocError>
     Ok(Ids::from_vec(items))
 }
 
-fn url_order(url: &BaseUrl, other: &BaseUrl) -> Ordering
-    ensures { result ≡ text_cmp url.now other.now }
-{
-    url.text().cmp(other.text())
-}
+// What is told so far, by address.
+type Told<'a> = BTreeMap<&'a str, Notify>;
 
-fn searched(urls: &[BaseUrl], url: &BaseUrl) -> Result<usize, usize>
-    ensures bound { IsSearchInRange result (length urls.now) }
-    ensures position { IsBinarySearchResult (λ u. text_cmp u url.now) urls.now result }
+// Tells of one subscription more, at its address.
+fn tell_more<'a>(told: &mut Told<'a>, alloc: Global, sub: &'a Sub) -> Result<(), AllocError>
+    ensures { OnOk result ((before : List Sub) → IsToldOf before told.old
+        → IsToldOf (before ++ sub.now ∷ []) told.new) }
 {
-    urls.binary_search_by(|present| url_order(present, url))
-}
-
-// Puts an address among others in the order of their bytes, where its place is, unless it is there.
-fn put_in_place(urls: &mut Vec<BaseUrl>, url: &BaseUrl) -> Result<(), AllocError>
-    requires { Rise text_cmp alone urls.old.items }
-    ensures { OnOk result (keyed alone urls.new.items
-        ≡ put text_cmp url.now tt (keyed alone urls.old.items)) }
-{
-    match searched(urls, url) {
-        Ok(_) => Ok(()),
-        Err(i) => Ok(urls.insert(i, url.clone()?)?),
-    }
-}
-
-// The addresses of some subscriptions, each once, by their bytes.
-fn urls_of(alloc: Global, subs: &[Sub]) -> Result<Vec<BaseUrl>, AllocError>
-    ensures { IfOk result (λ urls. urls.items ≡ urls_of subs.now) }
-{
-    let mut urls = Vec::new(alloc);
-    for sub in subs {
-        put_in_place(&mut urls, &sub.url)?;
-    }
-    Ok(urls)
-}
-
-fn has_url(sub: &Sub, url: &BaseUrl) -> bool
-    ensures { result ≡ same_text sub.now.url url.now }
-{
-    sub.url.text() == url.text()
-}
-
-// Id and index of each that has an address, in their order.
-fn states_at(alloc: Global, subs: &[Sub], url: &BaseUrl) -> Result<States, AllocError>
-    ensures { IfOk result (λ states. states ≡ states_at subs.now url.now) }
-{
-    let mut items = Vec::new(alloc);
-    for sub in subs {
-        if has_url(sub, url) {
-            items.push((sub.id, sub.index.number()))?;
+    let url = sub.url.text();
+    let state = (sub.id, sub.index.number());
+    match told.get_mut(url) {
+        Some(notify) => notify.states.push(state),
+        None => {
+            let states = States::one(alloc, state)?;
+            let notify = Notify {
+                url: sub.url.clone()?,
+                states,
+            };
+            told.insert(url, notify)?;
+            Ok(())
         }
     }
-    Ok(States::from_vec(items))
+}
+
+// What is told to some subscriptions, by address.
+fn told_of<'a>(alloc: Global, subs: &'a [Sub]) -> Result<Told<'a>, AllocError>
+    ensures { IfOk result (IsToldOf subs.now) }
+{
+    let mut told = BTreeMap::new(alloc);
+    for sub in subs {
+        tell_more(&mut told, alloc, sub)?;
+    }
+    Ok(told)
 }
 
 /// What is told to some subscriptions, address by address.
 pub fn notices_of(alloc: Global, subs: &[Sub]) -> Result<Notices, AllocError>
     ensures { IfOk result (λ told. told ≡ notices_of subs.now) }
 {
-    let mut items = Vec::new(alloc);
-    for url in urls_of(alloc, subs)? {
-        let states = states_at(alloc, subs, &url)?;
-        items.push(Notify { url, states })?;
+    let told = told_of(alloc, subs)?;
+    let mut items = Vec::with_capacity(alloc, told.len())?;
+    for (_, notify) in told {
+        items.push(notify)?;
     }
     Ok(Notices::from_vec(items))
 }
