@@ -96,7 +96,7 @@ ended : (x : List ℕ) (fields : List HeaderSpan) (f : Found) (ahead : List ℕ)
 ended x fields found.Nothing ahead same lt part e = same ∙ e
 ended x fields found.Part ahead same lt part (some, few) =
     let w : window x ≡ x = take_all 8192 x (omega arith) in
-    subst (λ (v : List ℕ). IsKind v cut) (sym same) (no_whole x fields x w part, some, lt, rw w (still_open x fields (λ many. omega (arith, many, few)) part))
+    subst (λ (v : List ℕ). IsKind v cut) (sym same) (no_whole x fields x w part, some, lt, rw w (still_open x fields few part))
 ended x fields found.Large ahead same lt (inl line) (some, many) = absurd (omega (arith, many, line_feeds x line))
 ended x fields found.Large ahead same lt (inr (line, none, may)) (some, many) =
     let w : window x ≡ x = take_all 8192 x (omega arith) in

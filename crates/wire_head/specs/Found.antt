@@ -1,9 +1,9 @@
 -- What was found at the front of an input.
-use Rattle.std.specs.Prelude.{◌≡◌, ℕ, List, ◌++◌, length, IsUtf8}
+use Rattle.std.specs.Prelude.{◌≡◌, ℕ, List, ◌++◌, length}
 use Rattle.httparse.specs.declared.spans.HeaderSpan.{HeaderSpan}
 use Rattle.httparse.specs.declared.spans.RequestSpans.{RequestSpans}
 use Rattle.httparse.specs.Grammar.{RequestHead, print_request}
-use Rattle.httparse.specs.Spans.{span_bytes, AreFieldsAt, IsRequestWithin}
+use Rattle.httparse.specs.Spans.{span_bytes, AreFieldsAt}
 use Rattle.wire_head.specs.declared.rest.Found.{Found}
 use Rattle.wire_head.specs.declared.rest.Found.TheVariants.{Nothing, Part, Head, Bad, Large}
 use Rattle.wire_head.specs.Rest.{IsKind, nothing, cut, whole, bad, large}
@@ -27,12 +27,3 @@ Finds ahead buffer fields (Head spans) =
     × Covers buffer fields spans h
 Finds ahead buffer fields Bad = IsKind (buffer ++ ahead) bad
 Finds ahead buffer fields Large = IsKind (buffer ++ ahead) large
-
--- the spans lie in the buffer, and the target is text
-abbrev pub SpansFit : List ℕ → List HeaderSpan → Found → Type 0
-SpansFit buffer fields (Head spans) = IsRequestWithin buffer fields spans
-    × IsUtf8 (span_bytes buffer spans.path)
-SpansFit buffer fields Nothing = Unit {0}
-SpansFit buffer fields Part = Unit {0}
-SpansFit buffer fields Bad = Unit {0}
-SpansFit buffer fields Large = Unit {0}

@@ -1,5 +1,5 @@
 -- What the rest of an input is: one of five kinds, by its first 8,192 bytes and its length.
-use Rattle.std.specs.Prelude.{◌≡◌, ℕ, ◌<◌, ◌≤◌, ◌⊎◌, Bool, true, false, ◌||◌, ◌==◌, if◌then◌else◌, List, [], ◌∷◌, length, take, drop, count_by}
+use Rattle.std.specs.Prelude.{◌≡◌, ℕ, ◌+◌, ◌<◌, ◌≤◌, ◌⊎◌, Bool, true, false, ◌||◌, ◌==◌, if◌then◌else◌, List, [], ◌∷◌, length, take, drop, count_by}
 use Rattle.std.specs.List.{list_any}
 use Rattle.httparse.specs.declared.spans.HeaderSpan.{HeaderSpan}
 use Rattle.httparse.specs.Grammar.{RequestHead, ReadsRequest, NeverHasRequest, HasNoRequest, MayBecomeRequest, print_request}
@@ -42,9 +42,13 @@ skip_ends (b ∷ bytes) = if (b == 13 || b == 10) then skip_ends bytes else b �
 abbrev pub feeds : List ℕ → ℕ
 feeds bytes = count_by (λ b. b == 10) bytes
 
--- more than 64 lines have ended after the request line
+-- the request line has ended, and more than 64 lines after it
 abbrev pub HasManyLines : List ℕ → Type 0
-HasManyLines bytes = 66 ≤ feeds (skip_ends bytes)
+HasManyLines bytes = 64 + 2 ≤ feeds (skip_ends bytes)
+
+-- Where a head has more than 64 fields, that many lines have ended.
+abbrev pub FieldsEndLines : Type 0
+FieldsEndLines = (bytes : List ℕ) → RequestExceeds 64 bytes → HasManyLines bytes
 
 -- the head that stands there has more fields than that, or one that can still come has: its lines
 -- are too many
@@ -99,7 +103,7 @@ IsSoFar w fields Large = (has_line w ≡ true) × RequestExceeds 64 w × Request
 -- the bytes at the end of the input
 abbrev pub EndsAs : List ℕ → Found → Type 0
 EndsAs bytes found.Nothing = bytes ≡ []
-EndsAs bytes found.Part = (0 < length bytes) × (feeds (skip_ends bytes) < 66)
+EndsAs bytes found.Part = (0 < length bytes) × (HasManyLines bytes → ⊥)
 EndsAs bytes found.Large = (0 < length bytes) × HasManyLines bytes
 EndsAs bytes found.Bad = ⊥
 EndsAs bytes (found.Head spans) = ⊥

@@ -5,6 +5,7 @@
 pub mod bearer;
 pub mod close;
 mod fields;
+pub mod laws;
 pub mod length;
 pub mod rest;
 pub mod rule;
