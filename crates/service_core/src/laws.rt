@@ -2,12 +2,18 @@
 ghost use Rattle.service_core.specs.Aware.{MeetingIsMutual};
 ghost use Rattle.service_core.specs.Blind.{CallIsBlind, RunIsBlind};
 ghost use Rattle.service_core.specs.Stale.{StaleIsRefused};
-ghost use Rattle.service_step.specs.Step.{StepsKeep};
+ghost use Rattle.service_step.specs.Step.{StepsAnswer, StepsKeep};
 
 /// After each call, an entity stands under its own kind and id, a subscription under its own id, and
 /// no index is over the serial, where it was so before.
 pub fn steps_keep()
     ensures { StepsKeep }
+{}
+
+/// The policy answers each call `Done` or `Denied`. `Fault` and `Stopped` are never its answers: they
+/// tell that memory lacked or a space failed.
+pub fn steps_answer()
+    ensures { StepsAnswer }
 {}
 
 /// What a supplier's call is told, and what it leaves, does not depend on the OVNs and versions of

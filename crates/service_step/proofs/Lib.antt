@@ -3,3 +3,4 @@ pub mod Looked
 pub mod Steps
 pub mod Keeps
 pub mod Seen
+pub mod Decided

@@ -29,7 +29,7 @@ use Rattle.policy_core.specs.declared.sub_view.SubView.{SubView}
 use Rattle.service_notices.specs.Notices.{notices_in, touched, with_notified}
 use Rattle.service_step.specs.declared.reply.Answer.TheVariants.{Created, Changed, Found, Listed, Avail, SubStored, SubFound, SubListed}
 use Rattle.service_step.specs.declared.reply.Reply.{Reply}
-use Rattle.service_step.specs.declared.reply.Reply.TheVariants.{Done, Denied, Fault}
+use Rattle.service_step.specs.declared.reply.Reply.TheVariants.{Done, Denied, Fault, Stopped}
 
 -- ---- what is put
 
@@ -196,9 +196,21 @@ step_by salt a c None = effect salt a c.caller c.op
 unfoldable pub step : List ℕ → Airspace → ℕ → Call → Airspace × Reply
 step salt a now c = step_by salt a c (first_broken a now c)
 
--- ---- a law
+-- ---- laws
 
 -- Each step of an airspace that may be kept leaves one.
 abbrev pub StepsKeep : Type 0
 StepsKeep = (salt : List ℕ) (a : Airspace) (now : ℕ) (c : Call) → IsAirspace a
     → IsAirspace (step salt a now c).0
+
+-- a reply that is `Done` or `Denied`, and neither `Fault` nor `Stopped`
+abbrev pub IsDoneOrDenied : Reply → Type 0
+IsDoneOrDenied (Done answer) = Unit {0}
+IsDoneOrDenied (Denied p m) = Unit {0}
+IsDoneOrDenied Fault = ⊥
+IsDoneOrDenied Stopped = ⊥
+
+-- Each step is answered so: where an effect says `Fault`, the call breaks a rule.
+abbrev pub StepsAnswer : Type 0
+StepsAnswer = (salt : List ℕ) (a : Airspace) (now : ℕ) (c : Call)
+    → IsDoneOrDenied (step salt a now c).1
