@@ -10,6 +10,7 @@ use crate::list::ListSpace;
 use entity_lists::availabilities::Availabilities;
 use entity_lists::entities::Entities;
 use entity_lists::subscriptions::Subscriptions;
+use space_core::space::Space;
 use std::alloc::{AllocError, Global};
 
 impl ListSpace {
@@ -23,8 +24,9 @@ impl ListSpace {
         serial: u64,
     ) -> Result<ListSpace, AllocError>
         requires { AllTold subscriptions serial }
-        ensures { IfOk result (λ list.
+        ensures content { IfOk result (λ list.
             content_of list ≡ airspace_of entities subscriptions availabilities serial) }
+        ensures fresh { IfOk result (λ list. ⟦<ListSpace as Space>⟧.refusals list ≡ 0) }
     {
         let entities = IndexedEntities::of(alloc, entities)?;
         let subscriptions = IndexedSubscriptions::of(alloc, subscriptions)?;
