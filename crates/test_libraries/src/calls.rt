@@ -21,8 +21,8 @@ const PUT: &str =
     r#"{"extents":[{"cells":["89c25904"],"altitude_lower":0,"altitude_upper":1200,"time_start":900,"time_end":2000}],"state":"Accepted","uss_base_url":"https://a.example"}"#;
 
 // A supplier that may plan and set availabilities.
-fn caller(alloc: Global) -> Option<Caller> {
-    let uss = UssId::read(alloc, "uss-a").ok()?;
+fn caller(alloc: Global, uss: &str) -> Option<Caller> {
+    let uss = UssId::read(alloc, uss).ok()?;
     let scopes = ScopeSet::empty().with(Scope::StrategicCoordination);
     Some(Caller {
         uss,
@@ -30,10 +30,17 @@ fn caller(alloc: Global) -> Option<Caller> {
     })
 }
 
-fn call(alloc: Global, kind: OpKind, words: &PathWords<'_>, body: &str) -> Option<Call> {
+// A call of that supplier.
+pub(crate) fn call(
+    alloc: Global,
+    uss: &str,
+    kind: OpKind,
+    words: &PathWords<'_>,
+    body: &str,
+) -> Option<Call> {
     let op = read_body(alloc, kind, words, body.as_bytes()).ok()?;
     Some(Call {
-        caller: caller(alloc),
+        caller: caller(alloc, uss),
         op,
     })
 }
@@ -65,7 +72,7 @@ fn update(alloc: Global) -> Option<Call> {
         first: "00000000-0000-4000-8000-0000000000a1",
         second: Some("0123456789abcdef"),
     };
-    call(alloc, OpKind::Update(Kind::Intent), &words, PUT)
+    call(alloc, "uss-a", OpKind::Update(Kind::Intent), &words, PUT)
 }
 
 // What it breaks where the intent is there at that version, at a serial that is not the greatest.
@@ -117,7 +124,7 @@ fn three(alloc: Global) -> Option<Vec<(u64, Call)>> {
         (7, OpKind::SetAvail, r#"{"availability":"Normal"}"#),
         (8, OpKind::ReadAvail, ""),
     ] {
-        calls.push((now, call(alloc, kind, &words, body)?)).ok()?;
+        calls.push((now, call(alloc, "uss-a", kind, &words, body)?)).ok()?;
     }
     Some(calls)
 }

@@ -1,10 +1,11 @@
 //! Tests of libraries, of what bytes do not show: faults by their numbers, limits that no stream
-//! reaches, keys of some thousands, digests of another program, and calls, bodies and replies that
-//! no stream gives.
+//! reaches, keys of some thousands, digests of another program, a space that breaks at a call, and
+//! calls, bodies and replies that no stream gives.
 #![tactic(auto)]
 
 #[cfg(test)]
 mod bodies;
+pub mod breaking;
 #[cfg(test)]
 mod calls;
 #[cfg(test)]
@@ -17,4 +18,6 @@ mod keys;
 mod ovns;
 #[cfg(test)]
 mod replies;
+#[cfg(test)]
+mod stories;
 pub mod told;
