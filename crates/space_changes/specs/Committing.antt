@@ -1,5 +1,5 @@
 -- What a change in one transaction leaves.
-use Rattle.std.specs.Prelude.{◌≡◌, IsTrue, Result, OnOk, OnErr}
+use Rattle.std.specs.Prelude.{IsTrue, Result, OnOk, OnErr}
 use Rattle.sqlite_trees.specs.Tree.{Trees}
 use Rattle.sqlite.specs.State.{State, HasCleanDisk, Survives}
 use Rattle.sqlite.specs.declared.error.Error.{Error}
