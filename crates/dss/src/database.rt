@@ -45,7 +45,7 @@ fn performed<W: Work, A: Alter + Drop>(
 }
 
 /// Opens the database in the file of that name, with all that it then holds where that was read. After
-/// a fault it is closed.
+/// a fault what is open of it is closed.
 pub(crate) fn opened<F: Start>(
     rt: &HostRuntime,
     name: &str,
@@ -57,11 +57,10 @@ pub(crate) fn opened<F: Start>(
 {
     match SqlSpace::open(rt, name, start) {
         Ok(taken) => Ok(taken),
-        Err((fault, Some(conn))) => {
-            let _ = conn.close();
+        Err((fault, remains)) => {
+            remains.close();
             Err(Fault::Database(fault))
         }
-        Err((fault, None)) => Err(Fault::Database(fault)),
     }
 }
 

@@ -12,7 +12,7 @@ use Rattle.sqlite.specs.State.{State, IsLive}
 use Rattle.entity_core.specs.Airspace.{Airspace}
 use Rattle.space_select.specs.Meta.{IsOtherFormat}
 use Rattle.space_tables.specs.declared.format.Format.{Format}
-use Rattle.space_tables.specs.declared.format.Format.TheVariants.{Two}
+use Rattle.space_tables.specs.declared.format.Format.TheVariants.{One, Two}
 use Rattle.space_tables.specs.Spelling.{Spells, SpellsAs}
 use Rattle.space_tables.specs.Tables.{dss_schema, schema_of}
 use Rattle.space_tables.proofs.OneAirspace.{one_airspace}
@@ -51,14 +51,15 @@ format_in : List Row → Value
 format_in [] = Null
 format_in (r ∷ rows) = column r 1
 
-not_other : (db : Database) (a : Airspace) → Spells db a → IsOtherFormat db → ⊥
+not_other : (format : Format) (db : Database) (a : Airspace) → SpellsAs format db a → IsOtherFormat db → ⊥
 unfolding format_in
-not_other db a p other = other.not_two (ap format_in (sym other.only ∙ p.meta))
+not_other One db a p other = other.not_one (ap format_in (sym other.only ∙ p.meta))
+not_other Two db a p other = other.not_two (ap format_in (sym other.only ∙ p.meta))
 
-pub not_refused : (db : Database) (a : Airspace) (fault : OpenFault) → Spells db a → Refuses Two db fault → (fault ≡ Store → ⊥) → ⊥
-not_refused db a NotADss p r other = r.0 a p
-not_refused db a Version p r other = not_other db a p r
-not_refused db a Store p r other = other refl
+pub not_refused : (format : Format) (db : Database) (a : Airspace) (fault : OpenFault) → SpellsAs format db a → Refuses format db fault → (fault ≡ Store → ⊥) → ⊥
+not_refused format db a NotADss p r other = r.0 a p
+not_refused format db a Version p r other = not_other format db a p r
+not_refused format db a Store p r other = other refl
 
 -- the fault is the one of the store, if each other one is impossible
 pub is_store : (fault : OpenFault) → ((fault ≡ Store → ⊥) → ⊥) → fault ≡ Store
@@ -85,4 +86,4 @@ module _ (old opened : State) (live : IsLive opened) (settled : IsTrue opened.is
   pub refused_again : (Clean : C → Type 0) → IfErr r (λ e. Clean e.1 → (format : Format) → opened.now.schema ≡ schema_of format → Refuses format opened.now e.0) → IfErr r (λ e. Clean e.1 → is_whole_in old → Left → e.0 ≡ Store)
   refused_again Clean refuses = if_err_as r (λ e why clean whole left. is_store e.0 (λ other. not_there (sees left).1 (λ may.
       let it = found_again old opened whole live (sees left).0 (settled (sees left).0) may in
-      not_refused opened.now it.held e.0 it.spelt (why clean Two it.schema) other))) refuses
+      not_refused Two opened.now it.held e.0 it.spelt (why clean Two it.schema) other))) refuses

@@ -12,17 +12,16 @@ use Rattle.sqlite.proofs.ListingLemmas.{empty_is_sound}
 use Rattle.entity_core.specs.Airspace.{Airspace, empty_at}
 use Rattle.space_core.specs.Space.{IsContent}
 use Rattle.space_core.specs.declared.space.Space.{Ghosts}
-use Rattle.space_tables.specs.Making.{AreOf, MayBeMade, SpellsEmpty}
+use Rattle.space_tables.specs.Making.{MayBeMade}
 use Rattle.space_tables.specs.Presence.{presence_in}
 use Rattle.space_tables.specs.Spelling.{SpellsAs, Spells}
 use Rattle.space_tables.specs.Tables.{no_schema, schema_of}
 use Rattle.space_tables.specs.declared.format.Format.{Format}
 use Rattle.space_tables.specs.declared.format.Format.TheVariants.{One, Two}
-use Rattle.space_tables.specs.declared.presence.Presence.{Presence}
 use Rattle.space_tables.specs.declared.presence.Presence.TheVariants.{Missing, Whole}
 use Rattle.space_tables.proofs.OneAirspace.{one_airspace_of}
 use Rattle.space_tables.proofs.Presences.{none_stands}
-use Rattle.space_opening.specs.Opening.{MayBeMoved, Refuses}
+use Rattle.space_opening.specs.Opening.{Refuses}
 use Rattle.space_opening.specs.declared.open_fault.OpenFault.{OpenFault}
 use Rattle.space_opening.specs.declared.open_fault.OpenFault.TheVariants.{Store}
 use Rattle.space_sql.specs.Found.{AreUnmade, FilesSpell, FindsSpelt, HasTables, IsOpenedOver, KeepsAs, RefusesFound, tables_of}

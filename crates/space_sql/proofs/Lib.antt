@@ -6,3 +6,4 @@ pub mod Crashes
 pub mod Listings
 pub mod Founds
 pub mod Restarts
+pub mod Remainders

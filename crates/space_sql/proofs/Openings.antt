@@ -1,17 +1,21 @@
 -- What opening tells and leaves, by how the database stood.
-use Rattle.std.specs.Prelude.{◌≡◌, ◌≢◌, Result, Ok, Err, IfErr}
+use Rattle.std.specs.Prelude.{◌≡◌, ◌≢◌, Result, Ok, Err, IfErr, refl}
 use Rattle.std.proofs.Common.{ap, subst, sym, ◌∙◌}
 use Rattle.sqlite_trees.specs.Tree.{Trees}
 use Rattle.sqlite_schema.specs.declared.schema.Schema.{Schema}
+use Rattle.sqlite.specs.Effect.{Database}
 use Rattle.sqlite.specs.State.{State, Survives}
 use Rattle.sqlite.proofs.StateLemmas.{survives_weaker}
+use Rattle.entity_core.specs.Airspace.{Airspace}
 use Rattle.space_tables.specs.Making.{MayBeMade}
 use Rattle.space_tables.specs.Presence.{presence_in}
+use Rattle.space_tables.specs.Spelling.{SpellsAs}
 use Rattle.space_tables.specs.Tables.{schema_of}
 use Rattle.space_tables.specs.declared.format.Format.{Format}
 use Rattle.space_tables.specs.declared.format.Format.TheVariants.{One, Two}
 use Rattle.space_tables.specs.declared.presence.Presence.{Presence}
 use Rattle.space_tables.specs.declared.presence.Presence.TheVariants.{Missing, Whole}
+use Rattle.space_tables.proofs.OneAirspace.{one_airspace_of}
 use Rattle.space_tables.proofs.Presences.{first_stands, second_stands}
 use Rattle.space_opening.specs.declared.open_fault.OpenFault.{OpenFault}
 use Rattle.space_opening.specs.declared.open_fault.OpenFault.TheVariants.{Store}
@@ -49,3 +53,12 @@ module _ {X C : Type 0} (old : State) (shown : C → State) where
   pub left_made : (r : Result X (OpenFault × C)) → presence_in old.now.schema.tables ≡ Missing → IfErr r (λ e. e.0 ≡ Store) → IfErr r (λ e. Survives old (shown e.1) (MayBeMade old)) → IfErr r (λ e. Survives old (shown e.1) (MayBeOpened old e.0))
   left_made (Ok x) is store left = tt
   left_made (Err e) is store left = survives_weaker old (shown e.1) _ _ (λ clean db made. (store, subst (λ (s : Presence). MayBeTaken s old db) (sym is) made)) left
+
+-- ---- which airspace is held
+
+pub one_airspace_as : (format : Format) (D E : Database) (a b : Airspace) → D.trees ≡ E.trees → SpellsAs format D a → SpellsAs format E b → a ≡ b
+one_airspace_as format D E a b same p q = one_airspace_of format D E a b same p q
+
+-- what is so of one airspace that a database spells is so of each
+pub of_each_spelt : (P : Airspace → Type 0) (format : Format) (db : Database) (a : Airspace) → ((b : Airspace) × SpellsAs format db b × P b) → SpellsAs format db a → P a
+of_each_spelt P format db a own spelt = subst P (one_airspace_of format db db own.0 a refl own.1 spelt) own.2

@@ -1,5 +1,5 @@
 -- From one run to the next.
-use Rattle.std.specs.Prelude.{◌≡◌, IsTrue, false, refl}
+use Rattle.std.specs.Prelude.{◌≡◌, IsTrue, false}
 use Rattle.std.proofs.Common.{inl, inr, arith, sym, subst}
 use Rattle.std.proofs.Math.Logic.{∥∥₁_elim, ∥∥₁_map}
 use Rattle.std.proofs.lemmas.Grind.{not_there}
@@ -7,10 +7,9 @@ use Rattle.sqlite_disk.specs.declared.Disk as disk
 use Rattle.sqlite_disk.specs.declared.Files.{Files}
 use Rattle.sqlite_store.specs.declared.store.FileStore.{FileStore}
 use Rattle.sqlite_store.specs.FileStore as store
-use Rattle.sqlite_trees.specs.Tree.{Trees}
 use Rattle.sqlite_trees.specs.View.{IsClean, IsQuiet}
 use Rattle.sqlite.specs.Closing.{HoldsAlone, IsCopied}
-use Rattle.sqlite.specs.Files.{HoldsDatabase, file_state, over_files}
+use Rattle.sqlite.specs.Files.{file_state, over_files}
 use Rattle.sqlite_trees.specs.declared.store.Store as stores
 use Rattle.sqlite.specs.Held.{AreDatabases, Held, state}
 use Rattle.sqlite.specs.Recovery.{Image}
@@ -20,6 +19,7 @@ use Rattle.sqlite.proofs.Theorems.{opens_again}
 use Rattle.entity_core.specs.Airspace.{Airspace}
 use Rattle.space_core.specs.Space.{IsContent}
 use Rattle.space_core.specs.declared.space.Space.{Ghosts}
+use Rattle.space_tables.specs.declared.format.Format.{Format}
 use Rattle.space_tables.specs.declared.format.Format.TheVariants.{Two}
 use Rattle.space_opening.specs.declared.open_fault.OpenFault.{OpenFault}
 use Rattle.space_opening.specs.declared.open_fault.OpenFault.TheVariants.{Store}
@@ -73,8 +73,15 @@ module _ {D : Type 0} {g : disk.Ghosts D} (k : Kept (FileStore D g)) (files : Fi
 next_held : {S : Type 0} (space : Ghosts (Kept S)) (image : Image) (a : Airspace) → ∥ FilesSpell Two image a ∥₁ → (next : Kept S) → FindsSpelt image space next → space.is_sound next → ∥ IsContent space.holds next a ∥₁
 next_held space image a files next finds sound = ∥∥₁_map files (λ it. finds.spelt sound Two a it)
 
-next_fault : (image : Image) (a : Airspace) → ∥ FilesSpell Two image a ∥₁ → (back : State) (fault : OpenFault) → RefusesFound image back fault → HasCleanDisk back → fault ≡ Store
-next_fault image a files back fault refuses clean = is_store fault (λ other. not_there files (λ it. not_refused (tables_of Two it.0) a fault it.2.1 (refuses.due clean Two it.0 (it.1, it.2.0)) other))
+pub next_fault : (image : Image) (format : Format) (a : Airspace) → ∥ FilesSpell format image a ∥₁ → (back : State) (fault : OpenFault) → RefusesFound image back fault → HasCleanDisk back → fault ≡ Store
+next_fault image format a files back fault refuses clean = is_store fault (λ other. not_there files (λ it. not_refused format (tables_of format it.0) a fault it.2.1 (refuses.due clean format it.0 (it.1, it.2.0)) other))
 
 pub next_finds : {S : Type 0} (g : stores.Ghosts S) (space : Ghosts (Kept S)) (image : Image) (a : Airspace) → ∥ FilesSpell Two image a ∥₁ → NextFinds g space image a
-next_finds g space image a files = record { found = next_held space image a files; refused = λ back fault. next_fault image a files (state g back) fault }
+next_finds g space image a files = record { found = next_held space image a files; refused = λ back fault. next_fault image Two a files (state g back) fault }
+
+module _ {D T : Type 0} {g : disk.Ghosts D} (again : Ghosts (Kept T)) (before after : Image) (back : Held (FileStore D g)) (fault : OpenFault) (last : FileStore D g) (next : Kept T) where
+  pub refused_is_found : (format : Format) (a : Airspace) → FilesSpell format before a → RefusesFound before (file_state back) fault → LeavesTrees back last → IsClean (store.view last) → FilesLeft last after → FindsSpelt after again next → again.is_sound next → ∥ IsContent again.holds next a ∥₁
+  refused_is_found format a spelt refuses left clean may finds sound = ∥∥₁_map (left.found clean after may) (λ it. elim (refuses.spelt (left.clean clean) format a spelt it.0 it.1) [
+    | inl same ↦ finds.spelt sound format a (it.0, it.2, same)
+    | inr second ↦ finds.spelt sound Two a (it.0, it.2, second)
+  ])

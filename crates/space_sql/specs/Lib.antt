@@ -5,4 +5,5 @@ pub mod Opening
 pub mod Crash
 pub mod Listed
 pub mod Found
+pub mod Remains
 pub mod Restart

@@ -2,7 +2,8 @@
 use Rattle.std.specs.Prelude.{◌≡◌, false}
 use Rattle.sqlite_trees.specs.Tree.{Trees}
 use Rattle.sqlite_trees.specs.declared.store.Store as stores
-use Rattle.sqlite.specs.Held.{state}
+use Rattle.sqlite.specs.Effect.{Database}
+use Rattle.sqlite.specs.Held.{Held, state}
 use Rattle.sqlite.specs.State.{State, HasCleanDisk}
 use Rattle.entity_core.specs.Airspace.{Airspace}
 use Rattle.space_core.specs.Space.{IsContent}
@@ -53,3 +54,14 @@ MayBeTaken (Whole Two) old trees = ⊥
 abbrev pub MayBeOpened : State → OpenFault → Trees → Type 0
 MayBeOpened old fault trees =
     (fault ≡ Store) × MayBeTaken (presence_in old.now.schema.tables) old trees
+
+-- databases with the same rows spell one airspace at most in a format
+abbrev pub OneAirspaceAs : Type 0
+OneAirspaceAs = (format : Format) (D E : Database) (a b : Airspace) → D.trees ≡ E.trees
+    → SpellsAs format D a → SpellsAs format E b → a ≡ b
+
+-- what holds the airspace that tables of a format spell holds each that they spell, and no other
+abbrev pub HoldsEachSpelt : {S : Type 0} → stores.Ghosts S → Ghosts (Kept S) → Type 0
+HoldsEachSpelt {S} g space = (opened : Held S) (k : Kept S) → HoldsSpelt space (state g opened) k
+    → space.is_sound k → (format : Format) (a : Airspace) → SpellsAs format (state g opened).now a
+    → IsContent space.holds k a

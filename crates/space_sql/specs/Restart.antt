@@ -16,11 +16,14 @@ use Rattle.sqlite.specs.WalReads.{AreClean}
 use Rattle.entity_core.specs.Airspace.{Airspace}
 use Rattle.space_core.specs.Space.{IsContent}
 use Rattle.space_core.specs.declared.space.Space.{Ghosts}
+use Rattle.space_tables.specs.declared.format.Format.{Format}
 use Rattle.space_tables.specs.declared.format.Format.TheVariants.{Two}
 use Rattle.space_opening.specs.declared.open_fault.OpenFault.{OpenFault}
 use Rattle.space_opening.specs.declared.open_fault.OpenFault.TheVariants.{Store}
 use Rattle.space_sql.specs.Found.{FilesSpell, FindsSpelt, RefusesFound}
 use Rattle.space_sql.specs.Holding.{Kept, holds_of, is_sound_of, is_whole_of}
+use Rattle.space_sql.specs.Remains.{IsCleanIn, RefusesOpening}
+use Rattle.space_sql.specs.declared.remains.Remains.{Remains}
 
 -- the two files read so, or a crash leaves this of them
 abbrev pub FilesHave : {D : Type 0} → disk.Ghosts D → Files D → Image → Type 0
@@ -75,3 +78,22 @@ pub record NextFinds {S : Type 0} (g : stores.Ghosts S) (space : Ghosts (Kept S)
 abbrev pub NextRun : {S : Type 0} → stores.Ghosts S → Ghosts (Kept S) → Type 0
 NextRun g space =
     (image : Image) (a : Airspace) → ∥ FilesSpell Two image a ∥₁ → NextFinds g space image a
+
+-- Of an opening that took nothing of files which spell an airspace, in either format, also where no
+-- connection came back: the fault is `Store`.
+abbrev pub NextRefused : {D : Type 0} → disk.Ghosts D → Type 0
+NextRefused {D} g =
+    (image : Image) (format : Format) (a : Airspace) → ∥ FilesSpell format image a ∥₁
+    → (remains : Remains D g) (fault : OpenFault)
+    → RefusesOpening image remains fault → IsCleanIn remains → fault ≡ Store
+
+-- A space was not opened over files that spell an airspace, as where the move of format 1 was stopped;
+-- the connection that came back was given up, and a crash left of the files what it may: a space that is
+-- then opened over them holds that airspace and no other.
+abbrev pub RefusedIsFound : {D T : Type 0} → disk.Ghosts D → Ghosts (Kept T) → Type 0
+RefusedIsFound {D} {T} g again =
+    (before after : Image) (format : Format) (a : Airspace) (back : Held (FileStore D g))
+    (fault : OpenFault) (last : FileStore D g) (next : Kept T)
+    → FilesSpell format before a → RefusesFound before (file_state back) fault
+    → LeavesTrees back last → IsClean (store.view last) → FilesLeft last after
+    → FindsSpelt after again next → again.is_sound next → ∥ IsContent again.holds next a ∥₁

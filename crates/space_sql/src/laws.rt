@@ -3,12 +3,14 @@
 ghost use Rattle.std.specs.Prelude.{◌≡◌, false};
 ghost use Rattle.space_sql.specs.Crash.{LeavesContent, LeavesHeld, LeftIsFound};
 ghost use Rattle.space_sql.specs.Found.{NewIsUnmade};
-ghost use Rattle.space_sql.specs.Restart.{LeavesFiles, LeavesTrees, NextRun};
+ghost use Rattle.space_sql.specs.Opening.{HoldsEachSpelt, OneAirspaceAs};
+ghost use Rattle.space_sql.specs.Restart.{LeavesFiles, LeavesTrees, NextRefused, NextRun, RefusedIsFound};
 
 use crate::space::SqlSpace;
 use space_core::space::Space;
 use space_select::reading::known;
 use sqlite::{Alter, Connection, FileFrom, FileStore, MemStore, Start};
+use sqlite_disk::Disk;
 
 /// Whatever a crash leaves of a space spells an airspace that the space holds; where it holds one
 /// and no other, that one. Which airspaces a space holds after each call is said by the clauses of
@@ -65,4 +67,26 @@ pub fn new_is_unmade()
 /// `SqlSpace::open` answers, by its clauses `finds` and `refuses`.
 pub fn next_finds<S: Alter>()
     ensures { NextRun S.Store ⟦<SqlSpace<S> as Space>⟧ }
+{}
+
+/// Where an opening took nothing of files that spell an airspace, in either format, also where no
+/// connection came back, its fault is `Store`. It is said of whatever `SqlSpace::open` answers, by its
+/// clause `refuses`.
+pub fn next_refused<S: Start>()
+    ensures { NextRefused ⟦<FileFrom<S> as Disk>⟧ }
+{}
+
+/// Where an opening of files that spell an airspace, in either format, ended with a fault and its
+/// connection, as where the move of format 1 was stopped, what a crash then leaves of them is opened
+/// with that airspace and no other. It is said of what `SqlSpace::open` refuses, by its clause
+/// `refuses`, and then takes, by its clause `finds`, and of what `trees_left` gives back.
+pub fn refused_is_found<S: Start, T: Alter>()
+    ensures { RefusedIsFound ⟦<FileFrom<S> as Disk>⟧ ⟦<SqlSpace<T> as Space>⟧ }
+{}
+
+/// Tables of a format spell one airspace at most, and a space that was taken of them holds that one and
+/// no other. It is said of whatever `SqlSpace::adopt` takes, by its clause `taken`.
+pub fn one_airspace_as<S: Alter>()
+    ensures one { OneAirspaceAs }
+    ensures holds { HoldsEachSpelt S.Store ⟦<SqlSpace<S> as Space>⟧ }
 {}

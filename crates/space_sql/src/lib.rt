@@ -5,5 +5,6 @@ pub mod laws;
 mod listed;
 pub mod open;
 mod reading;
+pub mod remains;
 pub mod space;
 mod told;

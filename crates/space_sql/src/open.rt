@@ -1,5 +1,5 @@
 //! A space over tables is made, taken and given back.
-ghost use Rattle.std.specs.Prelude.{◌≡◌, ◌≢◌, ◌↔◌, codes, false, Err, IfErr, IfOk, IfSome, IsErrAnd, IsTrue};
+ghost use Rattle.std.specs.Prelude.{◌≡◌, ◌≢◌, ◌↔◌, codes, false, IfErr, IfOk, IfSome, IsErrAnd, IsTrue};
 ghost use Rattle.sqlite.specs.Files.{file_state, over_files};
 ghost use Rattle.sqlite.specs.Recovery.{Image};
 ghost use Rattle.sqlite.specs.WalFiles.{image_at};
@@ -18,13 +18,15 @@ ghost use Rattle.space_tables.specs.declared.format.Format.{Format};
 ghost use Rattle.space_tables.specs.declared.format.Format.TheVariants.{One, Two};
 ghost use Rattle.space_tables.specs.declared.presence.Presence.TheVariants.{Whole};
 ghost use Rattle.space_opening.specs.Opening.{MayBeMoved, Refuses};
-ghost use Rattle.space_opening.specs.declared.open_fault.OpenFault.TheVariants.{Store};
+ghost use Rattle.space_opening.specs.declared.open_fault.OpenFault.TheVariants.{Store, Version};
 ghost use Rattle.space_sql.specs.Found.{FindsSpelt, IsOpenedOver, RefusesFound};
+ghost use Rattle.space_sql.specs.Remains.{RefusesOpening};
 ghost use Rattle.space_sql.specs.Listed.{IsAllOf};
 ghost use Rattle.space_sql.specs.Opening.{HoldsSpelt, IsDueFault, IsFresh, MayBeOpened};
 ghost use Rattle.space_sql.specs.Restart.{ClosesFiles};
 
 use crate::listed::is_ours;
+use crate::remains::Remains;
 use crate::space::SqlSpace;
 use crate::told::at_rest;
 use space_core::space::{Space, SpaceFault};
@@ -301,7 +303,8 @@ fn begins_as_database(rt: &HostRuntime, path: &str) -> io::Result<bool> {
 // Why a file was not opened. `sqlite` opens no database whose rows break a rule of their tables, as
 // those that refer to a table which is lacking: no airspace is spelt there.
 fn unopened(rt: &HostRuntime, path: &str, error: &Error) -> OpenFault
-    ensures { error.now ≢ SqliteFailure NotADatabase → result ≡ Store }
+    ensures store { error.now ≢ SqliteFailure NotADatabase → result ≡ Store }
+    ensures unread { result ≢ Version }
 {
     match error {
         Error::SqliteFailure(ErrorCode::NotADatabase) => match begins_as_database(rt, path) {
@@ -318,23 +321,26 @@ fn file<S: Start>(
     rt: &HostRuntime,
     path: &str,
     start: S,
-) -> Result<Connection<FileStore<FileFrom<S>>>, OpenFault>
+) -> Result<Connection<FileStore<FileFrom<S>>>, (OpenFault, Remains<FileFrom<S>>)>
     ensures outside { IfOk result (λ conn. conn.in_transaction ≡ false) }
-    ensures memory { path.now ≡ codes ":memory:" → result ≡ Err OpenFault.Store }
+    ensures memory { path.now ≡ codes ":memory:"
+        → IsErrAnd result (λ e. e.0 ≡ OpenFault.Store) }
     ensures opened { IfOk result (λ conn. HasCleanDisk (file_state conn)
         → IsOpenedOver (image_at S.Start) (file_state conn)) }
+    ensures refuses { IfErr result (λ e. RefusesOpening (image_at S.Start) e.1 e.0) }
 {
     match Connection::open_from(rt, path, false, start) {
         Ok(conn) => Ok(conn),
-        Err((error, _)) => Err(unopened(rt, path, &error)),
+        Err((error, None)) => Err((unopened(rt, path, &error), Remains::Nothing)),
+        Err((error, Some(left))) => Err((unopened(rt, path, &error), Remains::Files(left))),
     }
 }
 
-/// A space over a file, with all that it then holds where that was read; or a fault, with the
-/// connection that goes back, once there was one.
+/// A space over a file, with all that it then holds where that was read; or a fault, with what there
+/// is of the files.
 pub type Opening<S> = Result<
     (SqlSpace<FileStore<FileFrom<S>>>, Option<Listed>),
-    (OpenFault, Option<Connection<FileStore<FileFrom<S>>>>),
+    (OpenFault, Remains<FileFrom<S>>),
 >;
 
 impl<S: Start> SqlSpace<FileStore<FileFrom<S>>> {
@@ -349,18 +355,17 @@ impl<S: Start> SqlSpace<FileStore<FileFrom<S>>> {
         ensures finds { IfOk result (λ t. FindsSpelt (image_at S.Start)
             ⟦<SqlSpace<FileStore<FileFrom<S>>> as Space>⟧ t.0) }
         ensures all { IfOk result (λ t. IfSome t.1 (IsAllOf over_files t.0)) }
-        ensures refuses { IfErr result (λ e. IfSome e.1
-            (λ conn. RefusesFound (image_at S.Start) (file_state conn) e.0)) }
+        ensures refuses { IfErr result (λ e. RefusesOpening (image_at S.Start) e.1 e.0) }
         ensures memory { path.now ≡ codes ":memory:"
             → IsErrAnd result (λ e. e.0 ≡ OpenFault.Store) }
     {
         let conn = match file(rt, path, start) {
             Ok(conn) => conn,
-            Err(fault) => return Err((fault, None)),
+            Err(refused) => return Err(refused),
         };
         match taken_whole(rt.alloc(), conn) {
             Ok(taken) => Ok(taken),
-            Err((fault, conn)) => Err((fault, Some(conn))),
+            Err((fault, conn)) => Err((fault, Remains::Connection(conn))),
         }
     }
 
