@@ -124,7 +124,9 @@ fn three(alloc: Global) -> Option<Vec<(u64, Call)>> {
         (7, OpKind::SetAvail, r#"{"availability":"Normal"}"#),
         (8, OpKind::ReadAvail, ""),
     ] {
-        calls.push((now, call(alloc, "uss-a", kind, &words, body)?)).ok()?;
+        calls
+            .push((now, call(alloc, "uss-a", kind, &words, body)?))
+            .ok()?;
     }
     Some(calls)
 }

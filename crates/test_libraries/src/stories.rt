@@ -22,6 +22,7 @@ const FIRST_PLAN: PathWords<'static> = PathWords {
     first: "00000000-0000-4000-8000-0000000000a1",
     second: Some(FIRST),
 };
+
 const OTHER: PathWords<'static> = PathWords {
     first: "00000000-0000-4000-8000-0000000000b1",
     second: None,
@@ -29,14 +30,18 @@ const OTHER: PathWords<'static> = PathWords {
 
 // The OVNs of the serials 1, 3 and 4.
 const FIRST: &str = "0c8bab20c7aa631feb6e9d12df89abda74886cd1be999754333b0cbdafd072d7";
+
 const THIRD: &str = "bf5cb828bbf7e8b093f86a9fa7d1afb732b484fe5604d03890c3307fce15ece2";
+
 const FOURTH: &str = "03e3ee156df8232c33493b4417edb57f8c466be3e105477716755007aaf5ae41";
 
 // Puts in one volume, without a key and with each of two OVNs as theirs.
 const PUT: &str =
     r#"{"extents":[{"cells":["89c25904"],"altitude_lower":0,"altitude_upper":1200,"time_start":900,"time_end":2000}],"state":"Accepted","uss_base_url":"https://a.example"}"#;
+
 const WITH_FIRST: &str =
     r#"{"extents":[{"cells":["89c25904"],"altitude_lower":0,"altitude_upper":1200,"time_start":900,"time_end":2000}],"key":["0c8bab20c7aa631feb6e9d12df89abda74886cd1be999754333b0cbdafd072d7"],"state":"Accepted","uss_base_url":"https://a.example"}"#;
+
 const WITH_THIRD: &str =
     r#"{"extents":[{"cells":["89c25904"],"altitude_lower":0,"altitude_upper":1200,"time_start":900,"time_end":2000}],"key":["bf5cb828bbf7e8b093f86a9fa7d1afb732b484fe5604d03890c3307fce15ece2"],"state":"Accepted","uss_base_url":"https://a.example"}"#;
 
@@ -51,7 +56,9 @@ fn story(alloc: Global) -> Option<Vec<(u64, Call)>> {
         ("uss-a", OpKind::Create(Kind::Intent), PLAN, PUT),
         ("uss-b", OpKind::Create(Kind::Intent), OTHER, WITH_FIRST),
     ] {
-        calls.push((1000, call(alloc, uss, kind, &words, body)?)).ok()?;
+        calls
+            .push((1000, call(alloc, uss, kind, &words, body)?))
+            .ok()?;
     }
     Some(calls)
 }
@@ -89,7 +96,13 @@ fn are_due(replies: &[Reply]) -> bool {
 fn is_told(alloc: Global) -> Option<bool> {
     let salt = Salt::read(alloc, "demo").ok()?;
     let calls = story(alloc)?;
-    let next = call(alloc, "uss-b", OpKind::Create(Kind::Intent), &OTHER, WITH_THIRD)?;
+    let next = call(
+        alloc,
+        "uss-b",
+        OpKind::Create(Kind::Intent),
+        &OTHER,
+        WITH_THIRD,
+    )?;
     let told = told_after(alloc, salt, calls.as_slice(), 1000, &next).ok()?;
     Some(are_due(told.0.as_slice()) && is_created(&told.1, FOURTH))
 }
