@@ -1,5 +1,6 @@
 //! The clock of the system.
-use std::time::{SystemTime, UNIX_EPOCH};
+use dss_command::moment::seconds_of;
+use std::time::SystemTime;
 use wire_http::{ClockFault, Moments};
 
 /// The clock of the system: each moment is a reading of it, in whole seconds since 1970. It fails
@@ -21,10 +22,7 @@ impl<'a> SystemClock<'a> {
         let Ok(now) = SystemTime::now(self.rt) else {
             return None;
         };
-        match now.duration_since(UNIX_EPOCH) {
-            Ok(since) => Some(since.as_secs()),
-            Err(_) => None,
-        }
+        seconds_of(now)
     }
 }
 

@@ -1,20 +1,15 @@
 //! The command `serve`: connections to a port of this machine, many at once.
 use crate::clock::SystemClock;
-use crate::database::{Work, over_copied_database};
-use crate::fault::Fault;
 use crate::sockets::PortSockets;
-use crate::tokens::{salt_of, token_table, unread};
-use dss_serve::journal::Journal;
+use crate::tokens::token_table;
+use dss_command::clients::{Answering, Listen};
+use dss_command::fault::Fault;
+use dss_command::tokens::salt_of;
+use dss_files::files::{self, opened};
 use dss_serve::limits::{Limits, MOST_CLIENTS};
-use dss_serve::serve::serve_clients;
-use entity_core::salt::Salt;
-use service_core::service::Service;
-use space_core::space::Space;
 use sqlite::Start;
+use std::io;
 use std::io::Write;
-use token_conf::token_table::TokenTable;
-use wire_http::StreamFault;
-use wire_route::routes::Routes;
 
 /// What the command `serve` was given.
 #[derive(Clone, Copy)]
@@ -42,74 +37,17 @@ fn limits_of(given: &ServeLine<'_>) -> Limits {
     }
 }
 
-// Where the faults of clients are told: each on a line.
+// The ports of this system.
 #[derive(Drop)]
-struct Lines<'a, E: Write> {
-    error: &'a mut E,
-}
-
-impl<'a, E: Write> Journal for Lines<'a, E> {
-    fn failed(&mut self, fault: StreamFault) {
-        let _ = writeln!(self.error, "{}", Fault::from(fault));
-    }
-}
-
-// Serves the connections of the port.
-fn serve_port<S: Space + Drop, E: Write>(
-    rt: &HostRuntime,
-    service: &mut Service<S>,
-    tokens: &TokenTable,
-    given: &ServeLine<'_>,
-    error: &mut E,
-) -> Result<(), Fault> {
-    let Ok(routes) = Routes::new(rt.alloc()) else {
-        return Err(Fault::Memory);
-    };
-    let port = given.port;
-    let sockets = match PortSockets::listen(rt, port) {
-        Ok(sockets) => sockets,
-        Err(cause) => return Err(unread(&cause, Fault::Socket)),
-    };
-    let _ = writeln!(error, "dss: listening on 127.0.0.1:{port}");
-    let mut clock = SystemClock::new(rt);
-    let mut journal = Lines { error };
-    match serve_clients(
-        rt.alloc(),
-        &routes,
-        tokens,
-        service,
-        &mut clock,
-        sockets,
-        limits_of(given),
-        &mut journal,
-    ) {
-        Ok(()) => Ok(()),
-        Err(cause) => Err(unread(&cause, Fault::Socket)),
-    }
-}
-
-// The work of the command.
-#[derive(Drop)]
-struct Serving<'a, E: Write> {
+struct Ports<'a> {
     rt: &'a HostRuntime,
-    given: &'a ServeLine<'a>,
-    tokens: &'a TokenTable,
-    salt: Salt,
-    error: &'a mut E,
 }
 
-impl<'a, E: Write> Work for Serving<'a, E> {
-    fn perform<S: Space + Drop>(self, space: S) -> (Result<(), Fault>, S) {
-        let Serving {
-            rt,
-            given,
-            tokens,
-            salt,
-            error,
-        } = self;
-        let mut service = Service::new(space, salt);
-        let served = serve_port(rt, &mut service, tokens, given, error);
-        (served, service.into_space())
+impl<'a> Listen for Ports<'a> {
+    type Sockets = PortSockets<'a>;
+
+    fn listen(self, port: u16) -> io::Result<PortSockets<'a>> {
+        PortSockets::listen(self.rt, port)
     }
 }
 
@@ -122,12 +60,23 @@ pub(crate) fn serve<F: Start, E: Write>(
 ) -> Result<(), Fault> {
     let tokens = token_table(rt, given.tokens)?;
     let salt = salt_of(&tokens)?;
-    let serving = Serving {
-        rt,
-        given,
+    let (space, listed) = opened(rt, given.database, start)?;
+    let answering = Answering {
         tokens: &tokens,
-        salt,
-        error,
+        port: given.port,
+        limits: limits_of(given),
     };
-    over_copied_database(rt, given.database, start, serving)
+    let mut clock = SystemClock::new(rt);
+    let ports = Ports { rt };
+    let _files = files::serve(
+        rt.alloc(),
+        space,
+        listed,
+        salt,
+        answering,
+        &mut clock,
+        ports,
+        error,
+    )?;
+    Ok(())
 }

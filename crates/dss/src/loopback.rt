@@ -1,14 +1,19 @@
 //! The command `self`: one stream of requests through a socket of the program's own.
-use crate::fault::Fault;
-use crate::run::serve_at;
-use crate::tokens::{salt_of, token_table, unread};
-use service_core::service::Service;
-use space_list::list::ListSpace;
+ghost use Rattle.std.specs.Prelude.{◌≡◌};
+ghost use Rattle.token_conf.specs.TokenFile.{salt_of};
+
+use crate::tokens::token_table;
+use dss_command::fault::{Fault, of_system};
+use dss_command::print::put;
+use dss_command::stream::serve_in_memory;
+use dss_command::tokens::salt_of;
+use entity_core::salt::Salt;
 use std::fs::File;
 use std::io;
 use std::io::{Read, Write};
 use std::net::{Ipv4Addr, Shutdown, TcpListener, TcpStream};
 use token_conf::token_table::TokenTable;
+use wire_http::Counted;
 
 // The most bytes that are sent either way: so many wait in a socket until they are read.
 const MOST_BYTES: usize = 16_384;
@@ -30,7 +35,7 @@ fn few_bytes<R: Read>(rt: &HostRuntime, input: &mut R) -> Result<Vec<u8>, Fault>
     // one more than the most, by which too many are known
     match input.take(16_385).read_to_end(&mut bytes) {
         Ok(_) => {}
-        Err(cause) => return Err(unread(&cause, Fault::RequestsUnread)),
+        Err(cause) => return Err(of_system(&cause, Fault::RequestsUnread)),
     }
     if bytes.len() > MOST_BYTES {
         return Err(Fault::RequestTooLong);
@@ -45,7 +50,7 @@ fn request_bytes<R: Read>(rt: &HostRuntime, name: &str, input: &mut R) -> Result
     }
     match File::open(rt, name) {
         Ok(mut file) => few_bytes(rt, &mut file),
-        Err(cause) => Err(unread(&cause, Fault::RequestsUnread)),
+        Err(cause) => Err(of_system(&cause, Fault::RequestsUnread)),
     }
 }
 
@@ -74,39 +79,31 @@ fn sent_back(
     Ok(came)
 }
 
-// What comes back for a request that is sent through a socket.
-fn through_socket(
+// What comes back for requests to a service over an empty airspace that are sent through a socket.
+fn answers_to(
     rt: &HostRuntime,
-    service: &mut Service<ListSpace>,
     tokens: &TokenTable,
+    salt: Salt,
     now: u64,
     request: &[u8],
-) -> Result<Vec<u8>, Fault> {
+) -> Result<Vec<u8>, Fault>
+    requires { salt ≡ salt_of tokens.now }
+{
     let (mut client, mut server) = match connected(rt, request) {
         Ok(ends) => ends,
-        Err(cause) => return Err(unread(&cause, Fault::Socket)),
+        Err(cause) => return Err(of_system(&cause, Fault::Socket)),
     };
     let mut answers = Vec::new(rt.alloc());
-    serve_at(rt.alloc(), service, tokens, now, &mut server, &mut answers)?;
+    let mut reader = Counted::new(&mut server);
+    let mut writer = Counted::new(&mut answers);
+    serve_in_memory(rt.alloc(), salt, tokens, now, &mut reader, &mut writer)?;
     if answers.len() > MOST_BYTES {
         return Err(Fault::AnswerTooLong);
     }
     match sent_back(rt, answers.as_slice(), &mut server, &mut client) {
         Ok(came) => Ok(came),
-        Err(cause) => Err(unread(&cause, Fault::Socket)),
+        Err(cause) => Err(of_system(&cause, Fault::Socket)),
     }
-}
-
-// What comes back for requests to a service over an empty airspace.
-fn answers_to(
-    rt: &HostRuntime,
-    tokens: &TokenTable,
-    now: u64,
-    request: &[u8],
-) -> Result<Vec<u8>, Fault> {
-    let salt = salt_of(tokens)?;
-    let mut service = Service::new(ListSpace::new(rt.alloc()), salt);
-    through_socket(rt, &mut service, tokens, now, request)
 }
 
 /// Runs the command.
@@ -118,9 +115,7 @@ pub(crate) fn loop_back<R: Read, W: Write>(
 ) -> Result<(), Fault> {
     let tokens = token_table(rt, given.tokens)?;
     let request = request_bytes(rt, given.request, input)?;
-    let came = answers_to(rt, &tokens, given.now, request.as_slice())?;
-    match output.write_all(came.as_slice()) {
-        Ok(()) => Ok(()),
-        Err(_) => Err(Fault::Output),
-    }
+    let salt = salt_of(&tokens)?;
+    let came = answers_to(rt, &tokens, salt, given.now, request.as_slice())?;
+    put(came.as_slice(), output)
 }

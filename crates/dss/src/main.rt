@@ -2,21 +2,19 @@
 #![tactic(auto)]
 
 mod clock;
-mod command;
 mod connections;
-mod database;
-mod fault;
 mod loopback;
-mod report;
+mod program;
 mod run;
 mod sockets;
 mod tokens;
-mod upgrade;
 
-use crate::command::run_line;
+use crate::program::Program;
+use dss_command::line::run_line;
 use sqlite::Unknown;
 use std::process::ExitCode;
 use std::{env, io};
+use wire_http::Counted;
 
 // Runs the program's command line with the standard streams.
 fn run_words(rt: &HostRuntime) -> io::Result<u8> {
@@ -28,12 +26,13 @@ fn run_words(rt: &HostRuntime) -> io::Result<u8> {
     for word in &owned {
         words.push(word.as_str())?;
     }
+    let program = Program { rt, start: Unknown };
     Ok(run_line(
-        rt,
+        rt.alloc(),
         words.as_slice(),
-        Unknown,
-        &mut rt.reader(),
-        &mut io::writer(rt),
+        program,
+        &mut Counted::new(rt.reader()),
+        &mut Counted::new(io::writer(rt)),
         &mut rt.stderr(),
     ))
 }

@@ -1,4 +1,5 @@
 //! The service to many clients at once, on one thread.
+ghost use Rattle.std.specs.Prelude.{OnOk, IsSome};
 ghost use Rattle.token_conf.specs.TokenFile.{callers_of};
 ghost use Rattle.dss_serve.specs.Serve.{ServesAll};
 
@@ -11,6 +12,7 @@ use service_core::service::Service;
 use space_core::space::Space;
 use std::alloc::Global;
 use std::io;
+use std::io::ErrorKind;
 use token_conf::token_table::TokenTable;
 use wire_http::Moments;
 use wire_route::routes::Routes;
@@ -22,8 +24,9 @@ use wire_route::routes::Routes;
 /// was asked one list of calls, each made by a request that bears the token of its caller. Each
 /// client that has something to do has a turn before any has its second.
 ///
-/// An error is one of the system that ends the service; the calls before it stand. A fault of a
-/// client is told to the journal, and ends that client's connection alone.
+/// It is done only where a number of connections is given. An error is one of the system that ends the
+/// service; the calls before it stand. A fault of a client is told to the journal, and ends that
+/// client's connection alone.
 pub fn serve_clients<S: Space + Drop, M: Moments, N: Sockets + Drop, J: Journal>(
     alloc: Global,
     routes: &Routes,
@@ -34,17 +37,19 @@ pub fn serve_clients<S: Space + Drop, M: Moments, N: Sockets + Drop, J: Journal>
     limits: Limits,
     journal: &mut J,
 ) -> io::Result<()>
-    ensures { ServesAll S.Space (callers_of tokens.now) service.old service.new }
+    ensures serves { ServesAll S.Space (callers_of tokens.now) service.old service.new }
+    ensures counted { OnOk result (IsSome limits.count) }
 {
     let desk = Desk {
         alloc,
         routes,
         tokens,
     };
+    let is_counted = limits.count.is_some();
     let mut port = Port::new(alloc, sockets, limits)?;
     let mut now = port.time()?;
     for _ in 0..u64::MAX {
-        if port.is_done() {
+        if is_counted && port.is_done() {
             return Ok(());
         }
         port.wait(now)?;
@@ -53,5 +58,6 @@ pub fn serve_clients<S: Space + Drop, M: Moments, N: Sockets + Drop, J: Journal>
         port.round(desk, service, moments, now, journal);
         port.look(now, journal);
     }
-    Ok(())
+    // nobody waits for so many rounds
+    Err(io::Error::from(ErrorKind::TimedOut))
 }

@@ -2,11 +2,11 @@ use Rattle.token_conf.specs.TokenFile.{callers_of}
 use Rattle.dss_serve.proofs.Serving.{serves_none}
 use Rattle.dss_serve.proofs.serve.serve_clients.Goals as goal
 
-pub returns-in_err-port : goal.returns-in_err-port
-returns-in_err-port g c = serves_none g.S.Space (callers_of c.args.tokens.now) c.args.service.now
+pub returns-in_err-port-clause-serves : goal.returns-in_err-port-clause-serves
+returns-in_err-port-clause-serves g c = serves_none g.S.Space (callers_of c.args.tokens.now) c.args.service.now
 
-pub returns-in_err-now : goal.returns-in_err-now
-returns-in_err-now g c = serves_none g.S.Space (callers_of c.args.tokens.now) c.args.service.now
+pub returns-in_err-now-clause-serves : goal.returns-in_err-now-clause-serves
+returns-in_err-now-clause-serves g c = serves_none g.S.Space (callers_of c.args.tokens.now) c.args.service.now
 
 pub loop-init : goal.loop-init
 loop-init g c = serves_none g.S.Space (callers_of c.args.tokens.now) c.args.service.now

@@ -1,15 +1,21 @@
-//! Why a command failed.
+//! Why a command failed, the line that tells it, and the exit status.
+ghost use Rattle.std.specs.Prelude.{◌≡◌, ◌++◌, codes, OnOk};
+ghost use Rattle.std.specs.Io.KnownBytes.{Appends};
+ghost use Rattle.std.specs.IoError.{error_kind};
+ghost use Rattle.dss_command.specs.Fault.{line_of, status_of, told_by};
+
 use dss_report::fault::{CellFault, ReportFault};
 use grid_core::token::TokenFault;
 use space_opening::open_fault::OpenFault;
-use std::fmt;
+use std::io::{ErrorKind, Write};
+use std::{fmt, io};
 use token_conf::conf_fault::ConfFault;
 use wire_http::StreamFault;
 
 /// Why a command failed. Printed, it is the line that the program writes to standard error, without
 /// the line end.
 #[derive(Debug, Drop)]
-pub(crate) enum Fault {
+pub enum Fault {
     /// The token file does not open, fails to read or is not UTF-8.
     TokensUnread,
     /// The token file is wrong.
@@ -37,6 +43,11 @@ pub(crate) enum Fault {
 }
 
 impl fmt::Display for Fault {
+    ghost use Rattle.std.specs.Prelude.{Some};
+    ghost use Rattle.dss_command.specs.Fault.{line_of};
+
+    ghost output = { λ fault. Some (line_of fault) };
+
     fn fmt<W: fmt::Write>(&self, f: &mut fmt::Formatter<W>) -> fmt::Result {
         match self {
             Fault::TokensUnread => write!(f, "dss: tokens: cannot read"),
@@ -72,7 +83,7 @@ impl fmt::Display for Fault {
 }
 
 impl From<StreamFault> for Fault {
-    ghost use Rattle.dss.specs.Fault.{IsOfStream};
+    ghost use Rattle.dss_command.specs.Fault.{IsOfStream};
 
     ghost from_gives = { IsOfStream };
 
@@ -86,7 +97,7 @@ impl From<StreamFault> for Fault {
 
 impl From<OpenFault> for Fault {
     ghost use Rattle.std.specs.Prelude.{◌≡◌};
-    ghost use Rattle.dss.specs.declared.fault.Fault.TheVariants as fault;
+    ghost use Rattle.dss_command.specs.declared.fault.Fault.TheVariants as fault;
 
     ghost from_gives = { λ e found. found ≡ fault.Database e };
 
@@ -96,7 +107,7 @@ impl From<OpenFault> for Fault {
 }
 
 impl From<CellFault> for Fault {
-    ghost use Rattle.dss.specs.Fault.{IsOfCell};
+    ghost use Rattle.dss_command.specs.Fault.{IsOfCell};
 
     ghost from_gives = { IsOfCell };
 
@@ -109,7 +120,7 @@ impl From<CellFault> for Fault {
 }
 
 impl From<ReportFault> for Fault {
-    ghost use Rattle.dss.specs.Fault.{IsOfReport};
+    ghost use Rattle.dss_command.specs.Fault.{IsOfReport};
 
     ghost from_gives = { IsOfReport };
 
@@ -118,5 +129,33 @@ impl From<ReportFault> for Fault {
             ReportFault::Space => Fault::DatabaseFailed,
             ReportFault::Memory => Fault::Memory,
         }
+    }
+}
+
+/// Tells a fault on one line.
+pub fn tell<E: Write>(fault: &Fault, error: &mut E) -> io::Result<()>
+    ensures { OnOk result (Appends (E.contents error.old) (E.contents error.new)
+        (line_of fault.now ++ codes "\n")) }
+{
+    writeln!(error, "{fault}")
+}
+
+/// The exit status of a command that ended so: 0 where it is done, and 1 after a fault.
+pub fn status(done: &Result<(), Fault>) -> u8
+    ensures { result ≡ status_of done.now }
+{
+    match done {
+        Ok(()) => 0,
+        Err(_) => 1,
+    }
+}
+
+/// What a call of the system that failed comes to: want of memory is told as such.
+pub fn of_system(cause: &io::Error, fault: Fault) -> Fault
+    ensures { result ≡ told_by (error_kind cause.now) fault }
+{
+    match cause.kind() {
+        ErrorKind::OutOfMemory => Fault::Memory,
+        _ => fault,
     }
 }

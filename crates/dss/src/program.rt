@@ -1,0 +1,89 @@
+//! The commands, as this system does them.
+use crate::connections::{self, ServeLine};
+use crate::loopback::{self, LoopbackLine};
+use crate::run::{self, RunLine};
+use dss_command::fault::Fault;
+use dss_command::line::Commands;
+use dss_files::files;
+use sqlite::Start;
+use std::io::{Read, Write};
+use wire_http::Counted;
+
+/// The system, and what stands for all that the file and the log of a database may hold.
+#[derive(Drop)]
+pub(crate) struct Program<'a, F: Start> {
+    pub(crate) rt: &'a HostRuntime,
+    pub(crate) start: F,
+}
+
+impl<'a, F: Start> Commands for Program<'a, F> {
+    // what the system holds and does is not said
+    ghost does = { λ line remaining before after done. Unit {0} };
+
+    fn run<R: Read, W: Write>(
+        self,
+        tokens: &str,
+        now: u64,
+        database: Option<&str>,
+        requests: &str,
+        input: &mut Counted<R>,
+        output: &mut Counted<W>,
+    ) -> Result<(), Fault> {
+        let Program { rt, start } = self;
+        let given = RunLine {
+            tokens,
+            now,
+            database,
+            requests,
+        };
+        run::run(rt, &given, start, input, output)
+    }
+
+    fn serve<E: Write>(
+        self,
+        tokens: &str,
+        database: &str,
+        port: u16,
+        count: Option<u64>,
+        clients: u64,
+        error: &mut E,
+    ) -> Result<(), Fault> {
+        let Program { rt, start } = self;
+        let given = ServeLine {
+            tokens,
+            database,
+            port,
+            count,
+            clients,
+        };
+        connections::serve(rt, &given, start, error)
+    }
+
+    fn loop_back<R: Read, W: Write>(
+        self,
+        tokens: &str,
+        now: u64,
+        request: &str,
+        input: &mut Counted<R>,
+        output: &mut Counted<W>,
+    ) -> Result<(), Fault> {
+        let given = LoopbackLine {
+            tokens,
+            now,
+            request,
+        };
+        loopback::loop_back(self.rt, &given, input, output)
+    }
+
+    fn report<W: Write>(self, database: &str, output: &mut W) -> Result<(), Fault> {
+        let Program { rt, start } = self;
+        let _files = files::report(rt, database, start, output)?;
+        Ok(())
+    }
+
+    fn upgrade<W: Write>(self, database: &str, output: &mut W) -> Result<(), Fault> {
+        let Program { rt, start } = self;
+        let _files = files::upgrade(rt, database, start, output)?;
+        Ok(())
+    }
+}

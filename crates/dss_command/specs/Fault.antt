@@ -1,0 +1,77 @@
+-- Why a command failed.
+use Rattle.std.specs.Prelude.{◌≡◌, ℕ, List, ◌++◌, codes, decimal, Option, Result, Ok, Err}
+use Rattle.std.specs.Io.KnownBytes.{Appends}
+use Rattle.std.specs.IoError.{error_kind}
+use Rattle.std.specs.declared.io.Error.{Error}
+use Rattle.std.specs.declared.io.ErrorKind.{ErrorKind}
+use Rattle.std.specs.declared.io.ErrorKind.TheVariants as kinds
+use Rattle.grid_core.specs.Token as token
+use Rattle.space_opening.specs.OpenFault as opening
+use Rattle.token_conf.specs.ConfFault as conf
+use Rattle.wire_http.specs.Fault as streams
+use Rattle.dss_command.specs.declared.fault.Fault.{Fault}
+use Rattle.dss_command.specs.declared.fault.Fault.TheVariants as fault
+use Rattle.dss_report.specs.declared.fault.CellFault.{CellFault}
+use Rattle.dss_report.specs.declared.fault.CellFault.TheVariants as cell
+use Rattle.dss_report.specs.declared.fault.ReportFault.{ReportFault}
+use Rattle.dss_report.specs.declared.fault.ReportFault.TheVariants as report
+use Rattle.wire_http.specs.declared.fault.StreamFault.{StreamFault}
+use Rattle.wire_http.specs.declared.fault.StreamFault.TheVariants as stream
+
+-- the fault of a stream that was given up; want of memory is told as such
+abbrev pub IsOfStream : StreamFault → Fault → Type 0
+IsOfStream stream.Memory found = found ≡ fault.Memory
+IsOfStream why found = found ≡ fault.Stream why
+
+-- the fault of the line of a cell
+abbrev pub IsOfCell : CellFault → Fault → Type 0
+IsOfCell (cell.Token why) found = found ≡ fault.Token why
+IsOfCell cell.Memory found = found ≡ fault.Memory
+
+-- the fault of a report: of the database, or want of memory
+abbrev pub IsOfReport : ReportFault → Fault → Type 0
+IsOfReport report.Space found = found ≡ fault.DatabaseFailed
+IsOfReport report.Memory found = found ≡ fault.Memory
+
+-- what the failure of a call of the system is told as; want of memory is told as such
+abbrev pub told_by : ErrorKind → Fault → Fault
+told_by kinds.OutOfMemory why = fault.Memory
+told_by kind why = why
+
+-- what tells a fault by its number and its name
+abbrev pub numbered : ℕ → List ℕ → List ℕ
+numbered number name = decimal number ++ (codes " " ++ name)
+
+-- the line that tells a fault, without its end
+abbrev pub line_of : Fault → List ℕ
+line_of fault.TokensUnread = codes "dss: tokens: cannot read"
+line_of (fault.Tokens why) =
+    codes "dss: tokens: fault " ++ numbered (conf.fault_number why) (conf.fault_name why)
+line_of (fault.Database why) =
+    codes "dss: db: fault " ++ numbered (opening.number_of why) (opening.name_of why)
+line_of fault.DatabaseFailed = codes "dss: db: fault"
+line_of fault.RequestsUnread = codes "dss: requests: cannot read"
+line_of fault.RequestTooLong = codes "dss: self: request too long"
+line_of fault.AnswerTooLong = codes "dss: self: answer too long"
+line_of fault.Socket = codes "dss: socket"
+line_of (fault.Stream why) =
+    codes "dss: stream: fault " ++ numbered (streams.number_of why) (streams.name_of why)
+line_of (fault.Token why) =
+    codes "dss: token: fault " ++ numbered (token.fault_number why) (token.fault_name why)
+line_of fault.Output = codes "dss: output"
+line_of fault.Memory = codes "dss: memory"
+
+-- the exit status of a command that ended so
+abbrev pub status_of : Result (Unit {0}) Fault → ℕ
+status_of (Ok x) = 0
+status_of (Err e) = 1
+
+-- a client's fault is told on a line
+abbrev pub TellsClient : StreamFault → (old new : Option (List ℕ)) → Type 0
+TellsClient why old new =
+    (found : Fault) × IsOfStream why found × Appends old new (line_of found ++ codes "\n")
+
+-- how the command ends by how its service to many clients ended
+abbrev pub EndsServing : Result (Unit {0}) Error → Result (Unit {0}) Fault → Type 0
+EndsServing (Ok x) ended = ended ≡ Ok x
+EndsServing (Err cause) ended = ended ≡ Err (told_by (error_kind cause) fault.Socket)

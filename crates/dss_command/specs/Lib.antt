@@ -1,0 +1,5 @@
+pub mod Fault
+pub mod Line
+pub mod Service
+pub mod Stream
+pub mod Tokens

@@ -1,0 +1,69 @@
+-- How a command line ends, by what its words ask for.
+use Rattle.std.specs.Prelude.{◌≡◌, ◌⊎◌, ℕ, List, [], Option, None, OnOk, Result, string_bytes}
+use Rattle.std.specs.Io.KnownBytes.{Appends}
+use Rattle.clap.specs.Faults.{fault_of as mistakes_of}
+use Rattle.clap.specs.Words.{Text, subcommand_of}
+use Rattle.dss_line.specs.Grammar.{dss_app}
+use Rattle.dss_line.specs.Line.{Asks, Explains}
+use Rattle.dss_line.specs.declared.fault.LineFault.{LineFault}
+use Rattle.dss_line.specs.declared.fault.LineFault.TheVariants as fault
+use Rattle.dss_line.specs.declared.line.Line.{Line}
+use Rattle.dss_line.specs.declared.line.Line.TheVariants.{Cell, Loopback, Report, Run, Serve, Upgrade}
+use Rattle.dss_report.specs.Cell.{IsLineOfToken}
+use Rattle.dss_command.specs.Fault.{status_of}
+use Rattle.dss_command.specs.declared.fault.Fault.{Fault}
+
+-- Help is written whole, and then the status is 0, or else 1; a refusal has the status 2, and want of
+-- memory 1.
+abbrev pub EndsRefused : LineFault → (before after : Option (List ℕ)) → ℕ → Type 0
+EndsRefused (fault.Shown text) before after status =
+    ((status ≡ 0) × Appends before after (string_bytes text)) ⊎ (status ≡ 1)
+EndsRefused (fault.Refused text) before after status = status ≡ 2
+EndsRefused fault.Memory before after status = status ≡ 1
+
+-- what the commands of the system may do
+abbrev pub Doing : Type 1
+Doing = Line → (remaining before after : Option (List ℕ)) → Result (Unit {0}) Fault → Type 0
+
+-- the line of a token's cell is written
+abbrev pub WritesCell : List ℕ → (before after : Option (List ℕ)) → Type 0
+WritesCell token before after = (line : List ℕ) × IsLineOfToken token line × Appends before after line
+
+module _ (does : Doing) where
+  -- What a line asks for was done: by the command of its name, with its values. `serve` writes to the
+  -- second writer, and every other command to the first.
+  abbrev pub Does : Line → (remaining output output' error error' : Option (List ℕ))
+      → Result (Unit {0}) Fault → Type 0
+  Does (Run tokens now database requests) remaining output output' error error' done =
+      does (Run tokens now database requests) remaining output output' done × (error' ≡ error)
+  Does (Serve tokens database port count clients) remaining output output' error error' done =
+      does (Serve tokens database port count clients) None error error' done
+      × (output' ≡ output)
+  Does (Loopback tokens now request) remaining output output' error error' done =
+      does (Loopback tokens now request) remaining output output' done × (error' ≡ error)
+  Does (Cell token) remaining output output' error error' done =
+      OnOk done (WritesCell token.now output output') × (error' ≡ error)
+  Does (Report database) remaining output output' error error' done =
+      does (Report database) None output output' done × (error' ≡ error)
+  Does (Upgrade database) remaining output output' error error' done =
+      does (Upgrade database) None output output' done × (error' ≡ error)
+
+  -- It ended with this status; where it was done, nothing more was written.
+  pub record EndsCommand (line : Line) (remaining output output' error error' : Option (List ℕ))
+      (status : ℕ) : Type 0 where
+    pub done : Result (Unit {0}) Fault
+    pub told : Option (List ℕ)
+    pub did : Does line remaining output output' error told done
+    pub quiet : OnOk done (error' ≡ told)
+    pub status_is : status ≡ status_of done
+
+  -- Words without a mistake that ask for a line end as its command does, and other words as they are
+  -- refused.
+  abbrev pub EndsLine : List Text → (remaining output output' error error' : Option (List ℕ)) → ℕ
+      → Type 0
+  EndsLine words remaining output output' error error' status =
+      ((line : Line) × Asks (subcommand_of dss_app words) line
+      × (mistakes_of dss_app words ≡ [])
+      × EndsCommand line remaining output output' error error' status)
+      ⊎ ((why : LineFault) × Explains (mistakes_of dss_app words) (subcommand_of dss_app words) why
+      × EndsRefused why output output' status)

@@ -1,0 +1,24 @@
+-- The service of a command.
+use Rattle.std.specs.Prelude.{◌≡◌, false}
+use Rattle.service_core.specs.Held as held
+use Rattle.service_core.specs.declared.service.Service.{Service}
+use Rattle.space_core.specs.declared.space.Space.{Ghosts}
+use Rattle.token_conf.specs.TokenFile.{TokenFile, callers_of, salt_of}
+use Rattle.dss_serve.specs.Serve.{ServesAll}
+
+-- a service over that space, which was asked nothing, with the salt of the token file
+pub record IsServiceOver {S : Type 0} (tokens : TokenFile) (space : S) (service : Service S)
+    : Type 0 where
+  pub space_is : held.space_of service ≡ space
+  pub salt_is : held.salt_of service ≡ salt_of tokens
+  pub goes : held.is_shut service ≡ false
+
+-- Such a service was asked calls of requests, each of the caller whose token it bears, and no other,
+-- and the space is given back as it is then.
+pub record ServesClients {S : Type 0} (g : Ghosts S) (tokens : TokenFile) (old new : S)
+    : Type 0 where
+  pub first : Service S
+  pub last : Service S
+  pub starts : IsServiceOver tokens old first
+  pub serves : ServesAll g (callers_of tokens) first last
+  pub ends : new ≡ held.space_of last

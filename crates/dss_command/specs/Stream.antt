@@ -1,0 +1,60 @@
+-- What a command tells of a stream that it serves, each moment being the same.
+use Rattle.std.specs.Prelude.{◌≡◌, ℕ, List, Option}
+use Rattle.dss_command.specs.Fault.{IsOfStream}
+use Rattle.dss_command.specs.Service.{IsServiceOver}
+use Rattle.dss_command.specs.declared.fault.Fault.{Fault}
+use Rattle.service_core.specs.Held.{space_of}
+use Rattle.service_core.specs.declared.service.Service.{Service}
+use Rattle.entity_core.specs.Airspace.{empty_at}
+use Rattle.space_core.specs.Space.{IsContent}
+use Rattle.space_core.specs.declared.space.Space.{Ghosts}
+use Rattle.token_conf.specs.TokenFile.{TokenFile, callers_of}
+use Rattle.wire_http.specs.Count.{most_requests}
+use Rattle.wire_http.specs.Input.{IsInput}
+use Rattle.wire_http.specs.Moments.{moment_of}
+use Rattle.wire_http.specs.Wire.{Serves, ServesPart}
+use Rattle.wire_http.specs.declared.end.Served.{Served}
+use Rattle.wire_http.specs.declared.fault.StreamFault.{StreamFault}
+use Rattle.wire_http.specs.declared.moments.Fixed.{Fixed}
+
+-- what a clock gives that stands still: its moment, and it stays
+abbrev pub StandsStill : Fixed → ℕ → Fixed → Type 0
+StandsStill old moment new = (moment ≡ moment_of old) × (new ≡ old)
+
+module _ {S : Type 0} (g : Ghosts S) (tokens : TokenFile) (now : ℕ)
+    (remaining before after : Option (List ℕ)) where
+  -- A service was asked what an input of the reader spells, each call at that moment, and the answers
+  -- were written.
+  pub record ServesAt (old new : Service S) (served : Served) : Type 0 where
+    pub input : List ℕ
+    pub clock : Fixed
+    pub clock' : Fixed
+    pub stands : moment_of clock ≡ now
+    pub input_is : IsInput remaining input
+    pub serves : Serves g StandsStill (callers_of tokens) most_requests input old new clock clock'
+        before after served
+
+  -- It was asked the first requests, and their answers were written, before the stream was given up.
+  pub record ServesPartAt (old new : Service S) (fault : Fault) : Type 0 where
+    pub why : StreamFault
+    pub fault_is : IsOfStream why fault
+    pub input : List ℕ
+    pub clock : Fixed
+    pub clock' : Fixed
+    pub stands : moment_of clock ≡ now
+    pub input_is : IsInput remaining input
+    pub serves : ServesPart g StandsStill (callers_of tokens) most_requests input old new clock
+        clock' before after why
+
+  -- So a service over a space, which is given back as it is then.
+  pub record ServesOver (old new : S) : Type 0 where
+    pub first : Service S
+    pub last : Service S
+    pub served : Served
+    pub starts : IsServiceOver tokens old first
+    pub serves : ServesAt first last served
+    pub ends : new ≡ space_of last
+
+  -- So over a space whose content is the empty airspace.
+  abbrev pub ServesEmpty : Type 0
+  ServesEmpty = (old : S) × (new : S) × IsContent g.holds old (empty_at 0) × ServesOver old new

@@ -1,0 +1,136 @@
+//! The command `serve`, below the system.
+ghost use Rattle.std.specs.Prelude.{◌≡◌, ◌⊎◌, ◌++◌, OnOk, OnErr, IsSome, codes, decimal};
+ghost use Rattle.std.specs.Io.KnownBytes.{Appends};
+ghost use Rattle.token_conf.specs.TokenFile.{salt_of};
+ghost use Rattle.dss_command.specs.Fault.{EndsServing, TellsClient};
+ghost use Rattle.dss_command.specs.Service.{ServesClients};
+
+use crate::fault::{Fault, of_system, tell};
+use dss_serve::journal::Journal;
+use dss_serve::limits::Limits;
+use dss_serve::serve::serve_clients;
+use dss_serve::sockets::Sockets;
+use entity_core::salt::Salt;
+use service_core::service::Service;
+use space_core::space::Space;
+use std::alloc::Global;
+use std::io;
+use std::io::Write;
+use token_conf::token_table::TokenTable;
+use wire_http::{Moments, StreamFault};
+use wire_route::routes::Routes;
+
+/// Tells on one line that the port is listened on.
+pub fn tell_listening<E: Write>(port: u16, error: &mut E) -> io::Result<()>
+    ensures { OnOk result (Appends (E.contents error.old) (E.contents error.new)
+        (codes "dss: listening on 127.0.0.1:" ++ decimal port ++ codes "\n")) }
+{
+    writeln!(error, "dss: listening on 127.0.0.1:{port}")
+}
+
+/// Tells on one line why a client was given up.
+pub fn tell_client<E: Write>(fault: StreamFault, error: &mut E) -> io::Result<()>
+    ensures { OnOk result (TellsClient fault (E.contents error.old) (E.contents error.new)) }
+{
+    tell(&Fault::from(fault), error)
+}
+
+// Where the faults of clients are told: each on a line.
+#[derive(Drop)]
+struct Lines<'a, E: Write> {
+    error: &'a mut E,
+}
+
+impl<'a, E: Write> Journal for Lines<'a, E> {
+    fn failed(&mut self, fault: StreamFault) {
+        let _ = tell_client(fault, self.error);
+    }
+}
+
+// How the command ends by how the service ended.
+fn ended(served: io::Result<()>) -> Result<(), Fault>
+    ensures { EndsServing served result }
+{
+    match served {
+        Ok(()) => Ok(()),
+        Err(cause) => Err(of_system(&cause, Fault::Socket)),
+    }
+}
+
+/// By what clients are answered, on which port, and how many.
+#[derive(Clone, Copy)]
+pub struct Answering<'a> {
+    /// The token file.
+    pub tokens: &'a TokenTable,
+    /// The port of 127.0.0.1.
+    pub port: u16,
+    /// How many connections, and how many at once.
+    pub limits: Limits,
+}
+
+/// What listens on a port.
+pub trait Listen {
+    type Sockets: Sockets + Drop;
+
+    /// The sockets of that port of 127.0.0.1.
+    fn listen(self, port: u16) -> io::Result<Self::Sockets>;
+}
+
+// Answers the clients of the sockets by a service over a space.
+fn serve_sockets<S: Space + Drop, M: Moments, N: Sockets + Drop, E: Write>(
+    alloc: Global,
+    space: S,
+    salt: Salt,
+    routes: &Routes,
+    given: Answering<'_>,
+    moments: &mut M,
+    sockets: N,
+    error: &mut E,
+) -> (Result<(), Fault>, S)
+    requires { salt ≡ salt_of given.tokens.now }
+    ensures served { ServesClients S.Space given.entry.tokens.now space result.1 }
+    ensures counted { OnOk result.0 (IsSome given.entry.limits.count) }
+{
+    let mut service = Service::new(space, salt);
+    let mut journal = Lines { error };
+    let served = serve_clients(
+        alloc,
+        routes,
+        given.tokens,
+        &mut service,
+        moments,
+        sockets,
+        given.limits,
+        &mut journal,
+    );
+    (ended(served), service.into_space())
+}
+
+/// Answers the clients of a port by a service that it makes over a space, which is given back as it is
+/// then. It tells that the port is listened on, and later the fault of each client that is given up.
+/// It is done only where a number of connections is given.
+pub fn serve_port<S: Space + Drop, M: Moments, L: Listen + Drop, E: Write>(
+    alloc: Global,
+    space: S,
+    salt: Salt,
+    given: Answering<'_>,
+    moments: &mut M,
+    listener: L,
+    error: &mut E,
+) -> (Result<(), Fault>, S)
+    requires { salt ≡ salt_of given.tokens.now }
+    ensures served { OnOk result.0 (ServesClients S.Space given.entry.tokens.now space result.1) }
+    ensures part { OnErr result.0 ((result.1 ≡ space)
+        ⊎ ServesClients S.Space given.entry.tokens.now space result.1) }
+    ensures counted { OnOk result.0 (IsSome given.entry.limits.count) }
+{
+    let Ok(routes) = Routes::new(alloc) else {
+        return (Err(Fault::Memory), space);
+    };
+    let sockets = match listener.listen(given.port) {
+        Ok(sockets) => sockets,
+        Err(cause) => return (Err(of_system(&cause, Fault::Socket)), space),
+    };
+    let _ = tell_listening(given.port, error);
+    serve_sockets(alloc, space, salt, &routes, given, moments, sockets, error)
+}

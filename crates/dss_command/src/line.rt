@@ -1,0 +1,177 @@
+//! One command line, run, up to its exit status.
+ghost use Rattle.std.specs.Prelude.{◌≡◌, OnOk, string_bytes};
+ghost use Rattle.std.specs.Io.KnownBytes.{Appends};
+ghost use Rattle.dss_line.specs.Line.{texts};
+ghost use Rattle.wire_http.specs.Counted.{inner_of};
+ghost use Rattle.dss_command.specs.Fault.{status_of};
+ghost use Rattle.dss_command.specs.Line.{Does, EndsLine, EndsRefused};
+
+use crate::fault::{Fault, status, tell};
+use crate::print::cell;
+use dss_line::fault::LineFault;
+use dss_line::line::{Line, parse};
+use std::alloc::Global;
+use std::io::{Read, Write};
+use wire_http::Counted;
+
+/// The commands that need the system. What it holds and does, no clause can say: which text the file of
+/// a name has, who listens on a port, what time it is.
+///
+/// `does line remaining before after done`: the command of that line may end so, where the reader has
+/// this to give and the writer is left so.
+pub trait Commands {
+    ghost use Rattle.std.specs.Prelude.{ℕ, List, Option, Result, Some, None};
+    ghost use Rattle.dss_line.specs.declared.line.Line.{Line};
+    ghost use Rattle.dss_command.specs.declared.fault.Fault.{Fault};
+
+    ghost does: { Line → (remaining before after : Option (List ℕ)) → Result (Unit {0}) Fault
+        → Type 0 };
+
+    /// The command `run`.
+    fn run<R: Read, W: Write>(
+        self,
+        tokens: &str,
+        now: u64,
+        database: Option<&str>,
+        requests: &str,
+        input: &mut Counted<R>,
+        output: &mut Counted<W>,
+    ) -> Result<(), Fault>
+        ensures { does (Line.Run tokens.entry now database.entry requests.entry)
+            (R.remaining (inner_of input.old))
+            (W.contents (inner_of output.old)) (W.contents (inner_of output.new)) result };
+
+    /// The command `serve`.
+    fn serve<E: Write>(
+        self,
+        tokens: &str,
+        database: &str,
+        port: u16,
+        count: Option<u64>,
+        clients: u64,
+        error: &mut E,
+    ) -> Result<(), Fault>
+        ensures { does (Line.Serve tokens.entry database.entry port count clients) None
+            (E.contents error.old) (E.contents error.new) result };
+
+    /// The command `self`.
+    fn loop_back<R: Read, W: Write>(
+        self,
+        tokens: &str,
+        now: u64,
+        request: &str,
+        input: &mut Counted<R>,
+        output: &mut Counted<W>,
+    ) -> Result<(), Fault>
+        ensures { does (Line.Loopback tokens.entry now request.entry)
+            (R.remaining (inner_of input.old))
+            (W.contents (inner_of output.old)) (W.contents (inner_of output.new)) result };
+
+    /// The command `report`.
+    fn report<W: Write>(self, database: &str, output: &mut W) -> Result<(), Fault>
+        ensures { does (Line.Report database.entry) None
+            (W.contents output.old) (W.contents output.new) result };
+
+    /// The command `upgrade`.
+    fn upgrade<W: Write>(self, database: &str, output: &mut W) -> Result<(), Fault>
+        ensures { does (Line.Upgrade database.entry) None
+            (W.contents output.old) (W.contents output.new) result };
+}
+
+/// The exit status of a command that ended, after its fault was told on one line.
+pub fn ended<E: Write>(done: Result<(), Fault>, error: &mut E) -> u8
+    ensures status { result ≡ status_of done }
+    ensures quiet { OnOk done (E.contents error.new ≡ E.contents error.old) }
+{
+    if let Err(fault) = &done {
+        let _ = tell(fault, error);
+    }
+    status(&done)
+}
+
+fn shown<O: Write>(text: &String, output: &mut O) -> Result<(), Fault>
+    ensures { OnOk result (Appends (O.contents output.old) (O.contents output.new)
+        (string_bytes text.now)) }
+{
+    match write!(output, "{text}") {
+        Ok(()) => Ok(()),
+        Err(_) => Err(Fault::Output),
+    }
+}
+
+/// What a command line that asks for no command gets, and its exit status: help, which is written to
+/// `output`, or why it was refused, to `error`.
+pub fn refused<O: Write, E: Write>(fault: LineFault, output: &mut O, error: &mut E) -> u8
+    ensures { EndsRefused fault (O.contents output.old) (O.contents output.new) result }
+{
+    match fault {
+        LineFault::Shown(text) => ended(shown(&text, output), error),
+        LineFault::Refused(text) => {
+            let _ = write!(error, "{text}");
+            2
+        }
+        LineFault::Memory => ended(Err(Fault::Memory), error),
+    }
+}
+
+// Does what a command line asks for.
+fn perform<C: Commands + Drop, R: Read, O: Write, E: Write>(
+    alloc: Global,
+    commands: C,
+    line: Line<'_>,
+    input: &mut Counted<R>,
+    output: &mut Counted<O>,
+    error: &mut E,
+) -> Result<(), Fault>
+    ensures { Does C.does line.entry (R.remaining (inner_of input.old))
+        (O.contents (inner_of output.old)) (O.contents (inner_of output.new))
+        (E.contents error.old) (E.contents error.new) result }
+{
+    match line {
+        Line::Run {
+            tokens,
+            now,
+            database,
+            requests,
+        } => commands.run(tokens, now, database, requests, input, output),
+        Line::Serve {
+            tokens,
+            database,
+            port,
+            count,
+            clients,
+        } => commands.serve(tokens, database, port, count, clients, error),
+        Line::Loopback {
+            tokens,
+            now,
+            request,
+        } => commands.loop_back(tokens, now, request, input, output),
+        Line::Cell { token } => cell(alloc, token, output),
+        Line::Report { database } => commands.report(database, output),
+        Line::Upgrade { database } => commands.upgrade(database, output),
+    }
+}
+
+/// Runs one command line, whose first word is the program's name, over a reader and two writers, and
+/// answers the exit status: 0 where it is done, 1 after a fault, which is told on one line of `error`,
+/// and 2 for a command line that is refused.
+pub fn run_line<'a, C: Commands + Drop, R: Read, O: Write, E: Write>(
+    alloc: Global,
+    words: &'a [&'a str],
+    commands: C,
+    input: &mut Counted<R>,
+    output: &mut Counted<O>,
+    error: &mut E,
+) -> u8
+    ensures { EndsLine C.does (texts words.entry.now) (R.remaining (inner_of input.old))
+        (O.contents (inner_of output.old)) (O.contents (inner_of output.new))
+        (E.contents error.old) (E.contents error.new) result }
+{
+    match parse(alloc, words) {
+        Ok(line) => {
+            let done = perform(alloc, commands, line, input, output, error);
+            ended(done, error)
+        }
+        Err(fault) => refused(fault, output, error),
+    }
+}

@@ -1,0 +1,63 @@
+//! What commands print.
+ghost use Rattle.std.specs.Prelude.{◌≡◌, List, ℕ, OnOk, IfErr, codes, if◌then◌else◌};
+ghost use Rattle.std.specs.Io.KnownBytes.{Appends};
+ghost use Rattle.dss_command.specs.declared.fault.Fault.TheVariants.{Output};
+ghost use Rattle.dss_report.specs.Cell.{IsLineOfToken};
+ghost use Rattle.dss_report.specs.Report.{report_of};
+ghost use Rattle.entity_core.specs.Airspace.{Airspace};
+ghost use Rattle.dss_command.specs.Fault.{IsOfCell};
+
+use crate::fault::Fault;
+use dss_report::cell::token_line;
+use dss_report::report::report_text;
+use space_core::space::Space;
+use std::alloc::Global;
+use std::io::Write;
+
+/// Writes all of the bytes. Its one fault is `Output`.
+pub fn put<W: Write>(bytes: &[u8], output: &mut W) -> Result<(), Fault>
+    ensures whole { OnOk result (Appends (W.contents output.old) (W.contents output.new) bytes.now) }
+    ensures output { IfErr result (λ fault. fault ≡ Output) }
+{
+    match output.write_all(bytes) {
+        Ok(()) => Ok(()),
+        Err(_) => Err(Fault::Output),
+    }
+}
+
+/// The command `cell`: the line of a token's cell.
+pub fn cell<W: Write>(alloc: Global, token: &str, output: &mut W) -> Result<(), Fault>
+    ensures { OnOk result ((line : List ℕ) × IsLineOfToken token.now line
+        × Appends (W.contents output.old) (W.contents output.new) line) }
+{
+    let line = token_line(alloc, token)?;
+    put(line.as_bytes(), output)
+}
+
+/// What the command `upgrade` prints of a database that was taken.
+pub fn put_format<W: Write>(upgraded: bool, output: &mut W) -> Result<(), Fault>
+    ensures whole { OnOk result (Appends (W.contents output.old) (W.contents output.new)
+        (if upgraded then codes "format 2, was 1\n" else codes "format 2\n")) }
+    ensures output { IfErr result (λ fault. fault ≡ Output) }
+{
+    let line = if upgraded {
+        "format 2, was 1\n"
+    } else {
+        "format 2\n"
+    };
+    put(line.as_bytes(), output)
+}
+
+/// The command `report`, over a space, which is only read: the report of each airspace that it held.
+pub fn put_report<S: Space + Drop, W: Write>(
+    alloc: Global,
+    space: &mut S,
+    output: &mut W,
+) -> Result<(), Fault>
+    ensures whole { OnOk result (S.is_sound space.new → (a : Airspace) → S.holds space.old a
+        → Appends (W.contents output.old) (W.contents output.new) (report_of a)) }
+    ensures sound { S.is_sound space.new → S.is_sound space.old }
+{
+    let text = report_text(alloc, space)?;
+    put(text.as_slice(), output)
+}

@@ -1,0 +1,39 @@
+//! The token file of a command.
+ghost use Rattle.std.specs.Prelude.{◌≡◌, IfErr, IfOk};
+ghost use Rattle.token_conf.specs.TokenFile.{salt_of};
+ghost use Rattle.dss_command.specs.Tokens.{Passes, Tables};
+ghost use Rattle.dss_command.specs.declared.fault.Fault.TheVariants.{Memory};
+
+use crate::fault::Fault;
+use entity_core::salt::Salt;
+use std::alloc::Global;
+use token_conf::conf_fault::ConfFault;
+use token_conf::token_table::TokenTable;
+
+fn passed(told: Result<TokenTable, ConfFault>) -> Result<TokenTable, Fault>
+    ensures { Passes told result }
+{
+    match told {
+        Ok(table) => Ok(table),
+        Err(ConfFault::Memory) => Err(Fault::Memory),
+        Err(fault) => Err(Fault::Tokens(fault)),
+    }
+}
+
+/// The table of the text of a token file.
+pub fn table_of(alloc: Global, text: &str) -> Result<TokenTable, Fault>
+    ensures { Tables text.now result }
+{
+    passed(TokenTable::read(alloc, text))
+}
+
+/// The salt of the table's OVNs. Its one fault is `Memory`.
+pub fn salt_of(tokens: &TokenTable) -> Result<Salt, Fault>
+    ensures same { IfOk result (λ salt. salt ≡ salt_of tokens.now) }
+    ensures memory { IfErr result (λ fault. fault ≡ Memory) }
+{
+    match tokens.salt().clone() {
+        Ok(salt) => Ok(salt),
+        Err(_) => Err(Fault::Memory),
+    }
+}

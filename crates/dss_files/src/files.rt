@@ -1,0 +1,195 @@
+//! The commands over a database, whose files are opened first and closed last. What is said of them is
+//! said for all that the file and its log may hold, which `Start` stands for.
+ghost use Rattle.std.specs.Prelude.{◌≡◌, Err, IfErr, IfOk, IfSome, IsOk, IsSome, OnOk};
+ghost use Rattle.sqlite.specs.Files.{over_files};
+ghost use Rattle.sqlite.specs.WalFiles.{image_at};
+ghost use Rattle.space_sql.specs.Found.{FindsSpelt};
+ghost use Rattle.space_sql.specs.Listed.{IsAllOf};
+ghost use Rattle.space_sql.specs.Restart.{ClosesFiles};
+ghost use Rattle.token_conf.specs.TokenFile.{salt_of};
+ghost use Rattle.wire_http.specs.Counted.{inner_of};
+ghost use Rattle.dss_files.specs.Files.{ClosesServed, ReportsFiles, ReportsTaken, ServesClosing, ServesCopied, TellsFormat};
+ghost use Rattle.dss_command.specs.Stream.{ServesOver};
+ghost use Rattle.dss_command.specs.declared.fault.Fault.TheVariants.{DatabaseFailed};
+
+use dss_command::clients::{Answering, Listen, serve_port};
+use dss_command::fault::Fault;
+use dss_command::print::{put_format, put_report};
+use dss_command::stream::serve_stream_over;
+use entity_core::salt::Salt;
+use mirror_tables::mirrored::mirrored;
+use space_core::space::Space;
+use space_reading::judgement::Listed;
+use space_sql::space::SqlSpace;
+use sqlite::{Alter, FileFrom, FileStore, Files, Start};
+use sqlite_disk::Disk;
+use std::alloc::Global;
+use std::io::{Read, Write};
+use token_conf::token_table::TokenTable;
+use wire_http::{Counted, Moments};
+
+/// Opens the database in the file of that name, with all that it then holds where that was read. After
+/// a fault what is open of it is closed.
+pub fn opened<F: Start>(
+    rt: &HostRuntime,
+    name: &str,
+    start: F,
+) -> Result<(SqlSpace<FileStore<FileFrom<F>>>, Option<Listed>), Fault>
+    ensures finds { IfOk result (λ t. FindsSpelt (image_at F.Start)
+        ⟦<SqlSpace<FileStore<FileFrom<F>>> as Space>⟧ t.0) }
+    ensures all { IfOk result (λ t. IfSome t.1 (IsAllOf over_files t.0)) }
+{
+    match SqlSpace::open(rt, name, start) {
+        Ok(taken) => Ok(taken),
+        Err((fault, remains)) => {
+            remains.close();
+            Err(Fault::Database(fault))
+        }
+    }
+}
+
+/// Closes the database of a command whose work ended so: a fault of the work is told before one of the
+/// closing.
+pub fn closed<F: Start>(
+    done: Result<(), Fault>,
+    space: SqlSpace<FileStore<FileFrom<F>>>,
+) -> Result<Files<FileFrom<F>>, Fault>
+    ensures closed { IfOk result (ClosesFiles space) }
+    ensures done { OnOk result (IsOk done) }
+    ensures first { IfErr done (λ fault. result ≡ Err fault) }
+    ensures last { OnOk done (IfErr result (λ fault. fault ≡ DatabaseFailed)) }
+{
+    let closed = space.close_files();
+    done?;
+    match closed {
+        Ok(files) => Ok(files),
+        Err(_) => Err(Fault::DatabaseFailed),
+    }
+}
+
+// Prints the report of tables in some store: generic in it, for what is proved of the store of a file
+// is dear.
+fn reported<A: Alter + Drop, W: Write>(
+    alloc: Global,
+    space: &mut SqlSpace<A>,
+    output: &mut W,
+) -> Result<(), Fault>
+    ensures { OnOk result (ReportsTaken ⟦<SqlSpace<A> as Space>⟧
+        (W.contents output.old) (W.contents output.new) space.old space.new) }
+{
+    put_report(alloc, space, output)
+}
+
+/// The command `report`: the report of the airspace in the file of that name.
+pub fn report<F: Start, W: Write>(
+    rt: &HostRuntime,
+    name: &str,
+    start: F,
+    output: &mut W,
+) -> Result<Files<FileFrom<F>>, Fault>
+    ensures { IfOk result (ReportsFiles ⟦<FileFrom<F> as Disk>⟧ (image_at F.Start)
+        (W.contents output.old) (W.contents output.new)) }
+{
+    let (mut space, _) = opened(rt, name, start)?;
+    let done = reported(rt.alloc(), &mut space, output);
+    closed(done, space)
+}
+
+/// The command `upgrade`: the database in the file of that name is brought to the newest format, which
+/// an opening does, and closed, and then it is printed which format it had.
+pub fn upgrade<F: Start, W: Write>(
+    rt: &HostRuntime,
+    name: &str,
+    start: F,
+    output: &mut W,
+) -> Result<Files<FileFrom<F>>, Fault>
+    ensures { IfOk result (TellsFormat ⟦<FileFrom<F> as Disk>⟧ (image_at F.Start)
+        (W.contents output.old) (W.contents output.new)) }
+{
+    let (space, _) = opened(rt, name, start)?;
+    let upgraded = space.upgraded();
+    let files = closed(Ok(()), space)?;
+    put_format(upgraded, output)?;
+    Ok(files)
+}
+
+// Serves one stream over tables in some store.
+fn served<A: Alter + Drop, R: Read, W: Write>(
+    alloc: Global,
+    space: SqlSpace<A>,
+    salt: Salt,
+    tokens: &TokenTable,
+    now: u64,
+    reader: &mut Counted<R>,
+    writer: &mut Counted<W>,
+) -> (Result<(), Fault>, SqlSpace<A>)
+    requires { salt ≡ salt_of tokens.now }
+    ensures { OnOk result.0 (ServesOver ⟦<SqlSpace<A> as Space>⟧ tokens.now now
+        (R.remaining (inner_of reader.old))
+        (W.contents (inner_of writer.old)) (W.contents (inner_of writer.new)) space result.1) }
+{
+    serve_stream_over(alloc, space, salt, tokens, now, reader, writer)
+}
+
+/// The command `run` over a database that was opened, which is closed last.
+pub fn run<F: Start, R: Read, W: Write>(
+    alloc: Global,
+    space: SqlSpace<FileStore<FileFrom<F>>>,
+    salt: Salt,
+    tokens: &TokenTable,
+    now: u64,
+    reader: &mut Counted<R>,
+    writer: &mut Counted<W>,
+) -> Result<Files<FileFrom<F>>, Fault>
+    requires { salt ≡ salt_of tokens.now }
+    ensures { IfOk result (ServesClosing ⟦<SqlSpace<FileStore<FileFrom<F>>> as Space>⟧
+        tokens.now now (R.remaining (inner_of reader.old))
+        (W.contents (inner_of writer.old)) (W.contents (inner_of writer.new)) space) }
+{
+    let (done, space) = served(alloc, space, salt, tokens, now, reader, writer);
+    closed(done, space)
+}
+
+// Answers the clients of a port over tables in some store, with a copy of them in memory.
+fn served_by_copy<A: Alter + Drop, M: Moments, L: Listen + Drop, E: Write>(
+    alloc: Global,
+    space: SqlSpace<A>,
+    listed: Option<Listed>,
+    salt: Salt,
+    given: Answering<'_>,
+    moments: &mut M,
+    listener: L,
+    error: &mut E,
+) -> (Result<(), Fault>, SqlSpace<A>)
+    requires salt { salt ≡ salt_of given.tokens.now }
+    requires listed { IfSome listed (IsAllOf A.Store space) }
+    ensures served { OnOk result.0 (ServesCopied ⟦<SqlSpace<A> as Space>⟧ given.entry.tokens.now
+        space result.1) }
+    ensures counted { OnOk result.0 (IsSome given.entry.limits.count) }
+{
+    let mirror = mirrored(alloc, space, listed);
+    let (done, mirror) = serve_port(alloc, mirror, salt, given, moments, listener, error);
+    (done, mirror.release())
+}
+
+/// The command `serve` over a database that was opened, which is closed last, with a copy of it in
+/// memory as long as there is memory for it.
+pub fn serve<F: Start, M: Moments, L: Listen + Drop, E: Write>(
+    alloc: Global,
+    space: SqlSpace<FileStore<FileFrom<F>>>,
+    listed: Option<Listed>,
+    salt: Salt,
+    given: Answering<'_>,
+    moments: &mut M,
+    listener: L,
+    error: &mut E,
+) -> Result<Files<FileFrom<F>>, Fault>
+    requires salt { salt ≡ salt_of given.tokens.now }
+    requires listed { IfSome listed (IsAllOf over_files space) }
+    ensures served { IfOk result (ClosesServed ⟦<SqlSpace<FileStore<FileFrom<F>>> as Space>⟧
+        given.entry.tokens.now space) }
+    ensures counted { OnOk result (IsSome given.entry.limits.count) }
+{
+    let (done, space) = served_by_copy(alloc, space, listed, salt, given, moments, listener, error);
+    closed(done, space)
+}
