@@ -24,7 +24,7 @@ PATHS = {
     "DEBIAN/prerm": 0o755,
     "DEBIAN/postrm": 0o755,
 }
-COMMANDS = "run", "serve", "report", "upgrade"
+COMMANDS = "run", "serve", "report", "upgrade", "tokens"
 # what keeps files, memory and programs of either unit from others
 KEPT = {"UMask=0077", "LimitCORE=0", "ProtectProc=invisible", "MemoryDenyWriteExecute=yes", "NoNewPrivileges=yes"}
 
@@ -94,6 +94,8 @@ def completions(root):
     found += difference("se", completed(root, "se")[:1], ["serve"] if "serve" in completed(root, "se") else ["self"])
     found += difference("--to", completed(root, "run", "--to"), ["--tokens"])
     found += difference("--d", completed(root, "upgrade", "--d"), ["--db"])
+    found += difference("--new", completed(root, "tokens", "--new"), ["--new", "--new-salt"])
+    found += difference("a file to check", completed(root, "tokens", "--check", "tok"), ["tokens.toml"])
     return found + difference("a file", completed(root, "run", "--tokens", "tok"), ["tokens.toml"])
 
 

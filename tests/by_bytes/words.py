@@ -101,6 +101,20 @@ COMMAND_LINES = (
     (["upgrade", "--db"], 2, ""),
     (["upgrade", "--db", "d", "e"], 2, ""),
     (["upgrade", "--db", "d", "--tokens", "t"], 2, ""),
+    *(
+        (["tokens", *it], 2, "")
+        for it in (
+            [], ["--check"], ["t"], ["--new", "u"], ["--scopes", "s"], ["--check", "t", "--new-salt"],
+            ["--check", "t", "--new", "u", "--scopes", "s"], ["--new", "u", "--scopes", "s", "--new-salt"],
+            ["--check", "t", "--scopes", "s"], ["--new", "u", "--new", "v", "--scopes", "s"], ["--new-salt", "--new-salt"],
+            ["--new-salt=true"], ["--check", "t", "--check", "t"],
+        )
+    ),
+    (["tokens", "--check=t"], 1, "dss: tokens: cannot read"),
+    (["tokens", "--new-salt"], 0, "salt = "),
+    (["tokens", "--scopes=utm.constraint_processing", "--new=u"], 0, "[[token]]"),
+    (["tokens", "--help"], 0, "--check <FILE>"),
+    (["tokens", "--help"], 0, "--new-salt"),
     (["--help"], 0, "Usage: dss <COMMAND>"),
     (["--help"], 0, "  upgrade "),
     (["serve", "--help"], 0, "--count <NUMBER>"),

@@ -8,6 +8,7 @@ mod program;
 mod run;
 mod sockets;
 mod tokens;
+mod tokens_command;
 
 use crate::program::Program;
 use dss_command::line::run_line;

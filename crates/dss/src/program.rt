@@ -2,6 +2,7 @@
 use crate::connections::{self, ServeLine};
 use crate::loopback::{self, LoopbackLine};
 use crate::run::{self, RunLine};
+use crate::tokens_command;
 use dss_command::fault::Fault;
 use dss_command::line::Commands;
 use dss_files::files;
@@ -85,5 +86,22 @@ impl<'a, F: Start> Commands for Program<'a, F> {
         let Program { rt, start } = self;
         let _files = files::upgrade(rt, database, start, output)?;
         Ok(())
+    }
+    fn check_tokens<W: Write>(self, file: &str, output: &mut W) -> Result<(), Fault> {
+        tokens_command::check(self.rt, file, output)
+    }
+
+    fn new_token<W: Write, E: Write>(
+        self,
+        uss: &str,
+        scopes: &str,
+        output: &mut W,
+        error: &mut E,
+    ) -> Result<(), Fault> {
+        tokens_command::new_token(self.rt, uss, scopes, output, error)
+    }
+
+    fn new_salt<W: Write>(self, output: &mut W) -> Result<(), Fault> {
+        tokens_command::new_salt(self.rt, output)
     }
 }

@@ -8,7 +8,7 @@ use Rattle.dss_line.specs.Line.{Asks, Explains}
 use Rattle.dss_line.specs.declared.fault.LineFault.{LineFault}
 use Rattle.dss_line.specs.declared.fault.LineFault.TheVariants as fault
 use Rattle.dss_line.specs.declared.line.Line.{Line}
-use Rattle.dss_line.specs.declared.line.Line.TheVariants.{Cell, Loopback, Report, Run, Serve, Upgrade}
+use Rattle.dss_line.specs.declared.line.Line.TheVariants.{Cell, CheckTokens, Loopback, NewSalt, NewToken, Report, Run, Serve, Upgrade}
 use Rattle.dss_report.specs.Cell.{IsLineOfToken}
 use Rattle.dss_command.specs.Fault.{status_of}
 use Rattle.dss_command.specs.declared.fault.Fault.{Fault}
@@ -31,7 +31,7 @@ WritesCell token before after = (line : List ℕ) × IsLineOfToken token line ×
 
 module _ (does : Doing) where
   -- What a line asks for was done: by the command of its name, with its values. `serve` writes to the
-  -- second writer, and every other command to the first.
+  -- second writer, and every other command to the first; to both where no token is made, to tell why.
   abbrev pub Does : Line → (remaining output output' error error' : Option (List ℕ))
       → Result (Unit {0}) Fault → Type 0
   Does (Run tokens now database requests) remaining output output' error error' done =
@@ -47,6 +47,12 @@ module _ (does : Doing) where
       does (Report database) None output output' done × (error' ≡ error)
   Does (Upgrade database) remaining output output' error error' done =
       does (Upgrade database) None output output' done × (error' ≡ error)
+  Does (CheckTokens file) remaining output output' error error' done =
+      does (CheckTokens file) None output output' done × (error' ≡ error)
+  Does (NewToken uss scopes) remaining output output' error error' done =
+      does (NewToken uss scopes) None output output' done × OnOk done (error' ≡ error)
+  Does NewSalt remaining output output' error error' done =
+      does NewSalt None output output' done × (error' ≡ error)
 
   -- It ended with this status; where it was done, nothing more was written.
   pub record EndsCommand (line : Line) (remaining output output' error error' : Option (List ℕ))

@@ -1,9 +1,11 @@
 -- The table of a token file, as a command has it.
-use Rattle.std.specs.Prelude.{◌≡◌, List, ℕ, Result, Ok, Err}
-use Rattle.token_conf.specs.TokenFile.{ReadsFile, file_of}
+use Rattle.std.specs.Prelude.{◌≡◌, List, [], ◌∷◌, ℕ, Result, Ok, Err, IsOk}
+use Rattle.token_conf.specs.TokenFile.{ReadsFile, TokenFile, file_of}
 use Rattle.token_conf.specs.declared.conf_fault.ConfFault.{ConfFault}
 use Rattle.token_conf.specs.declared.conf_fault.ConfFault.TheVariants as conf
 use Rattle.token_conf.specs.declared.token_table.TokenTable.{TokenTable}
+use Rattle.token_report.specs.Mistake.{fault_of}
+use Rattle.token_report.specs.declared.mistake.Mistake.{Mistake}
 use Rattle.dss_command.specs.declared.fault.Fault.{Fault}
 use Rattle.dss_command.specs.declared.fault.Fault.TheVariants as fault
 
@@ -22,3 +24,15 @@ Passes (Err why) (Err found) = IsOfTokens why found
 abbrev pub Tables : List ℕ → Result TokenTable Fault → Type 0
 Tables text result =
     (told : Result TokenTable ConfFault) × ReadsFile (file_of text) told × Passes told result
+
+-- how a check ends whose file has these mistakes: with the fault of the first
+abbrev pub Judges : List Mistake → Result (Unit {0}) Fault → Type 0
+Judges [] result = result ≡ Ok tt
+Judges (m ∷ ms) result = result ≡ Err (fault.Tokens (fault_of m))
+
+-- How a check ends of a file of which its reader says this: where it is done the reader takes the file,
+-- and a fault of the file is the one that the reader tells.
+abbrev pub EndsCheck : Result TokenFile ConfFault → Result (Unit {0}) Fault → Type 0
+EndsCheck said (Ok x) = IsOk said
+EndsCheck said (Err (fault.Tokens why)) = said ≡ Err why
+EndsCheck said (Err other) = Unit {0}

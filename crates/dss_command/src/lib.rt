@@ -7,4 +7,5 @@ pub mod line;
 pub mod moment;
 pub mod print;
 pub mod stream;
+pub mod token_files;
 pub mod tokens;

@@ -20,7 +20,7 @@ use wire_http::Counted;
 /// `does line remaining before after done`: the command of that line may end so, where the reader has
 /// this to give and the writer is left so.
 pub trait Commands {
-    ghost use Rattle.std.specs.Prelude.{ℕ, List, Option, Result, Some, None};
+    ghost use Rattle.std.specs.Prelude.{ℕ, List, Option, Result, Some, None, OnOk, ◌≡◌};
     ghost use Rattle.dss_line.specs.declared.line.Line.{Line};
     ghost use Rattle.dss_command.specs.declared.fault.Fault.{Fault};
 
@@ -76,6 +76,27 @@ pub trait Commands {
     fn upgrade<W: Write>(self, database: &str, output: &mut W) -> Result<(), Fault>
         ensures { does (Line.Upgrade database.entry) None
             (W.contents output.old) (W.contents output.new) result };
+
+    /// The command `tokens --check`.
+    fn check_tokens<W: Write>(self, file: &str, output: &mut W) -> Result<(), Fault>
+        ensures { does (Line.CheckTokens file.entry) None
+            (W.contents output.old) (W.contents output.new) result };
+
+    /// The command `tokens --new`. Why no token is made is told on a line of `error`.
+    fn new_token<W: Write, E: Write>(
+        self,
+        uss: &str,
+        scopes: &str,
+        output: &mut W,
+        error: &mut E,
+    ) -> Result<(), Fault>
+        ensures made { does (Line.NewToken uss.entry scopes.entry) None
+            (W.contents output.old) (W.contents output.new) result }
+        ensures quiet { OnOk result (E.contents error.new ≡ E.contents error.old) };
+
+    /// The command `tokens --new-salt`.
+    fn new_salt<W: Write>(self, output: &mut W) -> Result<(), Fault>
+        ensures { does Line.NewSalt None (W.contents output.old) (W.contents output.new) result };
 }
 
 /// The exit status of a command that ended, after its fault was told on one line.
@@ -149,6 +170,9 @@ fn perform<C: Commands + Drop, R: Read, O: Write, E: Write>(
         Line::Cell { token } => cell(alloc, token, output),
         Line::Report { database } => commands.report(database, output),
         Line::Upgrade { database } => commands.upgrade(database, output),
+        Line::CheckTokens { file } => commands.check_tokens(file, output),
+        Line::NewToken { uss, scopes } => commands.new_token(uss, scopes, output, error),
+        Line::NewSalt => commands.new_salt(output),
     }
 }
 

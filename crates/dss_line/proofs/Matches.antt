@@ -1,6 +1,6 @@
 -- What the getters of `clap`'s matches read, by the rows of the matches.
 use Rattle.std.proofs.Common.{◌≡◌, ◌<◌, ◌^◌, ℕ, List, Option, Some, None, codes, refl, sym, inl, inr, ap, ◌∙◌, arith, false}
-use Rattle.std.specs.Prelude.{IfNone, is_some, option_map, true, ◌⊎◌}
+use Rattle.std.specs.Prelude.{Bool, IfNone, IfSome, is_some, option_map, true, ◌⊎◌}
 use Rattle.std.specs.Borrow.{Bor}
 use Rattle.std.specs.Str.{bytes_eq}
 use Rattle.std.specs.Str.Parse.{IsNumeral, digits_value, without_leading_plus}
@@ -13,12 +13,12 @@ use Rattle.clap.specs.declared.parser.matches.Found.{Found}
 use Rattle.clap.proofs.WalkLemmas.{one_text-rows}
 use Rattle.clap.specs.declared.error.kind.ErrorKind.{ErrorKind}
 use Rattle.clap.specs.declared.error.kind.ErrorKind.TheVariants.{DisplayHelp, DisplayVersion, OutOfMemory}
-use Rattle.dss_line.specs.Line.{AsksNothing, Explains, HasCount, HasNumber, HasNumberIn, HasValues}
+use Rattle.dss_line.specs.Line.{Asks, AsksNothing, Explains, HasCount, HasNumber, HasNumberIn, HasValues, is_set, line_of_options}
 use Rattle.dss_line.specs.declared.line.TheConstants.{MOST_CONNECTIONS}
 use Rattle.dss_line.specs.LineFault.{IsFaultOf}
 use Rattle.dss_line.specs.declared.fault.LineFault.{LineFault}
 use Rattle.dss_line.specs.declared.fault.LineFault.TheVariants as fault
-use Rattle.dss_line.specs.declared.line.Line.TheVariants.{Cell, Loopback, Report, Run, Serve, Upgrade}
+use Rattle.dss_line.specs.declared.line.Line.TheVariants.{Cell, CheckTokens, Loopback, NewSalt, NewToken, Report, Run, Serve, Upgrade}
 
 -- a number that was read is that of the argument's text
 pub number_from_text : (f : Found) (id : Text) (n : ℕ) → (one_text f id ≡ None → Some n ≡ None) → ((t : List ℕ) → one_text f id ≡ Some t → (IsNumeral 10 (without_leading_plus t) × (digits_value 10 (without_leading_plus t) < 2 ^ 64)) × (n ≡ digits_value 10 (without_leading_plus t))) → HasNumber id (rows_of f) n
@@ -53,6 +53,9 @@ nothing_of_run rows none (Loopback tokens now request) asks = other _ _ refl ask
 nothing_of_run rows none (Cell token) asks = other _ _ refl asks.0
 nothing_of_run rows none (Report database) asks = other _ _ refl asks.0
 nothing_of_run rows none (Upgrade database) asks = other _ _ refl asks.0
+nothing_of_run rows none (CheckTokens file) asks = other _ _ refl asks.0
+nothing_of_run rows none (NewToken uss scopes) asks = other _ _ refl asks.0
+nothing_of_run rows none NewSalt asks = other _ _ refl asks.0
 
 -- the command `serve` asks for nothing where no line of it has the values
 pub nothing_of_serve : (rows : List Row) → ((tokens : Bor (List ℕ)) (database : Bor (List ℕ)) (port : ℕ) (count : Option ℕ) (clients : ℕ) → HasValues rows (Serve tokens database port count clients) → ⊥) → AsksNothing (Some (codes "serve", rows))
@@ -62,6 +65,9 @@ nothing_of_serve rows none (Loopback tokens now request) asks = other _ _ refl a
 nothing_of_serve rows none (Cell token) asks = other _ _ refl asks.0
 nothing_of_serve rows none (Report database) asks = other _ _ refl asks.0
 nothing_of_serve rows none (Upgrade database) asks = other _ _ refl asks.0
+nothing_of_serve rows none (CheckTokens file) asks = other _ _ refl asks.0
+nothing_of_serve rows none (NewToken uss scopes) asks = other _ _ refl asks.0
+nothing_of_serve rows none NewSalt asks = other _ _ refl asks.0
 
 -- the command `self` asks for nothing where no line of it has the values
 pub nothing_of_self : (rows : List Row) → ((tokens : Bor (List ℕ)) (now : ℕ) (request : Bor (List ℕ)) → HasValues rows (Loopback tokens now request) → ⊥) → AsksNothing (Some (codes "self", rows))
@@ -71,6 +77,9 @@ nothing_of_self rows none (Loopback tokens now request) asks = none tokens now r
 nothing_of_self rows none (Cell token) asks = other _ _ refl asks.0
 nothing_of_self rows none (Report database) asks = other _ _ refl asks.0
 nothing_of_self rows none (Upgrade database) asks = other _ _ refl asks.0
+nothing_of_self rows none (CheckTokens file) asks = other _ _ refl asks.0
+nothing_of_self rows none (NewToken uss scopes) asks = other _ _ refl asks.0
+nothing_of_self rows none NewSalt asks = other _ _ refl asks.0
 
 -- the command `cell` asks for nothing where no line of it has the values
 pub nothing_of_cell : (rows : List Row) → ((token : Bor (List ℕ)) → HasValues rows (Cell token) → ⊥) → AsksNothing (Some (codes "cell", rows))
@@ -80,6 +89,9 @@ nothing_of_cell rows none (Loopback tokens now request) asks = other _ _ refl as
 nothing_of_cell rows none (Cell token) asks = none token asks.1
 nothing_of_cell rows none (Report database) asks = other _ _ refl asks.0
 nothing_of_cell rows none (Upgrade database) asks = other _ _ refl asks.0
+nothing_of_cell rows none (CheckTokens file) asks = other _ _ refl asks.0
+nothing_of_cell rows none (NewToken uss scopes) asks = other _ _ refl asks.0
+nothing_of_cell rows none NewSalt asks = other _ _ refl asks.0
 
 -- the command `report` asks for nothing where no line of it has the values
 pub nothing_of_report : (rows : List Row) → ((database : Bor (List ℕ)) → HasValues rows (Report database) → ⊥) → AsksNothing (Some (codes "report", rows))
@@ -89,6 +101,9 @@ nothing_of_report rows none (Loopback tokens now request) asks = other _ _ refl 
 nothing_of_report rows none (Cell token) asks = other _ _ refl asks.0
 nothing_of_report rows none (Report database) asks = none database asks.1
 nothing_of_report rows none (Upgrade database) asks = other _ _ refl asks.0
+nothing_of_report rows none (CheckTokens file) asks = other _ _ refl asks.0
+nothing_of_report rows none (NewToken uss scopes) asks = other _ _ refl asks.0
+nothing_of_report rows none NewSalt asks = other _ _ refl asks.0
 
 -- the command `upgrade` asks for nothing where no line of it has the values
 pub nothing_of_upgrade : (rows : List Row) → ((database : Bor (List ℕ)) → HasValues rows (Upgrade database) → ⊥) → AsksNothing (Some (codes "upgrade", rows))
@@ -98,6 +113,62 @@ nothing_of_upgrade rows none (Loopback tokens now request) asks = other _ _ refl
 nothing_of_upgrade rows none (Cell token) asks = other _ _ refl asks.0
 nothing_of_upgrade rows none (Report database) asks = other _ _ refl asks.0
 nothing_of_upgrade rows none (Upgrade database) asks = none database asks.1
+nothing_of_upgrade rows none (CheckTokens file) asks = other _ _ refl asks.0
+nothing_of_upgrade rows none (NewToken uss scopes) asks = other _ _ refl asks.0
+nothing_of_upgrade rows none NewSalt asks = other _ _ refl asks.0
+
+-- the text of a word, if there is one
+abbrev text_of : Option (Bor (List ℕ)) → Option Text
+text_of o = option_map (λ word. word.now) o
+
+-- options that ask for no line of `tokens` have not the values of one
+no_check : (check new scopes : Option (Bor (List ℕ))) (flag : Bool) (file : Text) → text_of check ≡ Some file → text_of new ≡ None → text_of scopes ≡ None → flag ≡ false → line_of_options check new scopes flag ≡ None → ⊥
+no_check None new scopes flag file a b c d none = cc
+no_check (Some f) (Some n) scopes flag file a b c d none = cc
+no_check (Some f) None (Some s) flag file a b c d none = cc
+no_check (Some f) None None true file a b c d none = cc
+no_check (Some f) None None false file a b c d none = cc
+
+no_token : (check new scopes : Option (Bor (List ℕ))) (flag : Bool) (uss names : Text) → text_of check ≡ None → text_of new ≡ Some uss → text_of scopes ≡ Some names → flag ≡ false → line_of_options check new scopes flag ≡ None → ⊥
+no_token (Some f) new scopes flag uss names a b c d none = cc
+no_token None None scopes flag uss names a b c d none = cc
+no_token None (Some n) None flag uss names a b c d none = cc
+no_token None (Some n) (Some s) true uss names a b c d none = cc
+no_token None (Some n) (Some s) false uss names a b c d none = cc
+
+no_salt : (check new scopes : Option (Bor (List ℕ))) (flag : Bool) → text_of check ≡ None → text_of new ≡ None → text_of scopes ≡ None → flag ≡ true → line_of_options check new scopes flag ≡ None → ⊥
+no_salt (Some f) new scopes flag a b c d none = cc
+no_salt None (Some n) scopes flag a b c d none = cc
+no_salt None None (Some s) flag a b c d none = cc
+no_salt None None None false a b c d none = cc
+no_salt None None None true a b c d none = cc
+
+-- the command `tokens` asks for nothing where its options make no line
+pub nothing_of_tokens : (rows : List Row) (check new scopes : Option (Bor (List ℕ))) (flag : Bool) → text_of check ≡ first_of (codes "check") rows → text_of new ≡ first_of (codes "new") rows → text_of scopes ≡ first_of (codes "scopes") rows → flag ≡ is_set (codes "new-salt") rows → line_of_options check new scopes flag ≡ None → AsksNothing (Some (codes "tokens", rows))
+nothing_of_tokens rows check new scopes flag a b c d none (Run tokens now database requests) asks = other _ _ refl asks.0
+nothing_of_tokens rows check new scopes flag a b c d none (Serve tokens database port count clients) asks = other _ _ refl asks.0
+nothing_of_tokens rows check new scopes flag a b c d none (Loopback tokens now request) asks = other _ _ refl asks.0
+nothing_of_tokens rows check new scopes flag a b c d none (Cell token) asks = other _ _ refl asks.0
+nothing_of_tokens rows check new scopes flag a b c d none (Report database) asks = other _ _ refl asks.0
+nothing_of_tokens rows check new scopes flag a b c d none (Upgrade database) asks = other _ _ refl asks.0
+nothing_of_tokens rows check new scopes flag a b c d none (CheckTokens file) (named, has) =
+    no_check check new scopes flag file.now (a ∙ has.0) (b ∙ has.1) (c ∙ has.2) (d ∙ has.3) none
+nothing_of_tokens rows check new scopes flag a b c d none (NewToken uss names) (named, has) =
+    no_token check new scopes flag uss.now names.now (a ∙ has.0) (b ∙ has.1) (c ∙ has.2) (d ∙ has.3) none
+nothing_of_tokens rows check new scopes flag a b c d none NewSalt (named, has) =
+    no_salt check new scopes flag (a ∙ has.0) (b ∙ has.1) (c ∙ has.2) (d ∙ has.3) none
+
+-- a line that its options make is asked for
+pub line_of_tokens : (rows : List Row) (check new scopes : Option (Bor (List ℕ))) (flag : Bool) → text_of check ≡ first_of (codes "check") rows → text_of new ≡ first_of (codes "new") rows → text_of scopes ≡ first_of (codes "scopes") rows → flag ≡ is_set (codes "new-salt") rows → IfSome (line_of_options check new scopes flag) (Asks (Some (codes "tokens", rows)))
+line_of_tokens rows (Some file) None None false a b c d = (refl, (sym a, sym b, sym c, sym d))
+line_of_tokens rows None (Some uss) (Some names) false a b c d = (refl, (sym a, sym b, sym c, sym d))
+line_of_tokens rows None None None true a b c d = (refl, (sym a, sym b, sym c, sym d))
+line_of_tokens rows check new scopes flag a b c d = tt
+
+-- what follows from there being no value holds where there is none
+pub if_none : {A : Type 0} (o : Option A) (P : Type 0) → (o ≡ None → P) → IfNone o P
+if_none None P p = p refl
+if_none (Some x) P p = tt
 
 -- an argument that is not there has no value
 pub absent : (found : Option Text) (text : Text) → found ≡ None → found ≡ Some text → ⊥

@@ -3,6 +3,7 @@ use Rattle.std.specs.Prelude.{Some, codes, true}
 use Rattle.clap.specs.Simple.{on_top}
 use Rattle.clap.specs.Words.{App, Rule, Text, new_app, new_rule, with_rule, with_subcommand}
 use Rattle.clap.specs.declared.builder.value_parser.ValueParser.TheVariants.{Unsigned}
+use Rattle.clap.specs.declared.builder.action.ArgAction.TheVariants.{SetTrue}
 use Rattle.dss_line.specs.declared.line.TheConstants.{LAST_MOMENT, LAST_PORT, MOST_CLIENTS, MOST_CONNECTIONS}
 
 -- ---- arguments
@@ -52,6 +53,14 @@ clients_rule = record (new_rule (codes "clients")) {
   parser = Some (Unsigned 1 MOST_CLIENTS);
 }
 
+-- an option with a value, which need not be there
+abbrev pub choice_rule : Text → Rule
+choice_rule name = record (new_rule name) { long = Some name; value_names = 1 }
+
+-- a flag, which is set or not
+abbrev pub flag_rule : Text → Rule
+flag_rule name = record (new_rule name) { long = Some name; action = Some SetTrue }
+
 -- a word that has to be there
 abbrev pub word_rule : Text → Rule
 word_rule name = record (new_rule name) { required = true }
@@ -91,10 +100,19 @@ report_app = with_rule (new_app (codes "report")) store_rule
 abbrev pub upgrade_app : App
 upgrade_app = with_rule (new_app (codes "upgrade")) store_rule
 
+abbrev pub tokens_app : App
+tokens_app =
+    with_rule
+    (with_rule
+    (with_rule (with_rule (new_app (codes "tokens")) (choice_rule (codes "check"))) (choice_rule (codes "new")))
+    (choice_rule (codes "scopes")))
+    (flag_rule (codes "new-salt"))
+
 -- one of the commands has to be there
 abbrev pub dss_app : App
 dss_app =
     with_subcommand
+    (with_subcommand
     (with_subcommand
     (with_subcommand
     (with_subcommand
@@ -104,4 +122,5 @@ dss_app =
     self_app.top)
     cell_app.top)
     report_app.top)
-    upgrade_app.top
+    upgrade_app.top)
+    tokens_app.top

@@ -1,5 +1,7 @@
 -- What a command line asks for.
-use Rattle.std.specs.Prelude.{◌≡◌, ◌≤◌, ◌⊎◌, ℕ, List, [], Option, Some, None, codes, map, option_map}
+use Rattle.std.specs.Prelude.{◌≡◌, ◌≤◌, ◌⊎◌, ℕ, Bool, true, false, List, [], Option, Some, None, codes, map, nat_eq, option_map}
+use Rattle.std.specs.Cmp.Lexicographic.{pointwise}
+use Rattle.std.specs.Option.{option_map_or}
 use Rattle.std.specs.Borrow.{Bor}
 use Rattle.std.specs.Str.Parse.{IsNumeral, digits_value, without_leading_plus}
 use Rattle.clap.specs.Kinds.{IsAmong}
@@ -10,7 +12,7 @@ use Rattle.dss_line.specs.declared.fault.LineFault.{LineFault}
 use Rattle.dss_line.specs.declared.fault.LineFault.TheVariants as fault
 use Rattle.dss_line.specs.declared.line.TheConstants.{LAST_MOMENT, LAST_PORT, MOST_CLIENTS, MOST_CONNECTIONS}
 use Rattle.dss_line.specs.declared.line.Line.{Line}
-use Rattle.dss_line.specs.declared.line.Line.TheVariants.{Cell, Loopback, Report, Run, Serve, Upgrade}
+use Rattle.dss_line.specs.declared.line.Line.TheVariants.{Cell, CheckTokens, Loopback, NewSalt, NewToken, Report, Run, Serve, Upgrade}
 
 -- the texts of some words
 abbrev pub texts : List (Bor (List ℕ)) → List Text
@@ -37,6 +39,18 @@ HasClients rows n =
     HasNumberIn (codes "clients") 1 MOST_CLIENTS rows n
     ⊎ ((first_of (codes "clients") rows ≡ None) × (n ≡ MOST_CLIENTS))
 
+-- whether a flag is set
+abbrev pub is_set : Text → List Row → Bool
+is_set id rows = option_map_or (λ text. pointwise nat_eq text (codes "true")) (first_of id rows) false
+
+-- the options of the command `tokens` have these values, and its flag is set or not
+abbrev pub HasOptions : List Row → Option Text → Option Text → Option Text → Bool → Type 0
+HasOptions rows check new scopes new_salt =
+    (first_of (codes "check") rows ≡ check)
+    × (first_of (codes "new") rows ≡ new)
+    × (first_of (codes "scopes") rows ≡ scopes)
+    × (is_set (codes "new-salt") rows ≡ new_salt)
+
 -- the name of the command that asks for the line
 abbrev pub name_of : Line → Text
 name_of (Run tokens now database requests) = codes "run"
@@ -45,6 +59,9 @@ name_of (Loopback tokens now request) = codes "self"
 name_of (Cell token) = codes "cell"
 name_of (Report database) = codes "report"
 name_of (Upgrade database) = codes "upgrade"
+name_of (CheckTokens file) = codes "tokens"
+name_of (NewToken uss scopes) = codes "tokens"
+name_of NewSalt = codes "tokens"
 
 -- the arguments have the values of the line
 abbrev pub HasValues : List Row → Line → Type 0
@@ -66,6 +83,17 @@ HasValues rows (Loopback tokens now request) =
 HasValues rows (Cell token) = first_of (codes "token") rows ≡ Some token.now
 HasValues rows (Report database) = first_of (codes "db") rows ≡ Some database.now
 HasValues rows (Upgrade database) = first_of (codes "db") rows ≡ Some database.now
+HasValues rows (CheckTokens file) = HasOptions rows (Some file.now) None None false
+HasValues rows (NewToken uss scopes) = HasOptions rows None (Some uss.now) (Some scopes.now) false
+HasValues rows NewSalt = HasOptions rows None None None true
+
+-- the line of these values of the options of `tokens`: a file to check alone, a supplier with scopes
+-- alone, or the flag alone
+abbrev pub line_of_options : Option (Bor Text) → Option (Bor Text) → Option (Bor Text) → Bool → Option Line
+line_of_options (Some file) None None false = Some (CheckTokens file)
+line_of_options None (Some uss) (Some scopes) false = Some (NewToken uss scopes)
+line_of_options None None None true = Some NewSalt
+line_of_options _ _ _ _ = None
 
 -- the subcommand of that name with the values of these arguments asks for the line
 abbrev pub Asks : Option (Text × List Row) → Line → Type 0

@@ -1,13 +1,15 @@
 //! The command line's grammar: the commands of the program, with their arguments.
-ghost use Rattle.std.specs.Prelude.{◌≡◌, IfOk, false};
+ghost use Rattle.std.specs.Prelude.{◌≡◌, IfOk, codes, false};
 ghost use Rattle.clap.specs.Words.{app_of, rule_of};
 ghost use Rattle.clap.specs.declared.builder.command.Command.TheViews.{out-Command};
 ghost use Rattle.dss_line.specs.Grammar.{
   cell_app,
+  choice_rule,
   clients_rule,
   count_rule,
   database_rule,
   dss_app,
+  flag_rule,
   now_rule,
   option_rule,
   port_rule,
@@ -19,6 +21,7 @@ ghost use Rattle.dss_line.specs.Grammar.{
   serve_app,
   store_rule,
   token_rule,
+  tokens_app,
   tokens_rule,
   upgrade_app,
   word_rule,
@@ -26,7 +29,7 @@ ghost use Rattle.dss_line.specs.Grammar.{
 
 use crate::line::{LAST_MOMENT, LAST_PORT, MOST_CLIENTS, MOST_CONNECTIONS};
 use clap::builder::ValueParser;
-use clap::{Arg, Command};
+use clap::{Arg, ArgAction, Command};
 use std::alloc::{AllocError, Global};
 
 // An option that has to be there, with its value.
@@ -145,6 +148,49 @@ fn token_word<'a>(alloc: Global) -> Arg<'a>
         .help("The token of the cell")
 }
 
+// The token file that is checked.
+fn check_option<'a>(alloc: Global) -> Arg<'a>
+    ensures rule { rule_of result ≡ choice_rule (codes "check") }
+    ensures local { result.global ≡ false }
+{
+    Arg::new(alloc, "check")
+        .long("check")
+        .value_name("FILE")
+        .help("The token file: what is wrong with it is told line by line")
+}
+
+// The supplier of a new token.
+fn new_option<'a>(alloc: Global) -> Arg<'a>
+    ensures rule { rule_of result ≡ choice_rule (codes "new") }
+    ensures local { result.global ≡ false }
+{
+    Arg::new(alloc, "new").long("new").value_name("USS").help(
+        "The id of a supplier: the table of a new token is printed, with --scopes",
+    )
+}
+
+// The scopes of a new token.
+fn scopes_option<'a>(alloc: Global) -> Arg<'a>
+    ensures rule { rule_of result ≡ choice_rule (codes "scopes") }
+    ensures local { result.global ≡ false }
+{
+    Arg::new(alloc, "scopes")
+        .long("scopes")
+        .value_name("SCOPES")
+        .help("The names of the new token's scopes, with commas between")
+}
+
+// Whether a salt is made.
+fn new_salt_flag<'a>(alloc: Global) -> Arg<'a>
+    ensures rule { rule_of result ≡ flag_rule (codes "new-salt") }
+    ensures local { result.global ≡ false }
+{
+    Arg::new(alloc, "new-salt")
+        .long("new-salt")
+        .action(ArgAction::SetTrue)
+        .help("The line of a new salt is printed")
+}
+
 fn run_command<'a>(alloc: Global) -> Result<Command<'a>, AllocError>
     ensures { IfOk result (λ command. (app_of command ≡ run_app)
         × ((out-Command command).has_globals ≡ false)) }
@@ -208,6 +254,20 @@ fn upgrade_command<'a>(alloc: Global) -> Result<Command<'a>, AllocError>
         .arg(store_option(alloc))
 }
 
+fn tokens_command<'a>(alloc: Global) -> Result<Command<'a>, AllocError>
+    ensures { IfOk result (λ command. (app_of command ≡ tokens_app)
+        × ((out-Command command).has_globals ≡ false)) }
+{
+    Command::new(alloc, "tokens")
+        .about(
+            "Checks a token file, or makes a token or a salt for one: one of --check, --new, --new-salt",
+        )
+        .arg(check_option(alloc))?
+        .arg(new_option(alloc))?
+        .arg(scopes_option(alloc))?
+        .arg(new_salt_flag(alloc))
+}
+
 /// The commands of the program.
 pub(crate) fn command<'a>(alloc: Global) -> Result<Command<'a>, AllocError>
     ensures { IfOk result (λ command. (app_of command ≡ dss_app)
@@ -221,5 +281,6 @@ pub(crate) fn command<'a>(alloc: Global) -> Result<Command<'a>, AllocError>
         .subcommand(self_command(alloc)?)?
         .subcommand(cell_command(alloc)?)?
         .subcommand(report_command(alloc)?)?
-        .subcommand(upgrade_command(alloc)?)
+        .subcommand(upgrade_command(alloc)?)?
+        .subcommand(tokens_command(alloc)?)
 }

@@ -3,7 +3,7 @@ ghost use Rattle.std.specs.Prelude.{ℕ, ◌≤◌, ◌≡◌, [], IfErr, IfNone
 ghost use Rattle.clap.specs.Faults.{fault_of as mistakes_of};
 ghost use Rattle.clap.specs.Words.{found_of, rows_of, subcommand_of, subcommand_rows_of};
 ghost use Rattle.dss_line.specs.Grammar.{dss_app};
-ghost use Rattle.dss_line.specs.Line.{Asks, AsksNothing, Explains, HasClients, HasCount, HasNumberIn, texts};
+ghost use Rattle.dss_line.specs.Line.{Asks, AsksNothing, Explains, HasClients, HasCount, HasNumberIn, is_set, line_of_options, texts};
 
 use crate::fault::{LineFault, fault_of};
 use crate::grammar::command;
@@ -73,6 +73,20 @@ pub enum Line<'a> {
         /// The name of the database's file.
         database: &'a str,
     },
+    /// Say what is wrong with a token file, and what it surely does not mean.
+    CheckTokens {
+        /// The name of the token file.
+        file: &'a str,
+    },
+    /// Make a token, and print the table that a token file has of it.
+    NewToken {
+        /// The id of the supplier, as it was given.
+        uss: &'a str,
+        /// The names of the token's scopes with commas between, as they were given.
+        scopes: &'a str,
+    },
+    /// Make a salt, and print the line that a token file has of it.
+    NewSalt,
 }
 
 // The number of an argument, where it has one from the least to the greatest.
@@ -205,6 +219,45 @@ fn upgrade_line<'a>(matches: &ArgMatches<'a>) -> Option<Line<'a>>
     })
 }
 
+// Whether a flag is set.
+fn is_set(matches: &ArgMatches<'_>, name: &str) -> bool
+    ensures { result ≡ is_set name.now (rows_of (found_of matches.now)) }
+{
+    match matches.get_str(name) {
+        Some(text) => text == "true",
+        None => false,
+    }
+}
+
+// What the options of the subcommand `tokens` ask for; `None` where they go not together.
+fn line_of_options<'a>(
+    check: Option<&'a str>,
+    new: Option<&'a str>,
+    scopes: Option<&'a str>,
+    new_salt: bool,
+) -> Option<Line<'a>>
+    ensures { result ≡ line_of_options check.entry new.entry scopes.entry new_salt }
+{
+    match (check, new, scopes, new_salt) {
+        (Some(file), None, None, false) => Some(Line::CheckTokens { file }),
+        (None, Some(uss), Some(scopes), false) => Some(Line::NewToken { uss, scopes }),
+        (None, None, None, true) => Some(Line::NewSalt),
+        _ => None,
+    }
+}
+
+// What the matches of the subcommand `tokens` ask for; `None` where they ask for no one thing.
+fn tokens_line<'a>(matches: &ArgMatches<'a>) -> Option<Line<'a>>
+    ensures some { IfSome result (Asks (Some (codes "tokens", rows_of (found_of matches.now)))) }
+    ensures none { IfNone result (AsksNothing
+        (Some (codes "tokens", rows_of (found_of matches.now)))) }
+{
+    let check = matches.get_str("check");
+    let new = matches.get_str("new");
+    let scopes = matches.get_str("scopes");
+    line_of_options(check, new, scopes, is_set(matches, "new-salt"))
+}
+
 // What the matches of a subcommand ask for; `None` where no subcommand has that name.
 fn line_of<'a>(name: &str, matches: &ArgMatches<'a>) -> Option<Line<'a>>
     ensures some { IfSome result (Asks (Some (name.now, rows_of (found_of matches.now)))) }
@@ -217,6 +270,7 @@ fn line_of<'a>(name: &str, matches: &ArgMatches<'a>) -> Option<Line<'a>>
         "cell" => cell_line(matches),
         "report" => report_line(matches),
         "upgrade" => upgrade_line(matches),
+        "tokens" => tokens_line(matches),
         _ => None,
     }
 }

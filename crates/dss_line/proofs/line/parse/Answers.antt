@@ -1,9 +1,9 @@
-use Rattle.std.proofs.Common.{◌≡◌, true, List, [], refl, ap, subst, inr, ◌∙◌}
+use Rattle.std.proofs.Common.{◌≡◌, true, List, [], Option, refl, ap, subst, inr, ◌∙◌}
 use Rattle.clap.specs.Faults.{fault_of as mistakes_of, is_simple_and_free}
 use Rattle.clap.specs.Kinds.{HasKind}
-use Rattle.clap.specs.Words.{App, Text, app_of, is_simple, subcommand_of, subcommand_rows_of}
+use Rattle.clap.specs.Words.{App, Row, Text, app_of, is_simple, subcommand_of, subcommand_rows_of}
 use Rattle.dss_line.specs.Grammar.{dss_app}
-use Rattle.dss_line.specs.Line.{AsksNothing, texts}
+use Rattle.dss_line.specs.Line.{Asks, AsksNothing, texts}
 use Rattle.dss_line.proofs.Matches.{fault_of_kind}
 use Rattle.dss_line.proofs.line.parse.Goals as goal
 
@@ -34,3 +34,9 @@ pub returns-in-Some-clause-faultless : goal.returns-in-Some-clause-faultless
 returns-in-Some-clause-faultless c =
     let app : app_of c.in_ok-command.field-0 ≡ dss_app = c.in_ok-command.ensures.0 in
     faultless _ _ app c.in-Ok.ensures.kinds
+
+pub returns-in-Some-clause-ok : goal.returns-in-Some-clause-ok
+returns-in-Some-clause-ok c =
+    let app : app_of c.in_ok-command.field-0 ≡ dss_app = c.in_ok-command.ensures.0 in
+    let rows : subcommand_rows_of c.in-Ok.matches ≡ subcommand_of dss_app (texts c.args.words.now) = (c.in-Ok.ensures.matches (ap is_simple app ∙ simple)).1 ∙ ap (λ (a : App). subcommand_of a (texts c.args.words.now)) app in
+    subst (λ (s : Option (Text × List Row)). Asks s c.in-Some.line) rows c.in-Some.ensures.some

@@ -1,0 +1,47 @@
+//! The command `tokens`, with what the system has: the text of a file, random bytes.
+ghost use Rattle.std.specs.Prelude.{◌≡◌, OnOk};
+
+use dss_command::fault::{Fault, of_system};
+use dss_command::token_files;
+use std::fs;
+use std::io::Write;
+use std::random::RandomSource;
+use token_report::new::RANDOM_BYTES;
+
+/// Checks the token file of that name.
+pub(crate) fn check<W: Write>(rt: &HostRuntime, file: &str, output: &mut W) -> Result<(), Fault> {
+    let text = match fs::read_to_string(rt, file) {
+        Ok(text) => text,
+        Err(cause) => return Err(of_system(&cause, Fault::TokensUnread)),
+    };
+    token_files::check_tokens(rt.alloc(), file, text.as_str(), output)
+}
+
+// Random bytes of the system.
+fn random_bytes(rt: &HostRuntime) -> Result<[u8; RANDOM_BYTES], Fault> {
+    let mut bytes = [0; RANDOM_BYTES];
+    match rt.fill_bytes(&mut bytes) {
+        Ok(()) => Ok(bytes),
+        Err(cause) => Err(of_system(&cause, Fault::TokensUnread)),
+    }
+}
+
+/// Makes a token of a supplier with scopes.
+pub(crate) fn new_token<W: Write, E: Write>(
+    rt: &HostRuntime,
+    uss: &str,
+    scopes: &str,
+    output: &mut W,
+    error: &mut E,
+) -> Result<(), Fault>
+    ensures { OnOk result (E.contents error.new ≡ E.contents error.old) }
+{
+    let random = random_bytes(rt)?;
+    token_files::new_token(rt.alloc(), uss, scopes, &random, output, error)
+}
+
+/// Makes a salt.
+pub(crate) fn new_salt<W: Write>(rt: &HostRuntime, output: &mut W) -> Result<(), Fault> {
+    let random = random_bytes(rt)?;
+    token_files::new_salt(rt.alloc(), &random, output)
+}

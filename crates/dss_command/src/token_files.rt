@@ -1,0 +1,92 @@
+//! The command `tokens`, over texts and random bytes: a token file is checked, or a token or a salt is
+//! made for one.
+ghost use Rattle.std.specs.Prelude.{◌≡◌, OnOk};
+ghost use Rattle.std.specs.Io.KnownBytes.{Appends};
+ghost use Rattle.token_conf.specs.TokenFile.{file_of};
+ghost use Rattle.token_report.specs.New.{names_in, salt_line_of, table_of};
+ghost use Rattle.dss_command.specs.Tokens.{EndsCheck, Judges};
+
+use crate::fault::Fault;
+use crate::print::put;
+use std::alloc::Global;
+use std::io::Write;
+use token_report::mistake::Mistake;
+use token_report::new::{NewFault, salt_line, token_table};
+use token_report::report::report_on;
+
+// Writes a line for each text.
+fn put_lines<W: Write>(lines: &[String], output: &mut W) -> Result<(), Fault> {
+    for line in lines {
+        put(line.as_bytes(), output)?;
+        put("\n".as_bytes(), output)?;
+    }
+    Ok(())
+}
+
+// How a check ends whose file has these mistakes.
+fn judged(mistakes: &[Mistake]) -> Result<(), Fault>
+    ensures { Judges mistakes.now result }
+{
+    match mistakes.first() {
+        Some(mistake) => Err(Fault::Tokens(mistake.fault())),
+        None => Ok(()),
+    }
+}
+
+/// What is wrong with the text of the token file of that name, and what it surely does not mean, on a
+/// line each. Where nothing is wrong a line tells how much the file has; else the fault is the one that
+/// the other commands tell of the file.
+pub fn check_tokens<W: Write>(
+    alloc: Global,
+    file: &str,
+    text: &str,
+    output: &mut W,
+) -> Result<(), Fault>
+    ensures { EndsCheck (file_of text.now) result }
+{
+    let Ok(report) = report_on(alloc, text) else {
+        return Err(Fault::Memory);
+    };
+    put_lines(report.lines.as_slice(), output)?;
+    judged(report.mistakes.as_slice())?;
+    let Ok(line) = report.summary.line(alloc, file) else {
+        return Err(Fault::Memory);
+    };
+    put(line.as_bytes(), output)?;
+    put("\n".as_bytes(), output)
+}
+
+/// The table of a new token of a supplier with scopes, whose text is made of these bytes. What is wrong
+/// with the supplier or a scope is told on a line of `error`.
+pub fn new_token<W: Write, E: Write>(
+    alloc: Global,
+    uss: &str,
+    scopes: &str,
+    random: &[u8],
+    output: &mut W,
+    error: &mut E,
+) -> Result<(), Fault>
+    ensures whole { OnOk result (Appends (W.contents output.old) (W.contents output.new)
+        (table_of uss.now (names_in scopes.now) random.now)) }
+    ensures quiet { OnOk result (E.contents error.new ≡ E.contents error.old) }
+{
+    match token_table(alloc, uss, scopes, random) {
+        Ok(table) => put(table.as_bytes(), output),
+        Err(NewFault::Memory) => Err(Fault::Memory),
+        Err(fault) => {
+            let _ = writeln!(error, "{}", fault.message());
+            Err(Fault::Tokens(fault.fault()))
+        }
+    }
+}
+
+/// The line of a new salt that is made of these bytes.
+pub fn new_salt<W: Write>(alloc: Global, random: &[u8], output: &mut W) -> Result<(), Fault>
+    ensures { OnOk result (Appends (W.contents output.old) (W.contents output.new)
+        (salt_line_of random.now)) }
+{
+    match salt_line(alloc, random) {
+        Ok(line) => put(line.as_bytes(), output),
+        Err(_) => Err(Fault::Memory),
+    }
+}
