@@ -87,6 +87,7 @@ impl<'a, F: Start> Commands for Program<'a, F> {
         let _files = files::upgrade(rt, database, start, output)?;
         Ok(())
     }
+
     fn check_tokens<W: Write>(self, file: &str, output: &mut W) -> Result<(), Fault> {
         tokens_command::check(self.rt, file, output)
     }

@@ -1,19 +1,16 @@
 //! The command `tokens`, with what the system has: the text of a file, random bytes.
 ghost use Rattle.std.specs.Prelude.{◌≡◌, OnOk};
 
+use crate::tokens::token_text;
 use dss_command::fault::{Fault, of_system};
 use dss_command::token_files;
-use std::fs;
 use std::io::Write;
 use std::random::RandomSource;
 use token_report::new::RANDOM_BYTES;
 
 /// Checks the token file of that name.
 pub(crate) fn check<W: Write>(rt: &HostRuntime, file: &str, output: &mut W) -> Result<(), Fault> {
-    let text = match fs::read_to_string(rt, file) {
-        Ok(text) => text,
-        Err(cause) => return Err(of_system(&cause, Fault::TokensUnread)),
-    };
+    let text = token_text(rt, file)?;
     token_files::check_tokens(rt.alloc(), file, text.as_str(), output)
 }
 
