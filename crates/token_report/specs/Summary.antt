@@ -1,9 +1,9 @@
 -- How much a token file has.
-use Rattle.std.specs.Prelude.{ℕ, ◌+◌, ◌&&◌, Bool, false, not, List, [], ◌∷◌, codes, length, nat_eq, option_and_then, Option, if◌then◌else◌}
+use Rattle.std.specs.Prelude.{ℕ, ◌+◌, Bool, false, not, List, [], ◌∷◌, codes, length, nat_eq, option_and_then, Option, if◌then◌else◌}
 use Rattle.std.specs.Cmp.Lexicographic.{pointwise}
 use Rattle.std.specs.List.{list_any}
 use Rattle.std.specs.Option.{option_map_or}
-use Rattle.toml.specs.Data.{Data, Items, as_array, get}
+use Rattle.toml.specs.Data.{Data, as_array, get}
 use Rattle.entity_core.specs.IdTexts.{name_fault}
 use Rattle.token_conf.specs.TokenFile.{text_at}
 use Rattle.token_report.specs.Mistakes.{tables_of}
