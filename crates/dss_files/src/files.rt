@@ -1,16 +1,11 @@
 //! The commands over a database, whose files are opened first and closed last. What is said of them is
 //! said for all that the file and its log may hold, which `Start` stands for.
-ghost use Rattle.std.specs.Prelude.{◌≡◌, Err, IfErr, IfOk, IfSome, IsOk, IsSome, OnOk};
+ghost use Rattle.std.specs.Prelude.{◌≡◌, IfOk, IfSome};
 ghost use Rattle.sqlite.specs.Files.{over_files};
 ghost use Rattle.sqlite.specs.WalFiles.{image_at};
 ghost use Rattle.space_sql.specs.Found.{FindsSpelt};
 ghost use Rattle.space_sql.specs.Listed.{IsAllOf};
-ghost use Rattle.space_sql.specs.Restart.{ClosesFiles};
 ghost use Rattle.token_conf.specs.TokenFile.{salt_of};
-ghost use Rattle.wire_http.specs.Counted.{inner_of};
-ghost use Rattle.dss_files.specs.Files.{ClosesServed, ReportsFiles, ReportsTaken, ServesClosing, ServesCopied, TellsFormat};
-ghost use Rattle.dss_command.specs.Stream.{ServesOver};
-ghost use Rattle.dss_command.specs.declared.fault.Fault.TheVariants.{DatabaseFailed};
 
 use dss_command::clients::{Answering, Listen, serve_port};
 use dss_command::fault::Fault;
@@ -22,7 +17,6 @@ use space_core::space::Space;
 use space_reading::judgement::Listed;
 use space_sql::space::SqlSpace;
 use sqlite::{Alter, FileFrom, FileStore, Files, Start};
-use sqlite_disk::Disk;
 use std::alloc::Global;
 use std::io::{Read, Write};
 use token_conf::token_table::TokenTable;
@@ -53,12 +47,7 @@ pub fn opened<F: Start>(
 pub fn closed<F: Start>(
     done: Result<(), Fault>,
     space: SqlSpace<FileStore<FileFrom<F>>>,
-) -> Result<Files<FileFrom<F>>, Fault>
-    ensures closed { IfOk result (ClosesFiles space) }
-    ensures done { OnOk result (IsOk done) }
-    ensures first { IfErr done (λ fault. result ≡ Err fault) }
-    ensures last { OnOk done (IfErr result (λ fault. fault ≡ DatabaseFailed)) }
-{
+) -> Result<Files<FileFrom<F>>, Fault> {
     let closed = space.close_files();
     done?;
     match closed {
@@ -73,10 +62,7 @@ fn reported<A: Alter + Drop, W: Write>(
     alloc: Global,
     space: &mut SqlSpace<A>,
     output: &mut W,
-) -> Result<(), Fault>
-    ensures { OnOk result (ReportsTaken ⟦<SqlSpace<A> as Space>⟧
-        (W.contents output.old) (W.contents output.new) space.old space.new) }
-{
+) -> Result<(), Fault> {
     put_report(alloc, space, output)
 }
 
@@ -86,10 +72,7 @@ pub fn report<F: Start, W: Write>(
     name: &str,
     start: F,
     output: &mut W,
-) -> Result<Files<FileFrom<F>>, Fault>
-    ensures { IfOk result (ReportsFiles ⟦<FileFrom<F> as Disk>⟧ (image_at F.Start)
-        (W.contents output.old) (W.contents output.new)) }
-{
+) -> Result<Files<FileFrom<F>>, Fault> {
     let (mut space, _) = opened(rt, name, start)?;
     let done = reported(rt.alloc(), &mut space, output);
     closed(done, space)
@@ -102,10 +85,7 @@ pub fn upgrade<F: Start, W: Write>(
     name: &str,
     start: F,
     output: &mut W,
-) -> Result<Files<FileFrom<F>>, Fault>
-    ensures { IfOk result (TellsFormat ⟦<FileFrom<F> as Disk>⟧ (image_at F.Start)
-        (W.contents output.old) (W.contents output.new)) }
-{
+) -> Result<Files<FileFrom<F>>, Fault> {
     let (space, _) = opened(rt, name, start)?;
     let upgraded = space.upgraded();
     let files = closed(Ok(()), space)?;
@@ -124,9 +104,6 @@ fn served<A: Alter + Drop, R: Read, W: Write>(
     writer: &mut Counted<W>,
 ) -> (Result<(), Fault>, SqlSpace<A>)
     requires { salt ≡ salt_of tokens.now }
-    ensures { OnOk result.0 (ServesOver ⟦<SqlSpace<A> as Space>⟧ tokens.now now
-        (R.remaining (inner_of reader.old))
-        (W.contents (inner_of writer.old)) (W.contents (inner_of writer.new)) space result.1) }
 {
     serve_stream_over(alloc, space, salt, tokens, now, reader, writer)
 }
@@ -142,9 +119,6 @@ pub fn run<F: Start, R: Read, W: Write>(
     writer: &mut Counted<W>,
 ) -> Result<Files<FileFrom<F>>, Fault>
     requires { salt ≡ salt_of tokens.now }
-    ensures { IfOk result (ServesClosing ⟦<SqlSpace<FileStore<FileFrom<F>>> as Space>⟧
-        tokens.now now (R.remaining (inner_of reader.old))
-        (W.contents (inner_of writer.old)) (W.contents (inner_of writer.new)) space) }
 {
     let (done, space) = served(alloc, space, salt, tokens, now, reader, writer);
     closed(done, space)
@@ -163,9 +137,6 @@ fn served_by_copy<A: Alter + Drop, M: Moments, L: Listen + Drop, E: Write>(
 ) -> (Result<(), Fault>, SqlSpace<A>)
     requires salt { salt ≡ salt_of given.tokens.now }
     requires listed { IfSome listed (IsAllOf A.Store space) }
-    ensures served { OnOk result.0 (ServesCopied ⟦<SqlSpace<A> as Space>⟧ given.entry.tokens.now
-        space result.1) }
-    ensures counted { OnOk result.0 (IsSome given.entry.limits.count) }
 {
     let mirror = mirrored(alloc, space, listed);
     let (done, mirror) = serve_port(alloc, mirror, salt, given, moments, listener, error);
@@ -186,9 +157,6 @@ pub fn serve<F: Start, M: Moments, L: Listen + Drop, E: Write>(
 ) -> Result<Files<FileFrom<F>>, Fault>
     requires salt { salt ≡ salt_of given.tokens.now }
     requires listed { IfSome listed (IsAllOf over_files space) }
-    ensures served { IfOk result (ClosesServed ⟦<SqlSpace<FileStore<FileFrom<F>>> as Space>⟧
-        given.entry.tokens.now space) }
-    ensures counted { OnOk result (IsSome given.entry.limits.count) }
 {
     let (done, space) = served_by_copy(alloc, space, listed, salt, given, moments, listener, error);
     closed(done, space)
