@@ -1,10 +1,11 @@
 //! The command `tokens`, over texts and random bytes: a token file is checked, or a token or a salt is
 //! made for one.
-ghost use Rattle.std.specs.Prelude.{◌≡◌, OnOk};
+ghost use Rattle.std.specs.Prelude.{◌≡◌, IfErr, OnOk};
 ghost use Rattle.std.specs.Io.KnownBytes.{Appends};
 ghost use Rattle.token_conf.specs.TokenFile.{file_of};
 ghost use Rattle.token_report.specs.New.{names_in, salt_line_of, table_of};
 ghost use Rattle.dss_command.specs.Tokens.{EndsCheck, Judges};
+ghost use Rattle.dss_command.specs.declared.fault.Fault.TheVariants.{Output};
 
 use crate::fault::Fault;
 use crate::print::put;
@@ -15,7 +16,9 @@ use token_report::new::{NewFault, salt_line, token_table};
 use token_report::report::report_on;
 
 // Writes a line for each text.
-fn put_lines<W: Write>(lines: &[String], output: &mut W) -> Result<(), Fault> {
+fn put_lines<W: Write>(lines: &[String], output: &mut W) -> Result<(), Fault>
+    ensures { IfErr result (λ fault. fault ≡ Output) }
+{
     for line in lines {
         put(line.as_bytes(), output)?;
         put("\n".as_bytes(), output)?;
