@@ -1,4 +1,5 @@
-//! A list of calls in which an answer is lost and an OVN grows old, and a space that breaks among them.
+//! A list of calls in which an answer is lost and an OVN grows old, and a space that breaks among
+//! them.
 use crate::breaking::Breaking;
 use crate::calls::call;
 use crate::told::told_after;
@@ -45,8 +46,8 @@ const WITH_FIRST: &str =
 const WITH_THIRD: &str =
     r#"{"extents":[{"cells":["89c25904"],"altitude_lower":0,"altitude_upper":1200,"time_start":900,"time_end":2000}],"key":["bf5cb828bbf7e8b093f86a9fa7d1afb732b484fe5604d03890c3307fce15ece2"],"state":"Accepted","uss_base_url":"https://a.example"}"#;
 
-// A plan is made and deleted; the answer is lost, so it is deleted once more, and made anew; another
-// supplier's put shows the OVN of before.
+// A plan is made and deleted; the answer is lost, so it is deleted once more, and made anew;
+// another supplier's put shows the OVN of before.
 fn story(alloc: Global) -> Option<Vec<(u64, Call)>> {
     let mut calls = Vec::new(alloc);
     for (uss, kind, words, body) in [
@@ -82,14 +83,33 @@ fn lacks_an_intent(reply: &Reply) -> bool {
     }
 }
 
-// Whether these are the replies to the story.
-fn are_due(replies: &[Reply]) -> bool {
-    replies.len() == 5
-        && is_created(&replies[0], FIRST)
-        && matches!(&replies[1], Reply::Done(Answer::Changed(_, _)))
-        && matches!(&replies[2], Reply::Denied(Rule::Found, _))
-        && is_created(&replies[3], THIRD)
-        && lacks_an_intent(&replies[4])
+// Whether that is the reply to the call of the story at an index.
+fn is_due(index: usize, reply: &Reply) -> bool {
+    match index {
+        0 => is_created(reply, FIRST),
+        1 => matches!(reply, Reply::Done(Answer::Changed(_, _))),
+        2 => matches!(reply, Reply::Denied(Rule::Found, _)),
+        3 => is_created(reply, THIRD),
+        4 => lacks_an_intent(reply),
+        _ => false,
+    }
+}
+
+// How many replies stand before the first `Stopped`, if each of them is due and all after it are
+// `Stopped`.
+fn before_the_stop(replies: &[Reply]) -> Option<usize> {
+    let mut answered: usize = 0;
+    let mut has_stopped = false;
+    for reply in replies {
+        if reply.is_stopped() {
+            has_stopped = true;
+        } else if has_stopped || !is_due(answered, reply) {
+            return None;
+        } else {
+            answered = answered.saturating_add(1);
+        }
+    }
+    Some(answered)
 }
 
 // Whether the story is told as it is due, and a put with the present OVN after it is done.
@@ -104,7 +124,7 @@ fn is_told(alloc: Global) -> Option<bool> {
         WITH_THIRD,
     )?;
     let told = told_after(alloc, salt, calls.as_slice(), 1000, &next).ok()?;
-    Some(are_due(told.0.as_slice()) && is_created(&told.1, FOURTH))
+    Some(before_the_stop(told.0.as_slice()) == Some(5) && is_created(&told.1, FOURTH))
 }
 
 #[test]
@@ -112,29 +132,16 @@ fn an_old_ovn_is_no_key(rt: HostRuntime) {
     assert!(rt; is_told(rt.alloc()) == Some(true));
 }
 
-// How many replies stand before the first `Stopped`, if there is nothing else after it.
-fn before_the_stop(replies: &[Reply]) -> Option<usize> {
-    let mut answered: usize = 0;
-    let mut has_stopped = false;
-    for reply in replies {
-        if reply.is_stopped() {
-            has_stopped = true;
-        } else if has_stopped {
-            return None;
-        } else {
-            answered = answered.saturating_add(1);
-        }
-    }
-    Some(answered)
-}
-
-// How many calls of the story a service answers over a space of which so many calls are answered, and
-// the serial that the space is left with.
+// How many calls of the story a service answers over a space of which so many calls are answered,
+// and the serial that the space is left with.
 fn answered_over(alloc: Global, left: u64) -> Option<(usize, u64)> {
     let salt = Salt::read(alloc, "demo").ok()?;
     let calls = story(alloc)?;
     let mut service = Service::new(Breaking::after(ListSpace::new(alloc), left), salt);
     let replies = service.run(alloc, calls.as_slice()).ok()?;
+    if replies.len() != calls.len() {
+        return None;
+    }
     let answered = before_the_stop(replies.as_slice())?;
     let mut space = service.into_space().into_space();
     Some((answered, space.serial().ok()?))
@@ -150,7 +157,8 @@ fn serial_after(answered: usize) -> u64 {
     }
 }
 
-// Whether a service over spaces that break one call later each time stops at each call of the story, and
+// Whether a service over a space that breaks at its first call stops at the first of the story, and
+// over spaces that break one call later each time at each call after it, until none is stopped; and
 // leaves what was acknowledged.
 fn each_call_stops(alloc: Global) -> bool {
     let mut reached: usize = 0;
@@ -158,6 +166,9 @@ fn each_call_stops(alloc: Global) -> bool {
         let Some((answered, serial)) = answered_over(alloc, left) else {
             return false;
         };
+        if left == 0 && answered > 0 {
+            return false;
+        }
         if answered < reached || answered - reached > 1 || serial != serial_after(answered) {
             return false;
         }
