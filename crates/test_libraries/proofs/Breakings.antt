@@ -76,7 +76,7 @@ module _ {S : Type 0} (g : Ghosts S) where
   changes_inside old new m true r change same was k = absurd (let e = was in cc)
   changes_inside old new m false r change same was k =
       let h : Changes g.holds g.is_sound g.is_whole (g.is_broken old.space) old.space new.space r change =
-          subst (λ (s : S). Changes g.holds g.is_sound g.is_whole (g.is_broken s) s new.space r change) same k in
+      subst (λ (s : S). Changes g.holds g.is_sound g.is_whole (g.is_broken s) s new.space r change) same k in
       record {
         sound = h.sound;
         whole = h.whole;
