@@ -25,7 +25,7 @@ NO_KIT = ", and the command rt is not on PATH, which proves and builds: nothing 
 OTHER_SOURCES = "the release is of other sources"
 DAMAGED = "the release is damaged"
 ASKED = "DSS_BUILD asks for a build"
-# what stands for the kit, and for the tests by bytes, of the gateway, of the suite and of three hosts
+# what stands for the kit, and for the tests by bytes, of growths, of the gateway, of the suite and of three hosts
 KIT = """#!/bin/sh
 case $1 in
 version) echo a kit of tests ;;
@@ -38,6 +38,9 @@ esac
 """
 TESTS = """#!/bin/sh
 [ -x "$DSS_PROGRAM" ] && echo "1 passed, 0 failed"
+"""
+GROWTHS = """#!/bin/sh
+[ "$1" = scenes ] && [ -x "$DSS_PROGRAM" ] && echo "${GROWTHS-1 passed, 0 failed}"
 """
 GATEWAY = """#!/bin/sh
 echo "${GATEWAY-1 passed, 0 failed}"
@@ -85,6 +88,7 @@ class Checkout:
                 if (TOP / "crates" / crate / part).is_dir():
                     shutil.copytree(TOP / "crates" / crate / part, self.top / "crates" / crate / part)
         script(self.top / "tests" / "end_to_end", TESTS)
+        script(self.top / "tests" / "refuse", GROWTHS)
         script(self.top / "gateway" / "test", GATEWAY)
         script(self.top / "qualify" / "test", SUITE)
         script(self.top / "tests" / "hosts", HOSTS)
@@ -340,29 +344,30 @@ def gates():
     bad = {"COUNTS": "1 passed, 1 failed"}
     with Checkout(SOME) as it:
         found = gate("by bytes", it, ["check"], 1, 0, "1 passed, 0 failed")
-        found += gate("all", it, ["check", "all"], 6, 0, same)
-        found += gate("both", it, [".ci/run"], 6, 0, "are not run again")
-        found += gate("a red gate", it, ["check", "all"], 6, 1, same, more=bad)
-        found += gate("both, of a red gate", it, [".ci/run"], 6, 1, same, more=bad)
-        found += gate("a red gateway", it, ["check", "all"], 5, 1, same, more={"GATEWAY": "0 passed, 1 failed"})
-        found += gate("a red suite", it, ["check", "all"], 5, 1, same, more={"SUITE": "0 passed, 1 failed"})
+        found += gate("all", it, ["check", "all"], 7, 0, same)
+        found += gate("both", it, [".ci/run"], 7, 0, "are not run again")
+        found += gate("a red gate", it, ["check", "all"], 7, 1, same, more=bad)
+        found += gate("both, of a red gate", it, [".ci/run"], 7, 1, same, more=bad)
+        found += gate("red growths", it, ["check", "all"], 6, 1, same, more={"GROWTHS": "0 passed, 1 failed"})
+        found += gate("a red gateway", it, ["check", "all"], 6, 1, same, more={"GATEWAY": "0 passed, 1 failed"})
+        found += gate("a red suite", it, ["check", "all"], 6, 1, same, more={"SUITE": "0 passed, 1 failed"})
         none = {"HOSTS": "0 passed, 0 failed, 3 skipped"}
-        found += gate("no hosts", it, ["check", "all"], 5, 0, same, ", 3 skipped", more=none)
-        found += gate("both, without hosts", it, [".ci/run"], 5, 0, same, ", 3 skipped", more=none)
-        found += gate("a red host", it, ["check", "all"], 6, 1, same, more={"HOSTS": "1 passed, 1 failed"})
+        found += gate("no hosts", it, ["check", "all"], 6, 0, same, ", 3 skipped", more=none)
+        found += gate("both, without hosts", it, [".ci/run"], 6, 0, same, ", 3 skipped", more=none)
+        found += gate("a red host", it, ["check", "all"], 7, 1, same, more={"HOSTS": "1 passed, 1 failed"})
         other = it.top.parent / "other"
         other.write_bytes(pathlib.Path(BUILT).read_bytes() + b"\n")
-        found += gate("another program", it, ["check", "all"], 5, 1, run, more={"TESTED": str(other)})
+        found += gate("another program", it, ["check", "all"], 6, 1, run, more={"TESTED": str(other)})
         made = it.top / "release" / "made-of"
         text = made.read_text()
         made.write_text(text.replace("kit a kit of tests", "kit another kit"))
-        found += gate("another kit", it, ["check", "all"], 6, 0, "they are not compared", more={"TESTED": str(other)})
-        found += gate("another kit, same bytes", it, ["check", "all"], 6, 0, same)
+        found += gate("another kit", it, ["check", "all"], 7, 0, "they are not compared", more={"TESTED": str(other)})
+        found += gate("another kit, same bytes", it, ["check", "all"], 7, 0, same)
         made.write_text(text)
         one_space(it.top)
-        found += gate("other sources", it, ["check", "all"], 5, 1, f"{OTHER_SOURCES}: {run}")
+        found += gate("other sources", it, ["check", "all"], 6, 1, f"{OTHER_SOURCES}: {run}")
         found += difference("scripts/release", it.run(["scripts/release"], kit=True)[0], 0)
-        found += gate("a new release", it, ["check", "all"], 6, 0, same)
+        found += gate("a new release", it, ["check", "all"], 7, 0, same)
         shutil.rmtree(it.top / ".dss")
         return found + it.answered("the new release")
 
