@@ -1,6 +1,8 @@
 """The copy in memory from which `serve` answers what is read: that it does, without memory for it, and of tables that get none."""
 import collections
+import contextlib
 import sqlite3
+import subprocess
 
 import served_calls
 import tables
@@ -29,6 +31,9 @@ def answers_without(calls, environment):
             found = service.ask([wire.request(*it) for it in calls])
         except OSError:
             found = []
+            # where memory lacks once it listens, it still closes its database, and then tells why it ends
+            with contextlib.suppress(subprocess.TimeoutExpired):
+                service.program.wait(timeout=2)
         service.kill()
         said = (service.folder / "errors").read_bytes().removeprefix(service.listening)
         database = service.folder / "dss.db"
