@@ -6,6 +6,7 @@ JOBS of them run side by side, as many as there are processors where it is not s
 import concurrent.futures
 import os
 import pathlib
+import signal
 import sys
 import time
 import traceback
@@ -65,6 +66,8 @@ def main(gateway, *wanted):
     if unknown:
         print(f"no case is named {' '.join(unknown)}\n0 passed, 1 failed")
         return False
+    # what is started in the background ignores it, and what that starts does, too
+    signal.signal(signal.SIGINT, signal.default_int_handler)
     passed = failed = 0
     with concurrent.futures.ProcessPoolExecutor(int(os.environ.get("JOBS") or os.cpu_count())) as pool:
         asked = [pool.submit(*it) for it in jobs(gateway, wanted)]
