@@ -11,7 +11,7 @@ use Rattle.grid_core.specs.Laws.{ShareNumber, TouchByInterval, LiesIn, ApartOrNe
 use Rattle.grid_core.proofs.Intervals.{interval, cut_path, held_path, four_pos, Overlap, touch_from_overlap, overlap_from_touch, take_all}
 use Rattle.grid_core.proofs.Family.{IsCell-parent_of}
 
-ordered : (c : Cell) → IsCell c → lo_of c ≤ hi_of c
+pub ordered : (c : Cell) → IsCell c → lo_of c ≤ hi_of c
 ordered c v =
     let i = interval c v in
     let lo : lo_of c ≡ cut_path c * 4 ^ i.lacks = i.lo in

@@ -7,3 +7,6 @@ pub mod Meets
 pub mod Covers
 pub mod IndexLaws
 pub mod Spans
+pub mod Joins
+pub mod Searches
+pub mod Sorts

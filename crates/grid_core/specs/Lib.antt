@@ -5,4 +5,5 @@ pub mod Token
 pub mod VolumeFault
 pub mod Extent
 pub mod Volumes
+pub mod SortedArea
 pub mod Laws

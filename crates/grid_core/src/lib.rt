@@ -4,6 +4,7 @@
 pub mod cell;
 pub mod laws;
 pub mod range;
+pub mod sorted_area;
 pub mod token;
 pub mod volume;
 pub mod volume_fault;
