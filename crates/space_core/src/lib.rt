@@ -3,4 +3,5 @@
 
 pub mod laws;
 pub mod met;
+pub mod round;
 pub mod space;

@@ -1,5 +1,5 @@
 //! The trait of spaces: what its calls tell, read and change.
-ghost use Rattle.std.specs.Prelude.{◌≡◌, ℕ, Bool, false};
+ghost use Rattle.std.specs.Prelude.{◌≡◌, ℕ, Bool, false, IfOk};
 ghost use Rattle.entity_core.specs.Airspace.{Airspace, IsAirspace};
 ghost use Rattle.entity_core.specs.Search.{all_in, dependents_in, subscribers_in, subscriptions_in};
 ghost use Rattle.std.specs.FinMap.{get};
@@ -15,6 +15,7 @@ use entity_core::ovn::Ovn;
 use entity_core::subscription::Sub;
 use entity_core::uss_id::UssId;
 use grid_core::volume::Area;
+use std::alloc::{AllocError, Global};
 
 /// Why a space did not do what it was asked.
 #[derive(Clone, Copy, Debug, PartialEq, Eq)]
@@ -40,6 +41,23 @@ pub enum Change {
     PutSub(Sub),
     /// The subscription of the id, which is there and which no intent names, is not kept any more.
     RemoveSub(EntityId),
+}
+
+impl Change {
+    /// An equal change.
+    pub fn clone(&self, alloc: Global) -> Result<Change, AllocError>
+        ensures { IfOk result (λ change. change ≡ self.now) }
+    {
+        match self {
+            Change::Put(entity) => Ok(Change::Put(entity.clone(alloc)?)),
+            Change::Remove(kind, id) => Ok(Change::Remove(*kind, *id)),
+            Change::Avail(uss, availability, version) => {
+                Ok(Change::Avail(uss.clone()?, *availability, version.clone()?))
+            }
+            Change::PutSub(sub) => Ok(Change::PutSub(sub.clone()?)),
+            Change::RemoveSub(id) => Ok(Change::RemoveSub(*id)),
+        }
+    }
 }
 
 /// A place where an airspace is kept.

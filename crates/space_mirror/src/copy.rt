@@ -1,5 +1,5 @@
 //! The copy alone: what it is asked, and how it follows its space.
-ghost use Rattle.std.specs.Prelude.{◌≡◌, IfOk, IfSome};
+ghost use Rattle.std.specs.Prelude.{◌≡◌, IfSome};
 ghost use Rattle.std.specs.FinMap.{get};
 ghost use Rattle.entity_core.specs.Search.{all_in, dependents_in, subscribers_in, subscriptions_in};
 ghost use Rattle.space_core.specs.declared.space.Change.{Change};
@@ -18,7 +18,7 @@ use grid_core::volume::Area;
 use space_core::met::Met;
 use space_core::space::{Change, Space, SpaceFault};
 use space_list::list::ListSpace;
-use std::alloc::{AllocError, Global};
+use std::alloc::Global;
 
 /// The answer of the space; after `Broken` the list is dropped.
 pub(crate) fn left<T>(
@@ -179,21 +179,6 @@ pub(crate) fn serial(list: &mut Option<ListSpace>) -> Option<u64>
     }
 }
 
-// An equal change.
-fn equal(alloc: Global, change: &Change) -> Result<Change, AllocError>
-    ensures { IfOk result (λ copy. copy ≡ change.now) }
-{
-    match change {
-        Change::Put(entity) => Ok(Change::Put(entity.clone(alloc)?)),
-        Change::Remove(kind, id) => Ok(Change::Remove(*kind, *id)),
-        Change::Avail(uss, availability, version) => {
-            Ok(Change::Avail(uss.clone()?, *availability, version.clone()?))
-        }
-        Change::PutSub(sub) => Ok(Change::PutSub(sub.clone()?)),
-        Change::RemoveSub(id) => Ok(Change::RemoveSub(*id)),
-    }
-}
-
 /// An equal change for the list, where there is one and memory for it.
 pub(crate) fn copy_of(alloc: Global, list: &Option<ListSpace>, change: &Change) -> Option<Change>
     ensures { IfSome result (λ copy. copy ≡ change.now) }
@@ -201,7 +186,7 @@ pub(crate) fn copy_of(alloc: Global, list: &Option<ListSpace>, change: &Change) 
     if list.is_none() {
         return None;
     }
-    match equal(alloc, change) {
+    match change.clone(alloc) {
         Ok(copy) => Some(copy),
         Err(_) => None,
     }
