@@ -35,7 +35,7 @@ all_rise ss s can = all_found (λ x. x.index < greatest_serial) ss s (λ id x h.
 pub all_rise_in : (seen ss : List Sub) → seen ≡ ss → InOrder ss → CanRise ss → AllByRecursion (λ s. s.index < greatest_serial) seen
 all_rise_in seen ss e s can = subst (AllByRecursion (λ x. x.index < greatest_serial)) (sym e) (all_rise ss s can)
 
-told_id : (b : Bool) (s : Sub) → (cond b (told_again s) s).id ≡ s.id
+pub told_id : (b : Bool) (s : Sub) → (cond b (told_again s) s).id ≡ s.id
 told_id true s = refl
 told_id false s = refl
 

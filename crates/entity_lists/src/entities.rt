@@ -10,6 +10,7 @@ ghost use Rattle.entity_lists.specs.Entities.{numbers_of, pair_of, entity_map, w
 use entity_core::entity::Entity;
 use entity_core::entity_id::EntityId;
 use entity_core::nature::Kind;
+use grid_core::sorted_area::{SortedArea, sorted};
 use grid_core::volume::Area;
 use std::alloc::{AllocError, AllocFailed, Global};
 use std::collections::BTreeMap;
@@ -70,11 +71,11 @@ fn is_other(except: Option<EntityId>, kind: Kind, id: EntityId) -> bool
     }
 }
 
-fn is_wanted(entity: &Entity, kind: Kind, areas: &[Area], except: Option<EntityId>) -> bool
+fn is_wanted(entity: &Entity, kind: Kind, areas: &[SortedArea], except: Option<EntityId>) -> bool
     ensures { result ≡ is_sought kind areas.now except (pair_of entity.now) }
 {
     let own = entity.nature.kind();
-    own.is(kind) && (is_other(except, own, entity.id) && entity.volumes.meet(areas))
+    own.is(kind) && (is_other(except, own, entity.id) && entity.volumes.meet_sorted(areas))
 }
 
 fn is_naming(entity: &Entity, id: EntityId) -> bool
@@ -151,6 +152,20 @@ impl Entities {
         ensures { IfOk result (λ found. found.items
             ≡ meeting_in (entity_map self.now) kind areas.now except) }
     {
+        let sorted_areas = sorted(alloc, areas)?;
+        self.meeting_sorted(alloc, kind, &sorted_areas, except)
+    }
+
+    fn meeting_sorted(
+        &self,
+        alloc: Global,
+        kind: Kind,
+        areas: &[SortedArea],
+        except: Option<EntityId>,
+    ) -> Result<Vec<Entity>, AllocError>
+        ensures { IfOk result (λ found. found.items
+            ≡ meeting_in (entity_map self.now) kind areas.now except) }
+    {
         let mut found = Vec::new(alloc);
         for entity in self.tree.values() {
             if is_wanted(entity, kind, areas, except) {
@@ -179,7 +194,7 @@ impl Entities {
         alloc: Global,
         kind: Kind,
         number: u128,
-        areas: &[Area],
+        areas: &[SortedArea],
         except: Option<EntityId>,
     ) -> Result<Option<Entity>, AllocError>
         ensures { IfOk result (λ found. FindsSought (get (entity_map self.now) (kind, number))

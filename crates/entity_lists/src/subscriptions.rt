@@ -1,7 +1,7 @@
 //! Subscriptions in the order of their ids.
-ghost use Rattle.std.specs.Prelude.{◌≡◌, ◌<◌, not, [], OnOk, OnErr, IfOk, IfErr, IsOk, IsSome, IsNone, filter, length, map};
+ghost use Rattle.std.specs.Prelude.{◌≡◌, ◌<◌, ◌↔◌, not, [], ◌∷◌, OnOk, OnErr, IfOk, IfErr, IsOk, IsSome, IsNone, IsTrue, filter, length, map};
 ghost use Rattle.std.specs.List.{AllByRecursion};
-ghost use Rattle.std.specs.List.Sorted.{IsBinarySearchResult, IsSearchInRange};
+ghost use Rattle.std.specs.List.Sorted.{IsBinarySearchResult, IsSearchInRange, IsStrictlyIncreasing};
 ghost use Rattle.std.specs.Ordering.{eq_by_cmp, nat_cmp};
 ghost use Rattle.std.specs.FinMap.{find, get, insert, remove};
 ghost use Rattle.std.specs.FinMap.Entries.{put};
@@ -15,8 +15,8 @@ use entity_core::entity_id::EntityId;
 use entity_core::nature::Kind;
 use entity_core::subscription::Sub;
 use entity_core::uss_id::UssId;
+use grid_core::sorted_area::{SortedArea, meets_some_sorted, sorted};
 use grid_core::volume::Area;
-use grid_core::volumes::meets_some;
 use std::alloc::{AllocError, Global};
 use std::marker::Model;
 
@@ -65,13 +65,18 @@ fn found(items: &[Sub], id: EntityId) -> Result<Option<Sub>, AllocError>
 }
 
 /// Whether a subscription is a supplier's, and its volume meets an area.
-pub fn is_own_near(sub: &Sub, uss: &UssId, area: &Area) -> bool
+pub fn is_own_near(sub: &Sub, uss: &UssId, area: &SortedArea) -> bool
     ensures { result ≡ is_own_near uss.now area.now (pair_of sub.now) }
 {
-    sub.manager.text() == uss.text() && sub.volume.meets(area)
+    sub.manager.text() == uss.text() && sub.volume.meets_sorted(area)
 }
 
-fn all_own(alloc: Global, items: &[Sub], uss: &UssId, area: &Area) -> Result<Vec<Sub>, AllocError>
+fn all_own(
+    alloc: Global,
+    items: &[Sub],
+    uss: &UssId,
+    area: &SortedArea,
+) -> Result<Vec<Sub>, AllocError>
     ensures { IfOk result (λ found. found.items ≡ filter
         (λ s. is_own_near uss.now area.now (pair_of s)) items.now) }
 {
@@ -85,13 +90,18 @@ fn all_own(alloc: Global, items: &[Sub], uss: &UssId, area: &Area) -> Result<Vec
 }
 
 /// Whether a subscription is for a kind, and its volume meets some area.
-pub fn is_for_near(sub: &Sub, kind: Kind, areas: &[Area]) -> bool
+pub fn is_for_near(sub: &Sub, kind: Kind, areas: &[SortedArea]) -> bool
     ensures { result ≡ is_for_near kind areas.now (pair_of sub.now) }
 {
-    sub.interest.wants(kind) && meets_some(&sub.volume, areas)
+    sub.interest.wants(kind) && meets_some_sorted(&sub.volume, areas)
 }
 
-fn all_for(alloc: Global, items: &[Sub], kind: Kind, areas: &[Area]) -> Result<Vec<Sub>, AllocError>
+fn all_for(
+    alloc: Global,
+    items: &[Sub],
+    kind: Kind,
+    areas: &[SortedArea],
+) -> Result<Vec<Sub>, AllocError>
     ensures { IfOk result (λ found. found.items ≡ filter
         (λ s. is_for_near kind areas.now (pair_of s)) items.now) }
 {
@@ -125,6 +135,48 @@ fn tell_all(items: &mut [Sub], ids: &[EntityId])
 {
     for sub in items.iter_mut() {
         tell(sub, ids);
+    }
+}
+
+fn are_rising(ids: &[EntityId]) -> bool
+    ensures { IsTrue result ↔ IsStrictlyIncreasing ids.now }
+{
+    ids.is_sorted_by(|id, next| id.number() < next.number())
+}
+
+// Tells the one of an id, if there is one.
+fn tell_one(items: &mut [Sub], id: EntityId)
+    requires order { InOrder items.old }
+    requires rises { AllByRecursion (λ s. s.id ≡ id → s.index < greatest_serial) items.old }
+    ensures { items.new ≡ map (told_of (id ∷ [])) items.old }
+{
+    if let Ok(i) = place_of(items, id) {
+        items[i].tell();
+    }
+}
+
+// The same as `tell_all`: each id is looked for.
+fn tell_each(items: &mut [Sub], ids: &[EntityId])
+    requires order { InOrder items.old }
+    requires rises { AllByRecursion (λ s. s.index < greatest_serial) items.old }
+    requires once { IsStrictlyIncreasing ids.now }
+    ensures { items.new ≡ map (told_of ids.now) items.old }
+{
+    for id in ids {
+        tell_one(items, *id);
+    }
+}
+
+// Tells those of ids: where these rise, in the size of what is told.
+fn tell_those(items: &mut [Sub], ids: &[EntityId])
+    requires order { InOrder items.old }
+    requires rises { AllByRecursion (λ s. s.index < greatest_serial) items.old }
+    ensures { items.new ≡ map (told_of ids.now) items.old }
+{
+    if are_rising(ids) {
+        tell_each(items, ids);
+    } else {
+        tell_all(items, ids);
     }
 }
 
@@ -187,7 +239,8 @@ impl Subscriptions {
         ensures { IfOk result (λ found. found.items
             ≡ subscriptions_in (subscription_map self.now) uss.now area.now) }
     {
-        all_own(alloc, &self.items, uss, area)
+        let sorted_area = SortedArea::of(alloc, area)?;
+        all_own(alloc, &self.items, uss, &sorted_area)
     }
 
     /// Copies of the subscriptions that are for a kind and whose volumes meet some area, by rising
@@ -201,7 +254,8 @@ impl Subscriptions {
         ensures { IfOk result (λ found. found.items
             ≡ subscribers_in (subscription_map self.now) kind areas.now) }
     {
-        all_for(alloc, &self.items, kind, areas)
+        let sorted_areas = sorted(alloc, areas)?;
+        all_for(alloc, &self.items, kind, &sorted_areas)
     }
 
     /// Tells each subscription whose id is among these of one more change. It takes no memory. The
@@ -211,7 +265,7 @@ impl Subscriptions {
         ensures { subscription_map self.new
             ≡ told_where (is_one_of ids.now) (subscription_map self.old) }
     {
-        tell_all(self.items.as_mut_slice(), ids);
+        tell_those(self.items.as_mut_slice(), ids);
     }
 
     /// Puts a subscription in the place of the one that has its id, or among the others where its

@@ -2,7 +2,7 @@ use Rattle.std.proofs.Common.{refl, ap, ◌∙◌}
 use Rattle.std.specs.Map.Iter.{deref}
 use Rattle.std.proofs.lemmas.Map.Iter.{rest_all}
 use Rattle.entity_lists.proofs.EntityTrees.{all_gone, meeting_found, wanted}
-use Rattle.entity_lists.proofs.entities.Entities.meeting.Goals as goal
+use Rattle.entity_lists.proofs.entities.Entities.meeting_sorted.Goals as goal
 
 pub returns : goal.returns
 returns c =
