@@ -62,7 +62,8 @@ fn own_key(entity: &Entity) -> Key
     key(entity.nature.kind(), entity.id.number())
 }
 
-fn is_other(except: Option<EntityId>, kind: Kind, id: EntityId) -> bool
+/// Whether an id is not the one to leave out, if there is one.
+pub fn is_other(except: Option<EntityId>, kind: Kind, id: EntityId) -> bool
     ensures { result ≡ is_not except (kind, id) }
 {
     match except {
@@ -104,8 +105,8 @@ impl Entities {
         self.tree.values()
     }
 
-    // The entity of a kind and the number of an id, which is all that an index has of it.
-    fn at(&self, kind: Kind, number: u128) -> Option<&Entity>
+    /// The entity of a kind and the number of an id, which is all that an index has of it.
+    pub fn at(&self, kind: Kind, number: u128) -> Option<&Entity>
         ensures { option_copied result ≡ get (entity_map self.now) (kind, number) }
     {
         self.tree.get(&key(kind, number))
