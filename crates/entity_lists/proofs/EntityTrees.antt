@@ -5,12 +5,11 @@ use Rattle.std.proofs.lemmas.Bool.Decides.{nat_tests}
 use Rattle.std.proofs.lemmas.Cmp.{eq_by_cmp_equiv}
 use Rattle.std.proofs.lemmas.Map.Keys.{sorted_head, sorted_tail}
 use Rattle.std.proofs.lemmas.Map.Lookups.{CmpEqualImpliesEq, exact_pairs, exact_unsigned}
-use Rattle.std.proofs.lemmas.Option.{same_Some}
 use Rattle.std.specs.BTreeMap as tree
 use Rattle.std.specs.BTreeMap.{BTreeMap, insert_entry, is_at}
 use Rattle.std.specs.BTreeMap.Range.{entries_between, range_contains}
 use Rattle.std.specs.FinMap as maps
-use Rattle.std.specs.FinMap.{get, get-insert, get-remove, get-from_entries, insert, remove, same_map}
+use Rattle.std.specs.FinMap.{get, get-insert, get-remove, insert, remove, same_map}
 use Rattle.std.specs.FinMap.Entries.{below_all}
 use Rattle.std.specs.List.{AllByRecursion}
 use Rattle.std.specs.List.Sorted.{IsStrictlySortedBy}
@@ -27,11 +26,10 @@ use Rattle.entity_core.specs.declared.entity.Entity.{Entity}
 use Rattle.entity_core.specs.declared.nature.Kind.{Kind}
 use Rattle.entity_core.specs.declared.nature.Kind.TheVariants.{Intent, Constraint}
 use Rattle.entity_core.proofs.Keys.{key_exact, key_total}
-use Rattle.entity_lists.specs.Entities.{AreKeyed, FindsSought, InOrder, entity_map, numbers_of, pair_of}
+use Rattle.entity_lists.specs.Entities.{AreKeyed, InOrder, entity_map, numbers_of, pair_of}
 use Rattle.entity_lists.specs.Sorted.{keyed}
 use Rattle.entity_lists.proofs.EntityLists.{all_answer, dependents_answer, meeting_answer}
 use Rattle.entity_lists.proofs.Maps.{get_of}
-use Rattle.entity_lists.specs.OwnKeys.{own_key}
 
 abbrev Entries : Type 0
 Entries = List ((ℕ × ℕ) × Entity)
@@ -157,26 +155,3 @@ naming id es = map (λ e. e.id) (filter (λ e. is_naming id (pair_of e)) es)
 
 abbrev pub wanted : Kind → List Region → Option ℕ → List Entity → List Entity
 wanted kind areas except es = filter (λ e. is_sought kind areas except (pair_of e)) es
-
--- ---- what is sought
-
-module _ (es : List Entity) (kind : Kind) (number : ℕ) (areas : List Region) (except : Option ℕ) where
-  abbrev key : EntityKey
-  key = (kind, number)
-
-  its_own : (x : Entity) → get (entity_map es) (kind, number) ≡ Some x → key_of x ≡ key
-  its_own x at = own_key es (kind, number) x (sym (get-from_entries key_total (keyed pair_of es) (kind, number)) ∙ at)
-
-  sought_as : (x : Entity) (b : Bool) → get (entity_map es) (kind, number) ≡ Some x → is_sought kind areas except (pair_of x) ≡ b → is_sought kind areas except (key, x) ≡ b
-  sought_as x b at s = subst (λ (q : EntityKey). is_sought kind areas except (q, x) ≡ b) (its_own x at) s
-
-  pub finds_it : (x y : Entity) → get (entity_map es) (kind, number) ≡ Some x → y ≡ x → is_sought kind areas except (pair_of x) ≡ true → FindsSought (get (entity_map es) (kind, number)) kind areas except (kind, number) (Some y)
-  finds_it x y at is s = subst (λ (z : Entity). FindsSought (get (entity_map es) (kind, number)) kind areas except (kind, number) (Some z)) (sym is) (at, its_own x at, sought_as x true at s)
-
-  pub finds_none_sought : (x : Entity) → get (entity_map es) (kind, number) ≡ Some x → is_sought kind areas except (pair_of x) ≡ false → FindsSought (get (entity_map es) (kind, number)) kind areas except (kind, number) None
-  finds_none_sought x at not_sought = λ z there sought.
-      let same : x ≡ z = same_Some x z (sym at ∙ there) in
-      let bad : true ≡ false = sym sought ∙ subst (λ (w : Entity). is_sought kind areas except (key, w) ≡ false) same (sought_as x false at not_sought) in cc
-
-  pub finds_none : get (entity_map es) (kind, number) ≡ None → FindsSought (get (entity_map es) (kind, number)) kind areas except (kind, number) None
-  finds_none none = λ z there sought. let bad : None ≡ Some z = sym none ∙ there in cc

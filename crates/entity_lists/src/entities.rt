@@ -5,7 +5,7 @@ ghost use Rattle.std.specs.FinMap.{get, insert, remove};
 ghost use Rattle.entity_core.specs.Airspace.{key_of};
 ghost use Rattle.entity_core.specs.Entity.{kind_index};
 ghost use Rattle.entity_core.specs.Search.{is_naming, is_not, is_sought, meeting_in, all_in, dependents_in};
-ghost use Rattle.entity_lists.specs.Entities.{numbers_of, pair_of, entity_map, was_put_at, FindsSought, InOrder};
+ghost use Rattle.entity_lists.specs.Entities.{numbers_of, pair_of, entity_map, was_put_at, InOrder};
 
 use entity_core::entity::Entity;
 use entity_core::entity_id::EntityId;
@@ -187,30 +187,6 @@ impl Entities {
             }
         }
         Ok(found)
-    }
-
-    /// A copy of the entity of a kind and the number of an id, if it is sought.
-    pub fn sought(
-        &self,
-        alloc: Global,
-        kind: Kind,
-        number: u128,
-        areas: &[SortedArea],
-        except: Option<EntityId>,
-    ) -> Result<Option<Entity>, AllocError>
-        ensures { IfOk result (λ found. FindsSought (get (entity_map self.now) (kind, number))
-            kind areas.now except (kind, number) found) }
-    {
-        match self.at(kind, number) {
-            Some(entity) => {
-                if is_wanted(entity, kind, areas, except) {
-                    Ok(Some(entity.clone(alloc)?))
-                } else {
-                    Ok(None)
-                }
-            }
-            None => Ok(None),
-        }
     }
 
     /// Whether an entity of the same kind, id and serial is among them.

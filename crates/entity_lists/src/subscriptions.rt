@@ -64,8 +64,8 @@ fn found(items: &[Sub], id: EntityId) -> Result<Option<Sub>, AllocError>
     }
 }
 
-/// Whether a subscription is a supplier's, and its volume meets an area.
-pub fn is_own_near(sub: &Sub, uss: &UssId, area: &SortedArea) -> bool
+// Whether a subscription is a supplier's, and its volume meets an area.
+fn is_own_near(sub: &Sub, uss: &UssId, area: &SortedArea) -> bool
     ensures { result ≡ is_own_near uss.now area.now (pair_of sub.now) }
 {
     sub.manager.text() == uss.text() && sub.volume.meets_sorted(area)
@@ -89,8 +89,8 @@ fn all_own(
     Ok(own)
 }
 
-/// Whether a subscription is for a kind, and its volume meets some area.
-pub fn is_for_near(sub: &Sub, kind: Kind, areas: &[SortedArea]) -> bool
+// Whether a subscription is for a kind, and its volume meets some area.
+fn is_for_near(sub: &Sub, kind: Kind, areas: &[SortedArea]) -> bool
     ensures { result ≡ is_for_near kind areas.now (pair_of sub.now) }
 {
     sub.interest.wants(kind) && meets_some_sorted(&sub.volume, areas)
