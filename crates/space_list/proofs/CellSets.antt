@@ -1,5 +1,5 @@
--- Sets of marks, spans and ids: what an insertion or a removal leaves, and loops over them.
-use Rattle.std.specs.Prelude.{◌≡◌, ℕ, ◌+◌, ◌<◌, ◌≤◌, Bool, true, false, cond, not, ◌&&◌, ◌||◌, ◌⊎◌, List, [], ◌∷◌, length, take, filter, refl}
+-- Sets of marks: what an insertion or a removal leaves, and loops over them.
+use Rattle.std.specs.Prelude.{◌≡◌, ℕ, ◌+◌, ◌<◌, ◌≤◌, Bool, true, false, cond, not, ◌&&◌, ◌||◌, ◌⊎◌, List, [], ◌∷◌, ◌++◌, length, take, filter, refl}
 use Rattle.std.proofs.Common.{arith, sym, ap, ◌∙◌, subst, inl, inr, get_or}
 use Rattle.std.specs.List.{list_any, All}
 use Rattle.std.specs.Ordering.{nat_cmp, is_eq, is_le, ordering_then}
@@ -8,18 +8,20 @@ use Rattle.std.specs.declared.cmp.Ordering.TheVariants.{Less, Equal, Greater}
 use Rattle.std.specs.declared.ops.Bound.TheVariants.{Included, Excluded}
 use Rattle.std.specs.BTreeSet.{BTreeSet, contains, Updates}
 use Rattle.std.specs.BTreeMap.Range.{range_contains}
-use Rattle.std.proofs.lemmas.Map.Lookups.{CmpEqualImpliesEq, exact_unsigned, exact_pairs}
-use Rattle.std.proofs.lemmas.List.{take_all}
-use Rattle.std.proofs.lemmas.List.Elements.{All-more, All-weaker}
+use Rattle.std.proofs.lemmas.Map.Lookups.{CmpEqualImpliesEq, exact_unsigned}
+use Rattle.std.proofs.lemmas.Bool.{cases_lt}
+use Rattle.std.proofs.lemmas.List.{get_or_default, take_all}
+use Rattle.std.proofs.lemmas.List.Elements.{All-more, All-push, All-weaker}
 use Rattle.std.proofs.lemmas.Bool.Decides.{nat_tests}
-use Rattle.space_list.specs.CellIndex.{Holder, Mark, Span, Grows, KeepsOthers, mark_cmp, span_cmp}
+use Rattle.space_list.specs.CellIndex.{Holder, Mark, Grows, KeepsOthers, mark_cmp}
+use Rattle.space_list.specs.Near.{Span}
 
 either : (c b : Bool) → b ≡ true → cond c true b ≡ true
 either true b h = refl
 either false b h = h
 
-pub inserted_grows : {K : Type 0} (cmp : K → K → Ordering) (old new : BTreeSet K) (k : K) → Updates cmp old new k true → Grows cmp old new
-inserted_grows cmp old new k u = λ q h. u.0 q ∙ either (is_eq (cmp k q)) (contains cmp old q) h
+pub inserted_grows : (old new : BTreeSet Mark) (k : Mark) → Updates mark_cmp old new k true → Grows old new
+inserted_grows old new k u = λ q h. u.0 q ∙ either (is_eq (mark_cmp k q)) (contains mark_cmp old q) h
 
 pub both_equal : (r s : Ordering) → ordering_then r s ≡ Equal → (r ≡ Equal) × (s ≡ Equal)
 both_equal Less s e = cc
@@ -36,9 +38,6 @@ mark_exact x y e =
     let h = both_equal (ordering_then (nat_cmp x.0 y.0) (nat_cmp x.1 y.1)) (nat_cmp x.2 y.2) e in
     let g = both_equal (nat_cmp x.0 y.0) (nat_cmp x.1 y.1) h.0 in
     λ i. (exact_unsigned x.0 y.0 g.0 i, exact_unsigned x.1 y.1 g.1 i, exact_unsigned x.2 y.2 h.1 i)
-
-pub span_exact : CmpEqualImpliesEq span_cmp
-span_exact = exact_pairs nat_cmp nat_cmp exact_unsigned exact_unsigned
 
 -- what is not of a holder stays where a mark of it is taken out
 pub removed_keeps : (e : Holder) (old mid new : BTreeSet Mark) (k : Mark) → k.1 ≡ e.0 → k.2 ≡ e.1 → KeepsOthers e old mid → Updates mark_cmp mid new k false → KeepsOthers e old new
@@ -98,6 +97,43 @@ more_done P P' xs i x l is f p h = All-more P' xs i x l (All-weaker P P' f (take
 
 pub all_done : {X : Type 0} (P : X → Type 0) (xs : List X) (i : ℕ) → length xs ≤ i → All P (take i xs) → All P xs
 all_done P xs i l h = subst (All P) (take_all i xs l) h
+
+-- the same by places, where what is done names the place
+pub each_more : {X : Type 0} (P P' : ℕ → X → Type 0) (xs : List X) (n : ℕ) (x : X) → n < length xs → x ≡ get_or xs n x → ((i : ℕ) (y : X) → P i y → P' i y) → P' n x → ((i : ℕ) (d : X) → i < n → P i (get_or xs i d)) → (i : ℕ) (d : X) → i < n + 1 → P' i (get_or xs i d)
+each_more P P' xs n x l is f p h i d lt = elim (cases_lt i n) [
+  | inl below ↦ f i (get_or xs i d) (h i d below)
+  | inr above ↦
+      let same : n ≡ i = omega arith in
+      subst (λ (k : ℕ). P' k (get_or xs k d)) same (subst (P' n) (is ∙ get_or_default xs n x d l) p)
+]
+
+-- ---- a loop over what an iterator gives, of which some is left and all the rest is done
+
+pub record Seen {X : Type 0} (P : X → Type 0) (all left : List X) : Type 0 where
+  pub seen : List X
+  pub split : seen ++ left ≡ all
+  pub done : All P seen
+
+after_last : {X : Type 0} (xs : List X) (x : X) (ys : List X) → (xs ++ (x ∷ [])) ++ ys ≡ xs ++ (x ∷ ys)
+after_last [] x ys = refl
+after_last (z ∷ xs) x ys = ap (λ l. z ∷ l) (after_last xs x ys)
+
+and_none : {X : Type 0} (xs : List X) → xs ++ [] ≡ xs
+and_none [] = refl
+and_none (x ∷ xs) = ap (λ l. x ∷ l) (and_none xs)
+
+pub seen_none : {X : Type 0} (P : X → Type 0) (all left : List X) → left ≡ all → Seen P all left
+seen_none P all left e = record { seen = []; split = e; done = λ k d l. absurd (omega arith) }
+
+pub seen_more : {X : Type 0} (P P' : X → Type 0) (all left rest : List X) (x : X) → left ≡ x ∷ rest → ((y : X) → P y → P' y) → P' x → Seen P all left → Seen P' all rest
+seen_more {X} P P' all left rest x is f p h = record {
+  seen = h.seen ++ (x ∷ []);
+  split = after_last h.seen x rest ∙ (ap (λ (l : List X). h.seen ++ l) (sym is) ∙ h.split);
+  done = All-push P' h.seen x (All-weaker P P' f h.seen h.done) p;
+}
+
+pub seen_all : {X : Type 0} (P : X → Type 0) (all left : List X) → left ≡ [] → Seen P all left → All P all
+seen_all {X} P all left none h = subst (All P) (sym (and_none h.seen) ∙ (ap (λ (l : List X). h.seen ++ l) (sym none) ∙ h.split)) h.done
 
 -- ---- keys in a range
 

@@ -1,9 +1,9 @@
 -- An index of the entities of a map, as entities come and go.
 use Rattle.std.specs.Prelude.{◌≡◌, ℕ, ◌+◌, ◌*◌, ◌≤◌, true, false, cond, List, [], ◌∷◌, ◌++◌, Option, Some, None, nat_eq, refl}
-use Rattle.std.proofs.Common.{arith, sym, ap, ◌∙◌, subst}
+use Rattle.std.proofs.Common.{arith, sym, ap, ◌∙◌, subst, get_or}
 use Rattle.std.proofs.lemmas.Bool.Decides.{nat_tests}
 use Rattle.std.proofs.lemmas.Option.{same_Some}
-use Rattle.std.proofs.lemmas.List.Elements.{All-head, All-push, All-tail, All-weaker}
+use Rattle.std.proofs.lemmas.List.Elements.{All-head, All-tail, All-weaker}
 use Rattle.std.specs.List.{All}
 use Rattle.std.specs.Ordering.{eq_by_cmp}
 use Rattle.std.specs.BTreeSet.{BTreeSet}
@@ -24,13 +24,17 @@ use Rattle.entity_lists.specs.Sorted.{keyed}
 use Rattle.space_list.proofs.CellMeetings.{marked_more}
 use Rattle.entity_core.proofs.Keys.{key_total}
 
-all_marked : (marks marks' : BTreeSet Mark) (e : Entity) → ((c : Cell) → IsMarked marks (holder_of e) c → IsMarked marks' (holder_of e) c) → AllMarked marks e → AllMarked marks' e
-all_marked marks marks' e f h =
-    let o = holder_of e in
-    All-weaker (λ (v : Extent). All (IsMarked marks o) v.cells) (λ (v : Extent). All (IsMarked marks' o) v.cells) (λ v g. All-weaker (IsMarked marks o) (IsMarked marks' o) f v.cells g) e.volumes h
+all_marked : (marks marks' : BTreeSet Mark) (e : Entity) → ((i : ℕ) (c : Cell) → IsMarked marks (holder_of e) i c → IsMarked marks' (holder_of e) i c) → AllMarked marks e → AllMarked marks' e
+all_marked marks marks' e f h = record {
+  few = h.few;
+  cells = λ i d l. All-weaker (IsMarked marks (holder_of e) i) (IsMarked marks' (holder_of e) i) (f i) (get_or e.volumes i d).cells (h.cells i d l);
+}
 
-pub grown_index : (m : Entities) (old new : BTreeSet Mark) → Grows mark_cmp old new → IsIndexOf m old → IsIndexOf m new
-grown_index m old new g h = λ k x at. all_marked old new x (marked_more (holder_of x) old new g) (h k x at)
+pub grown_marked : (old new : BTreeSet Mark) → Grows old new → (e : Entity) → AllMarked old e → AllMarked new e
+grown_marked old new g e h = all_marked old new e (marked_more (holder_of e) old new g) h
+
+pub grown_index : (m : Entities) (old new : BTreeSet Mark) → Grows old new → IsIndexOf m old → IsIndexOf m new
+grown_index m old new g h = λ k x at. grown_marked old new g x (h k x at)
 
 pub none_there : (es : List Entity) → es ≡ [] → (k : EntityKey) (x : Entity) → get (entity_map es) k ≡ Some x → ⊥
 none_there es e k x at = let bad : None ≡ Some x = sym (ap (λ (l : List Entity). get (entity_map l) k) e ∙ get-from_entries key_total (keyed pair_of []) k) ∙ at in cc
@@ -88,30 +92,7 @@ forgotten_indexed es g old new keeps gone h = λ k x at.
     let keys : key_of x ≡ key_of g = λ i. (kind i, id i) in
     let own : key_of x ≡ k = own_key es k x (sym (get-from_entries key_total (keyed pair_of es) k) ∙ at) in
     not_put x g.serial (get (entity_map es) (key_of g)) gone (ap (λ (q : EntityKey). get (entity_map es) q) (sym keys ∙ own) ∙ at) same.0 in
-    all_marked old new x (λ c m. record { cell = m.cell; narrow = m.narrow; mark = keeps (mark_of (holder_of x) c) other m.mark }) (h k x at)
-
--- ---- a list of entities that are marked one after another
-
--- of a list, these are left, and each of the others is marked
-pub record HasMarked (marks : BTreeSet Mark) (all left : List Entity) : Type 0 where
-  pub seen : List Entity
-  pub split : seen ++ left ≡ all
-  pub marked : All (AllMarked marks) seen
-
-after_last : {X : Type 0} (xs : List X) (x : X) (ys : List X) → (xs ++ (x ∷ [])) ++ ys ≡ xs ++ (x ∷ ys)
-after_last [] x ys = refl
-after_last (z ∷ xs) x ys = ap (λ l. z ∷ l) (after_last xs x ys)
-
-and_none : {X : Type 0} (xs : List X) → xs ++ [] ≡ xs
-and_none [] = refl
-and_none (x ∷ xs) = ap (λ l. x ∷ l) (and_none xs)
-
-pub mark_first : (all left rest : List Entity) (x : Entity) (old new : BTreeSet Mark) → left ≡ x ∷ rest → Grows mark_cmp old new → AllMarked new x → HasMarked old all left → HasMarked new all rest
-mark_first all left rest x old new is g marked h = record {
-  seen = h.seen ++ (x ∷ []);
-  split = after_last h.seen x rest ∙ (ap (λ (l : List Entity). h.seen ++ l) (sym is) ∙ h.split);
-  marked = All-push (AllMarked new) h.seen x (All-weaker (AllMarked old) (AllMarked new) (λ e m. all_marked old new e (marked_more (holder_of e) old new g) m) h.seen h.marked) marked;
-}
+    all_marked old new x (λ i c m. record { cell = m.cell; narrow = m.narrow; mark = keeps (mark_of (holder_of x) i c) other m.mark }) (h k x at)
 
 -- what is marked of a whole list is marked of each that is found
 listed : (marks : BTreeSet Mark) (es : List Entity) (k : EntityKey) (x : Entity) → maps.find key_cmp k (keyed pair_of es) ≡ Some x → All (AllMarked marks) es → AllMarked marks x
@@ -122,7 +103,5 @@ listed marks (e ∷ es) k x at h =
       | false ↦ λ g. listed marks es k x g (All-tail (AllMarked marks) e es h)
     ] at
 
-pub all_indexed : (es left : List Entity) (marks : BTreeSet Mark) → left ≡ [] → HasMarked marks es left → IsIndexOf (entity_map es) marks
-all_indexed es left marks none h =
-    let whole : h.seen ≡ es = sym (and_none h.seen) ∙ (ap (λ (l : List Entity). h.seen ++ l) (sym none) ∙ h.split) in
-    λ k x at. listed marks es k x (sym (get-from_entries key_total (keyed pair_of es) k) ∙ at) (subst (All (AllMarked marks)) whole h.marked)
+pub all_indexed : (es : List Entity) (marks : BTreeSet Mark) → All (AllMarked marks) es → IsIndexOf (entity_map es) marks
+all_indexed es marks h = λ k x at. listed marks es k x (sym (get-from_entries key_total (keyed pair_of es) k) ∙ at) h

@@ -1,8 +1,10 @@
 pub mod ListSpaces
 pub mod CellSets
+pub mod Bits
 pub mod CellMeetings
+pub mod FoundIds
 pub mod KeptEntries
+pub mod Named
 pub mod IndexedMaps
-pub mod SoughtMaps
 pub mod SubscriptionIndexes
-pub mod SoughtSubscriptions
+pub mod SoughtMaps

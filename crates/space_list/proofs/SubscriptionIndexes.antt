@@ -31,22 +31,22 @@ same_id : (id other : ℕ) → eq_by_cmp nat_cmp id other ≡ false → id ≡ o
 same_id id other apart e =
     let bad : true ≡ false = sym (subst (λ (k : ℕ). eq_by_cmp nat_cmp id k ≡ true) e ((eq_by_cmp_equiv nat_cmp_total).refl id)) ∙ apart in cc
 
-pub grown : (old new : BTreeSet Mark) → Grows mark_cmp old new → (s : Sub) → AllMarked old s → AllMarked new s
-grown old new g s h = All-weaker (IsMarked old (holder_of s)) (IsMarked new (holder_of s)) (marked_more (holder_of s) old new g) s.volume.cells h
+pub grown : (old new : BTreeSet Mark) → Grows old new → (s : Sub) → AllMarked old s → AllMarked new s
+grown old new g s h = All-weaker (IsMarked old (holder_of s) 0) (IsMarked new (holder_of s) 0) (marked_more (holder_of s) old new g 0) s.volume.cells h
 
 -- the marks of other holders are those of other subscriptions
 other_marks : (g s : Sub) (old new : BTreeSet Mark) → KeepsOthers (holder_of g) old new → (s.id ≡ g.id → ⊥) → AllMarked old s → AllMarked new s
 other_marks g s old new keeps other h =
-    All-weaker (IsMarked old (holder_of s)) (IsMarked new (holder_of s)) (λ c m. record { cell = m.cell; narrow = m.narrow; mark = keeps (mark_of (holder_of s) c) (λ put id. other id) m.mark }) s.volume.cells h
+    All-weaker (IsMarked old (holder_of s) 0) (IsMarked new (holder_of s) 0) (λ c m. record { cell = m.cell; narrow = m.narrow; mark = keeps (mark_of (holder_of s) 0 c) (λ put id. other id) m.mark }) s.volume.cells h
 
 -- ---- the index as a whole
 
 module _ (ss : List Sub) (id : ℕ) (old new : BTreeSet Mark) where
-  pub grown_but : Grows mark_cmp old new → IsIndexBut id (subscription_map ss) (Some old) → IsIndexBut id (subscription_map ss) (Some new)
+  pub grown_but : Grows old new → IsIndexBut id (subscription_map ss) (Some old) → IsIndexBut id (subscription_map ss) (Some new)
   grown_but g h = λ k s at other. grown old new g s (h k s at other)
 
   -- and with the marks of the one it is whole
-  pub grown_whole : (x : Sub) → get (subscription_map ss) id ≡ Some x → Grows mark_cmp old new → AllMarked new x → IsIndexBut id (subscription_map ss) (Some old) → IsIndexOf (subscription_map ss) new
+  pub grown_whole : (x : Sub) → get (subscription_map ss) id ≡ Some x → Grows old new → AllMarked new x → IsIndexBut id (subscription_map ss) (Some old) → IsIndexOf (subscription_map ss) new
   grown_whole x there g marked h = λ k s at.
       elim (eq_by_cmp nat_cmp k id) as (λ b. eq_by_cmp nat_cmp k id ≡ b → AllMarked new s) [
         | true ↦ λ is. subst (AllMarked new) (same_Some x s (sym there ∙ (ap (λ (q : ℕ). get (subscription_map ss) q) (sym (one_id k id is)) ∙ at))) marked

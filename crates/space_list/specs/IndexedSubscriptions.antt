@@ -1,20 +1,20 @@
 -- Subscriptions with an index by the cells of their volumes.
-use Rattle.std.specs.Prelude.{◌≡◌, ℕ, Bool, List, filter, filter_map, Option, Some, None}
+use Rattle.std.specs.Prelude.{◌≡◌, ℕ, List, [], ◌∷◌, Option, Some, None}
 use Rattle.std.specs.List.{All}
 use Rattle.std.specs.BTreeSet.{BTreeSet}
 use Rattle.std.specs.FinMap.{get}
 use Rattle.entity_core.specs.Airspace.{Subscriptions}
 use Rattle.entity_core.specs.declared.subscription.Sub.{Sub}
-use Rattle.entity_lists.specs.Subscriptions.{pair_of}
+use Rattle.grid_core.specs.Extent.{Extent}
 use Rattle.space_list.specs.CellIndex.{Holder, Mark, IsMarked}
 
 -- a subscription as a holder of cells; the number of its put is its serial
 abbrev pub holder_of : Sub → Holder
 holder_of s = (s.serial, s.id)
 
--- each cell of a subscription stands in an index
+-- each cell of a subscription stands in an index, as of the volume number 0
 abbrev pub AllMarked : BTreeSet Mark → Sub → Type 0
-AllMarked marks s = All (IsMarked marks (holder_of s)) s.volume.cells
+AllMarked marks s = All (IsMarked marks (holder_of s) 0) s.volume.cells
 
 -- each subscription of a map stands in an index, which may have other marks, too
 abbrev pub IsIndexOf : Subscriptions → BTreeSet Mark → Type 0
@@ -31,6 +31,6 @@ IsIndexBut but m None = Unit {0}
 IsIndexBut but m (Some marks) = (id : ℕ) (s : Sub) → get m id ≡ Some s → (id ≡ but → ⊥)
     → AllMarked marks s
 
--- of the subscriptions that a map has under some ids, those that pass a test
-abbrev pub passing_of : (ℕ × Sub → Bool) → Subscriptions → List ℕ → List Sub
-passing_of test m ids = filter (λ s. test (pair_of s)) (filter_map (get m) ids)
+-- the one volume of a subscription
+abbrev pub volumes_of : Sub → List Extent
+volumes_of s = s.volume ∷ []

@@ -1,4 +1,6 @@
 pub mod List
 pub mod Proper
 pub mod CellIndex
+pub mod Near
+pub mod Found
 pub mod IndexedSubscriptions

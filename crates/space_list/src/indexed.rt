@@ -4,13 +4,16 @@ ghost use Rattle.std.specs.FinMap.{get, insert, remove};
 ghost use Rattle.entity_core.specs.Airspace.{key_of};
 ghost use Rattle.entity_core.specs.Search.{meeting_in, all_in, dependents_in};
 ghost use Rattle.entity_lists.specs.Entities.{entity_map};
-ghost use Rattle.space_list.specs.CellIndex.{AddsSought, AllMarked, IsIndexOf, FindsSoughtAmong};
+ghost use Rattle.space_list.specs.CellIndex.{AllMarked, IsIndexOf};
 
-use crate::cell_index::{Mark, mark_entity, near, unmark_entity};
+use crate::cell_index::{Mark, mark_entity, unmark_entity};
+use crate::found::{entities_of, sought_ids};
+use crate::near::near;
 use entity_core::entity::Entity;
 use entity_core::entity_id::EntityId;
 use entity_core::nature::Kind;
 use entity_lists::entities::Entities;
+use grid_core::sorted_area::sorted;
 use grid_core::volume::Area;
 use std::alloc::{AllocError, Global};
 use std::collections::BTreeSet;
@@ -98,45 +101,7 @@ fn remove_from(entities: &mut Entities, marks: &mut BTreeSet<Mark>, kind: Kind, 
     }
 }
 
-// Adds a copy of the entity of a kind and the number of an id, if it is sought.
-fn add_sought(
-    alloc: Global,
-    found: &mut Entities,
-    entities: &Entities,
-    kind: Kind,
-    number: u128,
-    areas: &[Area],
-    except: &Option<EntityId>,
-) -> Result<(), AllocError>
-    ensures { OnOk result (AddsSought (entity_map entities.now) kind areas.now except.now
-        (kind, number) (entity_map found.old) (entity_map found.new)) }
-{
-    match entities.sought(alloc, kind, number, areas, *except)? {
-        Some(entity) => found.put(entity),
-        None => Ok(()),
-    }
-}
-
-// Of the entities of these ids, those that are sought.
-fn sought_among(
-    alloc: Global,
-    entities: &Entities,
-    ids: &BTreeSet<u128>,
-    kind: Kind,
-    areas: &[Area],
-    except: &Option<EntityId>,
-) -> Result<Entities, AllocError>
-    ensures { IfOk result (λ found. FindsSoughtAmong (entity_map entities.now) ids.now
-        kind areas.now except.now (entity_map found)) }
-{
-    let mut found = Entities::new(alloc);
-    for id in ids {
-        add_sought(alloc, &mut found, entities, kind, *id, areas, except)?;
-    }
-    Ok(found)
-}
-
-// Looks at the entities that have a cell near some area, and at no other.
+// Looks at the volumes that have a cell near some area, and at no other.
 fn meeting_in(
     alloc: Global,
     entities: &Entities,
@@ -149,9 +114,10 @@ fn meeting_in(
     ensures { IfOk result (λ found. found.items
         ≡ meeting_in (entity_map entities.now) kind areas.now except) }
 {
-    let ids = near(alloc, marks, areas)?;
-    let found = sought_among(alloc, entities, &ids, kind, areas, &except)?;
-    found.into_vec(alloc)
+    let areas = sorted(alloc, areas)?;
+    let near = near(alloc, marks, &areas)?;
+    let ids = sought_ids(alloc, entities, &near, kind, &areas, &except)?;
+    entities_of(alloc, entities, kind, &ids)
 }
 
 impl IndexedEntities {

@@ -1,22 +1,27 @@
 //! Subscriptions with an index by the cells of their volumes, so that a search costs what it finds.
-ghost use Rattle.std.specs.Prelude.{◌≡◌, [], length, is_some, OnOk, OnErr, IfOk, IsOk, IsNone, IsSome};
+ghost use Rattle.std.specs.Prelude.{◌≡◌, [], filter_map, length, is_some, OnOk, OnErr, IfOk, IsOk, IsNone, IsSome};
 ghost use Rattle.std.specs.FinMap.{get, insert, remove};
 ghost use Rattle.std.specs.BTreeSet.{IsOrdered, keys};
 ghost use Rattle.std.specs.List.Sorted.{IsBinarySearchResult, IsSearchInRange};
 ghost use Rattle.std.specs.Option.{option_copied};
 ghost use Rattle.std.specs.Ordering.{nat_cmp};
 ghost use Rattle.entity_core.specs.Airspace.{is_one_of, told_where};
-ghost use Rattle.entity_core.specs.Search.{is_for_near, is_own_near, subscribers_in, subscriptions_in};
+ghost use Rattle.entity_core.specs.IdTexts.{same_text};
+ghost use Rattle.entity_core.specs.Search.{is_for_near, subscribers_in, subscriptions_in};
 ghost use Rattle.entity_lists.specs.Subscriptions.{CanRise, InOrder, subscription_map};
-ghost use Rattle.space_list.specs.IndexedSubscriptions.{AllMarked, IsIndexBut, IsIndexIfAny, IsIndexOf, holder_of, passing_of};
-ghost use Rattle.space_list.specs.CellIndex.{Grows, mark_cmp};
+ghost use Rattle.space_list.specs.CellIndex.{Grows};
+ghost use Rattle.space_list.specs.Found.{is_own_of, AllPassing, Judges, OnlyPassing};
+ghost use Rattle.space_list.specs.IndexedSubscriptions.{AllMarked, IsIndexBut, IsIndexIfAny, IsIndexOf, holder_of, volumes_of};
 
-use crate::cell_index::{Holder, Mark, mark_cells, near, unmark_cells};
+use crate::cell_index::{Holder, Mark, mark_cells, unmark_cells};
+use crate::found::add_at;
+use crate::near::{Near, Part, meets_one_of, near};
 use entity_core::entity_id::EntityId;
 use entity_core::nature::Kind;
 use entity_core::subscription::Sub;
 use entity_core::uss_id::UssId;
-use entity_lists::subscriptions::{Subscriptions, is_for_near, is_own_near};
+use entity_lists::subscriptions::Subscriptions;
+use grid_core::sorted_area::{SortedArea, sorted};
 use grid_core::volume::Area;
 use std::alloc::{AllocError, Global};
 use std::collections::BTreeSet;
@@ -71,10 +76,10 @@ fn holder(sub: &Sub) -> Holder
 }
 
 fn mark_sub(marks: &mut BTreeSet<Mark>, sub: &Sub) -> Result<(), AllocError>
-    ensures kept { Grows mark_cmp marks.old marks.new }
+    ensures kept { Grows marks.old marks.new }
     ensures marked { OnOk result (AllMarked marks.new sub.now) }
 {
-    mark_cells(marks, holder(sub), sub.volume.cells())
+    mark_cells(marks, holder(sub), 0, sub.volume.cells())
 }
 
 // ---- what goes in and out
@@ -108,7 +113,7 @@ fn forget(marks: &mut Option<BTreeSet<Mark>>, subscriptions: &Subscriptions, id:
     match at(subscriptions, id.number()) {
         Some(sub) => {
             if let Some(marks) = marks {
-                unmark_cells(marks, holder(sub), sub.volume.cells());
+                unmark_cells(marks, holder(sub), 0, sub.volume.cells());
             }
             true
         }
@@ -162,48 +167,105 @@ fn put_in(
 
 // ---- what is found
 
-fn own_among(
-    alloc: Global,
-    subscriptions: &Subscriptions,
-    ids: &BTreeSet<u128>,
-    uss: &UssId,
-    area: &Area,
-) -> Result<Vec<Sub>, AllocError>
-    ensures found { IfOk result (λ own. own.items ≡ passing_of (is_own_near uss.now area.now)
-        (subscription_map subscriptions.now) (keys ids.now)) }
-    ensures rise { IsOrdered nat_cmp ids.now }
+fn is_of(sub: &Sub, uss: &UssId) -> bool
+    ensures { result ≡ same_text sub.now.manager uss.now }
 {
-    let mut own = Vec::new(alloc);
-    for id in ids {
-        if let Some(sub) = at(subscriptions, *id) {
-            if is_own_near(sub, uss, area) {
-                own.push(sub.clone()?)?;
-            }
-        }
-    }
-    Ok(own)
+    sub.manager.text() == uss.text()
 }
 
-fn wanted_among(
+// Whether the subscription of a part is a supplier's, and meets an area near it.
+fn is_own(
+    subscriptions: &Subscriptions,
+    uss: &UssId,
+    part: Part,
+    bits: u64,
+    areas: &[SortedArea],
+) -> bool
+    ensures { Judges (get (subscription_map subscriptions.now)) volumes_of
+        (is_own_of uss.now areas.now) areas.now part bits result }
+{
+    match at(subscriptions, part.0) {
+        Some(sub) => is_of(sub, uss) && meets_one_of(&sub.volume, bits, areas),
+        None => false,
+    }
+}
+
+// The ids of a supplier's subscriptions that meet some area, by their volumes that are near.
+fn own_ids(
+    alloc: Global,
+    subscriptions: &Subscriptions,
+    near: &Near,
+    uss: &UssId,
+    areas: &[SortedArea],
+) -> Result<BTreeSet<u128>, AllocError>
+    ensures only { IfOk result (λ ids. OnlyPassing (get (subscription_map subscriptions.now))
+        (is_own_of uss.now areas.now) ids) }
+    ensures all { IfOk result (λ ids. AllPassing (get (subscription_map subscriptions.now))
+        volumes_of (is_own_of uss.now areas.now) areas.now near.now ids) }
+{
+    let mut ids = BTreeSet::new(alloc);
+    for (part, bits) in near {
+        let answer = is_own(subscriptions, uss, *part, *bits, areas);
+        add_at(&mut ids, part.0, answer)?;
+    }
+    Ok(ids)
+}
+
+// Whether it is for a kind, and meets an area near it.
+fn is_wanted(
+    subscriptions: &Subscriptions,
+    kind: Kind,
+    part: Part,
+    bits: u64,
+    areas: &[SortedArea],
+) -> bool
+    ensures { Judges (get (subscription_map subscriptions.now)) volumes_of
+        (is_for_near kind areas.now) areas.now part bits result }
+{
+    match at(subscriptions, part.0) {
+        Some(sub) => sub.interest.wants(kind) && meets_one_of(&sub.volume, bits, areas),
+        None => false,
+    }
+}
+
+// The ids of the subscriptions that are for a kind and meet some area.
+fn wanted_ids(
+    alloc: Global,
+    subscriptions: &Subscriptions,
+    near: &Near,
+    kind: Kind,
+    areas: &[SortedArea],
+) -> Result<BTreeSet<u128>, AllocError>
+    ensures only { IfOk result (λ ids. OnlyPassing (get (subscription_map subscriptions.now))
+        (is_for_near kind areas.now) ids) }
+    ensures all { IfOk result (λ ids. AllPassing (get (subscription_map subscriptions.now))
+        volumes_of (is_for_near kind areas.now) areas.now near.now ids) }
+{
+    let mut ids = BTreeSet::new(alloc);
+    for (part, bits) in near {
+        let answer = is_wanted(subscriptions, kind, *part, *bits, areas);
+        add_at(&mut ids, part.0, answer)?;
+    }
+    Ok(ids)
+}
+
+// Copies of the subscriptions of these ids, by rising ids.
+fn all_of(
     alloc: Global,
     subscriptions: &Subscriptions,
     ids: &BTreeSet<u128>,
-    kind: Kind,
-    areas: &[Area],
 ) -> Result<Vec<Sub>, AllocError>
-    ensures found { IfOk result (λ wanted. wanted.items ≡ passing_of (is_for_near kind areas.now)
-        (subscription_map subscriptions.now) (keys ids.now)) }
+    ensures found { IfOk result (λ found. found.items
+        ≡ filter_map (get (subscription_map subscriptions.now)) (keys ids.now)) }
     ensures rise { IsOrdered nat_cmp ids.now }
 {
-    let mut wanted = Vec::new(alloc);
+    let mut found = Vec::new(alloc);
     for id in ids {
         if let Some(sub) = at(subscriptions, *id) {
-            if is_for_near(sub, kind, areas) {
-                wanted.push(sub.clone()?)?;
-            }
+            found.push(sub.clone()?)?;
         }
     }
-    Ok(wanted)
+    Ok(found)
 }
 
 // Looks at the subscriptions that have a cell near the area, and at no other.
@@ -218,8 +280,10 @@ fn own_by_index(
     ensures { IfOk result (λ found. found.items
         ≡ subscriptions_in (subscription_map subscriptions.now) uss.now area.now) }
 {
-    let ids = near(alloc, marks, from_ref(area))?;
-    own_among(alloc, subscriptions, &ids, uss, area)
+    let areas = sorted(alloc, from_ref(area))?;
+    let near = near(alloc, marks, &areas)?;
+    let ids = own_ids(alloc, subscriptions, &near, uss, &areas)?;
+    all_of(alloc, subscriptions, &ids)
 }
 
 fn wanted_by_index(
@@ -233,8 +297,10 @@ fn wanted_by_index(
     ensures { IfOk result (λ found. found.items
         ≡ subscribers_in (subscription_map subscriptions.now) kind areas.now) }
 {
-    let ids = near(alloc, marks, areas)?;
-    wanted_among(alloc, subscriptions, &ids, kind, areas)
+    let areas = sorted(alloc, areas)?;
+    let near = near(alloc, marks, &areas)?;
+    let ids = wanted_ids(alloc, subscriptions, &near, kind, &areas)?;
+    all_of(alloc, subscriptions, &ids)
 }
 
 impl IndexedSubscriptions {

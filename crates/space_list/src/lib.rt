@@ -4,7 +4,9 @@
 
 mod cell_index;
 mod filled;
+mod found;
 mod indexed;
 mod indexed_subscriptions;
 pub mod list;
 mod lists;
+mod near;

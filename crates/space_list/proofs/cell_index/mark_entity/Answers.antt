@@ -1,25 +1,34 @@
+use Rattle.std.proofs.Common.{◌≡◌, ◌<◌, ◌≤◌, ℕ, List, arith, length, refl, subst, get_or}
 use Rattle.std.specs.List.{All}
-use Rattle.std.specs.Prelude.{List}
-use Rattle.grid_core.specs.Extent.{Extent}
-use Rattle.std.proofs.Common.{subst}
 use Rattle.std.proofs.lemmas.List.Elements.{All-weaker}
+use Rattle.grid_core.specs.Cell.{Cell}
+use Rattle.grid_core.specs.Extent.{Extent}
 use Rattle.space_list.specs.CellIndex.{Holder, IsMarked, holder_of}
-use Rattle.space_list.proofs.CellSets.{more_done, all_done}
+use Rattle.space_list.proofs.CellSets.{each_more}
 use Rattle.space_list.proofs.CellMeetings.{marked_more}
 use Rattle.space_list.proofs.cell_index.mark_entity.Goals as goal
 
-pub loop-volume-preserved : goal.loop-volume-preserved
-loop-volume-preserved c =
+pub loop-place-preserved : goal.loop-place-preserved
+loop-place-preserved c =
     let e = holder_of c.args.entity.now in
-    let old = c.loop-volume.marks in
+    let old = c.loop-place.marks in
     let new = c.mark_cells.new.marks in
+    let here : c.loop-place.place < length c.items-volume-items.result.now = omega arith in
+    let own = subst (λ (h : Holder). All (IsMarked new h c.loop-place.place) c.volume-item.result.cells) c.holder.ensures (subst (All (IsMarked new c.holder.result c.loop-place.place)) c.cells.ensures c.in_ok-mark_cells.ensures.marked) in
     record {
-      kept = λ q h. c.mark_cells.ensures.kept q (c.loop-volume.invariant.kept q h);
-      marked = more_done (λ (v : Extent). All (IsMarked old e) v.cells) (λ (v : Extent). All (IsMarked new e) v.cells) c.items-volume-items.result.now c.loop-volume.volume-index c.volume-item.result c.loop-volume-test.true c.volume-item.is
-          (λ v h. All-weaker (IsMarked old e) (IsMarked new e) (marked_more e old new c.mark_cells.ensures.kept) v.cells h)
-          (subst (λ (h : Holder). All (IsMarked new h) c.volume-item.result.cells) c.holder.ensures (subst (All (IsMarked new c.holder.result)) c.cells.ensures c.in_ok-mark_cells.ensures.marked)) c.loop-volume.invariant.marked;
+      kept = λ q h. c.mark_cells.ensures.kept q (c.loop-place.invariant.kept q h);
+      marked = each_more (λ i (v : Extent). All (IsMarked old e i) v.cells) (λ i (v : Extent). All (IsMarked new e i) v.cells) c.items-volume-items.result.now c.loop-place.place c.volume-item.result here c.volume-item.is
+          (λ i v. All-weaker (IsMarked old e i) (IsMarked new e i) (marked_more e old new c.mark_cells.ensures.kept i) v.cells) own c.loop-place.invariant.marked;
     }
 
 pub returns-clause-marked : goal.returns-clause-marked
-returns-clause-marked c = subst (λ (vs : List Extent). All (λ (v : Extent). All (IsMarked c.loop-volume.marks (holder_of c.args.entity.now)) v.cells) vs) c.items-volume-items.ensures.same
-    (all_done (λ (v : Extent). All (IsMarked c.loop-volume.marks (holder_of c.args.entity.now)) v.cells) c.items-volume-items.result.now c.loop-volume.volume-index c.loop-volume-test.false c.loop-volume.invariant.marked)
+returns-clause-marked c =
+    let e = holder_of c.args.entity.now in
+    let marks = c.loop-place.marks in
+    let items = c.items-volume-items.result.now in
+    let same : items ≡ c.args.entity.now.volumes = c.items-volume-items.ensures.same in
+    let few : length c.args.entity.now.volumes ≤ 32 = subst (λ (vs : List Extent). length vs ≤ 32) (refl) c.items-volume-items.ensures.most in
+    record {
+      few = few;
+      cells = subst (λ (vs : List Extent). (i : ℕ) (d : Extent) → i < length vs → All (IsMarked marks e i) (get_or vs i d).cells) same (λ i d l. c.loop-place.invariant.marked i d (omega arith));
+    }

@@ -1,5 +1,5 @@
 use Rattle.space_list.specs.CellIndex.{KeepsOthers, holder_of}
 use Rattle.space_list.proofs.cell_index.unmark_entity.Given as goal
 
-abbrev pub invariant-loop-volume : goal.invariant-loop-volume
-invariant-loop-volume l = KeepsOthers (holder_of l.entity) l.initial.marks l.marks
+abbrev pub invariant-loop-place : goal.invariant-loop-place
+invariant-loop-place l = KeepsOthers (holder_of l.entity) l.initial.marks l.marks
