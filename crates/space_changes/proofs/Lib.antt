@@ -29,3 +29,4 @@ pub mod Tells
 pub mod ToldAll
 pub mod Availabilities
 pub mod Committed
+pub mod Rounds

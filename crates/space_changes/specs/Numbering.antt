@@ -1,5 +1,5 @@
 -- The numbers under which the tables keep entities and subscriptions.
-use Rattle.std.specs.Prelude.{ℕ, ℤ, [], ◌∷◌, map, IsSome}
+use Rattle.std.specs.Prelude.{ℕ, ℤ, List, [], ◌∷◌, map, IsSome}
 use Rattle.std.specs.FinMap.{get}
 use Rattle.sqlite_value.specs.declared.value.Value.TheVariants.{Int, Text}
 use Rattle.sqlite_value.specs.Order.{Row, column}
@@ -7,6 +7,8 @@ use Rattle.sqlite_rules.specs.Lists.{Has}
 use Rattle.sqlite.specs.Effect.{Database, IsDatabase}
 use Rattle.entity_core.specs.EntityId.{printed}
 use Rattle.entity_core.specs.Airspace.{Airspace, EntityKey}
+use Rattle.space_core.specs.declared.round.RoundChange.{RoundChange}
+use Rattle.space_core.specs.Round.{changed_all, changed_once}
 use Rattle.space_rows.specs.Rows.{kind_number}
 use Rattle.space_tables.specs.Spelling.{Spells}
 
@@ -41,3 +43,24 @@ pub record KeepsNumbers (before after : Airspace) (old new : Database) : Type 0 
 abbrev pub Makes : (before after : Airspace) → Database → Database → Type 0
 Makes before after old new =
     Spells new after × IsDatabase new × KeepsNumbers before after old new
+
+-- ---- of a round of changes
+
+-- P of an airspace and of each that the changes of a round lead to
+abbrev pub Throughout : (Airspace → Type 0) → List RoundChange → Airspace → Type 0
+Throughout P [] a = P a
+Throughout P (c ∷ cs) a = P a × Throughout P cs (changed_once c a)
+
+-- Each entity and each subscription that is there before a round and after each of its changes
+-- keeps its number.
+pub record KeepsNumbersThroughout (round : List RoundChange) (a : Airspace) (old new : Database)
+    : Type 0 where
+  pub entities : (k : EntityKey) → Throughout (λ b. IsSome (get b.entities k)) round a → (num : ℤ)
+      → IsEntityAt old k num → IsEntityAt new k num
+  pub subscriptions : (id : ℕ) → Throughout (λ b. IsSome (get b.subscriptions id)) round a
+      → (num : ℤ) → IsSubAt old id num → IsSubAt new id num
+
+-- What the changes of a round leave of an airspace, as `Makes` says it of one.
+abbrev pub MakesAll : List RoundChange → Airspace → Database → Database → Type 0
+MakesAll round a old new =
+    Spells new (changed_all round a) × IsDatabase new × KeepsNumbersThroughout round a old new

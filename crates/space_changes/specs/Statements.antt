@@ -7,13 +7,15 @@ use Rattle.sqlite.specs.Effect.{Database, IsDatabase}
 use Rattle.sqlite.specs.State.{State, HasCleanDisk, KeepsCommit, Survives}
 use Rattle.sqlite.specs.declared.error.Error.{Error}
 use Rattle.entity_core.specs.Airspace.{Airspace, EntityKey, text_cmp}
+use Rattle.space_core.specs.declared.round.RoundChange.{RoundChange}
 use Rattle.space_core.specs.declared.space.Change.{Change}
+use Rattle.space_core.specs.Round.{FitAll}
 use Rattle.space_core.specs.Space.{Fits, changed}
 use Rattle.space_rows.specs.declared.rows.EntityRow.{EntityRow}
 use Rattle.space_rows.specs.declared.rows.SubRow.{SubRow}
 use Rattle.space_rows.specs.Finds.{Finds}
 use Rattle.space_tables.specs.Spelling.{Spells, IsSubNumber}
-use Rattle.space_changes.specs.Numbering.{Makes}
+use Rattle.space_changes.specs.Numbering.{Makes, MakesAll}
 use Rattle.space_changes.specs.Layout.{Layout, LaysOut, IsNumberOf, Relays, has_id}
 
 -- the transaction goes on, and the last commit stands
@@ -79,3 +81,14 @@ abbrev pub MakesChange : Change → List ℕ → Database → Database → Type 
 MakesChange change told old new =
     (a : Airspace) → Spells old a → Fits change told a
     → Makes a (changed change told a) old new
+
+-- whatever airspace was spelt, if each change of a round fits what those before it leave, what
+-- comes of all of them is made
+abbrev pub MakesRound : List RoundChange → Database → Database → Type 0
+MakesRound round old new =
+    (a : Airspace) → Spells old a → FitAll round a → MakesAll round a old new
+
+-- the same of changes that may be none, if the rows obeyed the schema
+abbrev pub MakesRest : List RoundChange → Database → Database → Type 0
+MakesRest round old new =
+    (a : Airspace) → Spells old a → FitAll round a → IsDatabase old → MakesAll round a old new

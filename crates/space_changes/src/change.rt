@@ -2,7 +2,8 @@
 ghost use Rattle.std.specs.Prelude.{◌≡◌, [], false};
 ghost use Rattle.sqlite.specs.Held.{state};
 ghost use Rattle.space_core.specs.Space.{Fits, changed};
-ghost use Rattle.space_changes.specs.Committing.{Commits};
+ghost use Rattle.space_changes.specs.Committing.{Commits, Keeping};
+ghost use Rattle.space_changes.specs.Numbering.{KeepsNumbers};
 ghost use Rattle.space_changes.specs.Statements.{Runs, MakesChange};
 
 use crate::availability::set_availability;
@@ -37,7 +38,8 @@ fn write_one<S: Alter>(
     }
 }
 
-fn write_change<S: Alter>(
+/// Makes a change, in which the subscriptions of these ids are told.
+pub(crate) fn write_change<S: Alter>(
     alloc: Global,
     tx: &mut Transaction<'_, S>,
     change: &Change,
@@ -71,6 +73,10 @@ pub fn make_change<S: Alter>(
     ensures ended { conn.new.in_transaction ≡ false }
     ensures commits { let old = state S.Store conn.old in
         Commits (Fits change.now notify.now) (changed change.now notify.now)
+        old (state S.Store conn.new) result }
+    ensures numbers { let old = state S.Store conn.old in
+        Keeping (Fits change.now notify.now)
+        (λ a. KeepsNumbers a (changed change.now notify.now a))
         old (state S.Store conn.new) result }
 {
     let mut tx = conn.transaction();

@@ -1,4 +1,4 @@
-//! One change of the airspace in the tables, in one transaction.
+//! One change of the airspace in the tables, or the changes of a round, in one transaction.
 #![tactic(auto)]
 
 mod availability;
@@ -7,6 +7,7 @@ mod insert;
 mod number;
 mod put;
 mod remove;
+pub mod round;
 mod serial;
 mod sub_insert;
 mod sub_number;

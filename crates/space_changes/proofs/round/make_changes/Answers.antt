@@ -1,0 +1,39 @@
+use Rattle.std.proofs.Common.{◌≡◌, ◌∷◌, subst, rules}
+use Rattle.sqlite.specs.Held.{state}
+use Rattle.space_core.specs.Round.{FitAll, changed_all}
+use Rattle.space_changes.specs.Committing.{Commits, Keeping}
+use Rattle.space_changes.specs.Numbering.{KeepsNumbersThroughout}
+use Rattle.space_changes.proofs.Committed.{committed, kept_committed, none_kept, undone}
+use Rattle.space_changes.proofs.round.make_changes.Goals as goal
+
+pub returns-in_err-write_round-clause-commits : goal.returns-in_err-write_round-clause-commits
+returns-in_err-write_round-clause-commits g c =
+    let old = c.args.conn.now in
+    let round = c.args.first.now ∷ c.args.rest.now in
+    let end = c.drop-tx.new.self.0 in
+    let same : end ≡ c.conn-1.given.0 = search rules in
+    subst (λ h. Commits (FitAll round) (changed_all round) (state g.S.Store old) (state g.S.Store h) c.from_residual.result) same
+    (undone g.S.Store old (FitAll round) (changed_all round) (KeepsNumbersThroughout round) (state g.S.Store c.write_round.new.tx.conn.now) (state g.S.Store end) c.from_residual.result _ c.from_residual.ensures.0 (rw c.transaction-tx.ensures.begun at c.in_err-write_round.ensures.changes) c.drop-tx.ensures.undone c.drop-tx.ensures.survives)
+
+pub returns-in_err-write_round-clause-numbers : goal.returns-in_err-write_round-clause-numbers
+returns-in_err-write_round-clause-numbers g c =
+    let round = c.args.first.now ∷ c.args.rest.now in
+    none_kept (FitAll round) (KeepsNumbersThroughout round) (state g.S.Store c.args.conn.now) (state g.S.Store c.conn-1.given.0) c.from_residual.result c.from_residual.ensures.0
+
+pub returns-clause-commits : goal.returns-clause-commits
+returns-clause-commits g c =
+    let old = c.args.conn.now in
+    let round = c.args.first.now ∷ c.args.rest.now in
+    let end = c.commit.new.self.0 in
+    let same : end ≡ c.conn-2-1.given.0 = search rules in
+    subst (λ h. Commits (FitAll round) (changed_all round) (state g.S.Store old) (state g.S.Store h) c.commit.result) same
+    (committed g.S.Store old (FitAll round) (changed_all round) (KeepsNumbersThroughout round) (state g.S.Store c.write_round.new.tx.conn.now) (state g.S.Store end) c.commit.result (rw c.transaction-tx.ensures.begun at c.in_ok-write_round.ensures.changes) c.commit.ensures.ok c.commit.ensures.err c.commit.ensures.survives)
+
+pub returns-clause-numbers : goal.returns-clause-numbers
+returns-clause-numbers g c =
+    let old = c.args.conn.now in
+    let round = c.args.first.now ∷ c.args.rest.now in
+    let end = c.commit.new.self.0 in
+    let same : end ≡ c.conn-2-1.given.0 = search rules in
+    subst (λ h. Keeping (FitAll round) (KeepsNumbersThroughout round) (state g.S.Store old) (state g.S.Store h) c.commit.result) same
+    (kept_committed g.S.Store old (FitAll round) (changed_all round) (KeepsNumbersThroughout round) (state g.S.Store c.write_round.new.tx.conn.now) (state g.S.Store end) c.commit.result (rw c.transaction-tx.ensures.begun at c.in_ok-write_round.ensures.changes) c.commit.ensures.ok c.commit.ensures.survives)
