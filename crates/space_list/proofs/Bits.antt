@@ -1,7 +1,7 @@
 -- Bits that stand under keys of a map.
-use Rattle.std.specs.Prelude.{◌≡◌, ℕ, ◌+◌, ◌<◌, max, Bool, true, false, cond, List, Option, Some, None, unwrap_or, bit_or, refl}
+use Rattle.std.specs.Prelude.{◌≡◌, ℕ, ◌<◌, max, true, false, cond, List, Option, Some, unwrap_or, bit_or, refl}
 use Rattle.std.proofs.Common.{arith, sym, ap, ◌∙◌, subst}
-use Rattle.std.proofs.lemmas.Nat.Bits.{bit_at_or, bit_at-lt, bit_at-zero}
+use Rattle.std.proofs.lemmas.Nat.Bits.{bit_at_or, bit_at-lt}
 use Rattle.std.proofs.lemmas.Map.Lookups.{CmpEqualImpliesEq, exact_unsigned, exact_pairs}
 use Rattle.std.specs.Int.{bit_at}
 use Rattle.std.specs.Ordering.{is_eq, nat_cmp}
@@ -44,6 +44,10 @@ module _ (old new : BTreeMap Pair ℕ) (k : Pair) (own bits : ℕ) (is : own ≡
 -- where all bits are there already
 pub had_bits : (m : BTreeMap Pair ℕ) (k : Pair) (own bits : ℕ) → own ≡ unwrap_or (get pair_cmp m k) 0 → bit_or own bits ≡ own → HasBits m k bits
 had_bits m k own bits is all = λ b h. subst (λ (n : ℕ). bit_at n b ≡ 1) (all ∙ is) (or_second own bits b h)
+
+-- where these bits add none to others
+pub all_among : (own bits : ℕ) → bit_or own bits ≡ own → (b : ℕ) → bit_at bits b ≡ 1 → bit_at own b ≡ 1
+all_among own bits all b h = subst (λ (n : ℕ). bit_at n b ≡ 1) all (or_second own bits b h)
 
 pub unchanged_widens : (old new : BTreeMap Pair ℕ) → IsUnchanged old new → Widens old new
 unchanged_widens old new e = λ q b h. subst (λ (es : List (Pair × ℕ)). bit_at (unwrap_or (lookup (is_at (pair_cmp q)) es) 0) b ≡ 1) (sym e) h

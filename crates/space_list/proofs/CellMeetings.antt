@@ -1,18 +1,19 @@
 -- What an index finds near areas.
-use Rattle.std.specs.Prelude.{◌≡◌, ℕ, ◌+◌, ◌*◌, ◌%◌, ◌^◌, ◌<◌, ◌≤◌, true, List, Option, Some, None, length, unwrap_or, Result, Ok, Err, IfOk, refl}
-use Rattle.std.proofs.Common.{arith, sym, ap, ◌∙◌, subst, inl, inr, get_or}
+use Rattle.std.specs.Prelude.{◌≡◌, ℕ, ◌+◌, ◌*◌, ◌%◌, ◌^◌, ◌<◌, ◌≤◌, ◌⊎◌, List, Option, Some, None, unwrap_or, Result, Ok, Err, IfOk, refl}
+use Rattle.std.proofs.Common.{arith, sym, subst, inl, inr}
 use Rattle.std.proofs.lemmas.Nat.Bits.{bit_at-pow_same, bit_at-zero}
 use Rattle.std.proofs.lemmas.Map.Entries.{place_from_lookup}
 use Rattle.std.proofs.lemmas.Option.{get_or_from_slice_get, slice_get_within}
+use Rattle.std.proofs.lemmas.Bool.{cases_lt}
 use Rattle.std.specs.Int.{bit_at}
 use Rattle.std.specs.List.{All, Any}
 use Rattle.std.specs.BTreeMap.{BTreeMap, get, is_at}
-use Rattle.std.specs.BTreeSet.{BTreeSet, contains}
+use Rattle.std.specs.BTreeSet.{BTreeSet}
 use Rattle.grid_core.specs.Cell.{Cell, Touch, lo_of, hi_of, parent_of}
-use Rattle.grid_core.specs.Extent.{Extent, Region, Meet, region_of}
+use Rattle.grid_core.specs.Extent.{Region}
 use Rattle.grid_core.proofs.IndexLaws.{found_by_index_lem}
-use Rattle.space_list.specs.CellIndex.{Holder, Mark, Grows, IsMarked, mark_cmp, mark_of, place_of}
-use Rattle.space_list.specs.Near.{Pair, Part, Span, Gathers, GathersAll, HasAllSpans, HasBit, HasBits, HasMeeting, HasSpansOf, IsAt, Widens, exact_of, pair_cmp, part_of, range_of}
+use Rattle.space_list.specs.CellIndex.{Holder, Mark, Grows, IsMarked, mark_of, place_of}
+use Rattle.space_list.specs.Near.{Pair, Part, Span, Gathers, GathersAll, HasAllSpans, HasBit, HasMeeting, HasSpansOf, IsStart, Widens, exact_of, pair_cmp, part_of, range_of}
 use Rattle.space_list.proofs.Bits.{pair_exact}
 use Rattle.space_list.proofs.CellSets.{equal_is}
 
@@ -49,6 +50,23 @@ pub gathered_all : (marks : BTreeSet Mark) (spans : BTreeMap Span ℕ) (near : B
 gathered_all marks spans near all = λ r b h q has low high.
     let e = entry_of spans (λ e. Gathers marks e.0 e.1 near) all r b h in
     e.2 q has low high b e.1
+
+-- a span of which the rest has been gathered, where what lies before has been
+pub gathered_rest : (marks : BTreeSet Mark) (span done : Span) (bits done_bits start : ℕ) (old new : BTreeMap Part ℕ) → IsStart span bits done done_bits start → Gathers marks done done_bits old → Widens old new
+    → Gathers marks (start, span.1) bits new → Gathers marks span bits new
+gathered_rest marks span done bits done_bits start old new is before w rest = λ q has low high b h. elim (cases_lt q.0 start) [
+  | inl early ↦ let i = is q.0 low early in w (part_of q) b (before q has i.0 i.1 b (i.2 b h))
+  | inr late ↦ rest q has late high b h
+]
+
+pub gathers_further : (marks : BTreeSet Mark) (near : BTreeMap Part ℕ) (e one other : Span × ℕ) → (e ≡ one) ⊎ (e ≡ other) → Gathers marks one.0 one.1 near → Gathers marks other.0 other.1 near → Gathers marks e.0 e.1 near
+gathers_further marks near e one other is g h = elim is [
+  | inl i ↦ subst (λ (x : Span × ℕ). Gathers marks x.0 x.1 near) (sym i) g
+  | inr i ↦ subst (λ (x : Span × ℕ). Gathers marks x.0 x.1 near) (sym i) h
+]
+
+pub nothing_there : (marks : BTreeSet Mark) (near : BTreeMap Part ℕ) → Gathers marks (0, 0) 0 near
+nothing_there marks near = λ q has low high b h. absurd (omega arith)
 
 pub gathers_more : (marks : BTreeSet Mark) (old new : BTreeMap Part ℕ) → Widens old new → (e : Span × ℕ) → Gathers marks e.0 e.1 old → Gathers marks e.0 e.1 new
 gathers_more marks old new w e g = λ q has low high b h. w (part_of q) b (g q has low high b h)

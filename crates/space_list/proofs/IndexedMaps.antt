@@ -1,5 +1,5 @@
 -- An index of the entities of a map, as entities come and go.
-use Rattle.std.specs.Prelude.{◌≡◌, ℕ, ◌+◌, ◌*◌, ◌≤◌, true, false, cond, List, [], ◌∷◌, ◌++◌, Option, Some, None, nat_eq, refl}
+use Rattle.std.specs.Prelude.{◌≡◌, ℕ, ◌+◌, ◌*◌, ◌≤◌, true, false, cond, List, [], ◌∷◌, Option, Some, None, nat_eq, refl}
 use Rattle.std.proofs.Common.{arith, sym, ap, ◌∙◌, subst, get_or}
 use Rattle.std.proofs.lemmas.Bool.Decides.{nat_tests}
 use Rattle.std.proofs.lemmas.Option.{same_Some}
@@ -10,13 +10,12 @@ use Rattle.std.specs.BTreeSet.{BTreeSet}
 use Rattle.std.specs.FinMap as maps
 use Rattle.std.specs.FinMap.{get, insert, remove, get-insert, get-remove, get-from_entries}
 use Rattle.grid_core.specs.Cell.{Cell}
-use Rattle.grid_core.specs.Extent.{Extent}
 use Rattle.entity_core.specs.declared.entity.Entity.{Entity}
 use Rattle.entity_core.specs.declared.nature.Kind.{Kind}
 use Rattle.entity_core.specs.declared.nature.Kind.TheVariants.{Intent, Constraint}
 use Rattle.entity_core.specs.Entity.{kind_index, kind_of}
 use Rattle.entity_core.specs.Airspace.{Entities, EntityKey, key_cmp, key_of}
-use Rattle.space_list.specs.CellIndex.{AllMarked, Grows, IsIndexOf, IsMarked, KeepsOthers, Mark, holder_of, mark_cmp, mark_of}
+use Rattle.space_list.specs.CellIndex.{AllMarked, Grows, IsIndexOf, IsMarked, KeepsOthers, Mark, holder_of, mark_of}
 use Rattle.entity_lists.specs.Entities.{entity_map, pair_of}
 use Rattle.entity_lists.specs.Entities.{was_put_at}
 use Rattle.entity_lists.specs.OwnKeys.{own_key}

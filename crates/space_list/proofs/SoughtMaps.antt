@@ -1,6 +1,6 @@
 -- What a search by an index finds is what is sought in the map.
 use Rattle.std.specs.Prelude.{◌≡◌, ℕ, zero, suc, ◌≤◌, ◌<◌, ◌%◌, ◌&&◌, ◌||◌, Bool, true, false, List, [], ◌∷◌, length, map, filter, filter_map, nat_eq, Option, Some, Result, Ok, Err, IfOk, refl}
-use Rattle.std.proofs.Common.{arith, sym, ap, ◌∙◌, subst, get_or}
+use Rattle.std.proofs.Common.{arith, sym, ap, ◌∙◌, subst}
 use Rattle.std.proofs.lemmas.Bool.Decides.{nat_tests}
 use Rattle.std.proofs.lemmas.Cmp.{eq_by_cmp_equiv, nat_cmp_total}
 use Rattle.std.proofs.lemmas.Option.{same_Some}

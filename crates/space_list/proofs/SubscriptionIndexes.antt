@@ -15,7 +15,7 @@ use Rattle.entity_core.proofs.Changes.{one_id, told_was}
 use Rattle.entity_lists.specs.Sorted.{keyed}
 use Rattle.entity_lists.specs.Subscriptions.{InOrder, pair_of, subscription_map}
 use Rattle.entity_lists.proofs.Maps.{entries_of, map_of_none}
-use Rattle.space_list.specs.CellIndex.{Grows, IsMarked, KeepsOthers, Mark, mark_cmp, mark_of}
+use Rattle.space_list.specs.CellIndex.{Grows, IsMarked, KeepsOthers, Mark, mark_of}
 use Rattle.space_list.specs.IndexedSubscriptions.{AllMarked, IsIndexBut, IsIndexIfAny, IsIndexOf, holder_of}
 use Rattle.space_list.specs.Proper.{own_id}
 use Rattle.space_list.proofs.CellMeetings.{marked_more}

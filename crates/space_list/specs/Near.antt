@@ -78,6 +78,12 @@ abbrev pub Gathers : BTreeSet Mark → Span → ℕ → BTreeMap Part ℕ → Ty
 Gathers marks span bits near = (q : Mark) → contains mark_cmp marks q ≡ true → span.0 ≤ q.0
     → q.0 < span.1 → HasBits near (part_of q) bits
 
+-- What lies in a span before some place lies in another one, whose bits are these and maybe more.
+abbrev pub IsStart : Span → ℕ → Span → ℕ → ℕ → Type 0
+IsStart span bits done done_bits start = (q : ℕ) → span.0 ≤ q → q < start
+    → (done.0 ≤ q) × (q < done.1)
+    × ((b : ℕ) → bit_at bits b ≡ 1 → bit_at done_bits b ≡ 1)
+
 abbrev pub GathersAll : BTreeSet Mark → BTreeMap Span ℕ → BTreeMap Part ℕ → Type 0
 GathersAll marks spans near = (r : Span) (b : ℕ) → HasBit spans r b
     → (q : Mark) → contains mark_cmp marks q ≡ true → r.0 ≤ q.0 → q.0 < r.1

@@ -1,13 +1,13 @@
 //! What an index finds near the areas of a search: volumes, each with the areas of which some cell
 //! touches one of its own. So a volume is compared with these areas alone.
-ghost use Rattle.std.specs.Prelude.{◌≡◌, ℕ, ◌%◌, ◌^◌, nat_eq, IfOk, IsTrue, OnOk, unwrap_or};
+ghost use Rattle.std.specs.Prelude.{◌≡◌, ℕ, ◌⊎◌, ◌%◌, ◌^◌, nat_eq, IfOk, IsTrue, OnOk, unwrap_or};
 ghost use Rattle.std.specs.Int.{bit_at};
 ghost use Rattle.std.specs.List.{All};
 ghost use Rattle.std.specs.BTreeMap.{get};
 ghost use Rattle.grid_core.specs.Cell.{IsCell};
 ghost use Rattle.grid_core.specs.Extent.{Region, meets, region_of};
 ghost use Rattle.grid_core.specs.Volumes.{meets_some};
-ghost use Rattle.space_list.specs.Near.{exact_of, pair_cmp, part_of, range_of, Gathers, GathersAll, HasAllSpans, HasAncestors, HasBits, HasMeeting, HasSpansOf, IsAt, Widens};
+ghost use Rattle.space_list.specs.Near.{exact_of, pair_cmp, part_of, range_of, Gathers, GathersAll, HasAllSpans, HasAncestors, HasBits, HasMeeting, HasSpansOf, IsAt, IsStart, Widens};
 
 use crate::cell_index::{Mark, STEP, WIDTH, interval_of, place_of};
 use grid_core::cell::CellId;
@@ -64,7 +64,9 @@ fn add_span(spans: &mut Spans, span: Span, bits: u64) -> Result<(), AllocError>
     ensures there { OnOk result (HasBits spans.new span bits) }
 {
     let own = spans.get(&span).copied().unwrap_or(0);
-    spans.insert(span, own | bits)?;
+    if own | bits != own {
+        spans.insert(span, own | bits)?;
+    }
     Ok(())
 }
 
@@ -159,12 +161,38 @@ fn gather(near: &mut Near, marks: &BTreeSet<Mark>, span: Span, bits: u64) -> Res
     Ok(())
 }
 
+// Where a span begins that is not done: all in another one has these bits and maybe more.
+fn start_of(span: Span, bits: u64, done: Span, done_bits: u64) -> u64
+    ensures { IsStart span bits done done_bits result }
+{
+    if done.0 <= span.0 && done_bits | bits == done_bits {
+        span.0.max(done.1)
+    } else {
+        span.0
+    }
+}
+
+// Of two spans that which reaches further, with its bits.
+fn further(span: Span, bits: u64, done: Span, done_bits: u64) -> (Span, u64)
+    ensures { (result ≡ (span, bits)) ⊎ (result ≡ (done, done_bits)) }
+{
+    if done.1 < span.1 {
+        (span, bits)
+    } else {
+        (done, done_bits)
+    }
+}
+
+// Spans come by where they begin, so what lies in one of the same bits is not gone through again.
 fn gather_all(alloc: Global, marks: &BTreeSet<Mark>, spans: &Spans) -> Result<Near, AllocError>
     ensures { IfOk result (λ near. GathersAll marks.now spans.now near) }
 {
     let mut near = BTreeMap::new(alloc);
+    let mut done = ((0, 0), 0);
     for (span, bits) in spans {
-        gather(&mut near, marks, *span, *bits)?;
+        let start = start_of(*span, *bits, done.0, done.1);
+        gather(&mut near, marks, (start, span.1), *bits)?;
+        done = further(*span, *bits, done.0, done.1);
     }
     Ok(near)
 }

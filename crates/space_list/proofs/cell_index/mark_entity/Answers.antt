@@ -1,7 +1,6 @@
 use Rattle.std.proofs.Common.{◌≡◌, ◌<◌, ◌≤◌, ℕ, List, arith, length, refl, subst, get_or}
 use Rattle.std.specs.List.{All}
 use Rattle.std.proofs.lemmas.List.Elements.{All-weaker}
-use Rattle.grid_core.specs.Cell.{Cell}
 use Rattle.grid_core.specs.Extent.{Extent}
 use Rattle.space_list.specs.CellIndex.{Holder, IsMarked, holder_of}
 use Rattle.space_list.proofs.CellSets.{each_more}
@@ -27,8 +26,7 @@ returns-clause-marked c =
     let marks = c.loop-place.marks in
     let items = c.items-volume-items.result.now in
     let same : items ≡ c.args.entity.now.volumes = c.items-volume-items.ensures.same in
-    let few : length c.args.entity.now.volumes ≤ 32 = subst (λ (vs : List Extent). length vs ≤ 32) (refl) c.items-volume-items.ensures.most in
     record {
-      few = few;
+      few = c.items-volume-items.ensures.most;
       cells = subst (λ (vs : List Extent). (i : ℕ) (d : Extent) → i < length vs → All (IsMarked marks e i) (get_or vs i d).cells) same (λ i d l. c.loop-place.invariant.marked i d (omega arith));
     }

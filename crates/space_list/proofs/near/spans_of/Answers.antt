@@ -1,7 +1,6 @@
-use Rattle.std.proofs.Common.{◌<◌, ◌%◌, ◌^◌, ℕ, List, arith, length, subst}
+use Rattle.std.proofs.Common.{◌<◌, ◌%◌, ◌^◌, ℕ, arith, length, subst}
 use Rattle.std.specs.List.{All}
 use Rattle.std.proofs.lemmas.List.Elements.{All-weaker}
-use Rattle.grid_core.specs.Cell.{Cell}
 use Rattle.grid_core.specs.Extent.{Region}
 use Rattle.space_list.specs.Near.{HasSpansOf}
 use Rattle.space_list.proofs.CellSets.{each_more}
