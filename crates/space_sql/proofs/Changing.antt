@@ -1,5 +1,6 @@
 -- What a change tells of a space.
-use Rattle.std.proofs.Common.{◌≡◌, ◌⊎◌, inl, inr, Ok, Err, Result, refl, sym, ap, subst, ◌∙◌, arith}
+use Rattle.std.proofs.Common.{◌≡◌, ◌⊎◌, inl, inr, List, [], ◌∷◌, length, Ok, Err, Result, refl, sym, ap, subst, ◌∙◌, arith}
+use Rattle.std.proofs.lemmas.List.{nil_from_length}
 use Rattle.std.specs.Prelude.{false, IsTrue, IsErrOf, OnOk, ◌↔◌}
 use Rattle.sqlite_trees.specs.Tree.{Trees}
 use Rattle.sqlite_trees.specs.declared.store.Store.{Ghosts}
@@ -10,6 +11,8 @@ use Rattle.sqlite.specs.declared.error.Error.{Error}
 use Rattle.entity_core.specs.Airspace.{Airspace}
 use Rattle.space_core.specs.declared.space.SpaceFault.{SpaceFault}
 use Rattle.space_core.specs.declared.space.SpaceFault.TheVariants.{Unchanged}
+use Rattle.space_core.specs.declared.round.RoundChange.{RoundChange}
+use Rattle.space_core.specs.Round.{FitAll, changed_all}
 use Rattle.space_core.specs.Space.{Changes, IsContent}
 use Rattle.space_tables.specs.Making.{IsUndone}
 use Rattle.space_tables.specs.Spelling.{Spells}
@@ -108,3 +111,30 @@ pub changes_settled : {S : Type 0} (g : Ghosts S) (P : Airspace → Type 0) {cha
 changes_settled {S} g P {change} {old} {seen} {new} {mid} {told} {r} is kept works fits it to keeping =
     let due = subst (λ (k : Kept S). is_sound_of g k → (a : Airspace) → holds_of g k a → P a) (sym is) fits in
     subst (λ (k : Kept S). Changes (holds_of g) (is_sound_of g) (is_whole_of g) k.broken k new r change) is (changes g P change old new mid works kept keeping due told r it to)
+
+-- ---- a round of changes
+
+-- the same of all changes of a round
+pub round_settled : {S : Type 0} (g : Ghosts S) (round : List RoundChange) (first : RoundChange) (rest : List RoundChange) {old seen new : Kept S} {mid : Held S} {told : Result (Unit {0}) Error} {r : Result (Unit {0}) SpaceFault} → round ≡ first ∷ rest → old ≡ seen → IsKeeping (state g old.conn) old.broken → old.broken ≡ false
+    → (is_sound_of g seen → (a : Airspace) → holds_of g seen a → FitAll round a) → Commits (FitAll (first ∷ rest)) (changed_all (first ∷ rest)) (state g old.conn) (state g mid) told → Settles g mid new.conn told r → IsKeeping (state g new.conn) new.broken
+    → Changes (holds_of g) (is_sound_of g) (is_whole_of g) seen.broken seen new r (changed_all round)
+round_settled {S} g round first rest {old} {seen} {new} {mid} {told} {r} whole is kept works fits it to keeping =
+    let all = subst (λ cs. Commits (FitAll cs) (changed_all cs) (state g old.conn) (state g mid) told) (sym whole) it in
+    changes_settled g (FitAll round) is kept works fits all to keeping
+
+-- no change
+nothing : {S : Type 0} (g : Ghosts S) (k : Kept S) → IsKeeping (state g k.conn) k.broken → k.broken ≡ false → Changes {T = Unit {0}} (holds_of g) (is_sound_of g) (is_whole_of g) k.broken k k (Ok tt) (λ a. a)
+nothing g k kept works = record {
+  sound = λ s. s;
+  whole = λ s whole. whole;
+  done = λ s a h. let is_open = s.live works in record { held = h; only = λ b. spelt_alone (state g k.conn) kept.rests is_open a b (held_is_spelt (state g k.conn) kept.rests is_open a h) };
+  refused = λ s is. absurd (let e = is in cc);
+  broken = λ s is. absurd (let e = is in cc);
+  frozen = λ s set b h. h;
+}
+
+pub none_settled : {S : Type 0} (g : Ghosts S) (round : List RoundChange) {old seen : Kept S} → length round ≡ 0 → old ≡ seen → IsKeeping (state g old.conn) old.broken → old.broken ≡ false
+    → Changes {T = Unit {0}} (holds_of g) (is_sound_of g) (is_whole_of g) seen.broken seen seen (Ok tt) (changed_all round)
+none_settled {S} g round {old} {seen} none is kept works =
+    let same = subst (λ cs. Changes {T = Unit {0}} (holds_of g) (is_sound_of g) (is_whole_of g) old.broken old old (Ok tt) (changed_all cs)) (sym (nil_from_length round none)) (nothing g old kept works) in
+    subst (λ (k : Kept S). Changes {T = Unit {0}} (holds_of g) (is_sound_of g) (is_whole_of g) k.broken k k (Ok tt) (changed_all round)) is same

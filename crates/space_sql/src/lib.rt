@@ -6,5 +6,6 @@ mod listed;
 pub mod open;
 mod reading;
 pub mod remains;
+pub mod round;
 pub mod space;
 mod told;
