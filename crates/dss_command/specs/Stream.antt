@@ -1,8 +1,9 @@
 -- What a command tells of a stream that it serves, each moment being the same.
-use Rattle.std.specs.Prelude.{◌≡◌, ℕ, List, Option}
+use Rattle.std.specs.Prelude.{◌≡◌, ◌⊎◌, ℕ, List, Option}
 use Rattle.dss_command.specs.Fault.{IsOfStream}
 use Rattle.dss_command.specs.Service.{IsServiceOver}
 use Rattle.dss_command.specs.declared.fault.Fault.{Fault}
+use Rattle.dss_command.specs.declared.fault.Fault.TheVariants.{Memory}
 use Rattle.service_core.specs.Held.{space_of}
 use Rattle.service_core.specs.declared.service.Service.{Service}
 use Rattle.entity_core.specs.Airspace.{empty_at}
@@ -54,6 +55,13 @@ module _ {S : Type 0} (g : Ghosts S) (tokens : TokenFile) (now : ℕ)
     pub starts : IsServiceOver tokens old first
     pub serves : ServesAt first last served
     pub ends : new ≡ space_of last
+
+  -- So of a stream that was given up; where memory lacked for the routes, nothing was asked or written.
+  abbrev pub ServesPartOver : (old new : S) → Fault → Type 0
+  ServesPartOver old new fault =
+      ((fault ≡ Memory) × (new ≡ old) × (after ≡ before))
+      ⊎ ((first : Service S) × (last : Service S) × IsServiceOver tokens old first
+      × ServesPartAt first last fault × (new ≡ space_of last))
 
   -- So over a space whose content is the empty airspace.
   abbrev pub ServesEmpty : Type 0

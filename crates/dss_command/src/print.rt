@@ -1,7 +1,7 @@
 //! What commands print.
-ghost use Rattle.std.specs.Prelude.{◌≡◌, List, ℕ, OnOk, IfErr, codes, if◌then◌else◌};
+ghost use Rattle.std.specs.Prelude.{◌≡◌, ◌⊎◌, List, ℕ, OnOk, IfErr, codes, if◌then◌else◌};
 ghost use Rattle.std.specs.Io.KnownBytes.{Appends};
-ghost use Rattle.dss_command.specs.declared.fault.Fault.TheVariants.{Output};
+ghost use Rattle.dss_command.specs.declared.fault.Fault.TheVariants.{DatabaseFailed, Memory, Output};
 ghost use Rattle.dss_report.specs.Cell.{IsLineOfToken};
 ghost use Rattle.dss_report.specs.Report.{report_of};
 ghost use Rattle.entity_core.specs.Airspace.{Airspace};
@@ -57,6 +57,11 @@ pub fn put_report<S: Space + Drop, W: Write>(
     ensures whole { OnOk result (S.is_sound space.new → (a : Airspace) → S.holds space.old a
         → Appends (W.contents output.old) (W.contents output.new) (report_of a)) }
     ensures sound { S.is_sound space.new → S.is_sound space.old }
+    ensures kept { S.is_sound space.new → S.is_whole space.old → S.is_whole space.new }
+    ensures no_other { S.is_sound space.new
+        → (a : Airspace) → S.holds space.new a → S.holds space.old a }
+    ensures told { IfErr result (λ fault.
+        (fault ≡ DatabaseFailed) ⊎ (fault ≡ Memory) ⊎ (fault ≡ Output)) }
 {
     let text = report_text(alloc, space)?;
     put(text.as_slice(), output)

@@ -2,7 +2,7 @@
 ghost use Rattle.std.specs.Prelude.{◌≡◌, ◌⊎◌, IfErr, IfOk, OnOk};
 ghost use Rattle.token_conf.specs.TokenFile.{salt_of};
 ghost use Rattle.wire_http.specs.Counted.{inner_of};
-ghost use Rattle.dss_command.specs.Stream.{ServesAt, ServesEmpty, ServesOver, ServesPartAt};
+ghost use Rattle.dss_command.specs.Stream.{ServesAt, ServesEmpty, ServesOver, ServesPartAt, ServesPartOver};
 ghost use Rattle.dss_command.specs.declared.fault.Fault.TheVariants.{Memory};
 
 use crate::fault::Fault;
@@ -49,6 +49,7 @@ pub fn serve_at<S: Space + Drop, R: Read, W: Write>(
 }
 
 /// Serves one stream by a service that it makes over a space, which is given back as it is then.
+/// After a fault the first bytes of the answers were written, as `serve_at` has it.
 pub fn serve_stream_over<S: Space + Drop, R: Read, W: Write>(
     alloc: Global,
     space: S,
@@ -59,7 +60,10 @@ pub fn serve_stream_over<S: Space + Drop, R: Read, W: Write>(
     writer: &mut Counted<W>,
 ) -> (Result<(), Fault>, S)
     requires { salt ≡ salt_of tokens.now }
-    ensures { OnOk result.0 (ServesOver S.Space tokens.now now
+    ensures served { OnOk result.0 (ServesOver S.Space tokens.now now
+        (R.remaining (inner_of reader.old))
+        (W.contents (inner_of writer.old)) (W.contents (inner_of writer.new)) space result.1) }
+    ensures part { IfErr result.0 (ServesPartOver S.Space tokens.now now
         (R.remaining (inner_of reader.old))
         (W.contents (inner_of writer.old)) (W.contents (inner_of writer.new)) space result.1) }
 {

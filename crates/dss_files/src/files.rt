@@ -1,11 +1,17 @@
 //! The commands over a database, whose files are opened first and closed last. What is said of them is
 //! said for all that the file and its log may hold, which `Start` stands for.
-ghost use Rattle.std.specs.Prelude.{◌≡◌, IfOk, IfSome};
+ghost use Rattle.std.specs.Prelude.{◌≡◌, ◌⊎◌, IfErr, IfOk, IfSome, IsSome, OnOk};
 ghost use Rattle.sqlite.specs.Files.{over_files};
 ghost use Rattle.sqlite.specs.WalFiles.{image_at};
 ghost use Rattle.space_sql.specs.Found.{FindsSpelt};
 ghost use Rattle.space_sql.specs.Listed.{IsAllOf};
 ghost use Rattle.token_conf.specs.TokenFile.{salt_of};
+ghost use Rattle.wire_http.specs.Counted.{inner_of};
+ghost use Rattle.dss_command.specs.Stream.{ServesOver, ServesPartOver};
+ghost use Rattle.dss_command.specs.declared.fault.Fault.TheVariants.{DatabaseFailed, Memory, Output};
+ghost use Rattle.dss_files.specs.Files.{ClosesServed, EndsClosing, IsOfDatabase, IsRefusal};
+ghost use Rattle.dss_files.specs.Files.{ReportsFiles, ReportsSpace, ServesClosing, ServesCopied};
+ghost use Rattle.dss_files.specs.Files.{UpgradesFiles};
 
 use dss_command::clients::{Answering, Listen, serve_port};
 use dss_command::fault::Fault;
@@ -17,6 +23,7 @@ use space_core::space::Space;
 use space_reading::judgement::Listed;
 use space_sql::space::SqlSpace;
 use sqlite::{Alter, FileFrom, FileStore, Files, Start};
+use sqlite_disk::Disk;
 use std::alloc::Global;
 use std::io::{Read, Write};
 use token_conf::token_table::TokenTable;
@@ -32,6 +39,7 @@ pub fn opened<F: Start>(
     ensures finds { IfOk result (λ t. FindsSpelt (image_at F.Start)
         ⟦<SqlSpace<FileStore<FileFrom<F>>> as Space>⟧ t.0) }
     ensures all { IfOk result (λ t. IfSome t.1 (IsAllOf over_files t.0)) }
+    ensures refused { IfErr result IsRefusal }
 {
     match SqlSpace::open(rt, name, start) {
         Ok(taken) => Ok(taken),
@@ -47,7 +55,9 @@ pub fn opened<F: Start>(
 pub fn closed<F: Start>(
     done: Result<(), Fault>,
     space: SqlSpace<FileStore<FileFrom<F>>>,
-) -> Result<Files<FileFrom<F>>, Fault> {
+) -> Result<Files<FileFrom<F>>, Fault>
+    ensures { EndsClosing done space result }
+{
     let closed = space.close_files();
     done?;
     match closed {
@@ -62,7 +72,10 @@ fn reported<A: Alter + Drop, W: Write>(
     alloc: Global,
     space: &mut SqlSpace<A>,
     output: &mut W,
-) -> Result<(), Fault> {
+) -> Result<(), Fault>
+    ensures { ReportsSpace ⟦<SqlSpace<A> as Space>⟧
+        (W.contents output.old) (W.contents output.new) space.old space.new result }
+{
     put_report(alloc, space, output)
 }
 
@@ -72,7 +85,12 @@ pub fn report<F: Start, W: Write>(
     name: &str,
     start: F,
     output: &mut W,
-) -> Result<Files<FileFrom<F>>, Fault> {
+) -> Result<Files<FileFrom<F>>, Fault>
+    ensures reported { IfOk result (ReportsFiles ⟦<FileFrom<F> as Disk>⟧ (image_at F.Start)
+        (W.contents output.old) (W.contents output.new)) }
+    ensures told { IfErr result (λ fault.
+        IsOfDatabase fault ⊎ (fault ≡ Memory) ⊎ (fault ≡ Output)) }
+{
     let (mut space, _) = opened(rt, name, start)?;
     let done = reported(rt.alloc(), &mut space, output);
     closed(done, space)
@@ -85,7 +103,12 @@ pub fn upgrade<F: Start, W: Write>(
     name: &str,
     start: F,
     output: &mut W,
-) -> Result<Files<FileFrom<F>>, Fault> {
+) -> Result<Files<FileFrom<F>>, Fault>
+    ensures upgraded { IfOk result (UpgradesFiles ⟦<FileFrom<F> as Disk>⟧ (image_at F.Start)
+        (W.contents output.old) (W.contents output.new)) }
+    ensures told { IfErr result (λ fault.
+        (IsOfDatabase fault × (output.new ≡ output.old)) ⊎ (fault ≡ Output)) }
+{
     let (space, _) = opened(rt, name, start)?;
     let upgraded = space.upgraded();
     let files = closed(Ok(()), space)?;
@@ -104,6 +127,12 @@ fn served<A: Alter + Drop, R: Read, W: Write>(
     writer: &mut Counted<W>,
 ) -> (Result<(), Fault>, SqlSpace<A>)
     requires { salt ≡ salt_of tokens.now }
+    ensures served { OnOk result.0 (ServesOver ⟦<SqlSpace<A> as Space>⟧ tokens.now now
+        (R.remaining (inner_of reader.old))
+        (W.contents (inner_of writer.old)) (W.contents (inner_of writer.new)) space result.1) }
+    ensures part { IfErr result.0 (ServesPartOver ⟦<SqlSpace<A> as Space>⟧ tokens.now now
+        (R.remaining (inner_of reader.old))
+        (W.contents (inner_of writer.old)) (W.contents (inner_of writer.new)) space result.1) }
 {
     serve_stream_over(alloc, space, salt, tokens, now, reader, writer)
 }
@@ -119,6 +148,9 @@ pub fn run<F: Start, R: Read, W: Write>(
     writer: &mut Counted<W>,
 ) -> Result<Files<FileFrom<F>>, Fault>
     requires { salt ≡ salt_of tokens.now }
+    ensures { ServesClosing ⟦<SqlSpace<FileStore<FileFrom<F>>> as Space>⟧ tokens.now now
+        (R.remaining (inner_of reader.old))
+        (W.contents (inner_of writer.old)) (W.contents (inner_of writer.new)) space result }
 {
     let (done, space) = served(alloc, space, salt, tokens, now, reader, writer);
     closed(done, space)
@@ -137,6 +169,9 @@ fn served_by_copy<A: Alter + Drop, M: Moments, L: Listen + Drop, E: Write>(
 ) -> (Result<(), Fault>, SqlSpace<A>)
     requires salt { salt ≡ salt_of given.tokens.now }
     requires listed { IfSome listed (IsAllOf A.Store space) }
+    ensures served { ServesCopied ⟦<SqlSpace<A> as Space>⟧ given.entry.tokens.now
+        space result.1 result.0 }
+    ensures counted { OnOk result.0 (IsSome given.entry.limits.count) }
 {
     let mirror = mirrored(alloc, space, listed);
     let (done, mirror) = serve_port(alloc, mirror, salt, given, moments, listener, error);
@@ -157,6 +192,9 @@ pub fn serve<F: Start, M: Moments, L: Listen + Drop, E: Write>(
 ) -> Result<Files<FileFrom<F>>, Fault>
     requires salt { salt ≡ salt_of given.tokens.now }
     requires listed { IfSome listed (IsAllOf over_files space) }
+    ensures served { ClosesServed ⟦<SqlSpace<FileStore<FileFrom<F>>> as Space>⟧
+        given.entry.tokens.now space result }
+    ensures counted { OnOk result (IsSome given.entry.limits.count) }
 {
     let (done, space) = served_by_copy(alloc, space, listed, salt, given, moments, listener, error);
     closed(done, space)

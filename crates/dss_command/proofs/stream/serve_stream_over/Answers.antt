@@ -1,8 +1,10 @@
-use Rattle.std.proofs.Common.{◌∙◌}
+use Rattle.std.proofs.Common.{◌∙◌, cong, inl, inr}
+use Rattle.service_core.specs.Held.{space_of}
+use Rattle.wire_http.specs.Counted.{inner_of}
 use Rattle.dss_command.proofs.stream.serve_stream_over.Goals as goal
 
-pub returns-in-Ok : goal.returns-in-Ok
-returns-in-Ok g c = record {
+pub returns-in-Ok-clause-served : goal.returns-in-Ok-clause-served
+returns-in-Ok-clause-served g c = record {
   first = c.new-service.result;
   last = c.serve_at.new.service;
   served = c.in-Ok.field-0;
@@ -14,3 +16,19 @@ returns-in-Ok g c = record {
   serves = c.in-Ok.ensures.serves;
   ends = c.into_space.ensures;
 }
+
+pub returns-in-Err-clause-part : goal.returns-in-Err-clause-part
+returns-in-Err-clause-part g c = elim c.in-Err.ensures.part [
+  | inl none ↦ inl (none.0, c.into_space.ensures ∙ cong space_of none.1 ∙ c.new-service.ensures.space, cong (λ w. g.W.Write.contents (inner_of w)) none.3)
+  | inr some ↦ inr (
+    c.new-service.result,
+    c.serve_at.new.service,
+    record {
+      space_is = c.new-service.ensures.space;
+      salt_is = c.new-service.ensures.salt ∙ c.requires;
+      goes = c.new-service.ensures.goes;
+    },
+    some,
+    c.into_space.ensures,
+  )
+]

@@ -1,0 +1,113 @@
+-- What the commands over a database tell, by what its files held, and what they leave there.
+use Rattle.std.specs.Prelude.{◌≡◌, ◌⊎◌, ℕ, List, Option, Result, Ok, Err, OnOk, OnErr, IfErr, codes}
+use Rattle.std.specs.Io.KnownBytes.{Appends}
+use Rattle.sqlite_disk.specs.declared.Disk as disk
+use Rattle.sqlite_disk.specs.declared.Files.{Files}
+use Rattle.sqlite_store.specs.declared.store.FileStore.{FileStore}
+use Rattle.sqlite.specs.Recovery.{Image}
+use Rattle.sqlite.specs.WalReads.{AreClean}
+use Rattle.dss_report.specs.Report.{report_of}
+use Rattle.entity_core.specs.Airspace.{Airspace}
+use Rattle.service_tables.specs.Life.{StandFor}
+use Rattle.space_core.specs.declared.space.Space as spaces
+use Rattle.space_core.specs.Space.{Reads}
+use Rattle.space_core.specs.declared.space.SpaceFault.{SpaceFault}
+use Rattle.space_opening.specs.declared.open_fault.OpenFault.{OpenFault}
+use Rattle.space_reading.specs.Judging.{listed_airspace}
+use Rattle.space_reading.specs.declared.judgement.Listed.{Listed}
+use Rattle.space_sql.specs.Found.{FilesSpell, FindsSpelt}
+use Rattle.space_sql.specs.Holding.{Kept}
+use Rattle.space_sql.specs.Restart.{ClosesFiles, FilesHave, without_log}
+use Rattle.space_tables.specs.declared.format.Format.{Format}
+use Rattle.space_tables.specs.declared.format.Format.TheVariants.{One, Two}
+use Rattle.token_conf.specs.TokenFile.{TokenFile}
+use Rattle.dss_command.specs.Service.{ServesClients}
+use Rattle.dss_command.specs.Stream.{ServesOver, ServesPartOver}
+use Rattle.dss_command.specs.declared.fault.Fault.{Fault}
+use Rattle.dss_command.specs.declared.fault.Fault.TheVariants.{Database, DatabaseFailed, Memory, Output}
+
+-- what is printed of a database that had this format
+abbrev pub format_line : Format → List ℕ
+format_line One = codes "format 2, was 1\n"
+format_line Two = codes "format 2\n"
+
+-- the database was not taken
+abbrev pub IsRefusal : Fault → Type 0
+IsRefusal fault = (why : OpenFault) × (fault ≡ Database why)
+
+-- the database was not taken, or failed later
+abbrev pub IsOfDatabase : Fault → Type 0
+IsOfDatabase fault = IsRefusal fault ⊎ (fault ≡ DatabaseFailed)
+
+-- How a command ends whose work over a space ended so, and whose space is closed last: with the fault
+-- of the work, or else as the closing does.
+abbrev pub EndsClosing : {D : Type 0} {g : disk.Ghosts D}
+    → Result (Unit {0}) Fault → Kept (FileStore D g) → Result (Files D) Fault → Type 0
+EndsClosing (Err why) k result = result ≡ Err why
+EndsClosing (Ok x) k (Ok files) = ClosesFiles k files
+EndsClosing (Ok x) k (Err why) = why ≡ DatabaseFailed
+
+-- What was written of a space, which was only read, is the report of the airspace that it held.
+pub record ReportsSpace {S : Type 0} (space : spaces.Ghosts S) (before after : Option (List ℕ))
+    (old new : S) (done : Result (Unit {0}) Fault) : Type 0 where
+  pub sound : space.is_sound new → space.is_sound old
+  pub whole : space.is_sound new → space.is_whole old → space.is_whole new
+  pub no_other : space.is_sound new → (a : Airspace) → space.holds new a → space.holds old a
+  pub told : OnOk done (space.is_sound new → (a : Airspace) → space.holds old a
+      → Appends before after (report_of a))
+  pub fault : IfErr done (λ fault. (fault ≡ DatabaseFailed) ⊎ (fault ≡ Memory) ⊎ (fault ≡ Output))
+
+module _ {D : Type 0} (g : disk.Ghosts D) (image : Image) where
+  -- As long as the disk returned what was written: whatever is found of the files, also without their
+  -- log, spells in format 2 the airspace for which they stood.
+  abbrev pub KeepsAirspace : Files D → Type 0
+  KeepsAirspace files =
+      AreClean g files.log files.db → (a : Airspace) → StandFor image a
+      → (left : Image) → FilesHave g files left
+      → ∥ (FilesSpell Two left a × FilesSpell Two (without_log left) a) ∥₁
+
+  -- What was written is the report of the airspace for which the files stood, and they stand for it.
+  pub record ReportsFiles (before after : Option (List ℕ)) (files : Files D) : Type 0 where
+    pub told : AreClean g files.log files.db → (a : Airspace) → StandFor image a
+        → Appends before after (report_of a)
+    pub kept : KeepsAirspace files
+
+  -- What was written is the line of the format in which the files spelt an airspace, and they stand for
+  -- it in format 2.
+  pub record UpgradesFiles (before after : Option (List ℕ)) (files : Files D) : Type 0 where
+    pub told : AreClean g files.log files.db
+        → (format : Format) (a : Airspace) → FilesSpell format image a
+        → Appends before after (format_line format)
+    pub kept : KeepsAirspace files
+
+-- How a command ends that served a stream over a space, or the first requests of it, and closed the
+-- space last.
+pub record ServesClosing {D : Type 0} {g : disk.Ghosts D}
+    (space : spaces.Ghosts (Kept (FileStore D g))) (tokens : TokenFile) (now : ℕ)
+    (remaining before after : Option (List ℕ)) (old : Kept (FileStore D g))
+    (result : Result (Files D) Fault) : Type 0 where
+  pub new : Kept (FileStore D g)
+  pub done : Result (Unit {0}) Fault
+  pub served : OnOk done (ServesOver space tokens now remaining before after old new)
+  pub part : IfErr done (ServesPartOver space tokens now remaining before after old new)
+  pub closed : EndsClosing done new result
+
+-- The clients of a port were answered over a space, after it was read once at most for a copy of it in
+-- memory; after a fault some were, or none.
+pub record ServesCopied {S : Type 0} (space : spaces.Ghosts (Kept S)) (tokens : TokenFile)
+    (old new : Kept S) (done : Result (Unit {0}) Fault) : Type 0 where
+  pub mid : Kept S
+  pub answer : Result Listed SpaceFault
+  pub reads : Reads space.holds space.is_sound space.is_whole old mid answer
+      (λ a found. listed_airspace found ≡ a)
+  pub served : OnOk done (ServesClients space tokens mid new)
+  pub part : OnErr done ((new ≡ mid) ⊎ ServesClients space tokens mid new)
+
+-- And the space was closed last.
+pub record ClosesServed {D : Type 0} {g : disk.Ghosts D}
+    (space : spaces.Ghosts (Kept (FileStore D g))) (tokens : TokenFile)
+    (old : Kept (FileStore D g)) (result : Result (Files D) Fault) : Type 0 where
+  pub new : Kept (FileStore D g)
+  pub done : Result (Unit {0}) Fault
+  pub served : ServesCopied space tokens old new done
+  pub closed : EndsClosing done new result
