@@ -2,7 +2,7 @@
 use crate::clock::SystemClock;
 use crate::sockets::PortSockets;
 use crate::tokens::token_table;
-use dss_command::clients::{Answering, Listen};
+use dss_command::clients::{Answering, Listen, Operated};
 use dss_command::fault::Fault;
 use dss_command::tokens::salt_of;
 use dss_files::files::{self, opened};
@@ -10,6 +10,7 @@ use dss_serve::limits::{Limits, MOST_CLIENTS};
 use sqlite::Start;
 use std::io;
 use std::io::Write;
+use wire_http::Moments;
 
 /// What the command `serve` was given.
 #[derive(Clone, Copy)]
@@ -24,6 +25,8 @@ pub(crate) struct ServeLine<'a> {
     pub(crate) count: Option<u64>,
     /// How many of them at once.
     pub(crate) clients: u64,
+    /// The operator's port of 127.0.0.1, if there is one.
+    pub(crate) admin: Option<u16>,
 }
 
 // The limits that a command line gives.
@@ -46,9 +49,19 @@ struct Ports<'a> {
 impl<'a> Listen for Ports<'a> {
     type Sockets = PortSockets<'a>;
 
-    fn listen(self, port: u16) -> io::Result<PortSockets<'a>> {
-        PortSockets::listen(self.rt, port)
+    fn listen(self, port: u16, operators: Option<u16>) -> io::Result<PortSockets<'a>> {
+        PortSockets::listen(self.rt, port, operators)
     }
+}
+
+// The operator's port that a command line names. Where the system tells no time, the start is at 0.
+fn operated(rt: &HostRuntime, given: &ServeLine<'_>) -> Option<Operated> {
+    let port = given.admin?;
+    let started = match SystemClock::new(rt).next() {
+        Ok(moment) => moment,
+        Err(_) => 0,
+    };
+    Some(Operated { port, started })
 }
 
 /// Runs the command over the database, which is closed last.
@@ -65,6 +78,7 @@ pub(crate) fn serve<F: Start, E: Write>(
         tokens: &tokens,
         port: given.port,
         limits: limits_of(given),
+        operated: operated(rt, given),
     };
     let mut clock = SystemClock::new(rt);
     let ports = Ports { rt };

@@ -47,6 +47,7 @@ impl<'a, F: Start> Commands for Program<'a, F> {
         port: u16,
         count: Option<u64>,
         clients: u64,
+        admin: Option<u16>,
         error: &mut E,
     ) -> Result<(), Fault> {
         let Program { rt, start } = self;
@@ -56,6 +57,7 @@ impl<'a, F: Start> Commands for Program<'a, F> {
             port,
             count,
             clients,
+            admin,
         };
         connections::serve(rt, &given, start, error)
     }

@@ -1,5 +1,5 @@
 //! The sockets of the system, watched together.
-use dss_serve::sockets::{NotTaken, Socket, Sockets, Told};
+use dss_serve::sockets::{NotTaken, Socket, Sockets, Told, Watched};
 use mio::event::Event;
 use mio::net::{TcpListener, TcpStream};
 use mio::{Events, Interest, Poll, Token};
@@ -8,8 +8,13 @@ use std::io::{ErrorKind, Read, Write};
 use std::net::{Ipv4Addr, Shutdown, SocketAddr};
 use std::time::{Duration, Instant};
 
-// The token of the listener. A client's is the key under which it is watched, and is less.
+// The tokens of the listeners. A client's is the key under which it is watched, and is less; that of a
+// connection to the operator's port is its key and this much more.
 const LISTENER: usize = 1_000_000;
+
+const OPERATORS_LISTENER: usize = 1_000_001;
+
+const OPERATORS: usize = 2_000_000;
 
 // How many events are taken at once.
 const EVENTS: usize = 1_024;
@@ -57,17 +62,63 @@ pub(crate) struct PortSockets<'a> {
     start: Instant,
     poll: Poll,
     listener: TcpListener,
+    operators: Option<TcpListener>,
     events: Events,
     told: Vec<Told>,
     // how many of what was told were taken
     taken: usize,
 }
 
+// What is watched under a token.
+fn watched_as(token: usize) -> Watched {
+    match token {
+        LISTENER => Watched::Port,
+        OPERATORS_LISTENER => Watched::OperatorsPort,
+        _ if token >= OPERATORS => Watched::Operator(token - OPERATORS),
+        _ => Watched::Client(token),
+    }
+}
+
+// The token under which it is watched.
+fn token_of(which: Watched) -> usize {
+    match which {
+        Watched::Port => LISTENER,
+        Watched::OperatorsPort => OPERATORS_LISTENER,
+        Watched::Client(key) => key,
+        Watched::Operator(key) => OPERATORS.saturating_add(key),
+    }
+}
+
+// A listener on a port of 127.0.0.1, which is watched.
+fn listener_on(
+    rt: &HostRuntime,
+    poll: &Poll,
+    port: u16,
+    which: Watched,
+) -> io::Result<TcpListener> {
+    let mut listener = TcpListener::bind(rt, SocketAddr::from((Ipv4Addr::LOCALHOST, port)))?;
+    let token = Token(token_of(which));
+    poll.registry()
+        .register(&mut listener, token, Interest::READABLE)?;
+    Ok(listener)
+}
+
+// The next connection of a listener.
+fn accepted(listener: &TcpListener) -> Result<Client, NotTaken> {
+    match listener.accept() {
+        Ok((stream, _)) => {
+            let _ = stream.set_nodelay(true);
+            Ok(Client { stream })
+        }
+        Err(cause) => Err(not_taken(cause)),
+    }
+}
+
 // What an event tells.
 fn told_by(event: &Event) -> Told {
     let Token(token) = event.token();
     Told {
-        key: if token == LISTENER { None } else { Some(token) },
+        which: watched_as(token),
         readable: event.is_readable(),
         writable: event.is_writable(),
         ended: event.is_read_closed(),
@@ -88,18 +139,24 @@ fn not_taken(cause: io::Error) -> NotTaken {
 }
 
 impl<'a> PortSockets<'a> {
-    /// Listens on a port of 127.0.0.1.
-    pub(crate) fn listen(rt: &'a HostRuntime, port: u16) -> io::Result<PortSockets<'a>> {
-        let mut listener = TcpListener::bind(rt, SocketAddr::from((Ipv4Addr::LOCALHOST, port)))?;
+    /// Listens on a port of 127.0.0.1, and on another one for operators.
+    pub(crate) fn listen(
+        rt: &'a HostRuntime,
+        port: u16,
+        operators: Option<u16>,
+    ) -> io::Result<PortSockets<'a>> {
         let poll = Poll::new(rt)?;
-        let interest = Interest::READABLE;
-        poll.registry()
-            .register(&mut listener, Token(LISTENER), interest)?;
+        let listener = listener_on(rt, &poll, port, Watched::Port)?;
+        let operators = match operators {
+            Some(port) => Some(listener_on(rt, &poll, port, Watched::OperatorsPort)?),
+            None => None,
+        };
         Ok(PortSockets {
             rt,
             start: Instant::now(rt)?,
             poll,
             listener,
+            operators,
             events: Events::with_capacity(rt.alloc(), EVENTS)?,
             told: Vec::with_capacity(rt.alloc(), EVENTS)?,
             taken: 0,
@@ -111,20 +168,21 @@ impl<'a> Sockets for PortSockets<'a> {
     type Client = Client;
 
     fn accept(&mut self) -> Result<Client, NotTaken> {
-        match self.listener.accept() {
-            Ok((stream, _)) => {
-                let _ = stream.set_nodelay(true);
-                Ok(Client { stream })
-            }
-            Err(cause) => Err(not_taken(cause)),
+        accepted(&self.listener)
+    }
+
+    fn accept_operator(&mut self) -> Result<Client, NotTaken> {
+        match &self.operators {
+            Some(listener) => accepted(listener),
+            None => Err(NotTaken::NoneWaits),
         }
     }
 
-    fn watch(&mut self, client: &mut Client, key: usize) -> io::Result<()> {
+    fn watch(&mut self, client: &mut Client, which: Watched) -> io::Result<()> {
         let interests = Interest::READABLE | Interest::WRITABLE;
         self.poll
             .registry()
-            .register(&mut client.stream, Token(key), interests)
+            .register(&mut client.stream, Token(token_of(which)), interests)
     }
 
     fn wait(&mut self, patience: Option<Duration>) -> io::Result<()> {

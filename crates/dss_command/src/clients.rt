@@ -6,6 +6,8 @@ ghost use Rattle.dss_command.specs.Fault.{EndsServing, TellsClient};
 ghost use Rattle.dss_command.specs.Service.{ServesClients};
 
 use crate::fault::{Fault, of_system, tell};
+use dss_admin::figures::Build;
+use dss_line::version::{KIT, VERSION};
 use dss_serve::journal::Journal;
 use dss_serve::limits::Limits;
 use dss_serve::serve::serve_clients;
@@ -26,6 +28,14 @@ pub fn tell_listening<E: Write>(port: u16, error: &mut E) -> io::Result<()>
         (codes "dss: listening on 127.0.0.1:" ++ decimal port ++ codes "\n")) }
 {
     writeln!(error, "dss: listening on 127.0.0.1:{port}")
+}
+
+/// Tells on one line that the operator's port is listened on.
+pub fn tell_operated<E: Write>(port: u16, error: &mut E) -> io::Result<()>
+    ensures { OnOk result (Appends (E.contents error.old) (E.contents error.new)
+        (codes "dss: admin on 127.0.0.1:" ++ decimal port ++ codes "\n")) }
+{
+    writeln!(error, "dss: admin on 127.0.0.1:{port}")
 }
 
 /// Tells on one line why a client was given up.
@@ -57,6 +67,15 @@ fn ended(served: io::Result<()>) -> Result<(), Fault>
     }
 }
 
+/// An operator's port.
+#[derive(Clone, Copy)]
+pub struct Operated {
+    /// The port of 127.0.0.1.
+    pub port: u16,
+    /// When the service started, in seconds since 1970.
+    pub started: u64,
+}
+
 /// By what clients are answered, on which port, and how many.
 #[derive(Clone, Copy)]
 pub struct Answering<'a> {
@@ -66,14 +85,38 @@ pub struct Answering<'a> {
     pub port: u16,
     /// How many connections, and how many at once.
     pub limits: Limits,
+    /// The operator's port, if there is one.
+    pub operated: Option<Operated>,
 }
 
 /// What listens on a port.
 pub trait Listen {
     type Sockets: Sockets + Drop;
 
-    /// The sockets of that port of 127.0.0.1.
-    fn listen(self, port: u16) -> io::Result<Self::Sockets>;
+    /// The sockets of that port of 127.0.0.1, and of the operator's port.
+    fn listen(self, port: u16, operators: Option<u16>) -> io::Result<Self::Sockets>;
+}
+
+// What operators are told that stays as it is.
+fn build_of(operated: Option<Operated>) -> Option<Build<'static>>
+    ensures { IsSome result → IsSome operated }
+{
+    match operated {
+        Some(Operated { port: _, started }) => Some(Build {
+            started,
+            version: VERSION,
+            kit: KIT,
+        }),
+        None => None,
+    }
+}
+
+// The operator's port.
+fn operators_port(operated: Option<Operated>) -> Option<u16> {
+    match operated {
+        Some(Operated { port, started: _ }) => Some(port),
+        None => None,
+    }
 }
 
 // Answers the clients of the sockets by a service over a space.
@@ -89,7 +132,8 @@ fn serve_sockets<S: Space + Drop, M: Moments, N: Sockets + Drop, E: Write>(
 ) -> (Result<(), Fault>, S)
     requires { salt ≡ salt_of given.tokens.now }
     ensures served { ServesClients S.Space given.entry.tokens.now space result.1 }
-    ensures counted { OnOk result.0 (IsSome given.entry.limits.count) }
+    ensures counted { OnOk result.0 (IsSome given.entry.limits.count
+        ⊎ IsSome given.entry.operated) }
 {
     let mut service = Service::new(space, salt);
     let mut journal = Lines { error };
@@ -101,6 +145,7 @@ fn serve_sockets<S: Space + Drop, M: Moments, N: Sockets + Drop, E: Write>(
         moments,
         sockets,
         given.limits,
+        build_of(given.operated),
         &mut journal,
     );
     (ended(served), service.into_space())
@@ -108,7 +153,7 @@ fn serve_sockets<S: Space + Drop, M: Moments, N: Sockets + Drop, E: Write>(
 
 /// Answers the clients of a port by a service that it makes over a space, which is given back as it is
 /// then. It tells that the port is listened on, and later the fault of each client that is given up.
-/// It is done only where a number of connections is given.
+/// It is done only where a number of connections is given, or an operator's port.
 pub fn serve_port<S: Space + Drop, M: Moments, L: Listen + Drop, E: Write>(
     alloc: Global,
     space: S,
@@ -122,15 +167,19 @@ pub fn serve_port<S: Space + Drop, M: Moments, L: Listen + Drop, E: Write>(
     ensures served { OnOk result.0 (ServesClients S.Space given.entry.tokens.now space result.1) }
     ensures part { OnErr result.0 ((result.1 ≡ space)
         ⊎ ServesClients S.Space given.entry.tokens.now space result.1) }
-    ensures counted { OnOk result.0 (IsSome given.entry.limits.count) }
+    ensures counted { OnOk result.0 (IsSome given.entry.limits.count
+        ⊎ IsSome given.entry.operated) }
 {
     let Ok(routes) = Routes::new(alloc) else {
         return (Err(Fault::Memory), space);
     };
-    let sockets = match listener.listen(given.port) {
+    let sockets = match listener.listen(given.port, operators_port(given.operated)) {
         Ok(sockets) => sockets,
         Err(cause) => return (Err(of_system(&cause, Fault::Socket)), space),
     };
     let _ = tell_listening(given.port, error);
+    if let Some(operated) = given.operated {
+        let _ = tell_operated(operated.port, error);
+    }
     serve_sockets(alloc, space, salt, &routes, given, moments, sockets, error)
 }

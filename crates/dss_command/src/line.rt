@@ -49,9 +49,10 @@ pub trait Commands {
         port: u16,
         count: Option<u64>,
         clients: u64,
+        admin: Option<u16>,
         error: &mut E,
     ) -> Result<(), Fault>
-        ensures { does (Line.Serve tokens.entry database.entry port count clients) None
+        ensures { does (Line.Serve tokens.entry database.entry port count clients admin) None
             (E.contents error.old) (E.contents error.new) result };
 
     /// The command `self`.
@@ -161,7 +162,8 @@ fn perform<C: Commands + Drop, R: Read, O: Write, E: Write>(
             port,
             count,
             clients,
-        } => commands.serve(tokens, database, port, count, clients, error),
+            admin,
+        } => commands.serve(tokens, database, port, count, clients, admin, error),
         Line::Loopback {
             tokens,
             now,

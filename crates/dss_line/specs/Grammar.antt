@@ -53,6 +53,14 @@ clients_rule = record (new_rule (codes "clients")) {
   parser = Some (Unsigned 1 MOST_CLIENTS);
 }
 
+-- the value is a number from 1 to the last port; it need not be there
+abbrev pub admin_rule : Rule
+admin_rule = record (new_rule (codes "admin")) {
+  long = Some (codes "admin");
+  value_names = 1;
+  parser = Some (Unsigned 1 LAST_PORT);
+}
+
 -- an option with a value, which need not be there
 abbrev pub choice_rule : Text → Rule
 choice_rule name = record (new_rule name) { long = Some name; value_names = 1 }
@@ -84,9 +92,11 @@ run_app =
 abbrev pub serve_app : App
 serve_app =
     with_rule
+    (with_rule
     (with_rule (with_rule (with_rule (with_rule (new_app (codes "serve")) tokens_rule) store_rule) port_rule)
     count_rule)
-    clients_rule
+    clients_rule)
+    admin_rule
 
 abbrev pub self_app : App
 self_app = with_rule (with_rule (with_rule (new_app (codes "self")) tokens_rule) now_rule) request_rule

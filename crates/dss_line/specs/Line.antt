@@ -39,6 +39,11 @@ HasClients rows n =
     HasNumberIn (codes "clients") 1 MOST_CLIENTS rows n
     ⊎ ((first_of (codes "clients") rows ≡ None) × (n ≡ MOST_CLIENTS))
 
+-- the operator's port, where the option is there
+abbrev pub HasAdmin : List Row → Option ℕ → Type 0
+HasAdmin rows None = first_of (codes "admin") rows ≡ None
+HasAdmin rows (Some n) = HasNumberIn (codes "admin") 1 LAST_PORT rows n
+
 -- whether a flag is set
 abbrev pub is_set : Text → List Row → Bool
 is_set id rows = option_map_or (λ text. pointwise nat_eq text (codes "true")) (first_of id rows) false
@@ -54,7 +59,7 @@ HasOptions rows check new scopes new_salt =
 -- the name of the command that asks for the line
 abbrev pub name_of : Line → Text
 name_of (Run tokens now database requests) = codes "run"
-name_of (Serve tokens database port count clients) = codes "serve"
+name_of (Serve tokens database port count clients admin) = codes "serve"
 name_of (Loopback tokens now request) = codes "self"
 name_of (Cell token) = codes "cell"
 name_of (Report database) = codes "report"
@@ -70,12 +75,13 @@ HasValues rows (Run tokens now database requests) =
     × HasNumberIn (codes "now") 0 LAST_MOMENT rows now
     × (first_of (codes "db") rows ≡ option_map (λ word. word.now) database)
     × (first_of (codes "requests") rows ≡ Some requests.now)
-HasValues rows (Serve tokens database port count clients) =
+HasValues rows (Serve tokens database port count clients admin) =
     (first_of (codes "tokens") rows ≡ Some tokens.now)
     × (first_of (codes "db") rows ≡ Some database.now)
     × HasNumberIn (codes "port") 1 LAST_PORT rows port
     × HasCount rows count
     × HasClients rows clients
+    × HasAdmin rows admin
 HasValues rows (Loopback tokens now request) =
     (first_of (codes "tokens") rows ≡ Some tokens.now)
     × HasNumberIn (codes "now") 0 LAST_MOMENT rows now

@@ -3,6 +3,7 @@ ghost use Rattle.std.specs.Prelude.{◌≡◌, IfOk, codes, false};
 ghost use Rattle.clap.specs.Words.{app_of, rule_of};
 ghost use Rattle.clap.specs.declared.builder.command.Command.TheViews.{out-Command};
 ghost use Rattle.dss_line.specs.Grammar.{
+  admin_rule,
   cell_app,
   choice_rule,
   clients_rule,
@@ -27,7 +28,7 @@ ghost use Rattle.dss_line.specs.Grammar.{
   word_rule,
 };
 
-use crate::line::{LAST_MOMENT, LAST_PORT, MOST_CLIENTS, MOST_CONNECTIONS};
+use crate::line::{FIRST_PORT, LAST_MOMENT, LAST_PORT, MOST_CLIENTS, MOST_CONNECTIONS};
 use clap::builder::ValueParser;
 use clap::{Arg, ArgAction, Command};
 use std::alloc::{AllocError, Global};
@@ -111,6 +112,19 @@ fn clients_option<'a>(alloc: Global) -> Arg<'a>
         .value_name("NUMBER")
         .help("How many connections to serve at once, from 1 to 1000; without it 1000")
         .value_parser(ValueParser::unsigned(1, MOST_CLIENTS))
+}
+
+fn admin_option<'a>(alloc: Global) -> Arg<'a>
+    ensures rule { rule_of result ≡ admin_rule }
+    ensures local { result.global ≡ false }
+{
+    Arg::new(alloc, "admin")
+        .long("admin")
+        .value_name("PORT")
+        .help(
+            "The operator's port of 127.0.0.1, from 1 to 65535, for /health, /metrics and /stop; without it there is none",
+        )
+        .value_parser(ValueParser::unsigned(FIRST_PORT, LAST_PORT))
 }
 
 // A word that has to be there.
@@ -213,7 +227,8 @@ fn serve_command<'a>(alloc: Global) -> Result<Command<'a>, AllocError>
         .arg(store_option(alloc))?
         .arg(port_option(alloc))?
         .arg(count_option(alloc))?
-        .arg(clients_option(alloc))
+        .arg(clients_option(alloc))?
+        .arg(admin_option(alloc))
 }
 
 fn self_command<'a>(alloc: Global) -> Result<Command<'a>, AllocError>

@@ -5,3 +5,4 @@
 pub mod fault;
 mod grammar;
 pub mod line;
+pub mod version;

@@ -3,7 +3,7 @@ ghost use Rattle.std.specs.Prelude.{ℕ, ◌≤◌, ◌≡◌, [], IfErr, IfNone
 ghost use Rattle.clap.specs.Faults.{fault_of as mistakes_of};
 ghost use Rattle.clap.specs.Words.{found_of, rows_of, subcommand_of, subcommand_rows_of};
 ghost use Rattle.dss_line.specs.Grammar.{dss_app};
-ghost use Rattle.dss_line.specs.Line.{Asks, AsksNothing, Explains, HasClients, HasCount, HasNumberIn, is_set, line_of_options, texts};
+ghost use Rattle.dss_line.specs.Line.{Asks, AsksNothing, Explains, HasAdmin, HasClients, HasCount, HasNumberIn, is_set, line_of_options, texts};
 
 use crate::fault::{LineFault, fault_of};
 use crate::grammar::command;
@@ -12,6 +12,9 @@ use std::alloc::Global;
 
 /// The last moment that a command line may name, in seconds since 1970: the end of the year 9999.
 pub const LAST_MOMENT: u64 = 253_402_300_799;
+
+/// The least number of a TCP port.
+pub const FIRST_PORT: u64 = 1;
 
 /// The greatest number of a TCP port.
 pub const LAST_PORT: u64 = 65_535;
@@ -48,6 +51,8 @@ pub enum Line<'a> {
         count: Option<u64>,
         /// How many of them at once, from 1 to a thousand.
         clients: u64,
+        /// The operator's port, at least 1, if there is one.
+        admin: Option<u16>,
     },
     /// Serve one stream of requests in memory, through a socket of the program's own.
     Loopback {
@@ -158,6 +163,22 @@ fn clients_in(matches: &ArgMatches<'_>) -> Option<u64>
     number_in(matches, "clients", 1, MOST_CLIENTS)
 }
 
+// The operator's port, if one is there; `None` where it is out of its range.
+fn admin_in(matches: &ArgMatches<'_>) -> Option<Option<u16>>
+    ensures some { IfSome result (HasAdmin (rows_of (found_of matches.now))) }
+    ensures none { IfNone result ((admin : Option ℕ) → HasAdmin (rows_of (found_of matches.now)) admin
+        → ⊥) }
+{
+    if matches.get_str("admin").is_none() {
+        return Some(None);
+    }
+    let number = number_in(matches, "admin", 1, LAST_PORT)?;
+    match u16::try_from(number) {
+        Ok(port) => Some(Some(port)),
+        Err(_) => None,
+    }
+}
+
 // The same of the subcommand `serve`.
 fn serve_line<'a>(matches: &ArgMatches<'a>) -> Option<Line<'a>>
     ensures some { IfSome result (Asks (Some (codes "serve", rows_of (found_of matches.now)))) }
@@ -170,6 +191,7 @@ fn serve_line<'a>(matches: &ArgMatches<'a>) -> Option<Line<'a>>
         port: port_in(matches)?,
         count: count_in(matches)?,
         clients: clients_in(matches)?,
+        admin: admin_in(matches)?,
     })
 }
 

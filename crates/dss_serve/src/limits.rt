@@ -34,6 +34,19 @@ pub(crate) const LOOKS: u64 = 1_000;
 // How long none is accepted after the system had no room for one more, in milliseconds.
 pub(crate) const FULL: u64 = 100;
 
+// The most connections to the operator's port at once, the bytes of a request there, those that one
+// reading asks for, and the steps of a turn.
+pub(crate) const MOST_OPERATORS: usize = 16;
+
+pub(crate) const OPERATOR_BYTES: usize = 9_216;
+
+pub(crate) const OPERATOR_PIECE: usize = 4_096;
+
+pub(crate) const OPERATOR_STEPS: u32 = 8;
+
+// How long a service that was told to end waits for its clients, in milliseconds.
+pub(crate) const STOPPING: u64 = 3_000;
+
 /// How many connections are accepted, and how many clients are served at once.
 #[derive(Clone, Copy, Debug, PartialEq, Eq)]
 pub struct Limits {

@@ -30,6 +30,34 @@ pub(crate) enum Went {
     Nothing,
 }
 
+/// An answer.
+#[derive(Clone, Copy, Debug, PartialEq, Eq)]
+pub(crate) struct Answer {
+    /// Its status.
+    pub(crate) status: u16,
+    /// How many bytes it has.
+    pub(crate) size: usize,
+    /// Whether it tells that the service answers no call any more.
+    pub(crate) stops: bool,
+}
+
+// The body of the answer of a service that answers no call any more.
+const STOPPED: &str = "{\"message\":\"stopped\"}";
+
+// The status of an answer, which stands behind the version.
+fn status_in(text: &[u8]) -> Option<u16> {
+    if text.len() < 12 {
+        return None;
+    }
+    let Ok(digits) = str::from_utf8(&text[9..12]) else {
+        return None;
+    };
+    match digits.parse::<u16>() {
+        Ok(status) => Some(status),
+        Err(_) => None,
+    }
+}
+
 /// A client's socket with its connection.
 #[derive(Drop)]
 pub(crate) struct Link<T> {
@@ -82,6 +110,17 @@ impl<T: Socket> Link<T> {
         ensures { IsTrue result ↔ (0 < length (output_of (connection_of self.now))) }
     {
         self.connection.wants_write()
+    }
+
+    /// The answer that is to be sent, where there is just one.
+    pub(crate) fn answer(&self) -> Option<Answer> {
+        let text = self.connection.output();
+        let status = status_in(text)?;
+        Some(Answer {
+            status,
+            size: text.len(),
+            stops: status == 503 && text.ends_with(STOPPED.as_bytes()),
+        })
     }
 
     /// Whether no request more is answered.

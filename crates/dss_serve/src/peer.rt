@@ -3,39 +3,15 @@ ghost use Rattle.token_conf.specs.TokenFile.{callers_of};
 ghost use Rattle.dss_serve.specs.Serve.{GoesOn};
 
 use crate::desk::Desk;
-use crate::limits::{ENDING, IDLE, LAST_PIECES, PIECE, SENDING, SMALL, TAKING};
-use crate::link::{Came, Link, Went};
+use crate::limits::{LAST_PIECES, PIECE, SMALL};
+use crate::link::{Answer, Came, Link, Went};
+use crate::phase::Phase;
 use crate::sockets::{Socket, Told};
 use service_core::service::Service;
 use space_core::space::Space;
 use std::alloc::Global;
 use std::time::Duration;
 use wire_http::{Moments, Step, StreamFault};
-
-/// What a client is waited for.
-#[derive(Clone, Copy, Debug, PartialEq, Eq)]
-enum Phase {
-    /// The first byte of a request.
-    Idle,
-    /// The rest of a request.
-    Sending,
-    /// That it takes its answers.
-    Taking,
-    /// The end of what it sends, after its last answer.
-    Ending,
-}
-
-impl Phase {
-    // How long it is waited for.
-    fn patience(self) -> Duration {
-        Duration::from_millis(match self {
-            Phase::Idle => IDLE,
-            Phase::Sending => SENDING,
-            Phase::Taking => TAKING,
-            Phase::Ending => ENDING,
-        })
-    }
-}
 
 /// What becomes of a client after a turn.
 #[derive(Clone, Copy, Debug, PartialEq, Eq)]
@@ -76,6 +52,8 @@ pub(crate) struct Peer<T> {
     wants_place: bool,
     // Whether it stands among those that have a turn next.
     queued: bool,
+    // The answer that was made in its turn.
+    answer: Option<Answer>,
 }
 
 impl<T: Socket> Peer<T> {
@@ -94,6 +72,7 @@ impl<T: Socket> Peer<T> {
             has_place: false,
             wants_place: false,
             queued: false,
+            answer: None,
         }
     }
 
@@ -190,7 +169,23 @@ impl<T: Socket> Peer<T> {
         }
         self.wait(Phase::Ending, now);
         self.readable = true;
+        self.wants_place = false;
         Turned::Again
+    }
+
+    /// What becomes of it where the service ends: it is closed, once it has all its answers.
+    pub(crate) fn end_after(&mut self, turned: Turned, now: Duration) -> Turned {
+        if self.is_ending() || self.link.wants_write() {
+            return turned;
+        }
+        self.end(now)
+    }
+
+    /// The answer that was made in its turn, which is told once.
+    pub(crate) fn take_answer(&mut self) -> Option<Answer> {
+        let answer = self.answer;
+        self.answer = None;
+        answer
     }
 
     // Reads and forgets one piece of what it still sends.
@@ -328,6 +323,7 @@ impl<T: Socket> Peer<T> {
             return Ok(self.end(now));
         }
         let step = self.link.ask(desk, service, moments)?;
+        self.answer = self.link.answer();
         self.answered(step, now)
     }
 

@@ -4,9 +4,12 @@ ghost use Rattle.dss_serve.specs.Serve.{GoesOn};
 
 use crate::desk::Desk;
 use crate::journal::Journal;
-use crate::limits::{FULL, LARGE_PLACES, LOOKS, LOOKS_SOON, Limits, MOST_CLIENTS};
+use crate::limits::{FULL, LARGE_PLACES, LOOKS, LOOKS_SOON, Limits, MOST_CLIENTS, STOPPING};
+use crate::operator::Board;
+use crate::operators::Operators;
 use crate::peer::{Peer, Turned};
-use crate::sockets::{NotTaken, Sockets, Told};
+use crate::sockets::{NotTaken, Sockets, Told, Watched};
+use dss_admin::figures::{Build, Cause, Figures};
 use service_core::service::Service;
 use slab::Slab;
 use space_core::space::Space;
@@ -14,7 +17,18 @@ use std::alloc::{AllocError, Global};
 use std::collections::VecDeque;
 use std::time::Duration;
 use std::{io, mem};
-use wire_http::Moments;
+use wire_http::{Moments, StreamFault};
+
+// What is counted of a fault.
+fn cause_of(fault: StreamFault) -> Cause {
+    match fault {
+        StreamFault::Read => Cause::Read,
+        StreamFault::Write => Cause::Write,
+        StreamFault::Clock => Cause::Clock,
+        StreamFault::Memory => Cause::Memory,
+        StreamFault::Turns => Cause::Turns,
+    }
+}
 
 /// All clients of a port.
 #[derive(Drop)]
@@ -37,17 +51,27 @@ pub(crate) struct Port<N: Sockets> {
     // how many clients have their last answer, and when it was last looked for late ones
     ending: usize,
     looked: Duration,
+    // what operators are told, and until when clients are waited for, where one told the service to end
+    figures: Figures,
+    operators: Operators<N>,
+    stopping: Option<Duration>,
 }
 
 impl<N: Sockets + Drop> Port<N> {
     /// A port without clients. What it needs of memory for the most of them is taken here, so that no
     /// client is forgotten later for want of it.
-    pub(crate) fn new(alloc: Global, sockets: N, limits: Limits) -> Result<Port<N>, AllocError> {
+    pub(crate) fn new(
+        alloc: Global,
+        sockets: N,
+        limits: Limits,
+        is_operated: bool,
+    ) -> Result<Port<N>, AllocError> {
         let clients = limits.clients.min(MOST_CLIENTS);
         let peers = Slab::with_capacity(alloc, clients)?;
         let next = Vec::with_capacity(alloc, clients)?;
         let spare = Vec::with_capacity(alloc, clients)?;
         let wanting = VecDeque::with_capacity(alloc, clients)?;
+        let operators = Operators::new(alloc, is_operated)?;
         Ok(Port {
             alloc,
             sockets,
@@ -62,6 +86,9 @@ impl<N: Sockets + Drop> Port<N> {
             full_until: Duration::from_millis(0),
             ending: 0,
             looked: Duration::from_millis(0),
+            figures: Figures::new(),
+            operators,
+            stopping: None,
         })
     }
 
@@ -77,18 +104,30 @@ impl<N: Sockets + Drop> Port<N> {
 
     // Whether a client may be taken in, if the system has room for it.
     fn has_room(&self) -> bool {
-        self.waiting && self.left != Some(0) && self.peers.len() < self.clients
+        self.waiting
+            && self.stopping.is_none()
+            && self.left != Some(0)
+            && self.peers.len() < self.clients
     }
 
     // How long the system may wait for something to tell.
     fn patience(&self, now: Duration) -> Option<Duration> {
+        match (self.patience_for_clients(now), self.operators.patience(now)) {
+            (Some(clients), Some(operators)) => Some(clients.min(operators)),
+            (clients, None) => clients,
+            (None, operators) => operators,
+        }
+    }
+
+    // How long it may do so for the clients.
+    fn patience_for_clients(&self, now: Duration) -> Option<Duration> {
         if !self.next.is_empty() {
             return Some(Duration::from_millis(0));
         }
         if self.has_room() {
             return Some(self.full_until.saturating_sub(now));
         }
-        if self.ending > 0 {
+        if self.ending > 0 || self.stopping.is_some() {
             return Some(Duration::from_millis(LOOKS_SOON));
         }
         if self.peers.is_empty() {
@@ -109,14 +148,17 @@ impl<N: Sockets + Drop> Port<N> {
 
     // Notes what the system told.
     fn note(&mut self, told: Told) {
-        let Some(key) = told.key else {
-            self.waiting = true;
-            return;
-        };
-        if let Some(peer) = self.peers.get_mut(key) {
-            peer.note(told);
+        match told.which {
+            Watched::Port => self.waiting = true,
+            Watched::OperatorsPort => self.operators.note_waiting(),
+            Watched::Operator(key) => self.operators.note(key, told),
+            Watched::Client(key) => {
+                if let Some(peer) = self.peers.get_mut(key) {
+                    peer.note(told);
+                }
+                self.queue(key);
+            }
         }
-        self.queue(key);
     }
 
     /// Waits until a client or the system has something to tell, and notes it.
@@ -137,15 +179,23 @@ impl<N: Sockets + Drop> Port<N> {
         if let Some(left) = self.left {
             self.left = Some(left.saturating_sub(1));
         }
+        self.figures.accept();
         let key = self.peers.vacant_key();
-        if self.sockets.watch(&mut socket, key).is_ok() {
-            let _ = self.peers.insert(Peer::new(self.alloc, socket, now));
+        let watched = self.sockets.watch(&mut socket, Watched::Client(key));
+        if watched.is_err()
+            || self
+                .peers
+                .insert(Peer::new(self.alloc, socket, now))
+                .is_err()
+        {
+            self.figures.refuse();
         }
     }
 
     /// Accepts the connections that wait, as far as there is room. Where the system has none, it is
     /// tried again a little later.
     pub(crate) fn accept(&mut self, now: Duration) -> io::Result<()> {
+        self.operators.accept(&mut self.sockets, now);
         for _ in 0..MOST_CLIENTS {
             if !self.has_room() || now < self.full_until {
                 return Ok(());
@@ -226,12 +276,24 @@ impl<N: Sockets + Drop> Port<N> {
         }
     }
 
+    // Closes a client of a service that ends, once it has all its answers.
+    fn end_after(&mut self, key: usize, turned: Turned, now: Duration) -> Turned {
+        match self.peers.get_mut(key) {
+            Some(peer) => peer.end_after(turned, now),
+            None => Turned::Gone,
+        }
+    }
+
     // Does with a client what its turn has shown.
     fn settle<J: Journal>(&mut self, key: usize, turned: Turned, now: Duration, journal: &mut J) {
         let turned = match turned {
             Turned::Failed(fault) => {
                 journal.failed(fault);
+                self.figures.fail(cause_of(fault));
                 self.give_up(key, now)
+            }
+            Turned::Rests | Turned::WantsPlace if self.stopping.is_some() => {
+                self.end_after(key, turned, now)
             }
             _ => turned,
         };
@@ -277,6 +339,10 @@ impl<N: Sockets + Drop> Port<N> {
         peer.set_queued(false);
         let was_ending = peer.is_ending();
         let turned = peer.turn(desk, service, moments, now);
+        if let Some(answer) = peer.take_answer() {
+            self.figures
+                .answer(answer.status, answer.size, answer.stops);
+        }
         self.settle(key, turned, now, journal);
         self.count_ending(key, was_ending);
     }
@@ -327,6 +393,51 @@ impl<N: Sockets + Drop> Port<N> {
         self.looked = now;
         for key in 0..MOST_CLIENTS {
             self.end_late(key, now, journal);
+        }
+    }
+
+    // How many clients wait for a place.
+    fn waiting_for_places(&self) -> usize {
+        let mut count = 0_usize;
+        for key in &self.wanting {
+            if let Some(peer) = self.peers.get(*key)
+                && peer.wants_place()
+            {
+                count = count.saturating_add(1);
+            }
+        }
+        count
+    }
+
+    // Begins to end: none is accepted any more, and each client has a turn.
+    fn stop(&mut self, now: Duration) {
+        self.stopping = Some(now.saturating_add(Duration::from_millis(STOPPING)));
+        self.figures.stop();
+        for key in 0..MOST_CLIENTS {
+            self.queue(key);
+        }
+    }
+
+    /// Answers operators. `true`: one told the service to end, and it has ended.
+    pub(crate) fn serve_operators(&mut self, build: Build<'_>, now: Duration) -> bool {
+        if !self.operators.is_empty() {
+            self.figures.open = self.peers.len();
+            self.figures.waiting = self.waiting_for_places();
+            let board = Board {
+                alloc: self.alloc,
+                figures: &self.figures,
+                build,
+            };
+            self.operators.round(board, now);
+        }
+        match self.stopping {
+            None => {
+                if self.operators.stops() {
+                    self.stop(now);
+                }
+                false
+            }
+            Some(until) => { until < now || (self.peers.is_empty() && self.operators.are_served()) }
         }
     }
 }

@@ -1,5 +1,5 @@
 //! The service to many clients at once, on one thread.
-ghost use Rattle.std.specs.Prelude.{OnOk, IsSome};
+ghost use Rattle.std.specs.Prelude.{◌⊎◌, OnOk, IsSome};
 ghost use Rattle.token_conf.specs.TokenFile.{callers_of};
 ghost use Rattle.dss_serve.specs.Serve.{ServesAll};
 
@@ -8,6 +8,7 @@ use crate::journal::Journal;
 use crate::limits::Limits;
 use crate::port::Port;
 use crate::sockets::Sockets;
+use dss_admin::figures::Build;
 use service_core::service::Service;
 use space_core::space::Space;
 use std::alloc::Global;
@@ -24,7 +25,10 @@ use wire_route::routes::Routes;
 /// was asked one list of calls, each made by a request that bears the token of its caller. Each
 /// client that has something to do has a turn before any has its second.
 ///
-/// It is done only where a number of connections is given. An error is one of the system that ends the
+/// With a build there is an operator's port, whose connections are answered in the same rounds; nothing
+/// that is asked there is a call of the service.
+///
+/// It is done only where a number of connections is given, or an operator may tell it to end. An error is one of the system that ends the
 /// service; the calls before it stand. A fault of a client is told to the journal, and ends that
 /// client's connection alone.
 pub fn serve_clients<S: Space + Drop, M: Moments, N: Sockets + Drop, J: Journal>(
@@ -35,10 +39,11 @@ pub fn serve_clients<S: Space + Drop, M: Moments, N: Sockets + Drop, J: Journal>
     moments: &mut M,
     sockets: N,
     limits: Limits,
+    operated: Option<Build<'_>>,
     journal: &mut J,
 ) -> io::Result<()>
     ensures serves { ServesAll S.Space (callers_of tokens.now) service.old service.new }
-    ensures counted { OnOk result (IsSome limits.count) }
+    ensures counted { OnOk result (IsSome limits.count ⊎ IsSome operated.entry) }
 {
     let desk = Desk {
         alloc,
@@ -46,7 +51,7 @@ pub fn serve_clients<S: Space + Drop, M: Moments, N: Sockets + Drop, J: Journal>
         tokens,
     };
     let is_counted = limits.count.is_some();
-    let mut port = Port::new(alloc, sockets, limits)?;
+    let mut port = Port::new(alloc, sockets, limits, operated.is_some())?;
     let mut now = port.time()?;
     for _ in 0..u64::MAX {
         if is_counted && port.is_done() {
@@ -57,6 +62,11 @@ pub fn serve_clients<S: Space + Drop, M: Moments, N: Sockets + Drop, J: Journal>
         port.accept(now)?;
         port.round(desk, service, moments, now, journal);
         port.look(now, journal);
+        if let Some(build) = operated
+            && port.serve_operators(build, now)
+        {
+            return Ok(());
+        }
     }
     // nobody waits for so many rounds
     Err(io::Error::from(ErrorKind::TimedOut))

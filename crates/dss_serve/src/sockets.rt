@@ -33,11 +33,24 @@ pub trait Socket: Drop {
         ensures coming { Keeps (coming self.old) (coming self.new) };
 }
 
+/// What the system watches.
+#[derive(Clone, Copy, Debug, PartialEq, Eq)]
+pub enum Watched {
+    /// The port, where a client may be accepted.
+    Port,
+    /// The operator's port, where a connection may be accepted.
+    OperatorsPort,
+    /// The client under that key.
+    Client(usize),
+    /// The connection to the operator's port under that key.
+    Operator(usize),
+}
+
 /// What the system tells of a socket.
 #[derive(Clone, Copy, Debug)]
 pub struct Told {
-    /// Under which key it is watched, or none, where a client may be accepted.
-    pub key: Option<usize>,
+    /// Which it is.
+    pub which: Watched,
     /// Whether it may be read.
     pub readable: bool,
     /// Whether it may be written.
@@ -68,8 +81,11 @@ pub trait Sockets {
     /// Accepts the next client.
     fn accept(&mut self) -> Result<Self::Client, NotTaken>;
 
-    /// Has the system tell of that client under that key.
-    fn watch(&mut self, client: &mut Self::Client, key: usize) -> io::Result<()>;
+    /// Accepts the next connection to the operator's port.
+    fn accept_operator(&mut self) -> Result<Self::Client, NotTaken>;
+
+    /// Has the system tell of that client as of this.
+    fn watch(&mut self, client: &mut Self::Client, which: Watched) -> io::Result<()>;
 
     /// Waits until there is something to tell, for at most so long where a time is given.
     fn wait(&mut self, patience: Option<Duration>) -> io::Result<()>;

@@ -1,0 +1,41 @@
+-- What the operator's port has, by path and method.
+use Rattle.std.specs.Prelude.{◌≡◌, ◌≢◌, ℕ, List, codes}
+use Rattle.dss_admin.specs.declared.asked.Asked.{Asked}
+use Rattle.dss_admin.specs.declared.asked.Asked.TheVariants.{Does, Refuses, Unknown}
+use Rattle.dss_admin.specs.declared.asked.Health.{Health}
+use Rattle.dss_admin.specs.declared.asked.Health.TheVariants as state
+use Rattle.dss_admin.specs.declared.asked.Page.{Page}
+use Rattle.dss_admin.specs.declared.asked.Page.TheVariants as page
+
+abbrev pub path_of : Page → List ℕ
+path_of page.Health = codes "/health"
+path_of page.Metrics = codes "/metrics"
+path_of page.Stop = codes "/stop"
+
+abbrev pub method_of : Page → List ℕ
+method_of page.Health = codes "GET"
+method_of page.Metrics = codes "GET"
+method_of page.Stop = codes "POST"
+
+-- no page has this path
+abbrev pub IsNoPath : List ℕ → Type 0
+IsNoPath path = (p : Page) → path ≢ path_of p
+
+-- a page is asked for by its path and its method
+abbrev pub IsAsked : (method path : List ℕ) → Asked → Type 0
+IsAsked method path (Does p) = (path ≡ path_of p) × (method ≡ method_of p)
+IsAsked method path (Refuses p) = (path ≡ path_of p) × (method ≢ method_of p)
+IsAsked method path Unknown = IsNoPath path
+
+-- the status of a page's answer: its health alone tells how the service is
+abbrev pub status_at : Page → Health → ℕ
+status_at page.Health state.Serving = 200
+status_at page.Health state.Stopped = 503
+status_at page.Health state.Stopping = 503
+status_at page.Metrics health = 200
+status_at page.Stop health = 200
+
+abbrev pub status_of : Asked → Health → ℕ
+status_of (Does p) health = status_at p health
+status_of (Refuses p) health = 405
+status_of Unknown health = 404

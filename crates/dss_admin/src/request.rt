@@ -1,0 +1,72 @@
+//! What the bytes of a connection to the operator's port ask for.
+ghost use Rattle.std.specs.Prelude.{◌≤◌, length};
+ghost use Rattle.httparse.specs.Spans.{IsRequestWithin};
+
+use crate::asked::{Asked, asked_by};
+use httparse::spans::{EMPTY_HEADER_SPAN, HeaderSpan, RequestSpans};
+use wire_head::length::length_of;
+use wire_head::rest::{HeadSoFar, head_so_far};
+use wire_head::rule::WireRule;
+use wire_head::target::path_of;
+
+/// The most bytes of a head, the empty lines before it among them.
+pub const HEAD_LIMIT: usize = 8192;
+
+/// The most bytes of a body.
+pub const BODY_LIMIT: usize = 1024;
+
+/// What bytes so far say.
+#[derive(Clone, Copy, Debug, PartialEq, Eq)]
+pub enum Said {
+    /// Nothing yet.
+    More,
+    /// This.
+    Asks(Asked),
+    /// That they are no request, by this rule of the wire.
+    Breaks(WireRule),
+}
+
+// What a method and a target ask for.
+fn asked_of(method: &[u8], target: &[u8]) -> Asked {
+    match str::from_utf8(target) {
+        Ok(target) => asked_by(method, path_of(target).as_bytes()),
+        Err(_) => Asked::Unknown,
+    }
+}
+
+// What a whole head asks for, once its body is there.
+fn said_by_head(bytes: &[u8], front: &[u8], fields: &[HeaderSpan], spans: RequestSpans) -> Said
+    requires within { IsRequestWithin front.now fields.now spans }
+    requires front { length front.now ≤ length bytes.now }
+{
+    let size = match length_of(front, &fields[..spans.headers]) {
+        Ok(size) => size,
+        Err(rule) => return Said::Breaks(rule),
+    };
+    if size > BODY_LIMIT {
+        return Said::Breaks(WireRule::BodySize);
+    }
+    if bytes.len().saturating_sub(spans.len) < size {
+        return Said::More;
+    }
+    Said::Asks(asked_of(spans.method.of(front), spans.path.of(front)))
+}
+
+/// What the bytes so far say. A request has a head of at most 8 KiB and a body of at most 1 KiB, which
+/// nobody looks at.
+pub fn said_by(bytes: &[u8]) -> Said {
+    let front = &bytes[..bytes.len().min(HEAD_LIMIT)];
+    let mut fields = [EMPTY_HEADER_SPAN; 64];
+    match head_so_far(front, &mut fields) {
+        HeadSoFar::Head(spans) => said_by_head(bytes, front, &fields, spans),
+        HeadSoFar::Bad => Said::Breaks(WireRule::Head),
+        HeadSoFar::Large => Said::Breaks(WireRule::HeadSize),
+        HeadSoFar::More => {
+            if bytes.len() < HEAD_LIMIT {
+                Said::More
+            } else {
+                Said::Breaks(WireRule::HeadSize)
+            }
+        }
+    }
+}

@@ -1,0 +1,7 @@
+//! Which version this is.
+
+/// The version, which is that of the package.
+pub const VERSION: &str = "0.1.0";
+
+/// The kit that it is proved and compiled with.
+pub const KIT: &str = "rattle-kit-13f logic dac8208d650f15bf";

@@ -1,0 +1,233 @@
+//! One connection to the operator's port: one request, one answer, and its end. It has no service.
+use crate::limits::{LAST_PIECES, OPERATOR_BYTES, OPERATOR_PIECE, OPERATOR_STEPS};
+use crate::phase::Phase;
+use crate::sockets::{Socket, Told};
+use dss_admin::answer::{answer, refusal};
+use dss_admin::asked::{Asked, Page};
+use dss_admin::figures::{Build, Figures};
+use dss_admin::request::{Said, said_by};
+use std::alloc::Global;
+use std::io::ErrorKind;
+use std::time::Duration;
+
+/// What operators are shown.
+#[derive(Clone, Copy)]
+pub(crate) struct Board<'a> {
+    pub(crate) alloc: Global,
+    pub(crate) figures: &'a Figures,
+    pub(crate) build: Build<'a>,
+}
+
+/// What becomes of a connection.
+#[derive(Clone, Copy, Debug, PartialEq, Eq)]
+pub(crate) enum Moved {
+    /// It may go on at once.
+    Again,
+    /// It waits for its socket.
+    Rests,
+    /// It is to be closed.
+    Gone,
+}
+
+/// A connection to the operator's port.
+#[derive(Drop)]
+pub(crate) struct Operator<T> {
+    socket: T,
+    held: Vec<u8>,
+    answer: Vec<u8>,
+    sent: usize,
+    phase: Phase,
+    until: Duration,
+    last_pieces: u32,
+    // What is known of its socket: each stays so until a call finds otherwise.
+    readable: bool,
+    writable: bool,
+    reset: bool,
+    // Whether it asked for the end of the service.
+    stops: bool,
+}
+
+impl<T: Socket> Operator<T> {
+    /// A connection from which nothing has come.
+    pub(crate) fn new(alloc: Global, socket: T, now: Duration) -> Operator<T> {
+        Operator {
+            socket,
+            held: Vec::new(alloc),
+            answer: Vec::new(alloc),
+            sent: 0,
+            phase: Phase::Idle,
+            until: now.saturating_add(Phase::Idle.patience()),
+            last_pieces: 0,
+            readable: false,
+            writable: true,
+            reset: false,
+            stops: false,
+        }
+    }
+
+    /// Notes what the system told of its socket.
+    pub(crate) fn note(&mut self, told: Told) {
+        self.readable = self.readable || told.readable || told.ended || told.reset;
+        self.writable = self.writable || told.writable;
+        self.reset = self.reset || told.reset;
+    }
+
+    /// Whether it was waited for long enough.
+    pub(crate) fn is_late(&self, now: Duration) -> bool {
+        self.until < now
+    }
+
+    /// Whether it is being waited for after its answer.
+    pub(crate) fn is_ending(&self) -> bool {
+        self.phase == Phase::Ending
+    }
+
+    /// Whether it has an answer that it may not have read.
+    pub(crate) fn is_owed(&self) -> bool {
+        self.phase == Phase::Taking || self.is_ending()
+    }
+
+    /// Whether it asked for the end of the service.
+    pub(crate) fn stops(&self) -> bool {
+        self.stops
+    }
+
+    // It is waited for anew.
+    fn wait(&mut self, phase: Phase, now: Duration) {
+        self.phase = phase;
+        self.until = now.saturating_add(phase.patience());
+    }
+
+    // Takes in bytes of the request, and makes its answer once it is whole.
+    fn take_in(&mut self, bytes: &[u8], board: Board<'_>, now: Duration) -> Moved {
+        if self.held.extend_from_slice(bytes).is_err() {
+            return Moved::Gone;
+        }
+        if self.phase == Phase::Idle {
+            self.wait(Phase::Sending, now);
+        }
+        let made = match said_by(self.held.as_slice()) {
+            Said::More => return Moved::Again,
+            Said::Asks(asked) => {
+                self.stops = asked == Asked::Does(Page::Stop);
+                answer(board.alloc, asked, board.figures, board.build)
+            }
+            Said::Breaks(rule) => refusal(board.alloc, rule),
+        };
+        match made {
+            Ok(text) => {
+                self.answer = text;
+                self.wait(Phase::Taking, now);
+                Moved::Again
+            }
+            Err(_) => Moved::Gone,
+        }
+    }
+
+    // Reads one piece of the request.
+    fn receive(&mut self, board: Board<'_>, now: Duration) -> Moved {
+        if !self.readable {
+            return Moved::Rests;
+        }
+        let mut piece = [0; OPERATOR_PIECE];
+        let most = OPERATOR_BYTES
+            .saturating_sub(self.held.len())
+            .min(OPERATOR_PIECE);
+        match self.socket.receive(&mut piece[..most]) {
+            Ok(0) => Moved::Gone,
+            Ok(count) => self.take_in(&piece[..count], board, now),
+            Err(cause) => self.rests_after(cause.kind()),
+        }
+    }
+
+    // What becomes of it after a reading that failed.
+    fn rests_after(&mut self, kind: ErrorKind) -> Moved {
+        match kind {
+            ErrorKind::WouldBlock => {
+                self.readable = false;
+                Moved::Rests
+            }
+            _ => Moved::Gone,
+        }
+    }
+
+    // Says that nothing more is sent: what it still sends is read, so that it gets its answer.
+    fn end(&mut self, now: Duration) -> Moved {
+        if self.socket.end_sending().is_err() {
+            return Moved::Gone;
+        }
+        self.wait(Phase::Ending, now);
+        self.readable = true;
+        Moved::Again
+    }
+
+    // Sends what can be sent of the answer.
+    fn send(&mut self, now: Duration) -> Moved {
+        if !self.writable {
+            return Moved::Rests;
+        }
+        let from = self.sent.min(self.answer.len());
+        match self.socket.send(&self.answer[from..]) {
+            Ok(0) => Moved::Gone,
+            Ok(count) => {
+                self.sent = from.saturating_add(count);
+                if self.sent < self.answer.len() {
+                    self.wait(Phase::Taking, now);
+                    return Moved::Again;
+                }
+                self.end(now)
+            }
+            Err(cause) => match cause.kind() {
+                ErrorKind::WouldBlock => {
+                    self.writable = false;
+                    Moved::Rests
+                }
+                _ => Moved::Gone,
+            },
+        }
+    }
+
+    // Reads and forgets one piece of what it still sends.
+    fn skip(&mut self, now: Duration) -> Moved {
+        if !self.readable {
+            return Moved::Rests;
+        }
+        let mut piece = [0; OPERATOR_PIECE];
+        match self.socket.receive(&mut piece) {
+            Ok(0) => Moved::Gone,
+            Ok(_) => {
+                self.last_pieces = self.last_pieces.saturating_add(1);
+                if self.last_pieces >= LAST_PIECES {
+                    return Moved::Gone;
+                }
+                self.wait(Phase::Ending, now);
+                Moved::Again
+            }
+            Err(cause) => self.rests_after(cause.kind()),
+        }
+    }
+
+    // One step: a piece is read, or the answer sent.
+    fn step(&mut self, board: Board<'_>, now: Duration) -> Moved {
+        match self.phase {
+            Phase::Idle | Phase::Sending => self.receive(board, now),
+            Phase::Taking => self.send(now),
+            Phase::Ending => self.skip(now),
+        }
+    }
+
+    /// One turn: a few steps.
+    pub(crate) fn turn(&mut self, board: Board<'_>, now: Duration) -> Moved {
+        if self.reset {
+            return Moved::Gone;
+        }
+        for _ in 0..OPERATOR_STEPS {
+            match self.step(board, now) {
+                Moved::Again => {}
+                Moved::Rests => return Moved::Rests,
+                Moved::Gone => return Moved::Gone,
+            }
+        }
+        Moved::Again
+    }
+}

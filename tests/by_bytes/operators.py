@@ -1,0 +1,283 @@
+"""The operator's port of `serve`: whether the service answers, what it counts, and its end."""
+import contextlib
+import re
+import socket
+import time
+
+import wire
+from failing_files import Failing
+from many_clients import reset
+from patience import kept_intents
+from program import SECONDS, run
+from serving import Service, until_closed
+from sockets import ANSWER, ASKED, CLOSING, LAST, SOCKET, difference
+from without_memory import STOPPED
+
+PLAIN, PROMETHEUS = "text/plain; charset=utf-8", "text/plain; version=0.0.4; charset=utf-8"
+SERVING = b"serving\n"
+STOPPING = b"stopping: it was told to end\n"
+DEAD = b"stopped: the database failed, and no call is answered any more\n"
+
+PUT = wire.request("PUT", f"{wire.AVAILABILITY}/uss-b", "Bearer tok-v", b'{"old_version":"","availability":"Down"}')
+# seconds that a service that was told to end takes at most, and within which an operator is answered
+END, AT_ONCE = 5, 2
+MOST = 16
+# the names of what is counted, with their types
+NAMES = {
+    "dss_connections_open": "gauge", "dss_connections_accepted_total": "counter", "dss_connections_refused_total": "counter",
+    "dss_connections_failed_total": "counter", "dss_requests_total": "counter", "dss_answer_bytes_total": "counter",
+    "dss_large_requests_waiting": "gauge", "dss_start_time_seconds": "gauge", "dss_build_info": "gauge",
+}
+
+
+def said(status, body, kind=PLAIN, allow=None):
+    """The bytes of an answer of the operator's port."""
+    lines = [f"HTTP/1.1 {status} {wire.REASONS[status]}", f"Content-Type: {kind}", f"Content-Length: {len(body)}"]
+    lines += [f"Allow: {allow}"] if allow else []
+    return "\r\n".join([*lines, "Connection: close", "", ""]).encode() + body
+
+
+def asks(method, path, fields=(), body=b""):
+    return "\r\n".join([f"{method} {path} HTTP/1.1", "Host: dss", *fields, "", ""]).encode() + body
+
+
+HEALTH, METRICS, STOP = asks("GET", "/health"), asks("GET", "/metrics"), asks("POST", "/stop", ["Content-Length: 0"])
+
+
+class Operated(Service):
+    """`dss serve` with an operator's port."""
+
+    def command(self):
+        return [*super().command(), "--admin", f"{self.admin}"]
+
+    def start(self):
+        with socket.create_server(("127.0.0.1", 0)) as free:
+            self.admin = free.getsockname()[1]
+        super().start()
+        self.listening += f"dss: admin on 127.0.0.1:{self.admin}\n".encode()
+        until = time.monotonic() + self.patience
+        while (self.folder / "errors").read_bytes() != self.listening:
+            if time.monotonic() > until:
+                raise OSError(f"what it tells: {(self.folder / 'errors').read_text()}")
+            time.sleep(0.005)
+
+    def operator(self):
+        return socket.create_connection(("127.0.0.1", self.admin), timeout=SECONDS)
+
+    def asked(self, sent):
+        """What comes back on a connection to the operator's port, until it is closed."""
+        with self.operator() as connection:
+            connection.sendall(sent)
+            return until_closed(connection)
+
+    def counted(self):
+        """What is counted: the numbers by their names."""
+        text = self.asked(METRICS).partition(b"\r\n\r\n")[2].decode()
+        return dict(re.findall(r"^(dss_\w+(?:\{.*\})?) (\S+)$", text, re.M))
+
+
+def until_counted(started, name, number):
+    """What is counted, once that name has that number."""
+    until = time.monotonic() + SECONDS
+    while (counted := started.counted()).get(name) != number and time.monotonic() < until:
+        time.sleep(0.01)
+    return counted
+
+
+def paths():
+    """Each path by each method, and what is no request, also in pieces; a client that waits and one that is answered stay as they
+    are."""
+    no_path, no_method, no_request = b"no such path\n", b"no such method\n", b"no such request\n"
+    table = [
+        ("health", HEALTH, said(200, SERVING)),
+        ("health?", asks("GET", "/health?a=b"), said(200, SERVING)),
+        ("a body", asks("GET", "/health", ["Content-Length: 1024"], bytes(1024)), said(200, SERVING)),
+        ("a larger body", asks("GET", "/health", ["Content-Length: 1025"], bytes(1025)), said(413, no_request)),
+        ("a body that is not sent", asks("POST", "/stop", ["Content-Length: 1025"]), said(413, no_request)),
+        ("two lengths", asks("GET", "/health", ["Content-Length: 0"] * 2), said(400, no_request)),
+        ("chunks", asks("GET", "/health", ["Transfer-Encoding: chunked"]), said(501, no_request)),
+        ("no head", b"GET\r\n\r\n", said(400, no_request)),
+        ("a large head", asks("GET", "/health", ["A: " + 8192 * "a"]), said(431, no_request)),
+        ("many fields", asks("GET", "/health", 65 * ["A: a"]), said(431, no_request)),
+        ("POST /health", asks("POST", "/health"), said(405, no_method, allow="GET")),
+        ("HEAD /metrics", asks("HEAD", "/metrics"), said(405, no_method, allow="GET")),
+        ("GET /stop", asks("GET", "/stop"), said(405, no_method, allow="POST")),
+        ("get /health", asks("get", "/health"), said(405, no_method, allow="GET")),
+        ("/", asks("GET", "/"), said(404, no_path)),
+        ("/healthy", asks("GET", "/healthy"), said(404, no_path)),
+        ("/stop/", asks("POST", "/stop/"), said(404, no_path)),
+        ("a path of clients", ASKED, said(404, no_path)),
+        ("two requests", HEALTH + STOP, said(200, SERVING)),
+    ]
+    with Operated(count=2) as started, started.connect() as silent, started.connect() as kept:
+        kept.sendall(ASKED)
+        found = difference("a client before", kept.recv(1 << 16), ANSWER)
+        for name, sent, wanted in table:
+            began = time.monotonic()
+            found += difference(name, started.asked(sent), wanted)
+            found += [f"{name}: it took long"] if time.monotonic() - began > AT_ONCE else []
+        with started.operator() as slow:
+            for byte in HEALTH:
+                slow.sendall(bytes([byte]))
+                time.sleep(0.001)
+            found += difference("a byte at a time", until_closed(slow), said(200, SERVING))
+        with started.operator() as ending:
+            ending.sendall(HEALTH[:-2])
+            ending.shutdown(socket.SHUT_WR)
+            found += difference("a part", until_closed(ending), b"")
+        kept.sendall(CLOSING)
+        found += difference("a client after", until_closed(kept), LAST)
+        silent.sendall(CLOSING)
+        found += difference("a client that was silent", until_closed(silent), LAST)
+        return found + difference("the service", started.ended(), (0, b"", started.listening))
+
+
+def counts():
+    """What is counted of known clients, each name with its help and its type."""
+    with Operated() as started:
+        before = time.time()
+        text = started.asked(METRICS)
+        found = difference("the head of it", text.startswith(said(200, b"", PROMETHEUS)[:-len("0\r\nConnection: close\r\n\r\n")]), True)
+        body = text.partition(b"\r\n\r\n")[2].decode()
+        found += difference("types", dict(re.findall(r"^# TYPE (\S+) (\S+)$", body, re.M)), NAMES)
+        found += difference("helps", sorted(re.findall(r"^# HELP (\S+) \S", body, re.M)), sorted(NAMES))
+        lines = [it for it in body.splitlines() if not re.fullmatch(r'# (HELP|TYPE) .*|dss_\w+(\{\w+="[^"]*"(,\w+="[^"]*")*\})? \d+', it)]
+        found += difference("lines of no form", lines, [])
+        first = started.counted()
+        found += difference("when it started", before - SECONDS < int(first["dss_start_time_seconds"]) <= before + 1, True)
+        found += difference("of no clients", {number for name, number in first.items() if "start" not in name and "build" not in name}, {"0"})
+        refusal = started.exchange(b"no request\r\n\r\n", ends=False)
+        started.exchange(ASKED + CLOSING, ends=False)
+        denied = started.exchange(wire.request("GET", wire.AVAILABILITY, None, fields=["Connection: close"]), ends=False)
+        with started.connect() as held:
+            held.sendall(ASKED[:10])
+            counted = until_counted(started, "dss_connections_accepted_total", "4")
+            found += difference("open", counted["dss_connections_open"], "1")
+            reset(held)
+        counted = until_counted(started, "dss_connections_open", "0")
+        wanted = {'dss_requests_total{status="200"}': "2", 'dss_requests_total{status="400"}': "1", 'dss_requests_total{status="404"}': "1",
+                  'dss_requests_total{status="503"}': "0", 'dss_connections_failed_total{cause="read"}': "1",
+                  "dss_connections_refused_total": "0", "dss_large_requests_waiting": "0",
+                  "dss_answer_bytes_total": f"{len(refusal + ANSWER + LAST + denied)}"}
+        found += difference("what is counted", {it: counted.get(it) for it in wanted}, wanted)
+        return found
+
+
+def ends():
+    """A service that is told to end answers what is whole, closes its connections and ends; it takes nobody more."""
+    found = []
+    with Operated() as started, contextlib.ExitStack() as stack:
+        silent, half, kept = (stack.enter_context(started.connect()) for _ in range(3))
+        half.sendall(PUT[:-1])
+        kept.sendall(ASKED)
+        found += difference("an answer", kept.recv(1 << 16), ANSWER)
+        until_counted(started, "dss_connections_open", "3")
+        began = time.monotonic()
+        # these lie in the socket as it is told to end
+        kept.sendall(PUT + ASKED)
+        found += difference("told to end", started.asked(STOP), said(200, b"stopping\n"))
+        found += difference("a silent client", until_closed(silent), b"")
+        found += difference("half a request", until_closed(half), b"")
+        statuses = [it[9:12] for it in wire.answers_of(until_closed(kept))]
+        found += difference("whole requests", statuses, [b"200", b"200"])
+        found += difference("the service", started.ended(), (0, b"", started.listening))
+        took = time.monotonic() - began
+        found += [f"it took {took:.1f} s"] if took > END else []
+        with contextlib.suppress(ConnectionRefusedError), started.connect() as late:
+            found += [f"a client after the end is connected: {late}"]
+        started.start()
+        found += difference("what was done", b'"Down"' in started.exchange(CLOSING, ends=False), True)
+    return found
+
+
+def ends_with_others():
+    """It ends in time beside a client that takes nothing of its answers and operators that wait, and tells operators of it."""
+    found = []
+    query = wire.request("POST", f"{wire.INTENTS}/query", "Bearer tok-a", b'{"area_of_interest":{"cells":["89c2591"]}}')
+    with Operated() as started, socket.socket() as held, contextlib.ExitStack() as stack:
+        puts = list(kept_intents())
+        for at in range(0, len(puts), wire.MOST_REQUESTS):
+            started.ask(puts[at : at + wire.MOST_REQUESTS])
+        held.setsockopt(socket.SOL_SOCKET, socket.SO_RCVBUF, 4096)
+        held.connect(("127.0.0.1", started.port))
+        held.sendall(query * wire.MOST_REQUESTS)
+        until_counted(started, "dss_connections_open", "1")
+        # once the buffers are full nothing is answered any more
+        made = None
+        while made != (made := started.counted()["dss_answer_bytes_total"]):
+            time.sleep(1)
+        waiting, asking = (stack.enter_context(started.operator()) for _ in range(2))
+        asking.sendall(HEALTH[:20])
+        time.sleep(0.1)
+        began = time.monotonic()
+        found += difference("told to end", started.asked(STOP), said(200, b"stopping\n"))
+        asking.sendall(HEALTH[20:])
+        found += difference("its health", until_closed(asking), said(503, STOPPING))
+        found += difference("one that waits", until_closed(waiting), b"")
+        found += difference("the service", started.ended()[:2], (0, b""))
+        took = time.monotonic() - began
+        found += [f"it took {took:.1f} s"] if not 2 < took <= END else []
+    return found
+
+
+def broken():
+    """A service whose database failed in a change tells so, and goes on telling what it counts."""
+    put = PUT.replace(b"\r\n\r\n", b"\r\nConnection: close\r\n\r\n")
+    found = []
+    with Failing() as room:
+        # the first ones fail in the opening of the files, so that nothing listens, and the next in the change
+        for at in range(1, 100):
+            environment = {"LD_PRELOAD": room.library, "FAIL_AT": f"{at}", "FAIL_ON": "1"}
+            with contextlib.suppress(OSError), Operated(more=environment) as started:
+                if started.exchange(put, ends=False) == wire.answer(*STOPPED, closes=True):
+                    found += difference("its health", started.asked(HEALTH), said(503, DEAD))
+                    found += difference("counted", started.counted()['dss_requests_total{status="503"}'], "1")
+                    return found + difference("told to end", started.asked(STOP), said(200, b"stopping\n"))
+                found += difference(f"{at}: its health", started.asked(HEALTH), said(200, SERVING))
+    return [*found, "no change stopped"]
+
+
+def many():
+    """Sixteen operators at once, and the next one once one of them has gone; clients are answered meanwhile."""
+    found = []
+    with Operated() as started, contextlib.ExitStack() as stack:
+        held = [stack.enter_context(started.operator()) for _ in range(MOST)]
+        with started.operator() as late:
+            late.sendall(HEALTH)
+            late.settimeout(0.5)
+            with contextlib.suppress(TimeoutError):
+                found += [f"one more than {MOST} is answered: {late.recv(1 << 16)}"]
+            found += difference("a client", started.exchange(CLOSING, ends=False), LAST)
+            held[0].close()
+            late.settimeout(SECONDS)
+            found += difference("the next", until_closed(late), said(200, SERVING))
+        for at, connection in enumerate(held[1:]):
+            connection.sendall(HEALTH)
+            found += difference(f"operator {at}", until_closed(connection), said(200, SERVING))
+    return found
+
+
+def without_port():
+    """A port that is taken: one line, and the status 1; a number that is none is refused."""
+    found = []
+    with socket.create_server(("127.0.0.1", 0)) as taken, Service() as started:
+        words = started.command()
+        started.kill()
+        port = taken.getsockname()[1]
+        found += difference("a port that is taken", run([*words, "--admin", f"{port}"]), (1, b"", SOCKET))
+        found += difference("the port of clients", run([*words, "--admin", f"{started.port}"]), (1, b"", SOCKET))
+        for number in "0", "65536", "x", "":
+            status, output, error = run([*words, "--admin", number])
+            found += difference(f"--admin {number}", (status, output, error != b""), (2, b"", True))
+    return found
+
+
+CASES = {
+    "operators-port": paths,
+    "operators-port-counts": counts,
+    "operators-port-ends-the-service": ends,
+    "operators-port-ends-it-in-time": ends_with_others,
+    "operators-port-of-a-broken-service": broken,
+    "operators-port-with-many": many,
+    "operators-port-that-cannot-be-had": without_port,
+}
