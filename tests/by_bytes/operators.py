@@ -272,6 +272,40 @@ def without_port():
     return found
 
 
+def elsewhere():
+    """Another address is listened on, and told; the operator's port stays where it is. What is no address is refused."""
+    found = []
+    with Service() as started:
+        words = started.command()
+        started.kill()
+        for address in "127.0.0.2", "0.0.0.0":
+            with Listening(address) as other:
+                with socket.create_connection(("127.0.0.2", other.port), timeout=SECONDS) as connection:
+                    connection.sendall(CLOSING)
+                    found += difference(address, until_closed(connection), LAST)
+                found += difference(f"{address}, health", other.asked(HEALTH), said(200, SERVING))
+                with contextlib.suppress(ConnectionRefusedError), socket.create_connection(("127.0.0.2", other.admin)):
+                    found += [f"{address}: the operator's port is elsewhere, too"]
+                with contextlib.suppress(ConnectionRefusedError), socket.create_connection(("127.0.0.1", other.port)):
+                    found += [f"{address}: 127.0.0.1 is listened on, too"] if address == "127.0.0.2" else []
+        for text in "", "localhost", "1.2.3", "1.2.3.4.5", "256.0.0.1", "127.0.0.1:80", "::1", "01.0.0.1":
+            status, output, error = run([*words, "--listen", text])
+            found += difference(f"--listen {text}", (status, output, error != b""), (2, b"", True))
+        found += difference("an address of others", run([*words, "--listen", "192.0.2.1"]), (1, b"", SOCKET))
+    return found
+
+
+class Listening(Operated):
+    """The same on an address."""
+
+    def __init__(self, address):
+        super().__init__()
+        self.address = address
+
+    def command(self):
+        return [*super().command(), "--listen", self.address]
+
+
 CASES = {
     "operators-port": paths,
     "operators-port-counts": counts,
@@ -280,4 +314,5 @@ CASES = {
     "operators-port-of-a-broken-service": broken,
     "operators-port-with-many": many,
     "operators-port-that-cannot-be-had": without_port,
+    "another-address": elsewhere,
 }

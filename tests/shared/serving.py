@@ -31,8 +31,8 @@ def until_closed(connection):
 class Service:
     """`dss serve` on a free port, for so many connections at most, with more in its environment."""
 
-    # the seconds in which it has to listen
-    patience = SECONDS
+    # the seconds in which it has to listen, and where it does
+    patience, address = SECONDS, "127.0.0.1"
 
     def __init__(self, tokens=None, count=1_000_000, disk=None, more=None, clients=None):
         self.room = tempfile.TemporaryDirectory(dir=disk)
@@ -56,7 +56,7 @@ class Service:
         """Starts the program, and waits until it listens."""
         with socket.create_server(("127.0.0.1", 0)) as free:
             self.port = free.getsockname()[1]
-        self.listening = f"dss: listening on 127.0.0.1:{self.port}\n".encode()
+        self.listening = f"dss: listening on {self.address}:{self.port}\n".encode()
         output, errors = self.folder / "output", self.folder / "errors"
         with output.open("wb") as stdout, errors.open("wb") as stderr:
             self.program = subprocess.Popen(

@@ -10,6 +10,7 @@ use dss_serve::limits::{Limits, MOST_CLIENTS};
 use sqlite::Start;
 use std::io;
 use std::io::Write;
+use std::net::Ipv4Addr;
 use wire_http::Moments;
 
 /// What the command `serve` was given.
@@ -19,7 +20,9 @@ pub(crate) struct ServeLine<'a> {
     pub(crate) tokens: &'a str,
     /// The name of the database's file.
     pub(crate) database: &'a str,
-    /// The port of 127.0.0.1.
+    /// The address that is listened on.
+    pub(crate) listen: Ipv4Addr,
+    /// Its port.
     pub(crate) port: u16,
     /// How many connections are served, if not as many as come.
     pub(crate) count: Option<u64>,
@@ -49,8 +52,13 @@ struct Ports<'a> {
 impl<'a> Listen for Ports<'a> {
     type Sockets = PortSockets<'a>;
 
-    fn listen(self, port: u16, operators: Option<u16>) -> io::Result<PortSockets<'a>> {
-        PortSockets::listen(self.rt, port, operators)
+    fn listen(
+        self,
+        address: Ipv4Addr,
+        port: u16,
+        operators: Option<u16>,
+    ) -> io::Result<PortSockets<'a>> {
+        PortSockets::listen(self.rt, address, port, operators)
     }
 }
 
@@ -76,6 +84,7 @@ pub(crate) fn serve<F: Start, E: Write>(
     let (space, listed) = opened(rt, given.database, start)?;
     let answering = Answering {
         tokens: &tokens,
+        address: given.listen,
         port: given.port,
         limits: limits_of(given),
         operated: operated(rt, given),

@@ -8,6 +8,7 @@ use dss_command::line::Commands;
 use dss_files::files;
 use sqlite::Start;
 use std::io::{Read, Write};
+use std::net::Ipv4Addr;
 use wire_http::Counted;
 
 /// The system, and what stands for all that the file and the log of a database may hold.
@@ -44,6 +45,7 @@ impl<'a, F: Start> Commands for Program<'a, F> {
         self,
         tokens: &str,
         database: &str,
+        listen: Ipv4Addr,
         port: u16,
         count: Option<u64>,
         clients: u64,
@@ -54,6 +56,7 @@ impl<'a, F: Start> Commands for Program<'a, F> {
         let given = ServeLine {
             tokens,
             database,
+            listen,
             port,
             count,
             clients,

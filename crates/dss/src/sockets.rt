@@ -89,14 +89,15 @@ fn token_of(which: Watched) -> usize {
     }
 }
 
-// A listener on a port of 127.0.0.1, which is watched.
+// A listener on a port of an address, which is watched.
 fn listener_on(
     rt: &HostRuntime,
     poll: &Poll,
+    address: Ipv4Addr,
     port: u16,
     which: Watched,
 ) -> io::Result<TcpListener> {
-    let mut listener = TcpListener::bind(rt, SocketAddr::from((Ipv4Addr::LOCALHOST, port)))?;
+    let mut listener = TcpListener::bind(rt, SocketAddr::from((address, port)))?;
     let token = Token(token_of(which));
     poll.registry()
         .register(&mut listener, token, Interest::READABLE)?;
@@ -139,16 +140,23 @@ fn not_taken(cause: io::Error) -> NotTaken {
 }
 
 impl<'a> PortSockets<'a> {
-    /// Listens on a port of 127.0.0.1, and on another one for operators.
+    /// Listens on a port of an address, and for operators on one of 127.0.0.1.
     pub(crate) fn listen(
         rt: &'a HostRuntime,
+        address: Ipv4Addr,
         port: u16,
         operators: Option<u16>,
     ) -> io::Result<PortSockets<'a>> {
         let poll = Poll::new(rt)?;
-        let listener = listener_on(rt, &poll, port, Watched::Port)?;
+        let listener = listener_on(rt, &poll, address, port, Watched::Port)?;
         let operators = match operators {
-            Some(port) => Some(listener_on(rt, &poll, port, Watched::OperatorsPort)?),
+            Some(port) => Some(listener_on(
+                rt,
+                &poll,
+                Ipv4Addr::LOCALHOST,
+                port,
+                Watched::OperatorsPort,
+            )?),
             None => None,
         };
         Ok(PortSockets {

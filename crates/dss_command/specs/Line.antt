@@ -36,8 +36,8 @@ module _ (does : Doing) where
       → Result (Unit {0}) Fault → Type 0
   Does (Run tokens now database requests) remaining output output' error error' done =
       does (Run tokens now database requests) remaining output output' done × (error' ≡ error)
-  Does (Serve tokens database port count clients admin) remaining output output' error error' done =
-      does (Serve tokens database port count clients admin) None error error' done
+  Does (Serve tokens database listen port count clients admin) remaining output output' error error' done =
+      does (Serve tokens database listen port count clients admin) None error error' done
       × (output' ≡ output)
   Does (Loopback tokens now request) remaining output output' error error' done =
       does (Loopback tokens now request) remaining output output' done × (error' ≡ error)

@@ -1,6 +1,8 @@
 //! The command `serve`, below the system.
 ghost use Rattle.std.specs.Prelude.{◌≡◌, ◌⊎◌, ◌++◌, OnOk, OnErr, IsSome, codes, decimal};
 ghost use Rattle.std.specs.Io.KnownBytes.{Appends};
+ghost use Rattle.std.specs.Net.Addr.{ipv4_octets};
+ghost use Rattle.std.specs.Net.Text.{ipv4_text};
 ghost use Rattle.token_conf.specs.TokenFile.{salt_of};
 ghost use Rattle.dss_command.specs.Fault.{EndsServing, TellsClient};
 ghost use Rattle.dss_command.specs.Service.{ServesClients};
@@ -18,16 +20,18 @@ use space_core::space::Space;
 use std::alloc::Global;
 use std::io;
 use std::io::Write;
+use std::net::Ipv4Addr;
 use token_conf::token_table::TokenTable;
 use wire_http::{Moments, StreamFault};
 use wire_route::routes::Routes;
 
-/// Tells on one line that the port is listened on.
-pub fn tell_listening<E: Write>(port: u16, error: &mut E) -> io::Result<()>
+/// Tells on one line that the port of that address is listened on.
+pub fn tell_listening<E: Write>(address: Ipv4Addr, port: u16, error: &mut E) -> io::Result<()>
     ensures { OnOk result (Appends (E.contents error.old) (E.contents error.new)
-        (codes "dss: listening on 127.0.0.1:" ++ decimal port ++ codes "\n")) }
+        (codes "dss: listening on " ++ ipv4_text (ipv4_octets address) ++ codes ":" ++ decimal port
+        ++ codes "\n")) }
 {
-    writeln!(error, "dss: listening on 127.0.0.1:{port}")
+    writeln!(error, "dss: listening on {address}:{port}")
 }
 
 /// Tells on one line that the operator's port is listened on.
@@ -81,7 +85,9 @@ pub struct Operated {
 pub struct Answering<'a> {
     /// The token file.
     pub tokens: &'a TokenTable,
-    /// The port of 127.0.0.1.
+    /// The address that is listened on.
+    pub address: Ipv4Addr,
+    /// Its port.
     pub port: u16,
     /// How many connections, and how many at once.
     pub limits: Limits,
@@ -93,8 +99,13 @@ pub struct Answering<'a> {
 pub trait Listen {
     type Sockets: Sockets + Drop;
 
-    /// The sockets of that port of 127.0.0.1, and of the operator's port.
-    fn listen(self, port: u16, operators: Option<u16>) -> io::Result<Self::Sockets>;
+    /// The sockets of that port of the address, and of the operator's port of 127.0.0.1.
+    fn listen(
+        self,
+        address: Ipv4Addr,
+        port: u16,
+        operators: Option<u16>,
+    ) -> io::Result<Self::Sockets>;
 }
 
 // What operators are told that stays as it is.
@@ -173,11 +184,11 @@ pub fn serve_port<S: Space + Drop, M: Moments, L: Listen + Drop, E: Write>(
     let Ok(routes) = Routes::new(alloc) else {
         return (Err(Fault::Memory), space);
     };
-    let sockets = match listener.listen(given.port, operators_port(given.operated)) {
+    let sockets = match listener.listen(given.address, given.port, operators_port(given.operated)) {
         Ok(sockets) => sockets,
         Err(cause) => return (Err(of_system(&cause, Fault::Socket)), space),
     };
-    let _ = tell_listening(given.port, error);
+    let _ = tell_listening(given.address, given.port, error);
     if let Some(operated) = given.operated {
         let _ = tell_operated(operated.port, error);
     }

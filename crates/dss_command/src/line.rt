@@ -12,6 +12,7 @@ use dss_line::fault::LineFault;
 use dss_line::line::{Line, parse};
 use std::alloc::Global;
 use std::io::{Read, Write};
+use std::net::Ipv4Addr;
 use wire_http::Counted;
 
 /// The commands that need the system. What it holds and does, no clause can say: which text the file of
@@ -46,13 +47,14 @@ pub trait Commands {
         self,
         tokens: &str,
         database: &str,
+        listen: Ipv4Addr,
         port: u16,
         count: Option<u64>,
         clients: u64,
         admin: Option<u16>,
         error: &mut E,
     ) -> Result<(), Fault>
-        ensures { does (Line.Serve tokens.entry database.entry port count clients admin) None
+        ensures { does (Line.Serve tokens.entry database.entry listen port count clients admin) None
             (E.contents error.old) (E.contents error.new) result };
 
     /// The command `self`.
@@ -159,11 +161,12 @@ fn perform<C: Commands + Drop, R: Read, O: Write, E: Write>(
         Line::Serve {
             tokens,
             database,
+            listen,
             port,
             count,
             clients,
             admin,
-        } => commands.serve(tokens, database, port, count, clients, admin, error),
+        } => commands.serve(tokens, database, listen, port, count, clients, admin, error),
         Line::Loopback {
             tokens,
             now,

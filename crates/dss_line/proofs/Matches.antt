@@ -1,7 +1,9 @@
 -- What the getters of `clap`'s matches read, by the rows of the matches.
-use Rattle.std.proofs.Common.{◌≡◌, ◌<◌, ◌^◌, ℕ, List, Option, Some, None, codes, refl, sym, inl, inr, ap, ◌∙◌, arith, false}
+use Rattle.std.proofs.Common.{◌≡◌, ◌<◌, ◌^◌, ℕ, List, Option, Some, None, codes, refl, sym, subst, inl, inr, ap, ◌∙◌, arith, false}
 use Rattle.std.specs.Prelude.{Bool, IfNone, IfSome, is_some, option_map, true, ◌⊎◌}
 use Rattle.std.specs.Borrow.{Bor}
+use Rattle.std.specs.Net.Grammar.{IsIpv4Text}
+use Rattle.std.specs.declared.net.ipv4_addr.Ipv4Addr.{Ipv4Addr}
 use Rattle.std.specs.Str.{bytes_eq}
 use Rattle.std.specs.Str.Parse.{IsNumeral, digits_value, without_leading_plus}
 use Rattle.std.proofs.lemmas.Bool.Decides.{not_from_Decides}
@@ -13,7 +15,7 @@ use Rattle.clap.specs.declared.parser.matches.Found.{Found}
 use Rattle.clap.proofs.WalkLemmas.{one_text-rows}
 use Rattle.clap.specs.declared.error.kind.ErrorKind.{ErrorKind}
 use Rattle.clap.specs.declared.error.kind.ErrorKind.TheVariants.{DisplayHelp, DisplayVersion, OutOfMemory}
-use Rattle.dss_line.specs.Line.{Asks, AsksNothing, Explains, HasAdmin, HasCount, HasNumber, HasNumberIn, HasValues, is_set, line_of_options}
+use Rattle.dss_line.specs.Line.{Asks, AsksNothing, Explains, HasAdmin, HasCount, HasListen, HasNumber, HasNumberIn, HasValues, is_set, line_of_options}
 use Rattle.dss_line.specs.declared.line.TheConstants.{LAST_PORT, MOST_CONNECTIONS}
 use Rattle.dss_line.specs.LineFault.{IsFaultOf}
 use Rattle.dss_line.specs.declared.fault.LineFault.{LineFault}
@@ -48,7 +50,7 @@ other a b differ same = not_from_Decides (bytes_eq a b) (bytes_eq-Decides a b) d
 -- the command `run` asks for nothing where no line of it has the values
 pub nothing_of_run : (rows : List Row) → ((tokens : Bor (List ℕ)) (now : ℕ) (database : Option (Bor (List ℕ))) (requests : Bor (List ℕ)) → HasValues rows (Run tokens now database requests) → ⊥) → AsksNothing (Some (codes "run", rows))
 nothing_of_run rows none (Run tokens now database requests) asks = none tokens now database requests asks.1
-nothing_of_run rows none (Serve tokens database port count clients admin) asks = other _ _ refl asks.0
+nothing_of_run rows none (Serve tokens database listen port count clients admin) asks = other _ _ refl asks.0
 nothing_of_run rows none (Loopback tokens now request) asks = other _ _ refl asks.0
 nothing_of_run rows none (Cell token) asks = other _ _ refl asks.0
 nothing_of_run rows none (Report database) asks = other _ _ refl asks.0
@@ -58,9 +60,9 @@ nothing_of_run rows none (NewToken uss scopes) asks = other _ _ refl asks.0
 nothing_of_run rows none NewSalt asks = other _ _ refl asks.0
 
 -- the command `serve` asks for nothing where no line of it has the values
-pub nothing_of_serve : (rows : List Row) → ((tokens : Bor (List ℕ)) (database : Bor (List ℕ)) (port : ℕ) (count : Option ℕ) (clients : ℕ) (admin : Option ℕ) → HasValues rows (Serve tokens database port count clients admin) → ⊥) → AsksNothing (Some (codes "serve", rows))
+pub nothing_of_serve : (rows : List Row) → ((tokens : Bor (List ℕ)) (database : Bor (List ℕ)) (listen : Ipv4Addr) (port : ℕ) (count : Option ℕ) (clients : ℕ) (admin : Option ℕ) → HasValues rows (Serve tokens database listen port count clients admin) → ⊥) → AsksNothing (Some (codes "serve", rows))
 nothing_of_serve rows none (Run tokens now database requests) asks = other _ _ refl asks.0
-nothing_of_serve rows none (Serve tokens database port count clients admin) asks = none tokens database port count clients admin asks.1
+nothing_of_serve rows none (Serve tokens database listen port count clients admin) asks = none tokens database listen port count clients admin asks.1
 nothing_of_serve rows none (Loopback tokens now request) asks = other _ _ refl asks.0
 nothing_of_serve rows none (Cell token) asks = other _ _ refl asks.0
 nothing_of_serve rows none (Report database) asks = other _ _ refl asks.0
@@ -72,7 +74,7 @@ nothing_of_serve rows none NewSalt asks = other _ _ refl asks.0
 -- the command `self` asks for nothing where no line of it has the values
 pub nothing_of_self : (rows : List Row) → ((tokens : Bor (List ℕ)) (now : ℕ) (request : Bor (List ℕ)) → HasValues rows (Loopback tokens now request) → ⊥) → AsksNothing (Some (codes "self", rows))
 nothing_of_self rows none (Run tokens now database requests) asks = other _ _ refl asks.0
-nothing_of_self rows none (Serve tokens database port count clients admin) asks = other _ _ refl asks.0
+nothing_of_self rows none (Serve tokens database listen port count clients admin) asks = other _ _ refl asks.0
 nothing_of_self rows none (Loopback tokens now request) asks = none tokens now request asks.1
 nothing_of_self rows none (Cell token) asks = other _ _ refl asks.0
 nothing_of_self rows none (Report database) asks = other _ _ refl asks.0
@@ -84,7 +86,7 @@ nothing_of_self rows none NewSalt asks = other _ _ refl asks.0
 -- the command `cell` asks for nothing where no line of it has the values
 pub nothing_of_cell : (rows : List Row) → ((token : Bor (List ℕ)) → HasValues rows (Cell token) → ⊥) → AsksNothing (Some (codes "cell", rows))
 nothing_of_cell rows none (Run tokens now database requests) asks = other _ _ refl asks.0
-nothing_of_cell rows none (Serve tokens database port count clients admin) asks = other _ _ refl asks.0
+nothing_of_cell rows none (Serve tokens database listen port count clients admin) asks = other _ _ refl asks.0
 nothing_of_cell rows none (Loopback tokens now request) asks = other _ _ refl asks.0
 nothing_of_cell rows none (Cell token) asks = none token asks.1
 nothing_of_cell rows none (Report database) asks = other _ _ refl asks.0
@@ -96,7 +98,7 @@ nothing_of_cell rows none NewSalt asks = other _ _ refl asks.0
 -- the command `report` asks for nothing where no line of it has the values
 pub nothing_of_report : (rows : List Row) → ((database : Bor (List ℕ)) → HasValues rows (Report database) → ⊥) → AsksNothing (Some (codes "report", rows))
 nothing_of_report rows none (Run tokens now database requests) asks = other _ _ refl asks.0
-nothing_of_report rows none (Serve tokens database port count clients admin) asks = other _ _ refl asks.0
+nothing_of_report rows none (Serve tokens database listen port count clients admin) asks = other _ _ refl asks.0
 nothing_of_report rows none (Loopback tokens now request) asks = other _ _ refl asks.0
 nothing_of_report rows none (Cell token) asks = other _ _ refl asks.0
 nothing_of_report rows none (Report database) asks = none database asks.1
@@ -108,7 +110,7 @@ nothing_of_report rows none NewSalt asks = other _ _ refl asks.0
 -- the command `upgrade` asks for nothing where no line of it has the values
 pub nothing_of_upgrade : (rows : List Row) → ((database : Bor (List ℕ)) → HasValues rows (Upgrade database) → ⊥) → AsksNothing (Some (codes "upgrade", rows))
 nothing_of_upgrade rows none (Run tokens now database requests) asks = other _ _ refl asks.0
-nothing_of_upgrade rows none (Serve tokens database port count clients admin) asks = other _ _ refl asks.0
+nothing_of_upgrade rows none (Serve tokens database listen port count clients admin) asks = other _ _ refl asks.0
 nothing_of_upgrade rows none (Loopback tokens now request) asks = other _ _ refl asks.0
 nothing_of_upgrade rows none (Cell token) asks = other _ _ refl asks.0
 nothing_of_upgrade rows none (Report database) asks = other _ _ refl asks.0
@@ -146,7 +148,7 @@ no_salt None None None true a b c d none = cc
 -- the command `tokens` asks for nothing where its options make no line
 pub nothing_of_tokens : (rows : List Row) (check new scopes : Option (Bor (List ℕ))) (flag : Bool) → text_of check ≡ first_of (codes "check") rows → text_of new ≡ first_of (codes "new") rows → text_of scopes ≡ first_of (codes "scopes") rows → flag ≡ is_set (codes "new-salt") rows → line_of_options check new scopes flag ≡ None → AsksNothing (Some (codes "tokens", rows))
 nothing_of_tokens rows check new scopes flag a b c d none (Run tokens now database requests) asks = other _ _ refl asks.0
-nothing_of_tokens rows check new scopes flag a b c d none (Serve tokens database port count clients admin) asks = other _ _ refl asks.0
+nothing_of_tokens rows check new scopes flag a b c d none (Serve tokens database listen port count clients admin) asks = other _ _ refl asks.0
 nothing_of_tokens rows check new scopes flag a b c d none (Loopback tokens now request) asks = other _ _ refl asks.0
 nothing_of_tokens rows check new scopes flag a b c d none (Cell token) asks = other _ _ refl asks.0
 nothing_of_tokens rows check new scopes flag a b c d none (Report database) asks = other _ _ refl asks.0
@@ -183,6 +185,19 @@ anyway (Some x) P p = tt
 pub none_too : {A : Type 0} (o : Option A) (P Q : Type 0) → (P → Q) → IfNone o P → IfNone o Q
 none_too None P Q more p = more p
 none_too (Some x) P Q more p = tt
+
+-- the same where there is one
+pub some_too : {A : Type 0} (o : Option A) (P Q : A → Type 0) → ((a : A) → P a → Q a) → IfSome o P → IfSome o Q
+some_too None P Q more p = tt
+some_too (Some x) P Q more p = more x p
+
+-- a text that is no address is listened on nowhere
+pub listens_nowhere : (rows : List Row) (text : Text) → first_of (codes "listen") rows ≡ Some text → ((a : Ipv4Addr) → IsIpv4Text text a → ⊥) → (a : Ipv4Addr) → HasListen rows a → ⊥
+listens_nowhere rows text there none a has =
+    elim has [
+      | inl is ↦ let same : Some text ≡ Some is.0 = sym there ∙ is.1 in let texts : is.0 ≡ text = cc in none a (subst (λ (t : Text). IsIpv4Text t a) texts is.2)
+      | inr is ↦ absent _ text is.0 there
+    ]
 
 -- a text that is not there is not found
 pub no_text : (o : Option (Bor (List ℕ))) (found : Option Text) → is_some o ≡ false → option_map (λ word. word.now) o ≡ found → found ≡ None

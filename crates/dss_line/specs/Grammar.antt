@@ -93,10 +93,12 @@ abbrev pub serve_app : App
 serve_app =
     with_rule
     (with_rule
+    (with_rule
     (with_rule (with_rule (with_rule (with_rule (new_app (codes "serve")) tokens_rule) store_rule) port_rule)
     count_rule)
     clients_rule)
-    admin_rule
+    admin_rule)
+    (choice_rule (codes "listen"))
 
 abbrev pub self_app : App
 self_app = with_rule (with_rule (with_rule (new_app (codes "self")) tokens_rule) now_rule) request_rule

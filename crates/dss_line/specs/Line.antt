@@ -1,8 +1,11 @@
 -- What a command line asks for.
-use Rattle.std.specs.Prelude.{◌≡◌, ◌≤◌, ◌⊎◌, ℕ, Bool, true, false, List, [], Option, Some, None, codes, map, nat_eq, option_map}
+use Rattle.std.specs.Prelude.{◌≡◌, ◌≤◌, ◌⊎◌, ℕ, Bool, true, false, List, [], ◌∷◌, Option, Some, None, codes, map, nat_eq, option_map}
 use Rattle.std.specs.Cmp.Lexicographic.{pointwise}
 use Rattle.std.specs.Option.{option_map_or}
 use Rattle.std.specs.Borrow.{Bor}
+use Rattle.std.specs.Net.Addr.{ipv4_octets}
+use Rattle.std.specs.Net.Grammar.{IsIpv4Text}
+use Rattle.std.specs.declared.net.ipv4_addr.Ipv4Addr.{Ipv4Addr}
 use Rattle.std.specs.Str.Parse.{IsNumeral, digits_value, without_leading_plus}
 use Rattle.clap.specs.Kinds.{IsAmong}
 use Rattle.clap.specs.Words.{Row, Text, first_of, one_of}
@@ -39,6 +42,12 @@ HasClients rows n =
     HasNumberIn (codes "clients") 1 MOST_CLIENTS rows n
     ⊎ ((first_of (codes "clients") rows ≡ None) × (n ≡ MOST_CLIENTS))
 
+-- the address that is listened on: the option's, or without it 127.0.0.1
+abbrev pub HasListen : List Row → Ipv4Addr → Type 0
+HasListen rows a =
+    ((text : List ℕ) × (first_of (codes "listen") rows ≡ Some text) × IsIpv4Text text a)
+    ⊎ ((first_of (codes "listen") rows ≡ None) × (ipv4_octets a ≡ 127 ∷ 0 ∷ 0 ∷ 1 ∷ []))
+
 -- the operator's port, where the option is there
 abbrev pub HasAdmin : List Row → Option ℕ → Type 0
 HasAdmin rows None = first_of (codes "admin") rows ≡ None
@@ -59,7 +68,7 @@ HasOptions rows check new scopes new_salt =
 -- the name of the command that asks for the line
 abbrev pub name_of : Line → Text
 name_of (Run tokens now database requests) = codes "run"
-name_of (Serve tokens database port count clients admin) = codes "serve"
+name_of (Serve tokens database listen port count clients admin) = codes "serve"
 name_of (Loopback tokens now request) = codes "self"
 name_of (Cell token) = codes "cell"
 name_of (Report database) = codes "report"
@@ -75,9 +84,10 @@ HasValues rows (Run tokens now database requests) =
     × HasNumberIn (codes "now") 0 LAST_MOMENT rows now
     × (first_of (codes "db") rows ≡ option_map (λ word. word.now) database)
     × (first_of (codes "requests") rows ≡ Some requests.now)
-HasValues rows (Serve tokens database port count clients admin) =
+HasValues rows (Serve tokens database listen port count clients admin) =
     (first_of (codes "tokens") rows ≡ Some tokens.now)
     × (first_of (codes "db") rows ≡ Some database.now)
+    × HasListen rows listen
     × HasNumberIn (codes "port") 1 LAST_PORT rows port
     × HasCount rows count
     × HasClients rows clients

@@ -86,7 +86,7 @@ fn port_option<'a>(alloc: Global) -> Arg<'a>
 {
     option(alloc, "port")
         .value_name("PORT")
-        .help("The port of 127.0.0.1, from 1 to 65535")
+        .help("The port, from 1 to 65535")
         .value_parser(ValueParser::unsigned(1, LAST_PORT))
 }
 
@@ -125,6 +125,17 @@ fn admin_option<'a>(alloc: Global) -> Arg<'a>
             "The operator's port of 127.0.0.1, from 1 to 65535, for /health, /metrics and /stop; without it there is none",
         )
         .value_parser(ValueParser::unsigned(FIRST_PORT, LAST_PORT))
+}
+
+// The address that is listened on.
+fn listen_option<'a>(alloc: Global) -> Arg<'a>
+    ensures rule { rule_of result ≡ choice_rule (codes "listen") }
+    ensures local { result.global ≡ false }
+{
+    Arg::new(alloc, "listen")
+        .long("listen")
+        .value_name("ADDRESS")
+        .help("The IPv4 address to listen on; without it 127.0.0.1")
 }
 
 // A word that has to be there.
@@ -228,7 +239,8 @@ fn serve_command<'a>(alloc: Global) -> Result<Command<'a>, AllocError>
         .arg(port_option(alloc))?
         .arg(count_option(alloc))?
         .arg(clients_option(alloc))?
-        .arg(admin_option(alloc))
+        .arg(admin_option(alloc))?
+        .arg(listen_option(alloc))
 }
 
 fn self_command<'a>(alloc: Global) -> Result<Command<'a>, AllocError>

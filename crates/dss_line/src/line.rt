@@ -1,14 +1,17 @@
 //! What a command line asks for.
+ghost use Rattle.std.specs.Net.Grammar.{IsIpv4Text};
+ghost use Rattle.std.specs.declared.net.ipv4_addr.Ipv4Addr.{Ipv4Addr};
 ghost use Rattle.std.specs.Prelude.{ℕ, ◌≤◌, ◌≡◌, [], IfErr, IfNone, IfOk, IfSome, Option, Some, codes};
 ghost use Rattle.clap.specs.Faults.{fault_of as mistakes_of};
 ghost use Rattle.clap.specs.Words.{found_of, rows_of, subcommand_of, subcommand_rows_of};
 ghost use Rattle.dss_line.specs.Grammar.{dss_app};
-ghost use Rattle.dss_line.specs.Line.{Asks, AsksNothing, Explains, HasAdmin, HasClients, HasCount, HasNumberIn, is_set, line_of_options, texts};
+ghost use Rattle.dss_line.specs.Line.{Asks, AsksNothing, Explains, HasAdmin, HasClients, HasCount, HasListen, HasNumberIn, is_set, line_of_options, texts};
 
 use crate::fault::{LineFault, fault_of};
 use crate::grammar::command;
 use clap::ArgMatches;
 use std::alloc::Global;
+use std::net::Ipv4Addr;
 
 /// The last moment that a command line may name, in seconds since 1970: the end of the year 9999.
 pub const LAST_MOMENT: u64 = 253_402_300_799;
@@ -45,6 +48,8 @@ pub enum Line<'a> {
         tokens: &'a str,
         /// The name of the database's file.
         database: &'a str,
+        /// The address that is listened on.
+        listen: Ipv4Addr,
         /// The port, at least 1.
         port: u16,
         /// How many connections, from 1 to a million, or as many as come.
@@ -163,6 +168,29 @@ fn clients_in(matches: &ArgMatches<'_>) -> Option<u64>
     number_in(matches, "clients", 1, MOST_CLIENTS)
 }
 
+// The address of a text.
+fn address_of(text: &str) -> Option<Ipv4Addr>
+    ensures some { IfSome result (IsIpv4Text text.now) }
+    ensures none { IfNone result ((a : Ipv4Addr) → IsIpv4Text text.now a → ⊥) }
+{
+    match text.parse::<Ipv4Addr>() {
+        Ok(address) => Some(address),
+        Err(_) => None,
+    }
+}
+
+// The address that is listened on; `None` where a text is there that is none.
+fn listen_in(matches: &ArgMatches<'_>) -> Option<Ipv4Addr>
+    ensures some { IfSome result (HasListen (rows_of (found_of matches.now))) }
+    ensures none { IfNone result ((a : Ipv4Addr) → HasListen (rows_of (found_of matches.now)) a
+        → ⊥) }
+{
+    match matches.get_str("listen") {
+        Some(text) => address_of(text),
+        None => Some(Ipv4Addr::new(127, 0, 0, 1)),
+    }
+}
+
 // The operator's port, if one is there; `None` where it is out of its range.
 fn admin_in(matches: &ArgMatches<'_>) -> Option<Option<u16>>
     ensures some { IfSome result (HasAdmin (rows_of (found_of matches.now))) }
@@ -188,6 +216,7 @@ fn serve_line<'a>(matches: &ArgMatches<'a>) -> Option<Line<'a>>
     Some(Line::Serve {
         tokens: matches.get_str("tokens")?,
         database: matches.get_str("db")?,
+        listen: listen_in(matches)?,
         port: port_in(matches)?,
         count: count_in(matches)?,
         clients: clients_in(matches)?,
@@ -326,7 +355,7 @@ pub fn parse<'a>(alloc: Global, words: &'a [&'a str]) -> Result<Line<'a>, LineFa
         Some(line) => Ok(line),
         None => Err(LineFault::Refused(String::from_str(
             alloc,
-            "error: the command line names no whole command\n",
+            "error: the command line names no whole command, or no IPv4 address after --listen\n",
         )?)),
     }
 }

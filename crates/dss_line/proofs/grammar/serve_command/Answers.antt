@@ -3,7 +3,7 @@ use Rattle.std.proofs.lemmas.Result.{IfOk-weaker}
 use Rattle.clap.specs.Simple.{app_of_fields}
 use Rattle.clap.specs.Words.{app_of, new_app, with_rule}
 use Rattle.clap.specs.declared.builder.command.Command.TheViews.{out-Command}
-use Rattle.dss_line.specs.Grammar.{clients_rule, count_rule, port_rule, store_rule, tokens_rule}
+use Rattle.dss_line.specs.Grammar.{admin_rule, clients_rule, count_rule, port_rule, store_rule, tokens_rule}
 use Rattle.dss_line.proofs.grammar.serve_command.Goals as goal
 
 pub returns : goal.returns
@@ -14,5 +14,6 @@ returns c =
     let with_3 : app_of c.in_ok-arg-3.field-0 ≡ with_rule (with_rule (with_rule (new_app (codes "serve")) tokens_rule) store_rule) port_rule = c.in_ok-arg-3.ensures.shape (search rules) ∙ ap₂ with_rule with_2 c.port_option.ensures.rule in
     let with_4 : app_of c.in_ok-arg-4.field-0 ≡ with_rule (with_rule (with_rule (with_rule (new_app (codes "serve")) tokens_rule) store_rule) port_rule) count_rule = c.in_ok-arg-4.ensures.shape (search rules) ∙ ap₂ with_rule with_3 c.count_option.ensures.rule in
     let with_5 : app_of c.in_ok-arg-5.field-0 ≡ with_rule (with_rule (with_rule (with_rule (with_rule (new_app (codes "serve")) tokens_rule) store_rule) port_rule) count_rule) clients_rule = c.in_ok-arg-5.ensures.shape (search rules) ∙ ap₂ with_rule with_4 c.clients_option.ensures.rule in
-    let local : (out-Command c.in_ok-arg-5.field-0).has_globals ≡ false = search rules in
-    IfOk-weaker c.arg-6.result _ _ (λ command h. (h.shape (search rules) ∙ ap₂ with_rule with_5 c.admin_option.ensures.rule, h.globals ∙ ap₂ (λ a b. a || b) local c.admin_option.ensures.local)) c.arg-6.ensures
+    let with_6 : app_of c.in_ok-arg-6.field-0 ≡ with_rule (with_rule (with_rule (with_rule (with_rule (with_rule (new_app (codes "serve")) tokens_rule) store_rule) port_rule) count_rule) clients_rule) admin_rule = c.in_ok-arg-6.ensures.shape (search rules) ∙ ap₂ with_rule with_5 c.admin_option.ensures.rule in
+    let local : (out-Command c.in_ok-arg-6.field-0).has_globals ≡ false = search rules in
+    IfOk-weaker c.arg-7.result _ _ (λ command h. (h.shape (search rules) ∙ ap₂ with_rule with_6 c.listen_option.ensures.rule, h.globals ∙ ap₂ (λ a b. a || b) local c.listen_option.ensures.local)) c.arg-7.ensures
