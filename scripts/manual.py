@@ -99,7 +99,7 @@ def completions(program, version):
     cases = "\n".join(f"        {name}) words='{' '.join(it)}' ;;" for name, it in texts.items())
     return f"""# completions for bash of dss {version}, made from what its --help says
 _dss() {{
-    local words='{' '.join(texts)} --help' now=${{COMP_WORDS[COMP_CWORD]}}
+    local words='{' '.join([*texts, *options(help_of(program))])}' now=${{COMP_WORDS[COMP_CWORD]}}
     case ${{COMP_WORDS[COMP_CWORD-1]}} in
     {'|'.join(files) or '--none'})
         mapfile -t COMPREPLY < <(compgen -f -- "$now")

@@ -8,7 +8,7 @@ import wire
 from failing_files import Failing
 from many_clients import reset
 from patience import kept_intents
-from program import SECONDS, run
+from program import BUILT, SECONDS, TOP, run
 from serving import Service, until_closed
 from sockets import ANSWER, ASKED, CLOSING, LAST, SOCKET, difference
 from without_memory import STOPPED
@@ -295,6 +295,18 @@ def elsewhere():
     return found
 
 
+def version():
+    """The version is that of the package, and the kit that of the release."""
+    number = re.search(r"^## ([\d.]+)", (TOP / "CHANGELOG.md").read_text(), re.M)[1]
+    kit = re.search(r"^kit (.*)$", (TOP / "release" / "made-of").read_text(), re.M)[1]
+    found = []
+    for word in "--version", "-V":
+        found += difference(word, run([BUILT, word]), (0, f"dss {number} ({kit})\n".encode(), b""))
+    with Operated() as started:
+        counted = started.counted()
+    return found + difference("as it is counted", counted.get(f'dss_build_info{{version="{number}",kit="{kit}"}}'), "1")
+
+
 class Listening(Operated):
     """The same on an address."""
 
@@ -315,4 +327,5 @@ CASES = {
     "operators-port-with-many": many,
     "operators-port-that-cannot-be-had": without_port,
     "another-address": elsewhere,
+    "version": version,
 }

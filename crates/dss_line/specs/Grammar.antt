@@ -120,7 +120,7 @@ tokens_app =
     (choice_rule (codes "scopes")))
     (flag_rule (codes "new-salt"))
 
--- one of the commands has to be there
+-- one of the commands has to be there, or the version is asked for
 abbrev pub dss_app : App
 dss_app =
     with_subcommand
@@ -129,7 +129,7 @@ dss_app =
     (with_subcommand
     (with_subcommand
     (with_subcommand
-    (with_subcommand (on_top (λ s. record s { subcommand_required = true }) (new_app (codes "dss"))) run_app.top)
+    (with_subcommand (on_top (λ s. record s { subcommand_required = true; has_version = true }) (new_app (codes "dss"))) run_app.top)
     serve_app.top)
     self_app.top)
     cell_app.top)

@@ -29,6 +29,7 @@ ghost use Rattle.dss_line.specs.Grammar.{
 };
 
 use crate::line::{FIRST_PORT, LAST_MOMENT, LAST_PORT, MOST_CLIENTS, MOST_CONNECTIONS};
+use crate::version::SHOWN;
 use clap::builder::ValueParser;
 use clap::{Arg, ArgAction, Command};
 use std::alloc::{AllocError, Global};
@@ -302,6 +303,7 @@ pub(crate) fn command<'a>(alloc: Global) -> Result<Command<'a>, AllocError>
 {
     Command::new(alloc, "dss")
         .about("A discovery and synchronization service for drone suppliers")
+        .version(SHOWN)
         .subcommand_required(true)
         .subcommand(run_command(alloc)?)?
         .subcommand(serve_command(alloc)?)?

@@ -10,12 +10,12 @@ use Rattle.dss_line.proofs.grammar.command.Goals as goal
 
 -- the program's own command
 abbrev own : App
-own = on_top (λ s. record s { subcommand_required = true }) (new_app (codes "dss"))
+own = on_top (λ s. record s { subcommand_required = true; has_version = true }) (new_app (codes "dss"))
 
 pub returns : goal.returns
 returns c =
-    let with_0 : app_of c.subcommand_required.result ≡ own = ap app_of_fields c.subcommand_required.ensures ∙ ap (on_top (λ s. record s { subcommand_required = true })) (ap app_of_fields c.about.ensures ∙ c.new.ensures.app) in
-    let local_0 : (out-Command c.subcommand_required.result).has_globals ≡ false = ap (λ (f : Command-F Command). f.has_globals) c.subcommand_required.ensures ∙ ap (λ (f : Command-F Command). f.has_globals) c.about.ensures ∙ c.new.ensures.local in
+    let with_0 : app_of c.subcommand_required.result ≡ own = ap app_of_fields c.subcommand_required.ensures ∙ ap (on_top (λ s. record s { subcommand_required = true })) (ap app_of_fields c.version.ensures ∙ ap (on_top (λ s. record s { has_version = true })) (ap app_of_fields c.about.ensures ∙ c.new.ensures.app)) in
+    let local_0 : (out-Command c.subcommand_required.result).has_globals ≡ false = ap (λ (f : Command-F Command). f.has_globals) c.subcommand_required.ensures ∙ ap (λ (f : Command-F Command). f.has_globals) c.version.ensures ∙ ap (λ (f : Command-F Command). f.has_globals) c.about.ensures ∙ c.new.ensures.local in
     let with_1 : app_of c.in_ok-subcommand.field-0 ≡ with_subcommand (own) run_app.top = c.in_ok-subcommand.ensures.shape c.in_ok-run_command.ensures.1 ∙ ap₂ with_subcommand with_0 (ap (λ (a : App). a.top) c.in_ok-run_command.ensures.0) in
     let local_1 : (out-Command c.in_ok-subcommand.field-0).has_globals ≡ false = c.in_ok-subcommand.ensures.globals ∙ ap₂ (λ a b. a || b) local_0 c.in_ok-run_command.ensures.1 in
     let with_2 : app_of c.in_ok-subcommand-2.field-0 ≡ with_subcommand (with_subcommand (own) run_app.top) serve_app.top = c.in_ok-subcommand-2.ensures.shape c.in_ok-serve_command.ensures.1 ∙ ap₂ with_subcommand with_1 (ap (λ (a : App). a.top) c.in_ok-serve_command.ensures.0) in
