@@ -1,4 +1,5 @@
 //! All clients of a port, and whose turn it is.
+ghost use Rattle.std.specs.Prelude.{IsSome, IsTrue};
 ghost use Rattle.token_conf.specs.TokenFile.{callers_of};
 ghost use Rattle.dss_serve.specs.Serve.{GoesOn};
 
@@ -418,8 +419,19 @@ impl<N: Sockets + Drop> Port<N> {
         }
     }
 
-    /// Answers operators. `true`: one told the service to end, and it has ended.
-    pub(crate) fn serve_operators(&mut self, build: Build<'_>, now: Duration) -> bool {
+    /// Answers operators, where there may be any. `true`: one told the service to end, and it has
+    /// ended.
+    pub(crate) fn serve_operators(&mut self, operated: Option<Build<'_>>, now: Duration) -> bool
+        ensures { IsTrue result → IsSome operated.entry }
+    {
+        match operated {
+            Some(build) => self.has_ended(build, now),
+            None => false,
+        }
+    }
+
+    // Answers operators. Whether the service has ended, where one told it to.
+    fn has_ended(&mut self, build: Build<'_>, now: Duration) -> bool {
         if !self.operators.is_empty() {
             self.figures.open = self.peers.len();
             self.figures.waiting = self.waiting_for_places();

@@ -28,9 +28,9 @@ use wire_route::routes::Routes;
 /// With a build there is an operator's port, whose connections are answered in the same rounds; nothing
 /// that is asked there is a call of the service.
 ///
-/// It is done only where a number of connections is given, or an operator may tell it to end. An error is one of the system that ends the
-/// service; the calls before it stand. A fault of a client is told to the journal, and ends that
-/// client's connection alone.
+/// It is done only where a number of connections is given, or an operator may tell it to end. An
+/// error is one of the system that ends the service; the calls before it stand. A fault of a client
+/// is told to the journal, and ends that client's connection alone.
 pub fn serve_clients<S: Space + Drop, M: Moments, N: Sockets + Drop, J: Journal>(
     alloc: Global,
     routes: &Routes,
@@ -62,9 +62,7 @@ pub fn serve_clients<S: Space + Drop, M: Moments, N: Sockets + Drop, J: Journal>
         port.accept(now)?;
         port.round(desk, service, moments, now, journal);
         port.look(now, journal);
-        if let Some(build) = operated
-            && port.serve_operators(build, now)
-        {
+        if port.serve_operators(operated, now) {
             return Ok(());
         }
     }

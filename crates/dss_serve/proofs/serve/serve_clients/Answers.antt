@@ -10,3 +10,9 @@ returns-in_err-now-clause-serves g c = serves_none g.S.Space (callers_of c.args.
 
 pub loop-init : goal.loop-init
 loop-init g c = serves_none g.S.Space (callers_of c.args.tokens.now) c.args.service.now
+
+pub loop-preserved : goal.loop-preserved
+loop-preserved g c = c.round.ensures c.args.service.now c.loop.invariant
+
+pub returns-then-serve_operators-clause-serves : goal.returns-then-serve_operators-clause-serves
+returns-then-serve_operators-clause-serves g c = c.round.ensures c.args.service.now c.loop.invariant
