@@ -28,8 +28,8 @@ use wire_route::routes::Routes;
 /// Tells on one line that the port of that address is listened on.
 pub fn tell_listening<E: Write>(address: Ipv4Addr, port: u16, error: &mut E) -> io::Result<()>
     ensures { OnOk result (Appends (E.contents error.old) (E.contents error.new)
-        (codes "dss: listening on " ++ ipv4_text (ipv4_octets address) ++ codes ":" ++ decimal port
-        ++ codes "\n")) }
+        (codes "dss: listening on " ++ (ipv4_text (ipv4_octets address)
+        ++ (codes ":" ++ (decimal port ++ codes "\n"))))) }
 {
     writeln!(error, "dss: listening on {address}:{port}")
 }

@@ -1,4 +1,4 @@
-use Rattle.std.proofs.Common.{◌∙◌, cong, inl, inr}
+use Rattle.std.proofs.Common.{◌∙◌, ap, inl, inr}
 use Rattle.service_core.specs.Held.{space_of}
 use Rattle.wire_http.specs.Counted.{inner_of}
 use Rattle.dss_command.proofs.stream.serve_stream_over.Goals as goal
@@ -19,7 +19,7 @@ returns-in-Ok-clause-served g c = record {
 
 pub returns-in-Err-clause-part : goal.returns-in-Err-clause-part
 returns-in-Err-clause-part g c = elim c.in-Err.ensures.part [
-  | inl none ↦ inl (none.0, c.into_space.ensures ∙ cong space_of none.1 ∙ c.new-service.ensures.space, cong (λ w. g.W.Write.contents (inner_of w)) none.3)
+  | inl none ↦ inl (none.0, c.into_space-in-Err.ensures ∙ ap space_of none.1 ∙ c.new-service.ensures.space, ap (λ w. g.W.Write.contents (inner_of w)) none.3)
   | inr some ↦ inr (
     c.new-service.result,
     c.serve_at.new.service,
@@ -29,6 +29,6 @@ returns-in-Err-clause-part g c = elim c.in-Err.ensures.part [
       goes = c.new-service.ensures.goes;
     },
     some,
-    c.into_space.ensures,
+    c.into_space-in-Err.ensures,
   )
 ]
