@@ -171,7 +171,8 @@ fn served_by_copy<A: Alter + Drop, M: Moments, L: Listen + Drop, E: Write>(
     requires listed { IfSome listed (IsAllOf A.Store space) }
     ensures served { ServesCopied ⟦<SqlSpace<A> as Space>⟧ given.entry.tokens.now
         space result.1 result.0 }
-    ensures counted { OnOk result.0 (IsSome given.entry.limits.count) }
+    ensures counted { OnOk result.0 (IsSome given.entry.limits.count
+        ⊎ IsSome given.entry.operated) }
 {
     let mirror = mirrored(alloc, space, listed);
     let (done, mirror) = serve_port(alloc, mirror, salt, given, moments, listener, error);
@@ -194,7 +195,8 @@ pub fn serve<F: Start, M: Moments, L: Listen + Drop, E: Write>(
     requires listed { IfSome listed (IsAllOf over_files space) }
     ensures served { ClosesServed ⟦<SqlSpace<FileStore<FileFrom<F>>> as Space>⟧
         given.entry.tokens.now space result }
-    ensures counted { OnOk result (IsSome given.entry.limits.count) }
+    ensures counted { OnOk result (IsSome given.entry.limits.count
+        ⊎ IsSome given.entry.operated) }
 {
     let (done, space) = served_by_copy(alloc, space, listed, salt, given, moments, listener, error);
     closed(done, space)

@@ -1,4 +1,4 @@
-use Rattle.std.specs.Prelude.{IsSome}
+use Rattle.std.specs.Prelude.{◌⊎◌, IsSome}
 use Rattle.dss_files.proofs.Telling.{on_closed}
 use Rattle.dss_files.proofs.files.serve.Goals as goal
 
@@ -11,4 +11,4 @@ returns-clause-served g c = record {
 }
 
 pub returns-clause-counted : goal.returns-clause-counted
-returns-clause-counted g c = on_closed c.served_by_copy-done.result.1 (IsSome c.args.given.limits.count) c.served_by_copy-done.result.0 c.closed.result c.served_by_copy-done.ensures.counted c.closed.ensures
+returns-clause-counted g c = on_closed c.served_by_copy-done.result.1 (IsSome c.args.given.limits.count ⊎ IsSome c.args.given.operated) c.served_by_copy-done.result.0 c.closed.result c.served_by_copy-done.ensures.counted c.closed.ensures
