@@ -1,7 +1,7 @@
 """Which crate of the repository stands on which, as a text of SVG, read from crates.txt.
 
-A crate stands right below the first that uses it. A line is left out where another way leads to the same crate. What is there for
-tests and measuring alone is left out."""
+A crate stands right below the first that uses it, and one that none uses yet right above what it uses. A line is left out where another
+way leads to the same crate. What is there for tests and measuring alone is left out."""
 import functools
 import pathlib
 
@@ -23,16 +23,20 @@ def uses():
 
 def rows(below):
     """The crates by rows, lowest first: each right below the first that uses it, and near what it stands on."""
-    users = {it: [other for other in below if it in below[other]] for it in below}
 
     @functools.cache
     def height(name):
         return 1 + max(map(height, below[name]), default=-1)
 
     highest = max(map(height, below))
+    used = {low for its in below.values() for low in its}
+    unused = {it for it in below if it not in used and height(it) < highest}
+    users = {it: [other for other in below if it in below[other] and other not in unused] for it in below}
 
     @functools.cache
     def level(name):
+        if name in unused:
+            return max(map(level, below[name])) + 1
         return min(map(level, users[name]), default=highest + 1) - 1
 
     found = [[it for it in below if level(it) == at] for at in range(1 + highest)]
