@@ -73,7 +73,6 @@ COMMAND_LINES = (
     (["cell", "\udcff"], 2, "not UTF-8"),
     (["\udcc3("], 2, "not UTF-8"),
     (["cell", "--now", "1", "3"], 2, ""),
-    (["--version"], 2, ""),
     (["run"], 2, ""),
     (["run", "--now", "1", "r"], 2, "--tokens <FILE>"),
     (["run", "--tokens", "examples/tokens.toml", "r"], 2, ""),
