@@ -1,3 +1,4 @@
 pub mod Met
 pub mod Round
+pub mod Settle
 pub mod Space

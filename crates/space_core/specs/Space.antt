@@ -7,10 +7,19 @@ use Rattle.entity_core.specs.Airspace.{Airspace, is_one_of, with_availability, w
 use Rattle.entity_core.specs.Entity.{subscription_of}
 use Rattle.entity_core.specs.Search.{dependents_in}
 use Rattle.entity_core.specs.Serial.{greatest_serial}
+use base.Stored.{Gv, gnil}
 use Rattle.space_core.specs.declared.space.SpaceFault.{SpaceFault}
 use Rattle.space_core.specs.declared.space.SpaceFault.TheVariants.{Unchanged, Broken}
 use Rattle.space_core.specs.declared.space.Change.{Change}
 use Rattle.space_core.specs.declared.space.Change.TheVariants.{Put, Remove, Avail, PutSub, RemoveSub}
+
+-- a value of any type, as what tells it from every other of that type
+abbrev pub Code : Type 0
+Code = Gv
+
+-- the code of nothing
+abbrev pub nothing_fixed : Code
+nothing_fixed = gnil
 
 -- the greatest count
 abbrev pub greatest_count : ℕ

@@ -4,4 +4,5 @@
 pub mod laws;
 pub mod met;
 pub mod round;
+pub mod settle;
 pub mod space;

@@ -4,7 +4,7 @@ ghost use Rattle.entity_core.specs.Airspace.{Airspace, IsAirspace};
 ghost use Rattle.entity_core.specs.Search.{all_in, dependents_in, subscribers_in, subscriptions_in};
 ghost use Rattle.std.specs.FinMap.{get};
 ghost use Rattle.space_core.specs.Met.{met_in};
-ghost use Rattle.space_core.specs.Space.{Tells, Reads, Changes, Fits, changed};
+ghost use Rattle.space_core.specs.Space.{Code, Tells, Reads, Changes, Fits, changed};
 
 use crate::met::Met;
 use entity_core::availability::Availability;
@@ -62,12 +62,12 @@ impl Change {
 
 /// A place where an airspace is kept.
 ///
-/// What a space holds is a relation, since a crash or a fault may leave it open which of two
-/// airspaces is kept. A constructor gives a space with one content (`IsContent`); each call says
-/// what becomes of it. A space that is broken before its first call has no one content.
+/// What a space holds, which its calls see, is a relation, since a fault may leave it open which of
+/// two airspaces that is. A constructor gives a space with one content (`IsContent`); each call says
+/// what becomes of it. A space that is broken before its first call has no one content. Unless it
+/// says otherwise, what it holds is also what a crash at this moment may leave.
 pub trait Space {
-    /// An airspace that it may turn out to hold, also after a crash. It is one, until the space is
-    /// broken.
+    /// An airspace that it may turn out to hold. It is one, until the space is broken.
     ghost holds: { Self → Airspace → Type 0 };
 
     /// Whether what is said of its content stands.
@@ -82,8 +82,12 @@ pub trait Space {
     /// Whether it has answered `Broken`.
     ghost is_broken: { Self → Bool };
 
+    /// What no call changes of it. Most spaces have nothing of the kind (`nothing_fixed`).
+    ghost fixed: { Self → Code };
+
     /// The entity of a kind and an id, if there is one.
     fn entity(&mut self, kind: Kind, id: EntityId) -> Result<Option<Entity>, SpaceFault>
+        ensures fixed { fixed self.new ≡ fixed self.old }
         ensures tells { Tells (refusals self.old) (refusals self.new)
             (is_broken self.old) (is_broken self.new) result }
         ensures reads { Reads holds is_sound is_whole self.old self.new result
@@ -97,6 +101,7 @@ pub trait Space {
         areas: &[Area],
         except: Option<EntityId>,
     ) -> Result<Vec<Met>, SpaceFault>
+        ensures fixed { fixed self.new ≡ fixed self.old }
         ensures tells { Tells (refusals self.old) (refusals self.new)
             (is_broken self.old) (is_broken self.new) result }
         ensures reads { Reads holds is_sound is_whole self.old self.new result
@@ -104,6 +109,7 @@ pub trait Space {
 
     /// The entities of a kind: each once, by rising ids.
     fn all(&mut self, kind: Kind) -> Result<Vec<Entity>, SpaceFault>
+        ensures fixed { fixed self.new ≡ fixed self.old }
         ensures tells { Tells (refusals self.old) (refusals self.new)
             (is_broken self.old) (is_broken self.new) result }
         ensures reads { Reads holds is_sound is_whole self.old self.new result
@@ -111,6 +117,7 @@ pub trait Space {
 
     /// What is kept of a supplier, if it has set its availability.
     fn availability(&mut self, uss: &UssId) -> Result<Option<(Availability, Ovn)>, SpaceFault>
+        ensures fixed { fixed self.new ≡ fixed self.old }
         ensures tells { Tells (refusals self.old) (refusals self.new)
             (is_broken self.old) (is_broken self.new) result }
         ensures reads { Reads holds is_sound is_whole self.old self.new result
@@ -118,6 +125,7 @@ pub trait Space {
 
     /// The subscription of an id, if there is one.
     fn subscription(&mut self, id: EntityId) -> Result<Option<Sub>, SpaceFault>
+        ensures fixed { fixed self.new ≡ fixed self.old }
         ensures tells { Tells (refusals self.old) (refusals self.new)
             (is_broken self.old) (is_broken self.new) result }
         ensures reads { Reads holds is_sound is_whole self.old self.new result
@@ -125,6 +133,7 @@ pub trait Space {
 
     /// The subscriptions of a supplier whose volumes meet an area: each once, by rising ids.
     fn subscriptions_of(&mut self, uss: &UssId, area: &Area) -> Result<Vec<Sub>, SpaceFault>
+        ensures fixed { fixed self.new ≡ fixed self.old }
         ensures tells { Tells (refusals self.old) (refusals self.new)
             (is_broken self.old) (is_broken self.new) result }
         ensures reads { Reads holds is_sound is_whole self.old self.new result
@@ -133,6 +142,7 @@ pub trait Space {
     /// The subscriptions that are for a kind and whose volumes meet some area, whoever manages
     /// them: each once, by rising ids.
     fn subscribers(&mut self, kind: Kind, areas: &[Area]) -> Result<Vec<Sub>, SpaceFault>
+        ensures fixed { fixed self.new ≡ fixed self.old }
         ensures tells { Tells (refusals self.old) (refusals self.new)
             (is_broken self.old) (is_broken self.new) result }
         ensures reads { Reads holds is_sound is_whole self.old self.new result
@@ -140,6 +150,7 @@ pub trait Space {
 
     /// The ids of the intents that name a subscription, rising.
     fn dependents(&mut self, id: EntityId) -> Result<Vec<EntityId>, SpaceFault>
+        ensures fixed { fixed self.new ≡ fixed self.old }
         ensures tells { Tells (refusals self.old) (refusals self.new)
             (is_broken self.old) (is_broken self.new) result }
         ensures reads { Reads holds is_sound is_whole self.old self.new result
@@ -147,6 +158,7 @@ pub trait Space {
 
     /// How many changes there were.
     fn serial(&mut self) -> Result<u64, SpaceFault>
+        ensures fixed { fixed self.new ≡ fixed self.old }
         ensures tells { Tells (refusals self.old) (refusals self.new)
             (is_broken self.old) (is_broken self.new) result }
         ensures reads { Reads holds is_sound is_whole self.old self.new result
@@ -158,6 +170,7 @@ pub trait Space {
     fn apply(&mut self, change: Change, notify: &[EntityId]) -> Result<(), SpaceFault>
         requires fits { is_sound self.old → (a : Airspace) → holds self.old a
             → Fits change notify.now a }
+        ensures fixed { fixed self.new ≡ fixed self.old }
         ensures tells { Tells (refusals self.old) (refusals self.new)
             (is_broken self.old) (is_broken self.new) result }
         ensures changes { Changes holds is_sound is_whole

@@ -1,5 +1,6 @@
 pub mod List
 pub mod Proper
+pub mod Settled
 pub mod CellIndex
 pub mod Near
 pub mod Found

@@ -8,5 +8,7 @@ mod found;
 mod indexed;
 mod indexed_subscriptions;
 pub mod list;
+pub mod listing;
 mod lists;
 mod near;
+pub mod settled;

@@ -4,7 +4,7 @@ ghost use Rattle.std.specs.Prelude.{◌≡◌, ◌≤◌, ℕ, false, ◌+◌, O
 ghost use Rattle.std.specs.FinMap.{get};
 ghost use Rattle.entity_core.specs.Airspace.{Airspace, IsAirspace, empty_at};
 ghost use Rattle.entity_core.specs.Serial.{greatest_serial};
-ghost use Rattle.space_core.specs.Space.{Fits, IsRemoval, Tells, changed, greatest_count};
+ghost use Rattle.space_core.specs.Space.{Fits, IsRemoval, Tells, changed, greatest_count, nothing_fixed};
 ghost use Rattle.entity_lists.specs.Subscriptions.{AllTold};
 ghost use Rattle.space_core.specs.declared.space.SpaceFault.TheVariants.{Unchanged};
 ghost use Rattle.std.proofs.Common.{sym, ◌∙◌, refl, subst};
@@ -141,6 +141,8 @@ impl Space for ListSpace {
     ghost refusals = { refusals_of };
 
     ghost is_broken = { λ _. false };
+
+    ghost fixed = { λ _. nothing_fixed };
 
     ghost one = { λ s a b sound unbroken h k. h ∙ sym k };
 

@@ -1,16 +1,16 @@
 -- A list that is ahead of its space by a round.
-use Rattle.std.specs.Prelude.{◌≡◌, ℕ, false, List, [], Some, None, Result, Ok, Err, IfOk, MatchResult, refl}
+use Rattle.std.specs.Prelude.{◌≡◌, ℕ, true, false, List, Some, None, Result, Ok, Err, IfOk, MatchResult, refl}
 use Rattle.std.proofs.Common.{sym, ap, subst, ◌∙◌}
 use Rattle.entity_core.specs.Airspace.{Airspace}
 use Rattle.space_core.specs.declared.round.RoundChange.{RoundChange}
 use Rattle.space_core.specs.declared.space.Space.{Ghosts}
 use Rattle.space_core.specs.declared.space.SpaceFault.{SpaceFault}
 use Rattle.space_core.specs.declared.space.SpaceFault.TheVariants.{Unchanged, Broken}
-use Rattle.space_core.specs.Round.{FitAll, changed_all}
+use Rattle.space_core.specs.Round.{changed_all}
 use Rattle.space_core.specs.Space.{Reads, Tells, UnlessBroken, is_broken_after, refusals_after}
 use Rattle.space_list.specs.declared.list.ListSpace.{ListSpace}
 use Rattle.space_list.specs.List.{content_of}
-use Rattle.space_rounds.specs.Grouped.{Group, IsAhead, Reading, ReadsParts, group, holds_in}
+use Rattle.space_rounds.specs.Grouped.{Group, HoldsOne, IsAhead, Reading, ReadsParts, group, holds_in}
 
 -- a list that is read keeps its airspace
 list_same : {T : Type 0} (l m : ListSpace) (n n' : ℕ) (r : Result T SpaceFault) (P : Airspace → T → Type 0)
@@ -51,75 +51,92 @@ module _ {S : Type 0} (g : Ghosts S) where
   ahead_same s l m round same h = record { live = h.live; base = λ sound. let it = h.base sound in (it.0, it.1, it.2, same ∙ it.3) }
 
   -- what is seen is what the list has
-  seen_listed : (s : S) (l : ListSpace) (round : List RoundChange) (n : ℕ) → IsAhead g s l round → g.is_sound s → (b : Airspace) → holds_in g (group s round n) b → b ≡ content_of l
+  seen_listed : (s : S) (l : ListSpace) (round : List RoundChange) (n : ℕ) → IsAhead g s l round → g.is_sound s → (b : Airspace) → holds_in g (group s (Some round) n) b → b ≡ content_of l
   seen_listed s l round n h sound b seen =
       let it = h.base sound in
       seen.2 ∙ ap (changed_all round) (it.1.only seen.0 seen.1) ∙ sym it.3
 
   -- ---- reading
 
-  module _ {T : Type 0} (s : S) (round : List RoundChange) (k k' : ℕ) (P : Airspace → T → Type 0) where
-    abbrev At : S → ℕ → Group S
-    At t n = group t round n
+  -- a space that is read holds one airspace as before
+  pub one_read : {T : Type 0} (s t : S) (n n' : ℕ) (r : Result T SpaceFault) (P : Airspace → T → Type 0) → Tells n n' (g.is_broken s) (g.is_broken t) r → Reads g.holds g.is_sound g.is_whole s t r P
+      → HoldsOne g s → HoldsOne g t
+  one_read s t n n' (Ok x) P tells reads one = λ works sound.
+      let it = one (sym tells.breaks ∙ works) (reads.sound sound) in
+      (it.0, record { held = reads.stays sound it.0 it.1.held; only = λ b now. it.1.only b (reads.no_other sound b now) })
+  one_read s t n n' (Err Unchanged) P tells reads one = λ works sound.
+      let it = one (sym tells.breaks ∙ works) (reads.sound sound) in
+      (it.0, record { held = reads.stays sound it.0 it.1.held; only = λ b now. it.1.only b (reads.no_other sound b now) })
+  one_read s t n n' (Err Broken) P tells reads one = λ works. absurd (let e : true ≡ false = sym tells.breaks ∙ works in cc)
 
-    list_stays : (r : Result T SpaceFault) → MatchResult r (λ _. (a : Airspace) → holds_in g (At s k) a → holds_in g (At s k') a) (λ e. UnlessBroken e ((a : Airspace) → holds_in g (At s k) a → holds_in g (At s k') a))
-    list_stays (Ok x) = λ a h. h
-    list_stays (Err Unchanged) = λ a h. h
-    list_stays (Err Broken) = tt
+  module _ {T : Type 0} (s : S) (k k' : ℕ) (P : Airspace → T → Type 0) where
+    module _ (round : List RoundChange) where
+      abbrev Ahead : ℕ → Group S
+      Ahead n = group s (Some round) n
 
-    list_answers : (l m : ListSpace) (r : Result T SpaceFault) → IsAhead g s l round → Reads (λ (s : ListSpace) a. a ≡ content_of s) (λ _. Unit {0}) (λ _. Unit {0}) l m r P
-        → g.is_sound s → IfOk r (λ found. (b : Airspace) → holds_in g (At s k) b → P b found)
-    list_answers l m (Ok x) h reads sound = λ b seen. subst (λ c. P c x) (sym (seen_listed s l round k h sound b seen)) (reads.answer tt (content_of l) refl)
-    list_answers l m (Err e) h reads sound = tt
+      list_stays : (r : Result T SpaceFault) → MatchResult r (λ _. (a : Airspace) → holds_in g (Ahead k) a → holds_in g (Ahead k') a) (λ e. UnlessBroken e ((a : Airspace) → holds_in g (Ahead k) a → holds_in g (Ahead k') a))
+      list_stays (Ok x) = λ a h. h
+      list_stays (Err Unchanged) = λ a h. h
+      list_stays (Err Broken) = tt
+
+      list_answers : (l m : ListSpace) (r : Result T SpaceFault) → IsAhead g s l round → Reads (λ (s : ListSpace) a. a ≡ content_of s) (λ _. Unit {0}) (λ _. Unit {0}) l m r P
+          → g.is_sound s → IfOk r (λ found. (b : Airspace) → holds_in g (Ahead k) b → P b found)
+      list_answers l m (Ok x) h reads sound = λ b seen. subst (λ c. P c x) (sym (seen_listed s l round k h sound b seen)) (reads.answer tt (content_of l) refl)
+      list_answers l m (Err e) h reads sound = tt
 
     list_unbroken : (l m : ListSpace) (n n' : ℕ) (r : Result T SpaceFault) → Tells n n' false false r → g.is_broken s ≡ is_broken_after (g.is_broken s) r
     list_unbroken l m n n' (Ok x) t = refl
     list_unbroken l m n n' (Err Unchanged) t = refl
     list_unbroken l m n n' (Err Broken) t = absurd (let e = t.breaks in cc)
 
-    store_stays : (t : S) (r : Result T SpaceFault) → MatchResult r (λ _. (a : Airspace) → g.holds s a → g.holds t a) (λ e. UnlessBroken e ((a : Airspace) → g.holds s a → g.holds t a))
-        → MatchResult r (λ _. (a : Airspace) → holds_in g (At s k) a → holds_in g (At t k') a) (λ e. UnlessBroken e ((a : Airspace) → holds_in g (At s k) a → holds_in g (At t k') a))
-    store_stays t (Ok x) stays = λ b h. (h.0, stays h.0 h.1, h.2)
-    store_stays t (Err Unchanged) stays = λ b h. (h.0, stays h.0 h.1, h.2)
-    store_stays t (Err Broken) stays = tt
+    module _ (t : S) where
+      abbrev Alone : S → ℕ → Group S
+      Alone x n = group x None n
 
-    store_answers : (t : S) (r : Result T SpaceFault) → round ≡ [] → IfOk r (λ found. (a : Airspace) → g.holds s a → P a found) → IfOk r (λ found. (b : Airspace) → holds_in g (At s k) b → P b found)
-    store_answers t (Ok x) none answer = λ b h. subst (λ c. P c x) (sym (h.2 ∙ ap (λ cs. changed_all cs h.0) none)) (answer h.0 h.1)
-    store_answers t (Err e) none answer = tt
+      store_stays : (r : Result T SpaceFault) → MatchResult r (λ _. (a : Airspace) → g.holds s a → g.holds t a) (λ e. UnlessBroken e ((a : Airspace) → g.holds s a → g.holds t a))
+          → MatchResult r (λ _. (a : Airspace) → holds_in g (Alone s k) a → holds_in g (Alone t k') a) (λ e. UnlessBroken e ((a : Airspace) → holds_in g (Alone s k) a → holds_in g (Alone t k') a))
+      store_stays (Ok x) stays = λ b h. (h.0, stays h.0 h.1, h.2)
+      store_stays (Err Unchanged) stays = λ b h. (h.0, stays h.0 h.1, h.2)
+      store_stays (Err Broken) stays = tt
 
-  fits_none : (round : List RoundChange) (a : Airspace) → round ≡ [] → FitAll round a
-  fits_none round a none = subst (λ cs. FitAll cs a) (sym none) tt
+      store_answers : (r : Result T SpaceFault) → IfOk r (λ found. (a : Airspace) → g.holds s a → P a found) → IfOk r (λ found. (b : Airspace) → holds_in g (Alone s k) b → P b found)
+      store_answers (Ok x) answer = λ b h. subst (λ c. P c x) (sym h.2) (answer h.0 h.1)
+      store_answers (Err e) answer = tt
 
   -- an answer from the list
   pub list_reads : {T : Type 0} (s : S) (l m : ListSpace) (n n' k k' : ℕ) (r r' : Result T SpaceFault) (P : Airspace → T → Type 0)
       → Tells n n' false false r → Reads (λ (s : ListSpace) a. a ≡ content_of s) (λ _. Unit {0}) (λ _. Unit {0}) l m r P
       → r' ≡ r → k' ≡ refusals_after k r → ReadsParts g s s (Some l) (Some m) k k' r' P
-  list_reads s l m n n' k k' r r' P tells reads same counted round h =
-      subst (λ q. Reading g (group s round k) (group s round k') (Some m) q P) (sym same) (record {
-        agrees = ahead_same s l m round (list_same l m n n' r P tells reads) h;
-        tells = record { counted = counted; breaks = list_unbroken s round k k' P l m n n' r tells; stays_broken = λ e. absurd (let f = h.live in cc) };
-        reads = record {
-          sound = λ sound. record { store = sound.store; fits = sound.fits };
-          whole = λ sound w. w;
-          stays = λ sound. list_stays s round k k' P r;
-          no_other = λ sound a seen. seen;
-          answer = λ sound. list_answers s round k k' P l m r h reads sound.store;
-        };
-      })
+  list_reads s l m n n' k k' r r' P tells reads same counted upkeep round h = (
+    ahead_same s l m round (list_same l m n n' r P tells reads) h,
+    subst (λ q. Reading g (group s (Some round) k) (group s (Some round) k') q P) (sym same) (record {
+      fixed = refl;
+      tells = record { counted = counted; breaks = list_unbroken s k k' P l m n n' r tells; stays_broken = λ e. absurd (let f = h.live in cc) };
+      reads = record {
+        sound = λ sound. record { store = sound.store; fits = sound.fits; live = sound.live };
+        whole = λ sound w. w;
+        stays = λ sound. list_stays s k k' P round r;
+        no_other = λ sound a seen. seen;
+        answer = λ sound. list_answers s k k' P round l m r h reads sound.store;
+      };
+    }),
+  )
 
   -- an answer of the space
   pub store_reads : {T : Type 0} (s t : S) (k k' : ℕ) (r r' : Result T SpaceFault) (P : Airspace → T → Type 0)
       → Tells (g.refusals s) (g.refusals t) (g.is_broken s) (g.is_broken t) r → Reads g.holds g.is_sound g.is_whole s t r P
       → r' ≡ r → k' ≡ refusals_after k r → ReadsParts g s t None None k k' r' P
-  store_reads s t k k' r r' P tells reads same counted round none =
-      subst (λ q. Reading g (group s round k) (group t round k') None q P) (sym same) (record {
-        agrees = none;
-        tells = record { counted = counted; breaks = tells.breaks; stays_broken = tells.stays_broken };
-        reads = record {
-          sound = λ sound. record { store = reads.sound sound.store; fits = λ a held. fits_none round a none };
-          whole = λ sound w. reads.whole sound.store w;
-          stays = λ sound. store_stays s round k k' P t r (reads.stays sound.store);
-          no_other = λ sound b seen. (seen.0, reads.no_other sound.store seen.0 seen.1, seen.2);
-          answer = λ sound. store_answers s round k k' P t r none (reads.answer sound.store);
-        };
-      })
+  store_reads s t k k' r r' P tells reads same counted upkeep round none = (
+    (none.0, λ lost. one_read s t (g.refusals s) (g.refusals t) r P tells reads (none.1 lost)),
+    subst (λ q. Reading g (group s None k) (group t None k') q P) (sym same) (record {
+      fixed = refl;
+      tells = record { counted = counted; breaks = tells.breaks; stays_broken = tells.stays_broken };
+      reads = record {
+        sound = λ sound. record { store = reads.sound sound.store; fits = λ a held. tt; live = λ waits. absurd (let e = waits in cc) };
+        whole = λ sound w. reads.whole sound.store w;
+        stays = λ sound. store_stays s k k' P t r (reads.stays sound.store);
+        no_other = λ sound b seen. (seen.0, reads.no_other sound.store seen.0 seen.1, seen.2);
+        answer = λ sound. store_answers s k k' P t r (reads.answer sound.store);
+      };
+    }),
+  )

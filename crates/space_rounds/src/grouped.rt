@@ -1,7 +1,8 @@
 //! A space whose changes are seen at once, and made together when it is told to.
-ghost use Rattle.std.specs.Prelude.{◌≡◌, []};
-ghost use Rattle.space_rounds.specs.Grouped.{IsAhead, IsSoundIn, Settling, group};
+ghost use Rattle.std.specs.Prelude.{◌≡◌, [], Some, None};
+ghost use Rattle.space_rounds.specs.Grouped.{IsAhead, IsSoundIn, group};
 
+use crate::upkeep::Upkeep;
 use crate::{changes, reads};
 use entity_core::availability::Availability;
 use entity_core::entity::Entity;
@@ -13,95 +14,136 @@ use entity_core::uss_id::UssId;
 use grid_core::volume::Area;
 use space_core::met::Met;
 use space_core::round::{RoundChange, Rounds};
+use space_core::settle::Settles;
 use space_core::space::{Change, Space, SpaceFault};
 use space_list::list::ListSpace;
+use space_list::listing::Listing;
 use std::alloc::Global;
 use std::marker::Model;
 
-/// A space, and a list in memory that is ahead of it by a round of changes.
+/// A space, and a list in memory that is ahead of it by a round of changes, from which it is read.
 ///
 /// Its calls see the list: a change is made there, and waits for `settle`, which has the space make
 /// all that wait as one. A crash before that leaves what the space holds, without them. Where the
-/// list has no memory for a call, that is refused as `Unchanged`. Once a round was refused or the
-/// space is broken, the list is dropped: calls go to the space alone, each change at once.
+/// list has no memory for a call, that is refused as `Unchanged`; where that was a change, the next
+/// `settle` gives the list up, for good. Without a list, calls go to the space alone, each change
+/// at once.
+///
+/// Where the space refuses the changes that wait, as on a full disk, the list is dropped. Once the
+/// space has made a change again, the next `settle` reads it whole and makes the list anew; where
+/// memory lacks for that, it is given up for good.
 #[derive(Drop)]
-pub struct Grouped<S: Rounds> {
+pub struct Grouped<S: Rounds + Listing> {
     store: S,
     list: Option<ListSpace>,
+    upkeep: Upkeep,
     round: Vec<RoundChange>,
     refusals: u64,
     alloc: Global,
 }
 
-impl<S: Rounds> Model for Grouped<S> {
-    ghost use Rattle.space_rounds.specs.Grouped.{Agrees, Group, group_code};
+impl<S: Rounds + Listing> Model for Grouped<S> {
+    ghost use Rattle.space_rounds.specs.Grouped.{Agrees, Group, ahead_of, group_code};
 
     ghost Value = { Group S };
 
     ghost coded = { group_code S.code };
 
-    ghost view = { λ s. record { store = s.store; round = s.round.items; refusals = s.refusals } };
+    ghost view = { λ s. record {
+      store = s.store;
+      ahead = ahead_of s.list s.round.items;
+      refusals = s.refusals;
+    } };
 
-    ghost invariant = { λ s. Agrees S.Space s.store s.list s.round.items };
+    ghost invariant = { λ s. Agrees S.Space s.store s.list s.upkeep s.round.items };
 }
 
-impl<S: Rounds + Drop> Grouped<S> {
+impl<S: Rounds + Listing + Drop> Grouped<S> {
     /// A space with a list that holds the same airspace. It has refused nothing, and nothing waits.
     pub fn new(alloc: Global, store: S, list: ListSpace) -> Self
         requires { IsAhead S.Space store list [] }
-        ensures { result ≡ group store [] 0 }
+        ensures { result ≡ group store (Some []) 0 }
     {
         Grouped {
             store,
             list: Some(list),
+            upkeep: Upkeep::Nothing,
             round: Vec::new(alloc),
             refusals: 0,
             alloc,
         }
     }
 
-    /// The space makes all changes that wait as one, or none of them, and none waits any more.
-    ///
-    /// # Errors
-    ///
-    /// `Unchanged` where the space made none of them: what it holds is seen from now on. `Broken`
-    /// where it is open whether it made all or none.
-    pub fn settle(&mut self) -> Result<(), SpaceFault>
-        ensures { Settling S.Space self.old self.new result }
+    /// A space alone, which makes each change at once. It has refused nothing.
+    pub fn without(alloc: Global, store: S) -> Self
+        ensures { result ≡ group store None 0 }
     {
-        changes::settle(
-            &mut self.store,
-            &mut self.list,
-            &mut self.round,
-            &mut self.refusals,
-        )
+        Grouped {
+            store,
+            list: None,
+            upkeep: Upkeep::Nothing,
+            round: Vec::new(alloc),
+            refusals: 0,
+            alloc,
+        }
     }
 
-    /// The space, without the changes that wait.
+    /// The space, without the changes that wait. Where it is sound, the whole was, since the
+    /// changes that wait fit whatever it holds.
     pub fn release(self) -> S
-        ensures { result ≡ self.store }
+        ensures store { result ≡ self.store }
+        ensures sound { S.is_sound result → IsSoundIn S.Space self }
     {
         let Grouped {
             store,
             list: _,
+            upkeep: _,
             round: _,
             refusals: _,
             alloc: _,
         } = self;
         store
     }
+}
 
-    /// A law, which no program calls: it is sound where its space is, since its round fits whatever
-    /// that holds.
-    pub fn sound_as_its_space(&self)
-        ensures { S.is_sound self.now.store → IsSoundIn S.Space self.now }
-    {
-        let _refusals = self.refusals;
+impl<S: Rounds + Listing + Drop> Settles for Grouped<S> {
+    ghost use Rattle.space_rounds.specs.Grouped.{keeps_in, waits_in};
+    ghost use Rattle.space_rounds.specs.Laws.{kept_while_waiting, seen_is_kept};
+    ghost use Rattle.space_rounds.specs.Laws.{works_while_waiting};
+
+    ghost keeps = { λ s a. keeps_in S.Space s a };
+
+    ghost waits = { λ s. waits_in s };
+
+    ghost quiet = { λ s a calm. seen_is_kept (λ x c. S.holds x c) s a calm };
+
+    ghost rests = { λ s t a same waits.
+        kept_while_waiting (λ x c. S.holds x c) S.row.coded s t a same waits };
+
+    ghost works = { λ s t same waits.
+        works_while_waiting (λ x. S.is_broken x) S.row.coded s t same waits };
+
+    ghost live = { λ s sound waits. sound.live waits };
+
+    fn is_waiting(&self) -> bool {
+        !self.round.is_empty()
+    }
+
+    fn settle(&mut self) -> Result<(), SpaceFault> {
+        let alloc = self.alloc;
+        changes::settle(
+            alloc,
+            &mut self.store,
+            &mut self.list,
+            &mut self.upkeep,
+            &mut self.round,
+            &mut self.refusals,
+        )
     }
 }
 
-impl<S: Rounds + Drop> Space for Grouped<S> {
-    ghost use Rattle.space_rounds.specs.Grouped.{holds_in, is_whole_in};
+impl<S: Rounds + Listing + Drop> Space for Grouped<S> {
+    ghost use Rattle.space_rounds.specs.Grouped.{fixed_in, holds_in, is_whole_in, pending};
     ghost use Rattle.space_rounds.specs.Laws.{one_seen, proper_seen, some_seen};
 
     ghost holds = { λ s a. holds_in S.Space s a };
@@ -114,17 +156,19 @@ impl<S: Rounds + Drop> Space for Grouped<S> {
 
     ghost is_broken = { λ s. S.is_broken s.store };
 
+    ghost fixed = { λ s. fixed_in S.row.coded s };
+
     ghost one = { λ s a b sound unbroken h k.
-        one_seen (λ c. S.holds s.store c) s.round
+        one_seen (λ c. S.holds s.store c) (pending s.ahead)
         (λ c d. S.one s.store c d sound.store unbroken) a b h k };
 
     ghost certain = { λ s a sound unbroken h. S.certain s.store h.0 sound.store unbroken h.1 };
 
     ghost some = { λ s sound whole.
-        some_seen (λ c. S.holds s.store c) s.round (S.some s.store sound.store whole) };
+        some_seen (λ c. S.holds s.store c) (pending s.ahead) (S.some s.store sound.store whole) };
 
     ghost proper = { λ s a sound h.
-        proper_seen (λ c. S.holds s.store c) s.round a sound.fits
+        proper_seen (λ c. S.holds s.store c) (pending s.ahead) a sound.fits
         (λ c. S.proper s.store c sound.store) h };
 
     fn entity(&mut self, kind: Kind, id: EntityId) -> Result<Option<Entity>, SpaceFault> {
@@ -199,6 +243,7 @@ impl<S: Rounds + Drop> Space for Grouped<S> {
             alloc,
             &mut self.store,
             &mut self.list,
+            &mut self.upkeep,
             &mut self.round,
             &mut self.refusals,
             change,

@@ -4,3 +4,4 @@
 mod changes;
 pub mod grouped;
 mod reads;
+mod upkeep;

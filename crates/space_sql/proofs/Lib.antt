@@ -4,6 +4,7 @@ pub mod Changing
 pub mod Openings
 pub mod Crashes
 pub mod Listings
+pub mod Wholes
 pub mod Founds
 pub mod Restarts
 pub mod Remainders

@@ -3,6 +3,7 @@
 
 pub mod laws;
 mod listed;
+pub mod listing;
 pub mod open;
 mod reading;
 pub mod remains;

@@ -63,6 +63,7 @@ impl<S: Alter> Model for SqlSpace<S> {
 impl<S: Alter> Space for SqlSpace<S> {
     ghost use Rattle.std.specs.Prelude.{◌≡◌};
     ghost use Rattle.sqlite.specs.Held.{state};
+    ghost use Rattle.space_core.specs.Space.{nothing_fixed};
     ghost use Rattle.space_sql.specs.Holding.{holds_in, is_whole_in, IsSound};
     ghost use Rattle.space_sql.specs.Laws.{all_kept, kept_is_proper, one_kept, some_kept};
 
@@ -75,6 +76,8 @@ impl<S: Alter> Space for SqlSpace<S> {
     ghost refusals = { λ s. s.refusals };
 
     ghost is_broken = { λ s. s.broken };
+
+    ghost fixed = { λ _. nothing_fixed };
 
     ghost one = { λ s a b sound off h k.
         one_kept _ a b (λ db may. S.Store.settled _ db (sound.live off) may) h k };

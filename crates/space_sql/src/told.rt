@@ -33,8 +33,8 @@ fn fault<S: Alter>(conn: &mut Connection<S>) -> SpaceFault
     }
 }
 
-// Keeps count of an answer.
-fn note<T>(refusals: &mut u64, broken: &mut bool, answer: &Result<T, SpaceFault>)
+/// Keeps count of an answer.
+pub(crate) fn note<T>(refusals: &mut u64, broken: &mut bool, answer: &Result<T, SpaceFault>)
     ensures counted { refusals.new ≡ refusals_after refusals.old answer.now }
     ensures breaks { broken.new ≡ is_broken_after broken.old answer.now }
 {

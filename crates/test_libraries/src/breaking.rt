@@ -69,6 +69,8 @@ impl<S: Space + Drop> Space for Breaking<S> {
 
     ghost is_broken = { λ s. s.broken || S.is_broken s.space };
 
+    ghost fixed = { λ s. S.fixed s.space };
+
     ghost one = { λ s a b sound unbroken h k.
         S.one s.space a b sound (unbroken_inside s.broken (S.is_broken s.space) unbroken) h k };
 

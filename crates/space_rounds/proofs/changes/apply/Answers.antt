@@ -1,19 +1,32 @@
 use Rattle.std.proofs.Common.{subst}
-use Rattle.space_rounds.specs.Grouped.{Agrees}
-use Rattle.space_rounds.proofs.Waits.{alone_fits, list_changes, store_changes}
+use Rattle.entity_core.specs.Airspace.{Airspace}
+use Rattle.space_core.specs.Space.{Fits}
+use Rattle.space_rounds.specs.Grouped.{Agrees, IsSoundIn, ahead_of, group, holds_in}
+use Rattle.space_rounds.proofs.Waits.{alone_fits, alone_agrees, list_ahead, list_changes, store_changes}
 use Rattle.space_rounds.proofs.changes.apply.Goals as goal
 
-pub returns-in-Some : goal.returns-in-Some
-returns-in-Some g c =
-    let ahead = subst (λ l. Agrees g.S.Space c.args.store.now l c.args.round.now.items) c.in-Some.is c.requires.agrees in
-    list_changes g.S.Space c.args.store.now c.in-Some.list c.wait.new.list c.args.round.now.items c.wait.new.round.items c.args.refusals.now c.counted.new.refusals c.args.change c.args.notify.now c.wait.result c.counted.result ahead c.requires.fits c.wait.ensures.fault c.wait.ensures.list c.wait.ensures.round c.wait.ensures.list_left c.wait.ensures.round_left c.counted.ensures.same c.counted.ensures.counted
+pub returns-in-Some-clause-agrees : goal.returns-in-Some-clause-agrees
+returns-in-Some-clause-agrees g c =
+    let ahead = subst (λ l. Agrees g.S.Space c.args.store.now l c.args.upkeep.now c.args.round.now.items) c.in-Some.is c.requires.agrees in
+    let fits = subst (λ l. let old = group c.args.store.now (ahead_of l c.args.round.now.items) c.args.refusals.now in IsSoundIn g.S.Space old → (a : Airspace) → holds_in g.S.Space old a → Fits c.args.change c.args.notify.now a) c.in-Some.is c.requires.fits in
+    list_ahead g.S.Space c.args.store.now c.in-Some.list c.wait-answer.new.list c.args.round.now.items c.wait-answer.new.round.items c.args.refusals.now c.args.change c.args.notify.now c.wait-answer.result ahead fits c.wait-answer.ensures.list c.wait-answer.ensures.round c.wait-answer.ensures.list_left c.wait-answer.ensures.round_left
 
-pub apply-requires : goal.apply-requires
-apply-requires g c =
-    let none = subst (λ l. Agrees g.S.Space c.args.store.now l c.args.round.now.items) c.in-None.is c.requires.agrees in
-    record { fits = alone_fits g.S.Space c.args.store.now c.args.round.now.items c.args.refusals.now c.args.change c.args.notify.now none c.requires.fits }
+pub returns-in-Some-clause-changes : goal.returns-in-Some-clause-changes
+returns-in-Some-clause-changes g c =
+    let ahead = subst (λ l. Agrees g.S.Space c.args.store.now l c.args.upkeep.now c.args.round.now.items) c.in-Some.is c.requires.agrees in
+    let fits = subst (λ l. let old = group c.args.store.now (ahead_of l c.args.round.now.items) c.args.refusals.now in IsSoundIn g.S.Space old → (a : Airspace) → holds_in g.S.Space old a → Fits c.args.change c.args.notify.now a) c.in-Some.is c.requires.fits in
+    rw c.in-Some.is (list_changes g.S.Space c.args.store.now c.in-Some.list c.wait-answer.new.list c.args.round.now.items c.wait-answer.new.round.items c.args.refusals.now c.counted.new.refusals c.args.change c.args.notify.now c.wait-answer.result c.counted.result ahead fits c.wait-answer.ensures.fault c.wait-answer.ensures.round c.wait-answer.ensures.round_left c.counted.ensures.same c.counted.ensures.counted)
 
-pub returns-in-None : goal.returns-in-None
-returns-in-None g c =
-    let none = subst (λ l. Agrees g.S.Space c.args.store.now l c.args.round.now.items) c.in-None.is c.requires.agrees in
-    rw c.in-None.is (store_changes g.S.Space c.args.store.now c.apply.new.self c.args.round.now.items c.args.refusals.now c.counted-in-None.new.refusals _ c.apply.result c.counted-in-None.result none c.apply.ensures.tells c.apply.ensures.changes c.counted-in-None.ensures.same c.counted-in-None.ensures.counted)
+pub apply-answer-requires : goal.apply-answer-requires
+apply-answer-requires g c =
+    let fits = subst (λ l. let old = group c.args.store.now (ahead_of l c.args.round.now.items) c.args.refusals.now in IsSoundIn g.S.Space old → (a : Airspace) → holds_in g.S.Space old a → Fits c.args.change c.args.notify.now a) c.in-None.is c.requires.fits in
+    record { fits = alone_fits g.S.Space c.args.store.now c.args.refusals.now c.args.change c.args.notify.now fits }
+
+pub returns-in-None-clause-changes : goal.returns-in-None-clause-changes
+returns-in-None-clause-changes g c =
+    rw c.in-None.is (store_changes g.S.Space c.args.store.now c.apply-answer.new.self c.args.refusals.now c.counted-in-None.new.refusals _ c.apply-answer.result c.counted-in-None.result c.apply-answer.ensures.tells c.apply-answer.ensures.changes c.counted-in-None.ensures.same c.counted-in-None.ensures.counted)
+
+pub returns-in-None-clause-agrees : goal.returns-in-None-clause-agrees
+returns-in-None-clause-agrees g c =
+    let none = subst (λ l. Agrees g.S.Space c.args.store.now l c.args.upkeep.now c.args.round.now.items) c.in-None.is c.requires.agrees in
+    rw c.in-None.is (alone_agrees g.S.Space c.args.store.now c.apply-answer.new.self c.args.upkeep.now c.note_made.new.upkeep c.args.round.now.items _ c.apply-answer.result none c.apply-answer.ensures.tells c.apply-answer.ensures.changes c.note_made.ensures)

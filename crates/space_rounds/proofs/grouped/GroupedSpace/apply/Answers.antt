@@ -9,4 +9,4 @@ apply-requires-clause-fits g c =
     subst (λ k. IsSoundIn g.S.Space k → (a : Airspace) → holds_in g.S.Space k a → Fits c.args.change c.args.notify.now a) (sym c.self.view_is) c.requires.fits
 
 pub returns-clause-changes : goal.returns-clause-changes
-returns-clause-changes g c = rw (← c.self.view_is) c.apply.ensures.changes
+returns-clause-changes g c = rw (← c.self.view_is) c.apply.ensures.changes.changes

@@ -1,0 +1,8 @@
+//! A bound on how much a space keeps of each supplier.
+#![tactic(auto)]
+
+pub mod bounded;
+mod changes;
+mod kept;
+mod part;
+pub mod tally;
