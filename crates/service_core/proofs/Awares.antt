@@ -315,7 +315,7 @@ kept_run salt last (c ∷ cs) a s =
     ∙ ap (λ (b : Airspace). later_or (later_or (last_writer salt k b cs rs) (put_in k a c.1 x.1)) (last k)) (sym (step_left salt a c))) i)
     (kept_run salt (last_with last a c.1 x.1) cs x.0 (kept_step salt last a c.0 c.1 s))
 
-kept_empty : (salt : List ℕ) (n : ℕ) → Kept salt (λ k. None) (empty_at n)
+pub kept_empty : (salt : List ℕ) (n : ℕ) → Kept salt (λ k. None) (empty_at n)
 kept_empty salt n =
     let no_entity : (k : EntityKey) (x : Entity) → get (empty {X = Entity} {R = key_cmp}) k ≡ Some x → ⊥ = λ k x h. let e : None ≡ Some x = sym (get-empty key_cmp k) ∙ h in cc in
     let no_entries : entries (empty {X = Entity} {R = key_cmp}) ≡ [] = nil_from_length (entries (empty {X = Entity} {R = key_cmp})) (sym (len-entries (empty {X = Entity} {R = key_cmp})) ∙ len-empty key_cmp Entity) in
@@ -348,7 +348,7 @@ pub aware_after : (salt : List ℕ) (n : ℕ) (cs : List Timed) (rs : List Reply
 aware_after salt n cs rs told h = let k = kept_told salt n cs rs told h in record { proper = k.proper; serials = k.serials; knew = k.knew }
 
 -- each step keeps it, also the one of a call that was answered `Stopped`
-stepped_numbered : (salt : List ℕ) (last : EntityKey → Option MadeCall) (a : Airspace) (cs : List Timed) (rs : List Reply) (b : Airspace) → Kept salt last a → MayHaveStepped salt a cs rs b → AllNumbered salt b
+pub stepped_numbered : (salt : List ℕ) (last : EntityKey → Option MadeCall) (a : Airspace) (cs : List Timed) (rs : List Reply) (b : Airspace) → Kept salt last a → MayHaveStepped salt a cs rs b → AllNumbered salt b
 stepped_numbered salt last a [] rs b k is = subst (AllNumbered salt) (sym is) k.numbered
 stepped_numbered salt last a (c ∷ cs) [] b k is = subst (AllNumbered salt) (sym is) k.numbered
 stepped_numbered salt last a (c ∷ cs) (Fault ∷ rs) b k is = stepped_numbered salt last a cs rs b k is

@@ -207,7 +207,7 @@ tally_run salt (c ∷ cs) (Denied p m ∷ rs) a goes told id x h =
     tally_run salt cs rs a goes (subst (λ (y : Airspace). told_replies rs ≡ replies_of salt y (answered_calls cs rs)) same rest) id x
     (subst (λ (y : Airspace). get (airspace_after salt y (answered_calls cs rs)).subscriptions id ≡ Some x) same h)
 
-counts_after : (salt : List ℕ) (n : ℕ) (cs : List Timed) (rs : List Reply) → told_replies rs ≡ replies_of salt (empty_at n) (answered_calls cs rs) → has_stopped rs ≡ false
+pub counts_after : (salt : List ℕ) (n : ℕ) (cs : List Timed) (rs : List Reply) → told_replies rs ≡ replies_of salt (empty_at n) (answered_calls cs rs) → has_stopped rs ≡ false
     → Counts salt (empty_at n) cs rs (airspace_after salt (empty_at n) (answered_calls cs rs))
 counts_after salt n cs rs told goes id x h =
     elim (tally_run salt cs rs (empty_at n) goes told id x h) [

@@ -8,3 +8,6 @@ pub mod Awares
 pub mod Stales
 pub mod Meetings
 pub mod Counts
+pub mod Joined
+pub mod InRounds
+pub mod RoundLaws

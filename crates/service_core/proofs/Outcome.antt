@@ -50,6 +50,7 @@ pub early_answers : {S : Type 0} (g : Ghosts S) (salt : List ℕ) (t : ℕ) (c :
 early_answers g salt t c old p m first missing = record {
   step = λ s a h. (step_denied salt a t c p m (first a) (missing a), h);
   fails = λ s a h. tt;
+  fixed = refl;
   sound = λ s. s;
   whole = λ s w. w;
   breaks = refl;
@@ -69,6 +70,7 @@ module _ {S : Type 0} (g : Ghosts S) (q : Admitted) where
   denied_answers old new p m looks = record {
     step = λ s a h. let f = looks.found s a h.held in (step_denied salt a t c p m f.0 f.1, same_content g old new a (looks.stays s) (looks.no_other s) h);
     fails = λ s a h. tt;
+    fixed = looks.fixed;
     sound = looks.sound;
     whole = looks.whole;
     breaks = looks.told.1;
@@ -79,6 +81,7 @@ module _ {S : Type 0} (g : Ghosts S) (q : Admitted) where
   halted_answers old new NoMemory P looks is_admitted quiet = record {
     step = λ s a h. same_content g old new a (looks.stays s) (looks.no_other s) h;
     fails = λ s a h. (ap is_some (is_admitted.early a), λ k. absurd (false≢true (sym (ap is_some (quiet refl s a h.held)) ∙ k)));
+    fixed = looks.fixed;
     sound = looks.sound;
     whole = looks.whole;
     breaks = looks.told;
@@ -86,6 +89,7 @@ module _ {S : Type 0} (g : Ghosts S) (q : Admitted) where
   halted_answers old new (Space Unchanged) P looks is_admitted quiet = record {
     step = λ s a h. same_content g old new a (looks.stays s) (looks.no_other s) h;
     fails = λ s a h. (ap is_some (is_admitted.early a), λ k. looks.told.0);
+    fixed = looks.fixed;
     sound = looks.sound;
     whole = looks.whole;
     breaks = looks.told.1;
@@ -93,6 +97,7 @@ module _ {S : Type 0} (g : Ghosts S) (q : Admitted) where
   halted_answers old new (Space Broken) P looks is_admitted quiet = record {
     step = λ s a h b k. inl (h.only b (looks.no_other s b k));
     fails = λ s a h. tt;
+    fixed = looks.fixed;
     sound = looks.sound;
     whole = looks.whole;
     breaks = looks.told;
@@ -103,6 +108,7 @@ module _ {S : Type 0} (g : Ghosts S) (q : Admitted) where
   after_answers old mid new x P reply looks rest = record {
     step = λ s a h. rest.step s a (same_content g old mid a (looks.stays (rest.sound s)) (looks.no_other (rest.sound s)) h);
     fails = λ s a h. fails_from a t c reply (g.refusals old) (g.refusals mid) (g.refusals new) looks.told.0 (rest.fails s a (same_content g old mid a (looks.stays (rest.sound s)) (looks.no_other (rest.sound s)) h));
+    fixed = rest.fixed ∙ looks.fixed;
     sound = λ s. looks.sound (rest.sound s);
     whole = λ s w. rest.whole s (looks.whole (rest.sound s) w);
     breaks = rest.breaks ∙ ap (λ (b : Bool). is_stopped reply || b) looks.told.1;
@@ -116,30 +122,32 @@ module _ {S : Type 0} (g : Ghosts S) (q : Admitted) where
         let e : step salt a t c ≡ (a, Done made.answer) = step_done salt a t c k.0 ∙ ((looks.found s a h.held (proper (looks.sound s) a h.held) k.0 k.1).effect ∙ ap (λ (o : Option Change). (changed_by o made.notify a, Done made.answer)) is) in
         (ap (λ (x : Airspace × Reply). x.1) e, subst (IsContent g.holds new) (ap (λ (x : Airspace × Reply). x.0) (sym e)) (same_content g old new a (looks.stays s) (looks.no_other s) h));
     fails = λ s a h. tt;
+    fixed = looks.fixed;
     sound = looks.sound;
     whole = looks.whole;
     breaks = looks.told.1;
   }
 
   -- a change that was made
-  pub change_done : (old new : S) (change : Change) (told : List ℕ) (answer : Answer) → Changes {T = Unit {0}} g.holds g.is_sound g.is_whole (g.is_broken old) old new (Ok tt) (changed change told)
+  pub change_done : (old new : S) (change : Change) (told : List ℕ) (answer : Answer) → g.fixed new ≡ g.fixed old → Changes {T = Unit {0}} g.holds g.is_sound g.is_whole (g.is_broken old) old new (Ok tt) (changed change told)
       → Tells {T = Unit {0}} (g.refusals old) (g.refusals new) (g.is_broken old) (g.is_broken new) (Ok tt)
       → OfEachHeld g old (λ a. Allows q a (Some change) told answer) → AnswersTo g q old new (Done answer)
-  change_done old new change told answer changes tells given = record {
+  change_done old new change told answer fixed changes tells given = record {
     step = λ s a h.
         let k = given (changes.sound s) a h.held in
         let e : step salt a t c ≡ (changed change told a, Done answer) = step_done salt a t c k.0 ∙ k.1.effect in
         (ap (λ (x : Airspace × Reply). x.1) e, subst (IsContent g.holds new) (ap (λ (x : Airspace × Reply). x.0) (sym e)) (changes.done s a h.held));
     fails = λ s a h. tt;
+    fixed = fixed;
     sound = changes.sound;
     whole = changes.whole;
     breaks = tells.breaks;
   }
 
   -- a change that was not made, or of which nothing is known
-  pub change_failed : (old new : S) (change : Change) (told : List ℕ) (answer : Answer) (e : SpaceFault) → Changes {T = Unit {0}} g.holds g.is_sound g.is_whole (g.is_broken old) old new (Err e) (changed change told) → Tells {T = Unit {0}} (g.refusals old) (g.refusals new) (g.is_broken old) (g.is_broken new) (Err e)
+  pub change_failed : (old new : S) (change : Change) (told : List ℕ) (answer : Answer) (e : SpaceFault) → g.fixed new ≡ g.fixed old → Changes {T = Unit {0}} g.holds g.is_sound g.is_whole (g.is_broken old) old new (Err e) (changed change told) → Tells {T = Unit {0}} (g.refusals old) (g.refusals new) (g.is_broken old) (g.is_broken new) (Err e)
       → IsAdmitted q → OfEachHeld g old (λ a. Allows q a (Some change) told answer) → AnswersTo g q old new (reply_of (Space e))
-  change_failed old new change told answer Unchanged changes tells is_admitted given = record {
+  change_failed old new change told answer Unchanged fixed changes tells is_admitted given = record {
     step = λ s a h. same_content g old new a (λ b. (changes.refused s refl b).0) (λ b. (changes.refused s refl b).1) h;
     fails = λ s a h. (
       ap is_some (is_admitted.early a),
@@ -148,11 +156,12 @@ module _ {S : Type 0} (g : Ghosts S) (q : Admitted) where
         | inr ge ↦ inr (omega (arith, tells.counted, ge))
       ],
     );
+    fixed = fixed;
     sound = changes.sound;
     whole = changes.whole;
     breaks = tells.breaks;
   }
-  change_failed old new change told answer Broken changes tells is_admitted given = record {
+  change_failed old new change told answer Broken fixed changes tells is_admitted given = record {
     step = λ s a h b k.
         let m = given (changes.sound s) a h.held in
         let e : step salt a t c ≡ (changed change told a, Done answer) = step_done salt a t c m.0 ∙ m.1.effect in
@@ -161,6 +170,7 @@ module _ {S : Type 0} (g : Ghosts S) (q : Admitted) where
           | inr x ↦ inr (x a h.held ∙ ap (λ (y : Airspace × Reply). y.0) (sym e))
         ];
     fails = λ s a h. tt;
+    fixed = fixed;
     sound = changes.sound;
     whole = changes.whole;
     breaks = tells.breaks;

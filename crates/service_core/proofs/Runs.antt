@@ -26,12 +26,13 @@ module _ {S : Type 0} (g : Ghosts S) where
   -- ---- what stays
 
   pub stays_same : (s : Service S) → Stays g s s
-  stays_same s = record { salt = refl; shut = λ h. refl; sound = λ s. s; whole = λ s w. w }
+  stays_same s = record { salt = refl; shut = λ h. refl; fixed = refl; sound = λ s. s; whole = λ s w. w }
 
   pub stays_then : (old mid new : Service S) → Stays g old mid → Stays g mid new → Stays g old new
   stays_then old mid new p q = record {
     salt = q.salt ∙ p.salt;
     shut = λ h. q.shut (ap (λ (x : Service S). is_shut x) (p.shut h) ∙ h) ∙ p.shut h;
+    fixed = q.fixed ∙ p.fixed;
     sound = λ s. p.sound (q.sound s);
     whole = λ s w. q.whole s (p.whole (q.sound s) w);
   }

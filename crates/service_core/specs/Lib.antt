@@ -2,6 +2,7 @@ pub mod Decision
 pub mod Service
 pub mod Held
 pub mod Run
+pub mod Rounds
 pub mod Blind
 pub mod Aware
 pub mod Count

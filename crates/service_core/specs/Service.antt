@@ -51,6 +51,7 @@ pub record Answers {S : Type 0} (g : Ghosts S) (salt : List ℕ) (now : ℕ) (c 
       → Leaves g salt a now c reply new
   pub fails : g.is_sound new → (a : Airspace) → IsContent g.holds old a
       → MayFail a now c reply (g.refusals old) (g.refusals new)
+  pub fixed : g.fixed new ≡ g.fixed old
   pub sound : g.is_sound new → g.is_sound old
   pub whole : g.is_sound new → g.is_whole old → g.is_whole new
   pub breaks : g.is_broken new ≡ (is_stopped reply || g.is_broken old)

@@ -28,6 +28,7 @@ use service_step::halt::Halt;
 use service_step::look::Facts;
 use service_step::made::Made;
 use service_step::reply::{Answer, Reply};
+use space_core::settle::Settles;
 use space_core::space::{Change, Space, SpaceFault};
 use std::alloc::{AllocError, Global};
 
@@ -215,5 +216,33 @@ impl<S: Space + Drop> Service<S> {
             };
         }
         Ok(replies)
+    }
+}
+
+impl<S: Settles + Drop> Service<S> {
+    ghost use Rattle.service_core.specs.Rounds.{IsSettled};
+
+    /// Whether changes wait to be kept. Where they do before a call or after it, its reply waits.
+    pub fn is_waiting(&self) -> bool
+        ensures { result ≡ S.waits (space_of self.now) }
+    {
+        self.space.is_waiting()
+    }
+
+    /// Keeps the changes that wait, or none of them; none waits any more.
+    ///
+    /// Until then the reply to a call waits, before or after which changes wait: what it tells may
+    /// yet come to nothing. After `Ok` it is told as it was made. After `Unchanged` it is told as
+    /// `Fault`, and what is seen is again what was kept before those changes. After `Broken` it is
+    /// told as `Stopped`, and so is each call from then on. What is told so is the policy's by the
+    /// law `rounds_are_the_policy`.
+    pub fn settle(&mut self) -> Result<(), SpaceFault>
+        ensures { IsSettled S.Space S.Settles.own self.old self.new result }
+    {
+        let settled = self.space.settle();
+        if let Err(SpaceFault::Broken) = settled {
+            self.stopped = true;
+        }
+        settled
     }
 }

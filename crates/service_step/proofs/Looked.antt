@@ -22,6 +22,7 @@ module _ {S : Type 0} (g : Ghosts S) where
       → Looks g old mid (Ok x) P → Looks g mid new (Ok y) Q → ((a : Airspace) → P a x → Q a y → R a z)
       → Looks g old new (Ok z) R
   looks_then old mid new x y z P Q R p q f = record {
+    fixed = q.fixed ∙ p.fixed;
     sound = λ s. p.sound (q.sound s);
     whole = λ s w. q.whole s (p.whole (q.sound s) w);
     stays = λ s a h. q.stays s a (p.stays (q.sound s) a h);
@@ -34,6 +35,7 @@ module _ {S : Type 0} (g : Ghosts S) where
       → Looks g old mid (Ok x) P → Looks g mid new (Err h) Q
       → Looks g old new (Err h) R
   looks_then_err old mid new x h P Q R p q = record {
+    fixed = q.fixed ∙ p.fixed;
     sound = λ s. p.sound (q.sound s);
     whole = λ s w. q.whole s (p.whole (q.sound s) w);
     stays = λ s. unless_then h ((a : Airspace) → g.holds mid a → g.holds new a) ((a : Airspace) → g.holds old a → g.holds new a) (λ f a k. f a (p.stays (q.sound s) a k)) (q.stays s);
@@ -46,6 +48,7 @@ module _ {S : Type 0} (g : Ghosts S) where
   pub looks_as : {X Z : Type 0} (old new : S) (x : X) (z : Z) (P : Airspace → X → Type 0) (R : Airspace → Z → Type 0)
       → Looks g old new (Ok x) P → ((a : Airspace) → P a x → R a z) → Looks g old new (Ok z) R
   looks_as old new x z P R p f = record {
+    fixed = p.fixed;
     sound = p.sound;
     whole = p.whole;
     stays = p.stays;
@@ -58,6 +61,7 @@ module _ {S : Type 0} (g : Ghosts S) where
   pub looks_memory : {X Z : Type 0} (old new : S) (x : X) (P : Airspace → X → Type 0) (R : Airspace → Z → Type 0)
       → Looks g old new (Ok x) P → Looks g old new (Err NoMemory) R
   looks_memory old new x P R p = record {
+    fixed = p.fixed;
     sound = p.sound;
     whole = p.whole;
     stays = p.stays;
@@ -69,6 +73,7 @@ module _ {S : Type 0} (g : Ghosts S) where
   -- no look at all
   pub looks_none : {Z : Type 0} (old : S) (z : Z) (R : Airspace → Z → Type 0) → ((a : Airspace) → R a z) → Looks g old old (Ok z) R
   looks_none old z R f = record {
+    fixed = refl;
     sound = λ s. s;
     whole = λ s w. w;
     stays = λ s a h. h;
@@ -88,11 +93,12 @@ module _ {S : Type 0} (g : Ghosts S) where
   pub looks_map : {X : Type 0} (old new : S) (r : Result X Halt) (P R : Airspace → X → Type 0)
       → Looks g old new r P → ((a : Airspace) (x : X) → P a x → R a x) → Looks g old new r R
   looks_map old new (Ok x) P R p f = looks_as old new x x P R p (λ a h. f a x h)
-  looks_map old new (Err h) P R p f = record { sound = p.sound; whole = p.whole; stays = p.stays; no_other = p.no_other; found = λ _. tt; told = p.told }
+  looks_map old new (Err h) P R p f = record { fixed = p.fixed; sound = p.sound; whole = p.whole; stays = p.stays; no_other = p.no_other; found = λ _. tt; told = p.told }
 
   -- want of memory before any look
   pub looks_refused : {Z : Type 0} (old : S) (R : Airspace → Z → Type 0) → Looks g old old (Err NoMemory) R
   looks_refused old R = record {
+    fixed = refl;
     sound = λ s. s;
     whole = λ s w. w;
     stays = λ s a h. h;

@@ -49,6 +49,7 @@ ToldBy (Space Broken) refusals refusals' broken broken' = broken' ≡ true
 -- A look leaves what the space holds; what it finds has P of each airspace that was held.
 pub record Looks {S T : Type 0} (g : Ghosts S) (old new : S) (result : Result T Halt)
     (P : Airspace → T → Type 0) : Type 0 where
+  pub fixed : g.fixed new ≡ g.fixed old
   pub sound : g.is_sound new → g.is_sound old
   pub whole : g.is_sound new → g.is_whole old → g.is_whole new
   pub stays : g.is_sound new

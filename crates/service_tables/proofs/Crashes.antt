@@ -12,7 +12,7 @@ use Rattle.sqlite_trees.specs.declared.store.Store as stores
 use Rattle.sqlite_trees.specs.declared.memory.MemStore.{MemStore}
 use Rattle.sqlite.specs.Held.{state}
 use Rattle.sqlite.specs.Steps.{over_memory}
-use Rattle.space_core.specs.Space.{IsContent}
+use Rattle.space_core.specs.Space.{IsContent, nothing_fixed}
 use Rattle.service_core.specs.Held.{is_shut, salt_of, space_of}
 use Rattle.service_core.specs.Run.{IsReplyTo}
 use Rattle.service_core.specs.Service.{Leaves}
@@ -43,6 +43,7 @@ words_of g = record {
   is_whole = is_whole_of g;
   refusals = λ k. k.refusals;
   is_broken = λ k. k.broken;
+  fixed = λ k. nothing_fixed;
 }
 
 pub crash_leaves : {S : Type 0} (g : stores.Ghosts S) (old new : Service (Kept S)) (now : ℕ) (call : Call) (reply : Reply) → IsReplyTo (words_of g) old new now call reply → CrashLeaves g (salt_of old) now call old new reply

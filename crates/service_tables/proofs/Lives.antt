@@ -28,10 +28,12 @@ use Rattle.space_opening.specs.declared.open_fault.OpenFault.{OpenFault}
 use Rattle.space_sql.specs.Found.{FilesSpell, FindsSpelt, RefusesFound}
 use Rattle.space_sql.specs.Holding.{Kept, holds_of, is_sound_of, is_whole_of}
 use Rattle.space_sql.specs.Restart.{ClosesFiles, FilesHave, FilesLeft, LeavesFiles, LeavesTrees, without_log}
-use Rattle.service_tables.specs.Life.{Continues, Lives, MayComeOfAll, Run, StandFor, run_of, unasked}
+use Rattle.service_core.specs.Rounds.{MayHaveKept}
+use Rattle.service_tables.specs.Life.{Continues, Lives, MayComeOfAll, Run, StandFor, alone, run_of, unasked}
 use Rattle.service_tables.proofs.Crashes.{words_of}
+use Rattle.service_tables.proofs.Keeping.{alone_is_stepped}
 
-content_found : {T : Type 0} (image : Image) (space : Ghosts (Kept T)) (k : Kept T) → FindsSpelt image space k → space.is_sound k → (a : Airspace) → StandFor image a → IsContent space.holds k a
+pub content_found : {T : Type 0} (image : Image) (space : Ghosts (Kept T)) (k : Kept T) → FindsSpelt image space k → space.is_sound k → (a : Airspace) → StandFor image a → IsContent space.holds k a
 content_found image space k finds sound a (inl it) = finds.spelt sound it.0 a it.1
 content_found image space k finds sound a (inr it) = subst (λ b. IsContent space.holds k b) (sym it.1) (finds.new sound it.0)
 
@@ -46,15 +48,15 @@ module _ {D : Type 0} {g : disk.Ghosts D} (before : Image) (old new : Service (K
   whole : is_sound_of over_files (space_of new) → (a : Airspace) → StandFor before a → is_whole_of over_files (space_of new)
   whole sound a stands = all.stays.whole sound (finds.whole (all.stays.sound sound) a (content sound a stands).held)
 
-  kept : is_sound_of over_files (space_of new) → (a : Airspace) → StandFor before a → (b : Airspace) → holds_of over_files (space_of new) b → MayHaveStepped (salt_of old) a calls replies b
-  kept sound a stands b held = (all.runs goes sound a (content sound a stands)).kept b held
+  kept : is_sound_of over_files (space_of new) → (a : Airspace) → StandFor before a → (b : Airspace) → holds_of over_files (space_of new) b → MayHaveKept (salt_of old) a (alone calls replies ∷ []) b
+  kept sound a stands b held = (alone_is_stepped (salt_of old) a b calls replies).1 ((all.runs goes sound a (content sound a stands)).kept b held)
 
-  pub served : (after : Image) (last : FileStore D g) → LeavesFiles (space_of new) last → IsClean (store.view last) → FilesLeft last after → Continues before (run_of old calls replies) after
+  pub served : (after : Image) (last : FileStore D g) → LeavesFiles (space_of new) last → IsClean (store.view last) → FilesLeft last after → Continues before (run_of old (alone calls replies ∷ [])) after
   served after last left clean may a stands =
       let sound = left.sound clean in
       ∥∥₁_map (left.held clean (whole sound a stands) after may) (λ it. (it.0, kept sound a stands it.0 it.1, inl (Two, it.2)))
 
-  pub closed : (after : Image) (files : Files D) → ClosesFiles (space_of new) files → AreClean g files.log files.db → FilesHave g files after → Continues before (run_of old calls replies) after × Continues before (run_of old calls replies) (without_log after)
+  pub closed : (after : Image) (files : Files D) → ClosesFiles (space_of new) files → AreClean g files.log files.db → FilesHave g files after → Continues before (run_of old (alone calls replies ∷ [])) after × Continues before (run_of old (alone calls replies ∷ [])) (without_log after)
   closed after files closes clean have =
       let sound = closes.sound clean in
       let found = λ (a : Airspace) (stands : StandFor before a). closes.held clean (whole sound a stands) after have in (
@@ -85,14 +87,6 @@ pub life_is_found : {T : Type 0} (again : Ghosts (Kept T)) (before after : Image
     → ∥ ((b : Airspace) × MayComeOfAll a runs b × IsContent again.holds next b) ∥₁
 life_is_found again before after runs a next stands lives finds sound = ∥∥₁_map (life_leaves before after runs a stands lives) (λ it.
     (it.0, it.1, content_found after again next finds sound it.0 it.2))
-
-pub due_unstopped : (salt : List ℕ) (a b : Airspace) (cs : List Timed) (rs : List Reply) → has_stopped rs ≡ false → MayHaveStepped salt a cs rs b → b ≡ airspace_after salt a (answered_calls cs rs)
-due_unstopped salt a b [] rs goes is = is
-due_unstopped salt a b (c ∷ cs) [] goes is = is
-due_unstopped salt a b (c ∷ cs) (Fault ∷ rs) goes is = due_unstopped salt a b cs rs goes is
-due_unstopped salt a b (c ∷ cs) (Stopped ∷ rs) goes is = cc
-due_unstopped salt a b (c ∷ cs) (Done x ∷ rs) goes is = due_unstopped salt (step salt a c.0 c.1).0 b cs rs goes is
-due_unstopped salt a b (c ∷ cs) (Denied p m ∷ rs) goes is = due_unstopped salt (step salt a c.0 c.1).0 b cs rs goes is
 
 pub asked_on : {S : Type 0} (space : Ghosts S) (old mid new : Service S) (calls more : List Timed) (replies later : List Reply) → AskedInOrder space old calls replies mid → AskedInOrder space mid more later new → AskedInOrder space old (calls ++ more) (replies ++ later) new
 asked_on space old mid new [] more [] later same asked = subst (λ s. AskedInOrder space s more later new) same asked

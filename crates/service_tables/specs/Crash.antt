@@ -1,17 +1,23 @@
 -- What a crash leaves of a service over tables.
-use Rattle.std.specs.Prelude.{◌≡◌, ◌⊎◌, ℕ, List, true, false}
+use Rattle.std.specs.Prelude.{◌≡◌, ◌⊎◌, ◌||◌, ℕ, List, Result, Ok, Err, true, false}
 use Rattle.sqlite_trees.specs.Tree.{Trees}
 use Rattle.sqlite_trees.specs.declared.store.Store.{Ghosts}
 use Rattle.entity_core.specs.Airspace.{Airspace}
 use Rattle.policy_core.specs.declared.call.Call.{Call}
 use Rattle.space_core.specs.Space.{IsContent}
+use Rattle.space_core.specs.declared.settle.Settles as settles
 use Rattle.space_core.specs.declared.space.Space as spaces
+use Rattle.space_core.specs.declared.space.SpaceFault.{SpaceFault}
+use Rattle.space_core.specs.declared.space.SpaceFault.TheVariants.{Unchanged, Broken}
 use Rattle.service_step.specs.declared.reply.Reply.{Reply}
 use Rattle.service_step.specs.declared.reply.Reply.TheVariants.{Done, Denied, Fault, Stopped}
 use Rattle.service_core.specs.declared.service.Service.{Service}
 use Rattle.service_core.specs.Held.{is_shut, salt_of, space_of}
+use Rattle.service_core.specs.Rounds.{IsSettled}
 use Rattle.service_core.specs.Run.{IsReplyTo}
 use Rattle.service_step.specs.Step.{step}
+use Rattle.space_bounds.specs.Bounded.{Bound}
+use Rattle.space_rounds.specs.Grouped.{Group, keeps_in, waits_in}
 use Rattle.space_sql.specs.Crash.{may_leave_of}
 use Rattle.space_sql.specs.Holding.{Keeps, Kept, holds_of, is_sound_of, is_whole_of}
 
@@ -24,20 +30,71 @@ KeepsAfter before after (Denied _ _) db = Keeps db before
 KeepsAfter before after Fault db = Keeps db before
 KeepsAfter before after Stopped db = Keeps db before ⊎ Keeps db after
 
+-- What a crash leaves after a call as its reply says, where one airspace was held before it.
+abbrev pub LeavesAfter : {S : Type 0} → Ghosts S → List ℕ → ℕ → Call → Reply → (old new : Kept S)
+    → Type 0
+LeavesAfter g salt now call reply old new =
+    is_sound_of g new → is_whole_of g old → (a : Airspace) → IsContent (holds_of g) old a
+    → (db : Trees) → may_leave_of g new db → KeepsAfter a (step salt a now call).0 reply db
+
 -- What a crash leaves after a call: as the reply says, where the service had not stopped, and had
 -- one airspace. One that had stopped is as it was, and so is what a crash leaves of it.
 pub record CrashLeaves {S : Type 0} (g : Ghosts S) (salt : List ℕ) (now : ℕ) (call : Call)
     (old new : Service (Kept S)) (reply : Reply) : Type 0 where
-  pub leaves : is_shut old ≡ false → is_sound_of g (space_of new) → is_whole_of g (space_of old)
-      → (a : Airspace) → IsContent (holds_of g) (space_of old) a
-      → (db : Trees) → may_leave_of g (space_of new) db
-      → KeepsAfter a (step salt a now call).0 reply db
+  pub leaves : is_shut old ≡ false
+      → LeavesAfter g salt now call reply (space_of old) (space_of new)
   pub stays : is_shut old ≡ true → new ≡ old
 
 -- It is so after each call, by what is said of its reply.
 abbrev pub CrashAfterCall : {S : Type 0} → Ghosts S → spaces.Ghosts (Kept S) → Type 0
 CrashAfterCall {S} g space = (old new : Service (Kept S)) (now : ℕ) (call : Call) (reply : Reply)
     → IsReplyTo space old new now call reply → CrashLeaves g (salt_of old) now call old new reply
+
+-- what is kept of a space whose changes may wait, and whether some do, by the space over tables in it
+abbrev pub waiting_of : {S : Type 0} → spaces.Ghosts S → settles.Ghosts (Group S)
+waiting_of tables = record { keeps = keeps_in tables; waits = waits_in }
+
+-- the same where a bound of what is kept of each supplier stands over it
+abbrev pub bound_waiting_of : {S : Type 0} → spaces.Ghosts S → settles.Ghosts (Bound (Group S))
+bound_waiting_of tables =
+    record { keeps = λ k a. keeps_in tables k.space a; waits = λ k. waits_in k.space }
+
+-- What a crash leaves after a call of a service whose changes may wait. Where none waits, before the
+-- call or after it: as the reply says. Where one does, the tables are as they were before the call,
+-- and so is what a crash leaves of them.
+pub record CrashLeavesGrouped {S : Type 0} (g : Ghosts S) (salt : List ℕ) (now : ℕ)
+    (call : Call) (old new : Service (Group (Kept S))) (reply : Reply) : Type 0 where
+  pub alone : is_shut old ≡ false
+      → waits_in (space_of old) ≡ false → waits_in (space_of new) ≡ false
+      → LeavesAfter g salt now call reply (space_of old).store (space_of new).store
+  pub waiting : (waits_in (space_of old) || waits_in (space_of new)) ≡ true
+      → (space_of new).store ≡ (space_of old).store
+  pub stays : is_shut old ≡ true → new ≡ old
+
+abbrev pub CrashAfterGroupedCall : {S : Type 0} → Ghosts S → spaces.Ghosts (Group (Kept S))
+    → Type 0
+CrashAfterGroupedCall {S} g space =
+    (old new : Service (Group (Kept S))) (now : ℕ) (call : Call) (reply : Reply)
+    → IsReplyTo space old new now call reply
+    → CrashLeavesGrouped g (salt_of old) now call old new reply
+
+-- The trees keep the airspace that is due as a round ended so: the one that was seen, the one that was
+-- kept before, or one of the two.
+abbrev pub KeepsSettled : (kept seen : Airspace) → Result (Unit {0}) SpaceFault → Trees → Type 0
+KeepsSettled kept seen (Ok x) db = Keeps db seen
+KeepsSettled kept seen (Err Unchanged) db = Keeps db kept
+KeepsSettled kept seen (Err Broken) db = Keeps db kept ⊎ Keeps db seen
+
+-- It is so after each round, by what is said of its end.
+abbrev pub CrashAfterRound : {S : Type 0} → Ghosts S → spaces.Ghosts (Kept S)
+    → spaces.Ghosts (Group (Kept S)) → Type 0
+CrashAfterRound {S} g tables space =
+    (old new : Service (Group (Kept S))) (result : Result (Unit {0}) SpaceFault)
+    → IsSettled space (waiting_of tables) old new result
+    → is_sound_of g (space_of new).store → is_whole_of g (space_of old).store
+    → (kept seen : Airspace) → IsContent (holds_of g) (space_of old).store kept
+    → space.holds (space_of old) seen
+    → (db : Trees) → may_leave_of g (space_of new).store db → KeepsSettled kept seen result db
 
 -- A crash leaves something of a space over which a call was answered, where the airspace was this
 -- one before; and whatever it leaves keeps the airspace that is due.

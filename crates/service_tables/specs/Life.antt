@@ -1,5 +1,5 @@
 -- What a service over files leaves in its whole life: run after run, each ended by a stop or a crash.
-use Rattle.std.specs.Prelude.{◌≡◌, ◌⊎◌, ℕ, List, [], ◌∷◌, ◌++◌, false}
+use Rattle.std.specs.Prelude.{◌≡◌, ◌⊎◌, ◌↔◌, ℕ, List, [], ◌∷◌, ◌++◌, Ok, false}
 use Rattle.sqlite_disk.specs.declared.Disk as disk
 use Rattle.sqlite_disk.specs.declared.Files.{Files}
 use Rattle.sqlite_store.specs.declared.store.FileStore.{FileStore}
@@ -15,6 +15,7 @@ use Rattle.space_core.specs.declared.space.Space as spaces
 use Rattle.service_step.specs.declared.reply.Reply.{Reply}
 use Rattle.service_core.specs.declared.service.Service.{Service}
 use Rattle.service_core.specs.Held.{is_shut, salt_of, space_of}
+use Rattle.service_core.specs.Rounds.{Made, MayHaveKept, Round, all_timed, all_told}
 use Rattle.service_core.specs.Run.{AskedInOrder, MayHaveStepped, Timed, airspace_after, answered_calls, has_stopped}
 use Rattle.space_tables.specs.declared.format.Format.{Format}
 use Rattle.space_opening.specs.declared.open_fault.OpenFault.{OpenFault}
@@ -27,24 +28,42 @@ abbrev pub StandFor : Image → Airspace → Type 0
 StandFor image a =
     ((format : Format) × FilesSpell format image a) ⊎ (AreUnmade image × (a ≡ empty_at 0))
 
--- a run of a service over files: its salt, the calls that it was asked, and its replies
+-- a run of a service over files: its salt, and what it was asked in rounds
 pub record Run : Type 0 where
   pub salt : List ℕ
-  pub calls : List Timed
-  pub replies : List Reply
+  pub rounds : List Round
 
--- the run of a service that was asked these calls
-abbrev pub run_of : {S : Type 0} → Service S → List Timed → List Reply → Run
-run_of old calls replies = record { salt = salt_of old; calls = calls; replies = replies }
+-- the run of a service that was asked these rounds
+abbrev pub run_of : {S : Type 0} → Service S → List Round → Run
+run_of old rounds = record { salt = salt_of old; rounds = rounds }
 
 -- a run whose opening failed
 abbrev pub unasked : Run
-unasked = record { salt = []; calls = []; replies = [] }
+unasked = record { salt = []; rounds = [] }
+
+-- calls with their replies, none of which waits
+abbrev pub made_at_once : List Timed → List Reply → List Made
+made_at_once [] rs = []
+made_at_once (c ∷ cs) [] = []
+made_at_once (c ∷ cs) (r ∷ rs) = record { timed = c; reply = r; waits = false } ∷ made_at_once cs rs
+
+-- the one round of a service over a space in which no change waits
+abbrev pub alone : List Timed → List Reply → Round
+alone calls replies = record { calls = made_at_once calls replies; settled = Ok tt }
+
+-- Of such a round what may be kept is what its calls may have made of the airspace: by the policy's
+-- steps for those that were answered, and for the one that was answered `Stopped`, if there is one, by
+-- its step or not.
+abbrev pub AloneIsStepped : Type 0
+AloneIsStepped =
+    (salt : List ℕ) (a b : Airspace) (calls : List Timed) (replies : List Reply)
+    → MayHaveKept salt a (alone calls replies ∷ []) b ↔ MayHaveStepped salt a calls replies b
 
 -- The airspace may have come of another one in this run: by the policy's steps for the calls that
--- were answered, and for the one that was answered `Stopped`, if there is one, by its step or not.
+-- were answered; of the first round in which a caller was told `Stopped`, if there is one, by those up
+-- to that call, or by all that were made in it.
 abbrev pub MayCome : Airspace → Run → Airspace → Type 0
-MayCome a run b = MayHaveStepped run.salt a run.calls run.replies b
+MayCome a run b = MayHaveKept run.salt a run.rounds b
 
 -- files that stood for an airspace before the run stand after it for one that may have come of that
 abbrev pub Continues : Image → Run → Image → Type 0
@@ -61,7 +80,7 @@ ContinuesServed {D} {g} space =
     → is_shut old ≡ false → FindsSpelt before space (space_of old)
     → AskedInOrder space old calls replies new
     → LeavesFiles (space_of new) last → IsClean (store.view last) → FilesLeft last after
-    → Continues before (run_of old calls replies) after
+    → Continues before (run_of old (alone calls replies ∷ [])) after
 
 -- The same where the space was closed, also where then the log is gone.
 abbrev pub ContinuesClosed : {D : Type 0} {g : disk.Ghosts D}
@@ -72,8 +91,8 @@ ContinuesClosed {D} {g} space =
     → is_shut old ≡ false → FindsSpelt before space (space_of old)
     → AskedInOrder space old calls replies new
     → ClosesFiles (space_of new) files → AreClean g files.log files.db → FilesHave g files after
-    → Continues before (run_of old calls replies) after
-    × Continues before (run_of old calls replies) (without_log after)
+    → Continues before (run_of old (alone calls replies ∷ [])) after
+    × Continues before (run_of old (alone calls replies ∷ [])) (without_log after)
 
 -- A space was not opened over files, the connection that came back was given up, and a crash left of
 -- the files what it may.
@@ -111,12 +130,12 @@ LifeIsFound {T} again =
     → FindsSpelt after again next → again.is_sound next
     → ∥ ((b : Airspace) × MayComeOfAll a runs b × IsContent again.holds next b) ∥₁
 
--- Where no call of a run was answered `Stopped`, one airspace alone may come of it: the policy's,
--- after all calls that were answered.
+-- Where no caller of a run was told `Stopped`, one airspace alone may come of it: the policy's, after
+-- all calls that were answered.
 abbrev pub UnstoppedIsDue : Type 0
 UnstoppedIsDue =
-    (a b : Airspace) (run : Run) → has_stopped run.replies ≡ false → MayCome a run b
-    → b ≡ airspace_after run.salt a (answered_calls run.calls run.replies)
+    (a b : Airspace) (run : Run) → has_stopped (all_told run.rounds) ≡ false → MayCome a run b
+    → b ≡ airspace_after run.salt a (answered_calls (all_timed run.rounds) (all_told run.rounds))
 
 -- What is asked over several connections, one after the other, is one list of calls.
 abbrev pub AskedOn : {S : Type 0} → spaces.Ghosts S → Type 0

@@ -1,11 +1,14 @@
 //! The laws of a service over tables. No program calls these functions: what they say is in their
 //! contracts.
-ghost use Rattle.service_tables.specs.Crash.{CrashAfterCall};
-ghost use Rattle.service_tables.specs.Life.{AskedOn, ContinuesClosed, ContinuesRefused, ContinuesServed, LifeIsFound, LifeLeaves, UnstoppedIsDue};
+ghost use Rattle.service_core.specs.Rounds.{OpenRoundIsUnkept};
+ghost use Rattle.service_tables.specs.Crash.{CrashAfterCall, CrashAfterGroupedCall, CrashAfterRound, bound_waiting_of};
+ghost use Rattle.service_tables.specs.InRounds.{ContinuesInRounds, ContinuesInRoundsClosed, SomeIsHeld};
+ghost use Rattle.service_tables.specs.Life.{AloneIsStepped, AskedOn, ContinuesClosed, ContinuesRefused, ContinuesServed, LifeIsFound, LifeLeaves, UnstoppedIsDue};
 ghost use Rattle.service_tables.specs.Restart.{RestartAfterCall};
 
+use space_bounds::bounded::Bounded;
 use space_core::space::Space;
-use space_mirror::mirror::Mirror;
+use space_rounds::grouped::Grouped;
 use space_sql::space::SqlSpace;
 use sqlite::{Alter, FileFrom, FileStore, Start};
 use sqlite_disk::Disk;
@@ -17,10 +20,31 @@ pub fn crash_after_a_call<S: Alter>()
     ensures { CrashAfterCall S.Store ⟦<SqlSpace<S> as Space>⟧ }
 {}
 
-/// The same of a service over tables with a copy of them in memory: to contracts a mirror is its
-/// space, whatever answers a reading.
-pub fn crash_after_a_mirrored_call<S: Alter + Drop>()
-    ensures { CrashAfterCall S.Store ⟦<Mirror<SqlSpace<S>> as Space>⟧ }
+/// The same of a service over tables whose changes may wait: a call in which none waits leaves what a
+/// call at once leaves, and one in which some do leaves the tables as they were. It is said of whatever
+/// `Service::call` answers, by its clause `reply`.
+pub fn crash_after_a_grouped_call<S: Alter + Drop>()
+    ensures { CrashAfterGroupedCall S.Store ⟦<Grouped<SqlSpace<S>> as Space>⟧ }
+{}
+
+/// And as its changes are kept: what a crash leaves after an Ok is what was seen before, after
+/// `Unchanged` what was kept before, and after `Broken` one of the two. It is said of what
+/// `Service::settle` answers.
+pub fn crash_after_a_round<S: Alter + Drop>()
+    ensures { CrashAfterRound S.Store ⟦<SqlSpace<S> as Space>⟧
+        ⟦<Grouped<SqlSpace<S>> as Space>⟧ }
+{}
+
+// A space over tables in some store holds some airspace, where it is whole: generic in the store,
+// since what is proved of that of a file is dear.
+fn some_is_held<A: Alter>()
+    ensures { SomeIsHeld ⟦<SqlSpace<A> as Space>⟧ }
+{}
+
+// The law of open rounds over tables in some store, generic in it.
+fn open_round_of_tables<A: Alter + Drop>()
+    ensures { OpenRoundIsUnkept ⟦<Bounded<Grouped<SqlSpace<A>>> as Space>⟧
+        (bound_waiting_of ⟦<SqlSpace<A> as Space>⟧) }
 {}
 
 /// From one run to the next: after each call of a service over files, whatever its reply, and after a
@@ -41,20 +65,30 @@ pub fn run_continues<S: Start>()
     ensures { ContinuesServed ⟦<SqlSpace<FileStore<FileFrom<S>>> as Space>⟧ }
 {}
 
-/// The same of a service with a copy in memory.
-pub fn mirrored_run_continues<S: Start>()
-    ensures { ContinuesServed ⟦<Mirror<SqlSpace<FileStore<FileFrom<S>>>> as Space>⟧ }
-{}
+/// The same of a service whose changes may wait, with a bound of what is kept of each supplier, or
+/// none. It is said of what `Service::call` and `Service::settle` answer, of what `Bounded::release`
+/// and `Grouped::release` give back, and then `space_sql::laws::files_left`.
+pub fn run_in_rounds_continues<S: Start>()
+    ensures { ContinuesInRounds ⟦<SqlSpace<FileStore<FileFrom<S>>> as Space>⟧
+        ⟦<Bounded<Grouped<SqlSpace<FileStore<FileFrom<S>>>>> as Space>⟧ }
+{
+    some_is_held::<FileStore<FileFrom<S>>>();
+    open_round_of_tables::<FileStore<FileFrom<S>>>();
+}
 
 /// The same where the run ends with `SqlSpace::close_files`, also where the log is then removed.
 pub fn closed_run_continues<S: Start>()
     ensures { ContinuesClosed ⟦<SqlSpace<FileStore<FileFrom<S>>> as Space>⟧ }
 {}
 
-/// The same of a service with a copy in memory, whose space is released and closed.
-pub fn closed_mirrored_run_continues<S: Start>()
-    ensures { ContinuesClosed ⟦<Mirror<SqlSpace<FileStore<FileFrom<S>>>> as Space>⟧ }
-{}
+/// The same of a service whose changes may wait, whose space is released and closed.
+pub fn closed_run_in_rounds_continues<S: Start>()
+    ensures { ContinuesInRoundsClosed ⟦<SqlSpace<FileStore<FileFrom<S>>> as Space>⟧
+        ⟦<Bounded<Grouped<SqlSpace<FileStore<FileFrom<S>>>>> as Space>⟧ }
+{
+    some_is_held::<FileStore<FileFrom<S>>>();
+    open_round_of_tables::<FileStore<FileFrom<S>>>();
+}
 
 /// Of an opening that was refused with a connection that came back: the airspace is the same. It is said
 /// of what `SqlSpace::open` refuses, and of what `space_sql::laws::trees_left` gives back.
@@ -72,7 +106,13 @@ pub fn life_is_found<T: Alter>()
     ensures { LifeIsFound ⟦<SqlSpace<T> as Space>⟧ }
 {}
 
-/// Where no call of a run was answered `Stopped`, what comes of it is the policy's airspace after all
+/// A run of a service over a space in which no change waits is one round, of which may be kept what
+/// its calls may have made.
+pub fn alone_is_stepped()
+    ensures { AloneIsStepped }
+{}
+
+/// Where no caller of a run was told `Stopped`, what comes of it is the policy's airspace after all
 /// calls that were answered.
 pub fn unstopped_is_due()
     ensures { UnstoppedIsDue }

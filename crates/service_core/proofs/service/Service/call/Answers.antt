@@ -42,6 +42,7 @@ returns-clause-reply g c = record {
   stays = record {
     salt = refl;
     shut = λ n. cc (n, c.if-self.false);
+    fixed = c.answered-reply.ensures.answers.fixed;
     sound = c.answered-reply.ensures.answers.sound;
     whole = c.answered-reply.ensures.answers.whole;
   };

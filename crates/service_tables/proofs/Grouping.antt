@@ -1,0 +1,141 @@
+-- What a crash leaves of tables whose changes may wait.
+use Rattle.std.specs.Prelude.{◌≡◌, ◌||◌, ◌⊎◌, ◌↔◌, ℕ, Bool, true, false, Result, Ok, Err, OnOk, IsErrOf, refl}
+use Rattle.std.specs.Coded.{Coded}
+use Rattle.std.proofs.Common.{inl, inr, ap, subst, sym, ◌∙◌}
+use Rattle.sqlite_trees.specs.Tree.{Trees}
+use Rattle.sqlite_trees.specs.declared.store.Store as stores
+use Rattle.sqlite.specs.Held.{state}
+use Rattle.entity_core.specs.Airspace.{Airspace}
+use Rattle.policy_core.specs.declared.call.Call.{Call}
+use Rattle.space_core.specs.declared.space.Space.{Ghosts}
+use Rattle.space_core.specs.declared.space.SpaceFault.{SpaceFault}
+use Rattle.space_core.specs.declared.space.SpaceFault.TheVariants.{Unchanged, Broken}
+use Rattle.space_core.specs.Round.{changed_all}
+use Rattle.space_core.specs.Space.{Code, IsContent}
+use Rattle.service_step.specs.declared.reply.Reply.{Reply}
+use Rattle.service_step.specs.declared.reply.Reply.TheVariants.{Done, Denied, Fault, Stopped}
+use Rattle.service_step.specs.Step.{step}
+use Rattle.service_core.specs.Held.{is_shut, salt_of, space_of}
+use Rattle.service_core.specs.Rounds.{IsSettled, OpenRoundIsUnkept}
+use Rattle.service_core.specs.Run.{IsReplyTo}
+use Rattle.service_core.specs.Service.{Leaves}
+use Rattle.service_core.specs.declared.service.Service.{Service}
+use Rattle.service_core.proofs.InRounds.{open_round}
+use Rattle.space_bounds.specs.Bounded.{Bound}
+use Rattle.space_rounds.specs.Grouped.{Group, IsSoundIn, fixed_in, holds_in, is_whole_in, pending, waits_in}
+use Rattle.space_rounds.specs.Laws.{content_of_its_store, kept_while_waiting, seen_is_kept, sound_as_its_store, works_while_waiting}
+use Rattle.space_sql.specs.Crash.{may_leave_of}
+use Rattle.space_sql.specs.Holding.{Keeps, Kept, holds_of, is_sound_of, is_whole_of}
+use Rattle.space_sql.proofs.Crashes.{leaves_held}
+use Rattle.service_tables.specs.Crash.{CrashLeavesGrouped, KeepsSettled, bound_waiting_of, waiting_of}
+use Rattle.service_tables.proofs.Crashes.{kept_after, words_of}
+
+-- what is so of a space whose changes may wait, by the space over tables in it
+pub record IsOver {S : Type 0} (tables : Ghosts S) (space : Ghosts (Group S)) : Type 0 where
+  pub calm_sound : (k : Group S) → waits_in k ≡ false → tables.is_sound k.store → space.is_sound k
+  pub calm_content : (k : Group S) (a : Airspace) → waits_in k ≡ false → IsContent tables.holds k.store a → IsContent space.holds k a
+  pub calm_held : (k : Group S) (a : Airspace) → waits_in k ≡ false → tables.holds k.store a → space.holds k a
+  pub sound : (k : Group S) → space.is_sound k → tables.is_sound k.store
+  pub whole : (k : Group S) → tables.is_whole k.store → space.is_whole k
+  pub store_whole : (k : Group S) → space.is_whole k → tables.is_whole k.store
+  -- what is seen is one where what is kept is one
+  pub one : (k : Group S) (a b c : Airspace) → IsContent tables.holds k.store a → space.holds k b → space.holds k c → c ≡ b
+
+-- the words of such a space
+abbrev pub group_words : {S : Type 0} → Ghosts S → (Group S → Code) → Ghosts (Group S)
+group_words g fixed = record {
+  holds = holds_in g;
+  is_sound = IsSoundIn g;
+  is_whole = is_whole_in g;
+  refusals = λ k. k.refusals;
+  is_broken = λ k. g.is_broken k.store;
+  fixed = fixed;
+}
+
+pub grouped_over : {S : Type 0} (g : Ghosts S) (fixed : Group S → Code) → IsOver g (group_words g fixed)
+grouped_over g fixed = record {
+  calm_sound = λ k calm sound. sound_as_its_store g k calm sound;
+  calm_content = λ k a calm content. content_of_its_store g k a calm content;
+  calm_held = λ k a calm held. (seen_is_kept g.holds k a calm).1 held;
+  sound = λ k sound. sound.store;
+  whole = λ k whole. whole;
+  store_whole = λ k whole. whole;
+  one = λ k a b c content held seen. seen.2 ∙ ap (changed_all (pending k.ahead)) (content.only seen.0 seen.1 ∙ sym (content.only held.0 held.1)) ∙ sym held.2;
+}
+
+-- what is so where a bound stands over it
+pub record IsBoundOver {S : Type 0} (tables : Ghosts S) (space : Ghosts (Bound (Group S))) : Type 0 where
+  pub calm_content : (k : Bound (Group S)) (a : Airspace) → waits_in k.space ≡ false → IsContent tables.holds k.space.store a → IsContent space.holds k a
+  pub sound : (k : Bound (Group S)) → space.is_sound k → tables.is_sound k.space.store
+  pub whole : (k : Bound (Group S)) → tables.is_whole k.space.store → space.is_whole k
+  pub store_whole : (k : Bound (Group S)) → space.is_whole k → tables.is_whole k.space.store
+
+-- the words of such a space
+abbrev pub bound_words : {S : Type 0} → Ghosts S → (Bound (Group S) → ℕ) → (Bound (Group S) → Code) → Ghosts (Bound (Group S))
+bound_words g refusals fixed = record {
+  holds = λ k a. holds_in g k.space a;
+  is_sound = λ k. IsSoundIn g k.space;
+  is_whole = λ k. is_whole_in g k.space;
+  refusals = refusals;
+  is_broken = λ k. g.is_broken k.space.store;
+  fixed = fixed;
+}
+
+pub bounded_over : {S : Type 0} (g : Ghosts S) (refusals : Bound (Group S) → ℕ) (fixed : Bound (Group S) → Code) → IsBoundOver g (bound_words g refusals fixed)
+bounded_over g refusals fixed = record {
+  calm_content = λ k a calm content.
+      let it = content_of_its_store g k.space a calm content in
+      record { held = it.held; only = it.only };
+  sound = λ k sound. sound.store;
+  whole = λ k whole. whole;
+  store_whole = λ k whole. whole;
+}
+
+-- a crash in the midst of a round leaves what is kept where its changes are not
+pub open_round_in : {S : Type 0} (g : Ghosts S) (c : Coded S) (refusals : Bound (Group S) → ℕ) → OpenRoundIsUnkept (bound_words g refusals (λ k. fixed_in c k.space)) (bound_waiting_of g)
+open_round_in g c refusals = open_round (bound_words g refusals (λ k. fixed_in c k.space)) (bound_waiting_of g) (record {
+  quiet = λ s a calm. seen_is_kept g.holds s.space a calm;
+  rests = λ s t a same waits. kept_while_waiting g.holds c s.space t.space a same waits;
+  works = λ s t same waits. works_while_waiting g.is_broken c s.space t.space same waits;
+  live = λ s sound waits. sound.live waits;
+})
+
+module _ {S : Type 0} (g : stores.Ghosts S) (space : Ghosts (Group (Kept S))) (over : IsOver (words_of g) space) (old new : Service (Group (Kept S))) where
+  -- ---- a call
+
+  -- an airspace of a crash's outcome, as the space holds it
+  seen_in : waits_in (space_of new) ≡ false → is_whole_of g (space_of new).store → (db : Trees) → may_leave_of g (space_of new).store db → (b : Airspace) × space.holds (space_of new) b × Keeps db b
+  seen_in calm whole db may =
+      let it = leaves_held (state g (space_of new).store.conn) whole db may in
+      (it.0, over.calm_held (space_of new) it.0 calm it.1, it.2)
+
+  pub crash_leaves_grouped : (now : ℕ) (call : Call) (reply : Reply) → IsReplyTo space old new now call reply
+      → (space.fixed (space_of new) ≡ space.fixed (space_of old) → (waits_in (space_of old) || waits_in (space_of new)) ≡ true → (space_of new).store ≡ (space_of old).store)
+      → CrashLeavesGrouped g (salt_of old) now call old new reply
+  crash_leaves_grouped now call reply is rests = record {
+    alone = λ goes was_calm calm sound whole a content db may.
+        let after = is.answers goes in
+        let all_sound = over.calm_sound (space_of new) calm sound in
+        let all_whole = over.store_whole (space_of new) (after.whole all_sound (over.whole (space_of old) whole)) in
+        kept_after space (space_of new) db (seen_in calm all_whole db may) (salt_of old) a now call reply (after.step all_sound a (over.calm_content (space_of old) a was_calm content));
+    waiting = λ waits. rests is.stays.fixed waits;
+    stays = is.stays.shut;
+  }
+
+  -- ---- the end of a round
+
+  module _ (kept seen : Airspace) (content : IsContent (holds_of g) (space_of old).store kept) (held : space.holds (space_of old) seen) (sound : space.is_sound (space_of new)) (db : Trees) (found : (b : Airspace) × space.holds (space_of new) b × Keeps db b) where
+    settled_by : (result : Result (Unit {0}) SpaceFault) → IsSettled space (waiting_of (words_of g)) old new result → KeepsSettled kept seen result db
+    settled_by (Ok x) is = subst (λ b. Keeps db b) ((is.settles.done sound seen held).only found.0 found.1) found.2
+    settled_by (Err Unchanged) is = subst (λ b. Keeps db b) (content.only found.0 ((is.settles.refused sound refl found.0).1 found.1)) found.2
+    settled_by (Err Broken) is = elim (is.settles.no_other sound found.0 found.1) [
+      | inl before ↦ inl (subst (λ b. Keeps db b) (content.only found.0 before) found.2)
+      | inr after ↦ inr (subst (λ b. Keeps db b) (over.one (space_of old) kept seen found.0 content held after) found.2)
+    ]
+
+  pub crash_leaves_settled : (result : Result (Unit {0}) SpaceFault) → IsSettled space (waiting_of (words_of g)) old new result → is_sound_of g (space_of new).store → is_whole_of g (space_of old).store
+      → (kept seen : Airspace) → IsContent (holds_of g) (space_of old).store kept → space.holds (space_of old) seen → (db : Trees) → may_leave_of g (space_of new).store db → KeepsSettled kept seen result db
+  crash_leaves_settled result is sound whole kept seen content held db may =
+      let all_sound = over.calm_sound (space_of new) is.calm sound in
+      let all_whole = over.store_whole (space_of new) (is.settles.whole all_sound (over.whole (space_of old) whole)) in
+      settled_by kept seen content held all_sound db (seen_in is.calm all_whole db may) result is
