@@ -1,67 +1,207 @@
--- How one list of calls goes on.
-use Rattle.std.proofs.Common.{◌≡◌, ℕ, List, [], ◌∷◌, ◌++◌, map, refl, sym, subst, inl, inr, Result, Ok, Err}
-use Rattle.std.specs.Prelude.{IfErr, IfOk}
-use Rattle.std.proofs.lemmas.List.{map-append}
+-- How what was asked goes on, call by call and round by round.
+use Rattle.std.proofs.Common.{◌≡◌, ℕ, List, [], ◌∷◌, ◌++◌, map, refl, sym, ap, subst, ◌∙◌, ◌⊎◌, inl, inr, append_assoc, Option, Some, None, Result, Ok, Err}
+use Rattle.std.specs.Prelude.{◌||◌, IfErr, IfOk}
+use Rattle.std.specs.List.{flat_map}
+use Rattle.std.proofs.lemmas.List.{append-nil, map-append}
+use Rattle.std.proofs.lemmas.List.Concat.{flat_map-append}
 use Rattle.std.proofs.lemmas.List.Elements.{All-append, All-cons, All-nil}
-use Rattle.space_core.specs.declared.space.Space.{Ghosts}
+use Rattle.space_core.specs.declared.settle.Settles as settles
+use Rattle.space_core.specs.declared.space.Space as spaces
+use Rattle.space_core.specs.declared.space.SpaceFault.{SpaceFault}
 use Rattle.service_core.specs.declared.service.Service.{Service}
-use Rattle.service_core.specs.Run.{Answered, IsReplyTo, Timed}
-use Rattle.service_core.proofs.Runs.{answered}
+use Rattle.service_core.specs.Held.{space_of}
+use Rattle.service_core.specs.Rounds.{IsSettled, Made, MadeInOrder, MadeRounds, Round, all_timed, timed_in}
+use Rattle.service_core.specs.Run.{IsReplyTo, Timed}
 use Rattle.service_step.specs.declared.reply.Reply.{Reply}
 use Rattle.token_conf.specs.TokenFile.{Callers}
+use Rattle.wire_http.specs.Count.{one_more}
 use Rattle.wire_http.specs.declared.connection.Connection.{Connection}
 use Rattle.wire_http.specs.declared.connection.Step.{Step}
 use Rattle.wire_http.specs.declared.connection.Step.TheVariants as steps
 use Rattle.wire_http.specs.declared.fault.StreamFault.{StreamFault}
+use Rattle.wire_http.specs.declared.fault.StreamFault.TheVariants as faults
+use Rattle.wire_http.specs.declared.moments.Moments as moments
 use Rattle.wire_http.specs.Connection.{IsStep, IsStepPart}
-use Rattle.wire_http.specs.Wire.{Asked, timed}
-use Rattle.wire_http.proofs.ManyLaws.{one_more_call}
-use Rattle.dss_serve.specs.Serve.{GoesOn, IsAskedBy, ServesAll}
+use Rattle.wire_http.specs.Wire.{Asked, ClockAfter, timed}
+use Rattle.dss_serve.specs.Serve.{AreAmong, GoesOn, IsAskedBy, ServesAll, ServesSoFar, Told, moments_of}
 
-module _ {S : Type 0} (g : Ghosts S) (callers : Callers) where
-  pub serves_none : (s : Service S) → ServesAll g callers s s
-  serves_none s = record {
+-- ---- the clock
+
+module _ {M : Type 0} (m : moments.Ghosts M) where
+  told_then : (told more : List (Option ℕ)) (clock mid clock' : M) → Told m told clock mid → Told m more mid clock' → Told m (told ++ more) clock clock'
+  told_then [] more clock mid clock' h k = subst (λ (c : M). Told m more c clock') h k
+  told_then (Some moment ∷ told) more clock mid clock' h k = (h.0, h.1, told_then told more h.0 mid clock' h.2 k)
+  told_then (None ∷ told) more clock mid clock' h k = (h.0, h.1, told_then told more h.0 mid clock' h.2 k)
+
+among_more : (more told : List (Option ℕ)) (ms : List ℕ) → AreAmong ms told → AreAmong ms (more ++ told)
+among_more more told [] h = tt
+among_more more told (moment ∷ ms) h = (more ++ h.0, h.1, ap (λ (x : List (Option ℕ)). more ++ x) h.2 ∙ sym (append_assoc more h.0 (Some moment ∷ h.1)), h.3)
+
+among_then : (ms ns : List ℕ) (told more : List (Option ℕ)) → AreAmong ms told → AreAmong ns more → AreAmong (ms ++ ns) (told ++ more)
+among_then [] ns told more h k = among_more told more ns k
+among_then (moment ∷ ms) ns told more h k = (
+  h.0,
+  h.1 ++ more,
+  ap (λ (x : List (Option ℕ)). x ++ more) h.2 ∙ append_assoc h.0 (Some moment ∷ h.1) more,
+  among_then ms ns h.1 more h.3 k,
+)
+
+-- ---- calls and rounds
+
+module _ {S : Type 0} (g : spaces.Ghosts S) (k : settles.Ghosts S) where
+  made_then : (xs ys : List Made) (old mid new : Service S) → MadeInOrder g k old xs mid → MadeInOrder g k mid ys new → MadeInOrder g k old (xs ++ ys) new
+  made_then [] ys old mid new p q = subst (λ (s : Service S). MadeInOrder g k s ys new) p q
+  made_then (x ∷ xs) ys old mid new p q = (p.0, p.1, p.2, made_then xs ys p.0 mid new p.3 q)
+
+  rounds_then : (xs ys : List Round) (old mid new : Service S) → MadeRounds g k old xs mid → MadeRounds g k mid ys new → MadeRounds g k old (xs ++ ys) new
+  rounds_then [] ys old mid new p q = subst (λ (s : Service S). MadeRounds g k s ys new) p q
+  rounds_then (x ∷ xs) ys old mid new p q = (p.0, p.1, p.2, p.3, rounds_then xs ys p.1 mid new p.4 q)
+
+-- ---- what was asked
+
+module _ {S M : Type 0} (g : spaces.Ghosts S) (k : settles.Ghosts S) (m : moments.Ghosts M) (callers : Callers) where
+  -- no call was made, whatever the clock told
+  pub goes_nowhere : (old new : Service S) (told : List (Option ℕ)) (clock clock' : M) → new ≡ old → Told m told clock clock' → GoesOn g k m callers old new clock clock'
+  goes_nowhere old new told clock clock' same h = record {
     all = [];
-    replies = [];
+    round = [];
+    told = told;
     requests = All-nil (IsAskedBy callers);
-    answered = answered g s [] [] s refl;
+    calls = refl;
+    made = same;
+    clock_told = h;
+    moments = tt;
   }
 
-  pub goes_nowhere : (s : Service S) → GoesOn g callers s s
-  goes_nowhere s first h = h
+  pub goes_still : (s : Service S) (clock : M) → GoesOn g k m callers s s clock clock
+  goes_still s clock = goes_nowhere s s [] clock clock refl refl
 
-  pub goes_same : (old new : Service S) → new ≡ old → GoesOn g callers old new
-  goes_same old new same first h = subst (λ (s : Service S). ServesAll g callers first s) (sym same) h
-
-  pub goes_on_then : (old mid new : Service S) → GoesOn g callers old mid → GoesOn g callers mid new → GoesOn g callers old new
-  goes_on_then old mid new p q first h = q first (p first h)
-
-  pub goes_by_call : (old new : Service S) (asked : Asked) (reply : Reply) → IsAskedBy callers asked → IsReplyTo g old new asked.moment asked.call reply → GoesOn g callers old new
-  goes_by_call old new asked reply is_asked is_reply first h = record {
-    all = h.all ++ asked ∷ [];
-    replies = h.replies ++ reply ∷ [];
-    requests = All-append (IsAskedBy callers) h.all (asked ∷ []) h.requests (All-cons (IsAskedBy callers) asked [] is_asked (All-nil (IsAskedBy callers)));
-    answered = subst (λ (cs : List Timed). Answered g first cs (h.replies ++ reply ∷ []) new) (sym (map-append timed h.all (asked ∷ [])))
-        (one_more_call g old new first (map timed h.all) h.replies (timed asked) reply h.answered is_reply);
+  pub goes_on_then : (old mid new : Service S) (clock between clock' : M) → GoesOn g k m callers old mid clock between → GoesOn g k m callers mid new between clock'
+      → GoesOn g k m callers old new clock clock'
+  goes_on_then old mid new clock between clock' p q = record {
+    all = p.all ++ q.all;
+    round = p.round ++ q.round;
+    told = p.told ++ q.told;
+    requests = All-append (IsAskedBy callers) p.all q.all p.requests q.requests;
+    calls = map-append (λ (x : Made). x.timed) p.round q.round ∙ ap (λ (v : List Timed). v ++ map (λ (x : Made). x.timed) q.round) p.calls
+        ∙ ap (λ (v : List Timed). map timed p.all ++ v) q.calls ∙ sym (map-append timed p.all q.all);
+    made = made_then g k p.round q.round old mid new p.made q.made;
+    clock_told = told_then m p.told q.told clock between clock' p.clock_told q.clock_told;
+    moments = subst (λ (v : List ℕ). AreAmong v (p.told ++ q.told)) (sym (map-append (λ (x : Asked). x.moment) p.all q.all))
+        (among_then (moments_of p.all) (moments_of q.all) p.told q.told p.moments q.moments);
   }
 
-module _ {S M : Type 0} (g : Ghosts S) (Gives : M → ℕ → M → Type 0) (callers : Callers) (old new : Service S) (clock clock' : M) (c c' : Connection) where
-  pub step_goes_on : (step : Step) → IsStep g Gives callers old new clock clock' c c' step → GoesOn g callers old new
-  step_goes_on steps.Waits h = goes_same g callers old new h.0
-  step_goes_on (steps.Answered n) h =
-      goes_by_call g callers old new h.1.0 h.1.1 ((h.1.5 []).body, (h.1.5 []).call) h.1.3.is_reply
-  step_goes_on (steps.Ended end) h = goes_same g callers old new h.0
+  -- one call of a request was made, at the moment that the clock told
+  pub goes_by_call : (old new : Service S) (clock clock' : M) (asked : Asked) (reply : Reply) → IsAskedBy callers asked → IsReplyTo g old new asked.moment asked.call reply
+      → m.gives clock asked.moment clock' → GoesOn g k m callers old new clock clock'
+  goes_by_call old new clock clock' asked reply is_asked is_reply gives = record {
+    all = asked ∷ [];
+    round = record { timed = timed asked; reply = reply; waits = k.waits (space_of old) || k.waits (space_of new) } ∷ [];
+    told = Some asked.moment ∷ [];
+    requests = All-cons (IsAskedBy callers) asked [] is_asked (All-nil (IsAskedBy callers));
+    calls = refl;
+    made = (new, is_reply, refl, refl);
+    clock_told = (clock', gives, refl);
+    moments = ([], [], refl, tt);
+  }
 
-  pub part_goes_on : (fault : StreamFault) → IsStepPart g Gives callers old new clock clock' c c' fault → GoesOn g callers old new
-  part_goes_on fault h =
-      elim h.1.2 [
-        | inl unasked ↦ goes_same g callers old new unasked.same
-        | inr answering ↦ elim answering [
-          | inl answer ↦ goes_by_call g callers old new answer.asked answer.reply (answer.asks.body, answer.asks.call) answer.took.is_reply
-          | inr rule ↦ goes_same g callers old new rule.same
-        ]
+  pub serves_none : (s : Service S) (clock : M) → ServesAll g k m callers s s clock clock
+  serves_none s clock = record {
+    all = [];
+    rounds = [];
+    told = [];
+    requests = All-nil (IsAskedBy callers);
+    calls = refl;
+    made = refl;
+    clock_told = refl;
+    moments = tt;
+  }
+
+  pub serves_then : (old mid new : Service S) (clock between clock' : M) → ServesAll g k m callers old mid clock between → ServesAll g k m callers mid new between clock'
+      → ServesAll g k m callers old new clock clock'
+  serves_then old mid new clock between clock' p q = record {
+    all = p.all ++ q.all;
+    rounds = p.rounds ++ q.rounds;
+    told = p.told ++ q.told;
+    requests = All-append (IsAskedBy callers) p.all q.all p.requests q.requests;
+    calls = flat_map-append timed_in p.rounds q.rounds ∙ ap (λ (v : List Timed). v ++ all_timed q.rounds) p.calls
+        ∙ ap (λ (v : List Timed). map timed p.all ++ v) q.calls ∙ sym (map-append timed p.all q.all);
+    made = rounds_then g k p.rounds q.rounds old mid new p.made q.made;
+    clock_told = told_then m p.told q.told clock between clock' p.clock_told q.clock_told;
+    moments = subst (λ (v : List ℕ). AreAmong v (p.told ++ q.told)) (sym (map-append (λ (x : Asked). x.moment) p.all q.all))
+        (among_then (moments_of p.all) (moments_of q.all) p.told q.told p.moments q.moments);
+  }
+
+  -- a round of calls is settled
+  pub serves_round : (old mid new : Service S) (clock clock' : M) (settled : Result (Unit {0}) SpaceFault) → GoesOn g k m callers old mid clock clock'
+      → IsSettled g k mid new settled → ServesAll g k m callers old new clock clock'
+  serves_round old mid new clock clock' settled h is_settled = record {
+    all = h.all;
+    rounds = record { calls = h.round; settled = settled } ∷ [];
+    told = h.told;
+    requests = h.requests;
+    calls = append-nil (map (λ (x : Made). x.timed) h.round) ∙ h.calls;
+    made = (mid, new, h.made, is_settled, refl);
+    clock_told = h.clock_told;
+    moments = h.moments;
+  }
+
+  pub so_far_none : (s : Service S) (clock : M) → ServesSoFar g k m callers s s clock clock
+  so_far_none s clock = (s, clock, serves_none s clock, goes_still s clock)
+
+  pub so_far_settled : (old mid new : Service S) (clock clock' : M) (settled : Result (Unit {0}) SpaceFault) → ServesSoFar g k m callers old mid clock clock'
+      → IsSettled g k mid new settled → ServesAll g k m callers old new clock clock'
+  so_far_settled old mid new clock clock' settled p is_settled =
+      serves_then old p.0 new clock p.1 clock' p.2 (serves_round p.0 mid new p.1 clock' settled p.3 is_settled)
+
+  -- a turn, after which the round may have been settled
+  pub so_far_goes_on : (old mid next new : Service S) (clock between clock' : M) → ServesSoFar g k m callers old mid clock between
+      → GoesOn g k m callers mid next between clock' → (new ≡ next) ⊎ ((settled : Result (Unit {0}) SpaceFault) × IsSettled g k next new settled)
+      → ServesSoFar g k m callers old new clock clock'
+  so_far_goes_on old mid next new clock between clock' p q settles =
+      let far : ServesSoFar g k m callers old next clock clock' = (p.0, p.1, p.2, goes_on_then p.0 mid next p.1 between clock' p.3 q) in
+      elim settles [
+        | inl same ↦ subst (λ (s : Service S). ServesSoFar g k m callers old s clock clock') (sym same) far
+        | inr settled ↦ (new, clock', so_far_settled old next new clock clock' settled.0 far settled.1, goes_still new clock')
       ]
 
-  pub asked_goes_on : (asked : Result Step StreamFault) → IfOk asked (IsStep g Gives callers old new clock clock' c c') → IfErr asked (IsStepPart g Gives callers old new clock clock' c c') → GoesOn g callers old new
-  asked_goes_on (Ok step) ok err = step_goes_on step ok
-  asked_goes_on (Err fault) ok err = part_goes_on fault err
+-- ---- what a connection asks
+
+module _ {S M : Type 0} (g : spaces.Ghosts S) (k : settles.Ghosts S) (m : moments.Ghosts M) (callers : Callers) (old new : Service S) (clock clock' : M) where
+  -- before the next request was asked the clock told a moment, or that it failed, or nothing
+  unasked_goes_on : (fault : StreamFault) (left : List ℕ) → new ≡ old → (fault ≡ faults.Clock → m.failures clock' ≡ one_more (m.failures clock))
+      → ClockAfter m.gives callers fault left clock clock' → GoesOn g k m callers old new clock clock'
+  unasked_goes_on faults.Memory left same failed h =
+      elim h [
+        | inl stays ↦ goes_nowhere g k m callers old new [] clock clock' same stays
+        | inr came ↦ goes_nowhere g k m callers old new (Some came.2 ∷ []) clock clock' same (clock', came.4, refl)
+      ]
+  unasked_goes_on faults.Clock left same failed h = goes_nowhere g k m callers old new (None ∷ []) clock clock' same (clock', failed refl, refl)
+  unasked_goes_on faults.Read left same failed h = goes_nowhere g k m callers old new [] clock clock' same h
+  unasked_goes_on faults.Write left same failed h = goes_nowhere g k m callers old new [] clock clock' same h
+  unasked_goes_on faults.Turns left same failed h = goes_nowhere g k m callers old new [] clock clock' same h
+
+  module _ (c c' : Connection) where
+    step_goes_on : (step : Step) → IsStep g m.gives callers old new clock clock' c c' step → GoesOn g k m callers old new clock clock'
+    step_goes_on steps.Waits h = goes_nowhere g k m callers old new [] clock clock' h.0 h.1
+    step_goes_on (steps.Answered n) h =
+        goes_by_call g k m callers old new clock clock' h.1.0 h.1.1 ((h.1.5 []).body, (h.1.5 []).call) h.1.3.is_reply (h.1.5 []).moment
+    step_goes_on (steps.Ended end) h = goes_nowhere g k m callers old new [] clock clock' h.0 h.1
+
+    part_goes_on : (fault : StreamFault) → (fault ≡ faults.Clock → m.failures clock' ≡ one_more (m.failures clock))
+        → IsStepPart g m.gives callers old new clock clock' c c' fault → GoesOn g k m callers old new clock clock'
+    part_goes_on fault failed h =
+        elim h.1.2 [
+          | inl unasked ↦ unasked_goes_on fault _ unasked.same failed unasked.clock_is
+          | inr answering ↦ elim answering [
+            | inl answer ↦ goes_by_call g k m callers old new clock clock' answer.asked answer.reply (answer.asks.body, answer.asks.call) answer.took.is_reply answer.asks.moment
+            | inr rule ↦ goes_nowhere g k m callers old new [] clock clock' rule.same rule.clock_is
+          ]
+        ]
+
+    pub asked_goes_on : (asked : Result Step StreamFault) → IfOk asked (IsStep g m.gives callers old new clock clock' c c')
+        → IfErr asked (IsStepPart g m.gives callers old new clock clock' c c')
+        → (asked ≡ Err faults.Clock → m.failures clock' ≡ one_more (m.failures clock))
+        → GoesOn g k m callers old new clock clock'
+    asked_goes_on (Ok step) ok err failed = step_goes_on step ok
+    asked_goes_on (Err fault) ok err failed = part_goes_on fault (λ is. failed (ap (λ (x : StreamFault). Err x) is)) err

@@ -1,9 +1,14 @@
 -- How bytes move between a client's socket and its connection.
-use Rattle.std.specs.Prelude.{◌≡◌, ◌<◌, ℕ, Bool, true, false, List, [], ◌++◌, length, take, drop, Option}
+use Rattle.std.specs.Prelude.{◌≡◌, ◌<◌, ℕ, Bool, true, false, List, [], ◌++◌, length, take, drop, Option, None, Result, Ok, Err, OnOk, OnErr}
 use Rattle.std.specs.Io.KnownBytes.{Appends, Consumes, IsAtEnd, Keeps}
+use Rattle.service_core.specs.Service.{reply_of}
+use Rattle.service_step.specs.declared.halt.Halt.TheVariants as halts
+use Rattle.service_step.specs.declared.reply.Reply.{Reply}
+use Rattle.space_core.specs.declared.space.SpaceFault.{SpaceFault}
 use Rattle.wire_http.specs.declared.connection.Connection.{Connection}
-use Rattle.wire_http.specs.Connection.{has_ended, held_of, is_done, left_of, output_of}
+use Rattle.wire_http.specs.Connection.{has_ended, held_of, is_done, left_of, output_of, ready_of, slot_of}
 use Rattle.wire_http.specs.Count.{most_requests}
+use Rattle.wire_http.specs.HeldBack.{text_at}
 use Rattle.dss_serve.specs.declared.link.Came.{Came}
 use Rattle.dss_serve.specs.declared.link.Came.TheVariants as came
 use Rattle.dss_serve.specs.declared.link.Link.{Link}
@@ -20,6 +25,7 @@ connection_of link = link.connection
 pub record IsFresh (c : Connection) : Type 0 where
   pub held : held_of c ≡ []
   pub output : output_of c ≡ []
+  pub slot : slot_of c ≡ None
   pub left : left_of c ≡ most_requests
   pub ended : has_ended c ≡ false
   pub done : is_done c ≡ false
@@ -28,9 +34,43 @@ pub record IsFresh (c : Connection) : Type 0 where
 pub record TakesIn (old new : Connection) (bytes : List ℕ) (ended : Bool) : Type 0 where
   pub held : held_of new ≡ held_of old ++ bytes
   pub output : output_of new ≡ output_of old
+  pub ready : ready_of new ≡ ready_of old
+  pub slot : slot_of new ≡ slot_of old
   pub left : left_of new ≡ left_of old
   pub ended_is : has_ended new ≡ ended
   pub done : is_done new ≡ is_done old
+
+-- all that is to be sent may go, and no byte is another
+pub record LetsGo (old new : Connection) : Type 0 where
+  pub held : held_of new ≡ held_of old
+  pub output : output_of new ≡ output_of old
+  pub ready : ready_of new ≡ output_of old
+  pub slot : slot_of new ≡ None
+  pub left : left_of new ≡ left_of old
+  pub ended : has_ended new ≡ has_ended old
+  pub done : is_done new ≡ is_done old
+
+-- what was answered is held back where changes wait, and else may go
+abbrev pub GoesUnless : Bool → Connection → Connection → Type 0
+GoesUnless true old new = new ≡ old
+GoesUnless false old new = LetsGo old new
+
+-- In the place of the answer that was held back the one to that reply may be sent; without memory
+-- neither is.
+pub record TellsInstead {E : Type 0} (reply : Reply) (old new : Connection)
+    (told : Result (Unit {0}) E) : Type 0 where
+  pub held : held_of new ≡ held_of old
+  pub output : OnOk told (output_of new ≡ ready_of old ++ text_at (slot_of old) reply)
+  pub dropped : OnErr told (output_of new ≡ ready_of old)
+  pub ready : ready_of new ≡ output_of new
+  pub slot : slot_of new ≡ None
+
+-- How an answer that waited for the end of its round is told: as it was made where the changes were
+-- kept, and else the reply to that fault is told in its place.
+abbrev pub IsToldBy : {E : Type 0} → Result (Unit {0}) SpaceFault → Connection → Connection
+    → Result (Unit {0}) E → Type 0
+IsToldBy (Ok x) old new told = LetsGo old new
+IsToldBy (Err fault) old new told = TellsInstead (reply_of (halts.Space fault)) old new told
 
 module _ {T : Type 0} (coming gone : T → Option (List ℕ)) (old new : Link T) where
   -- The socket gave these bytes, and no other byte of it is lost.
@@ -48,13 +88,16 @@ module _ {T : Type 0} (coming gone : T → Option (List ℕ)) (old new : Link T)
       × Keeps (coming (socket_of old)) (coming (socket_of new))
       × Keeps (gone (socket_of old)) (gone (socket_of new))
 
-  -- The socket took the first bytes of what was to be sent, and what is left of it is to be sent.
+  -- The socket took the first bytes of what may be sent, and what is left of it is to be sent. No
+  -- byte of an answer that is held back is among them.
   pub record HandsOver (count : ℕ) : Type 0 where
     pub some : 0 < count
     pub sent : Appends (gone (socket_of old)) (gone (socket_of new))
-        (take count (output_of (connection_of old)))
+        (take count (ready_of (connection_of old)))
     pub kept : Keeps (coming (socket_of old)) (coming (socket_of new))
     pub output : output_of (connection_of new) ≡ drop count (output_of (connection_of old))
+    pub ready : ready_of (connection_of new) ≡ drop count (ready_of (connection_of old))
+    pub slot : slot_of (connection_of new) ≡ slot_of (connection_of old)
     pub held : held_of (connection_of new) ≡ held_of (connection_of old)
     pub left : left_of (connection_of new) ≡ left_of (connection_of old)
     pub ended : has_ended (connection_of new) ≡ has_ended (connection_of old)

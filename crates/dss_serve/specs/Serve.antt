@@ -1,27 +1,65 @@
 -- What is known of all that many clients asked.
-use Rattle.std.specs.Prelude.{ℕ, List, All, map}
-use Rattle.space_core.specs.declared.space.Space.{Ghosts}
+use Rattle.std.specs.Prelude.{◌≡◌, ℕ, List, [], ◌∷◌, ◌++◌, All, map, Option, Some, None}
+use Rattle.space_core.specs.declared.settle.Settles as settles
+use Rattle.space_core.specs.declared.space.Space as spaces
 use Rattle.service_core.specs.declared.service.Service.{Service}
-use Rattle.service_core.specs.Run.{Answered}
-use Rattle.service_step.specs.declared.reply.Reply.{Reply}
+use Rattle.service_core.specs.Rounds.{Made, MadeInOrder, MadeRounds, Round, all_timed}
 use Rattle.token_conf.specs.TokenFile.{Callers}
 use Rattle.wire_http.specs.Asked.{IsCallOf}
+use Rattle.wire_http.specs.Count.{one_more}
 use Rattle.wire_http.specs.Wire.{Asked, timed}
+use Rattle.wire_http.specs.declared.moments.Moments as moments
 
 -- some request makes this call, of the caller whose token it bears
 abbrev pub IsAskedBy : Callers → Asked → Type 0
 IsAskedBy callers asked = (body : List ℕ) × IsCallOf callers asked.head body asked.place asked.call
 
--- The service was asked calls of requests, one after the other, and no other, and these are the
--- replies: one list of calls, whoever made them.
-pub record ServesAll {S : Type 0} (g : Ghosts S) (callers : Callers) (old new : Service S)
-    : Type 0 where
-  pub all : List Asked
-  pub replies : List Reply
-  pub requests : All (IsAskedBy callers) all
-  pub answered : Answered g old (map timed all) replies new
+-- What a clock told in order: a moment, or that it failed.
+abbrev pub Told : {M : Type 0} → moments.Ghosts M → List (Option ℕ) → M → M → Type 0
+Told m [] clock clock' = clock' ≡ clock
+Told {M} m (Some moment ∷ told) clock clock' =
+    (mid : M) × m.gives clock moment mid × Told m told mid clock'
+Told {M} m (None ∷ told) clock clock' =
+    (mid : M) × (m.failures mid ≡ one_more (m.failures clock)) × Told m told mid clock'
 
--- what was one list of calls goes on as one
-abbrev pub GoesOn : {S : Type 0} → Ghosts S → Callers → Service S → Service S → Type 0
-GoesOn {S} g callers old new = (first : Service S) → ServesAll g callers first old
-    → ServesAll g callers first new
+-- These moments are among what was told, in that order.
+abbrev pub AreAmong : List ℕ → List (Option ℕ) → Type 0
+AreAmong [] told = Unit {0}
+AreAmong (moment ∷ more) told = (before : List (Option ℕ)) × (after : List (Option ℕ))
+    × (told ≡ before ++ Some moment ∷ after) × AreAmong more after
+
+-- the moments of calls
+abbrev pub moments_of : List Asked → List ℕ
+moments_of all = map (λ asked. asked.moment) all
+
+module _ {S M : Type 0} (g : spaces.Ghosts S) (k : settles.Ghosts S) (m : moments.Ghosts M)
+    (callers : Callers) where
+  -- The service was asked calls of requests, one after the other, and no other: one list of calls,
+  -- whoever made them. They were made in rounds, each of which was settled at its end: a client whose
+  -- reply waited for that was told it as it was made only where the changes were kept. Each call was
+  -- made at a moment of the clock, which told no more than that.
+  pub record ServesAll (old new : Service S) (clock clock' : M) : Type 0 where
+    pub all : List Asked
+    pub rounds : List Round
+    pub told : List (Option ℕ)
+    pub requests : All (IsAskedBy callers) all
+    pub calls : all_timed rounds ≡ map timed all
+    pub made : MadeRounds g k old rounds new
+    pub clock_told : Told m told clock clock'
+    pub moments : AreAmong (moments_of all) told
+
+  -- It was asked calls of requests in a round that is not settled yet.
+  pub record GoesOn (old new : Service S) (clock clock' : M) : Type 0 where
+    pub all : List Asked
+    pub round : List Made
+    pub told : List (Option ℕ)
+    pub requests : All (IsAskedBy callers) all
+    pub calls : map (λ made. made.timed) round ≡ map timed all
+    pub made : MadeInOrder g k old round new
+    pub clock_told : Told m told clock clock'
+    pub moments : AreAmong (moments_of all) told
+
+  -- It was asked calls in rounds that are settled, and in one that is not settled yet.
+  abbrev pub ServesSoFar : Service S → Service S → M → M → Type 0
+  ServesSoFar old new clock clock' = (mid : Service S) × (between : M)
+      × ServesAll old mid clock between × GoesOn mid new between clock'

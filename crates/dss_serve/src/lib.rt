@@ -2,6 +2,7 @@
 #![tactic(auto)]
 
 mod desk;
+mod held_back;
 pub mod journal;
 pub mod limits;
 mod link;

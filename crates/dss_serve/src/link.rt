@@ -1,12 +1,17 @@
 //! A client's socket with its connection, and the bytes that move between the two.
-ghost use Rattle.dss_serve.specs.Link.{connection_of, socket_of, IsFresh, Receives, Sends};
+ghost use Rattle.std.specs.Prelude.{◌≡◌};
+ghost use Rattle.service_core.specs.Service.{reply_of};
+ghost use Rattle.service_step.specs.declared.halt.Halt.TheVariants as halts;
+ghost use Rattle.dss_serve.specs.Link.{connection_of, socket_of, GoesUnless, IsFresh, IsToldBy, LetsGo, Receives, Sends};
 
 use crate::desk::Desk;
 use crate::limits::PIECE;
 use crate::sockets::Socket;
 use service_core::service::Service;
-use space_core::space::Space;
-use std::alloc::Global;
+use service_step::reply::Reply;
+use space_core::settle::Settles;
+use space_core::space::SpaceFault;
+use std::alloc::{AllocError, Global};
 use std::io::ErrorKind;
 use wire_http::{Connection, Moments, Step, StreamFault};
 
@@ -58,6 +63,16 @@ fn status_in(text: &[u8]) -> Option<u16> {
     }
 }
 
+// What is told in the place of an answer whose changes were not kept.
+fn reply_to(fault: SpaceFault) -> Reply
+    ensures { result ≡ reply_of (halts.Space fault) }
+{
+    match fault {
+        SpaceFault::Unchanged => Reply::Fault,
+        SpaceFault::Broken => Reply::Stopped,
+    }
+}
+
 /// A client's socket with its connection.
 #[derive(Drop)]
 pub(crate) struct Link<T> {
@@ -66,10 +81,11 @@ pub(crate) struct Link<T> {
 }
 
 impl<T: Socket> Link<T> {
-    ghost use Rattle.std.specs.Prelude.{◌≡◌, ◌<◌, ◌-◌, ◌↔◌, false, length, IfOk, IfErr, IsTrue};
+    ghost use Rattle.std.specs.Prelude.{◌<◌, ◌-◌, ◌↔◌, ◌||◌, false, length, IfOk, IfErr, IsTrue};
     ghost use Rattle.token_conf.specs.TokenFile.{callers_of};
-    ghost use Rattle.service_core.specs.Held.{Stays};
-    ghost use Rattle.wire_http.specs.Connection.{held_of, is_done, output_of, IsStep, IsStepPart};
+    ghost use Rattle.service_core.specs.Held.{Stays, space_of};
+    ghost use Rattle.wire_http.specs.Connection.{held_of, held_back_of, holds_back, is_done, ready_of, IsStep, IsStepPart};
+    ghost use Rattle.wire_http.specs.declared.connection.Connection.{Connection};
     ghost use Rattle.wire_http.specs.Held.{most_held};
     ghost use Rattle.dss_serve.specs.Serve.{GoesOn};
 
@@ -105,14 +121,28 @@ impl<T: Socket> Link<T> {
         self.connection.holds_any()
     }
 
-    /// Whether bytes of answers are to be sent.
+    /// Whether bytes of answers are to be sent, beside those that are held back.
     pub(crate) fn wants_write(&self) -> bool
-        ensures { IsTrue result ↔ (0 < length (output_of (connection_of self.now))) }
+        ensures { IsTrue result ↔ (0 < length (ready_of (connection_of self.now))) }
     {
         self.connection.wants_write()
     }
 
-    /// The answer that is to be sent, where there is just one.
+    /// Whether an answer is held back.
+    pub(crate) fn holds_back(&self) -> bool
+        ensures { result ≡ holds_back (connection_of self.now) }
+    {
+        self.connection.holds_back()
+    }
+
+    /// How many bytes of it there are.
+    pub(crate) fn bytes_held_back(&self) -> usize
+        ensures { result ≡ length (held_back_of (connection_of self.now)) }
+    {
+        self.connection.held_back().len()
+    }
+
+    /// The answer that is to be sent, where there is just one and it is not held back.
     pub(crate) fn answer(&self) -> Option<Answer> {
         let text = self.connection.output();
         let status = status_in(text)?;
@@ -172,27 +202,70 @@ impl<T: Socket> Link<T> {
         }
     }
 
-    /// Answers the next request, if it is held whole, or ends the connection's requests.
-    pub(crate) fn ask<S: Space + Drop, M: Moments>(
+    // Lets the last answer go, unless changes waited before it or wait after it.
+    fn let_go_unless(&mut self, waited: bool, waits: bool)
+        ensures goes { GoesUnless (waited || waits)
+            (connection_of self.old) (connection_of self.new) }
+        ensures socket { socket_of self.new ≡ socket_of self.old }
+    {
+        if waited {
+            return;
+        }
+        if waits {
+            return;
+        }
+        self.connection.let_go();
+    }
+
+    /// Answers the next request, if it is held whole, or ends the connection's requests. An answer is
+    /// held back where changes wait to be kept, before the call or after it.
+    pub(crate) fn ask<S: Settles + Drop, M: Moments>(
         &mut self,
         desk: Desk<'_>,
         service: &mut Service<S>,
         moments: &mut M,
     ) -> Result<Step, StreamFault>
         requires open { is_done (connection_of self.old) ≡ false }
-        ensures step { IfOk result (IsStep S.Space M.gives (callers_of desk.entry.tokens.now)
-            service.old service.new moments.old moments.new
-            (connection_of self.old) (connection_of self.new)) }
+        requires none_back { holds_back (connection_of self.old) ≡ false }
+        ensures step { IfOk result (λ step. (c : Connection)
+            × IsStep S.Space M.gives (callers_of desk.entry.tokens.now)
+            service.old service.new moments.old moments.new (connection_of self.old) c step
+            × GoesUnless (S.waits (space_of service.old) || S.waits (space_of service.new))
+            c (connection_of self.new)) }
         ensures part { IfErr result (IsStepPart S.Space M.gives (callers_of desk.entry.tokens.now)
             service.old service.new moments.old moments.new
             (connection_of self.old) (connection_of self.new)) }
         ensures socket { socket_of self.new ≡ socket_of self.old }
-        ensures goes_on { GoesOn S.Space (callers_of desk.entry.tokens.now)
-            service.old service.new }
+        ensures goes_on { GoesOn S.Space S.Settles.own M.Moments (callers_of desk.entry.tokens.now)
+            service.old service.new moments.old moments.new }
         ensures stays { Stays S.Space service.old service.new }
     {
-        self.connection
-            .advance(desk.alloc, desk.routes, service, desk.tokens, moments)
+        let waited = service.is_waiting();
+        let step = self
+            .connection
+            .advance(desk.alloc, desk.routes, service, desk.tokens, moments)?;
+        let waits = service.is_waiting();
+        self.let_go_unless(waited, waits);
+        Ok(step)
+    }
+
+    /// Tells the answer that is held back, by how its round was settled. Without memory nothing of it
+    /// is told.
+    pub(crate) fn tell(
+        &mut self,
+        alloc: Global,
+        settled: Result<(), SpaceFault>,
+    ) -> Result<(), AllocError>
+        ensures told { IsToldBy settled (connection_of self.old) (connection_of self.new) result }
+        ensures socket { socket_of self.new ≡ socket_of self.old }
+    {
+        match settled {
+            Ok(()) => {
+                self.connection.let_go();
+                Ok(())
+            }
+            Err(fault) => self.connection.replace(alloc, &reply_to(fault)),
+        }
     }
 
     /// Says that no answer more is sent. `false`: nobody is there to be told.

@@ -8,7 +8,8 @@ use crate::link::{Answer, Came, Link, Went};
 use crate::phase::Phase;
 use crate::sockets::{Socket, Told};
 use service_core::service::Service;
-use space_core::space::Space;
+use space_core::settle::Settles;
+use space_core::space::SpaceFault;
 use std::alloc::Global;
 use std::time::Duration;
 use wire_http::{Moments, Step, StreamFault};
@@ -20,6 +21,8 @@ pub(crate) enum Turned {
     Again,
     /// It waits for its socket.
     Rests,
+    /// Its answer is held back until the round is settled.
+    HeldBack,
     /// It waits for a place among those that hold a large request.
     WantsPlace,
     /// Its connection is to be closed.
@@ -282,16 +285,9 @@ impl<T: Socket> Peer<T> {
         self.receive(now)
     }
 
-    // What becomes of the client after a step, whose answer is sent as far as it can be.
-    fn answered(&mut self, step: Step, now: Duration) -> Result<Turned, StreamFault> {
-        self.lacks = match step {
-            Step::Waits => true,
-            Step::Answered(left) => left > 0 && !self.link.holds_any(),
-            Step::Ended(_) => false,
-        };
-        if step == Step::Waits {
-            return Ok(again_if(self.readable));
-        }
+    // What becomes of the client, whose answer is sent as far as it can be.
+    fn answered(&mut self, now: Duration) -> Result<Turned, StreamFault> {
+        self.answer = self.link.answer();
         if self.link.wants_write() {
             if self.writable {
                 self.send(now)?;
@@ -307,14 +303,15 @@ impl<T: Socket> Peer<T> {
     }
 
     // Answers the next request, for which one piece is read where it is not held.
-    fn serve<S: Space + Drop, M: Moments>(
+    fn serve<S: Settles + Drop, M: Moments>(
         &mut self,
         desk: Desk<'_>,
         service: &mut Service<S>,
         moments: &mut M,
         now: Duration,
     ) -> Result<Turned, StreamFault>
-        ensures { GoesOn S.Space (callers_of desk.entry.tokens.now) service.old service.new }
+        ensures { GoesOn S.Space S.Settles.own M.Moments (callers_of desk.entry.tokens.now)
+            service.old service.new moments.old moments.new }
     {
         if let Some(turned) = self.prepare(now)? {
             return Ok(turned);
@@ -322,21 +319,35 @@ impl<T: Socket> Peer<T> {
         if self.link.is_done() {
             return Ok(self.end(now));
         }
+        if self.link.holds_back() {
+            return Ok(Turned::HeldBack);
+        }
         let step = self.link.ask(desk, service, moments)?;
-        self.answer = self.link.answer();
-        self.answered(step, now)
+        self.lacks = match step {
+            Step::Waits => true,
+            Step::Answered(left) => left > 0 && !self.link.holds_any(),
+            Step::Ended(_) => false,
+        };
+        if step == Step::Waits {
+            return Ok(again_if(self.readable));
+        }
+        if self.link.holds_back() {
+            return Ok(Turned::HeldBack);
+        }
+        self.answered(now)
     }
 
     /// One turn: at most one piece is read, one request answered, and two pieces sent. Of a client
     /// that is known to be gone no request is answered any more.
-    pub(crate) fn turn<S: Space + Drop, M: Moments>(
+    pub(crate) fn turn<S: Settles + Drop, M: Moments>(
         &mut self,
         desk: Desk<'_>,
         service: &mut Service<S>,
         moments: &mut M,
         now: Duration,
     ) -> Turned
-        ensures { GoesOn S.Space (callers_of desk.entry.tokens.now) service.old service.new }
+        ensures { GoesOn S.Space S.Settles.own M.Moments (callers_of desk.entry.tokens.now)
+            service.old service.new moments.old moments.new }
     {
         if self.is_ending() {
             return self.skip(now);
@@ -345,6 +356,27 @@ impl<T: Socket> Peer<T> {
             return Turned::Failed(StreamFault::Read);
         }
         match self.serve(desk, service, moments, now) {
+            Ok(turned) => turned,
+            Err(fault) => Turned::Failed(fault),
+        }
+    }
+
+    /// How many bytes the answer has that is held back.
+    pub(crate) fn bytes_held_back(&self) -> usize {
+        self.link.bytes_held_back()
+    }
+
+    /// The rest of its turn, once the round is settled: it is told its answer.
+    pub(crate) fn tell(
+        &mut self,
+        alloc: Global,
+        settled: Result<(), SpaceFault>,
+        now: Duration,
+    ) -> Turned {
+        if self.link.tell(alloc, settled).is_err() {
+            return Turned::Failed(StreamFault::Memory);
+        }
+        match self.answered(now) {
             Ok(turned) => turned,
             Err(fault) => Turned::Failed(fault),
         }

@@ -1,9 +1,12 @@
 //! All clients of a port, and whose turn it is.
-ghost use Rattle.std.specs.Prelude.{IsSome, IsTrue};
+ghost use Rattle.std.specs.Prelude.{◌≡◌, ◌⊎◌, IsSome, IsTrue, Result};
 ghost use Rattle.token_conf.specs.TokenFile.{callers_of};
-ghost use Rattle.dss_serve.specs.Serve.{GoesOn};
+ghost use Rattle.service_core.specs.Rounds.{IsSettled};
+ghost use Rattle.space_core.specs.declared.space.SpaceFault.{SpaceFault};
+ghost use Rattle.dss_serve.specs.Serve.{GoesOn, ServesAll};
 
 use crate::desk::Desk;
+use crate::held_back::HeldBack;
 use crate::journal::Journal;
 use crate::limits::{FULL, LARGE_PLACES, LOOKS, LOOKS_SOON, Limits, MOST_CLIENTS, STOPPING};
 use crate::operator::Board;
@@ -13,7 +16,8 @@ use crate::sockets::{NotTaken, Sockets, Told, Watched};
 use dss_admin::figures::{Build, Cause, Figures};
 use service_core::service::Service;
 use slab::Slab;
-use space_core::space::Space;
+use space_core::settle::Settles;
+use space_core::space::SpaceFault;
 use std::alloc::{AllocError, Global};
 use std::collections::VecDeque;
 use std::time::Duration;
@@ -44,6 +48,8 @@ pub(crate) struct Port<N: Sockets> {
     spare: Vec<usize>,
     wanting: VecDeque<usize>,
     places: usize,
+    // those whose answers are held back in a round: none after it
+    held_back: HeldBack,
     // how many connections may still be accepted, if they are counted, whether one may wait, and until
     // when the system has no room for it
     left: Option<u64>,
@@ -72,6 +78,7 @@ impl<N: Sockets + Drop> Port<N> {
         let next = Vec::with_capacity(alloc, clients)?;
         let spare = Vec::with_capacity(alloc, clients)?;
         let wanting = VecDeque::with_capacity(alloc, clients)?;
+        let held_back = HeldBack::new(alloc)?;
         let operators = Operators::new(alloc, is_operated)?;
         Ok(Port {
             alloc,
@@ -82,6 +89,7 @@ impl<N: Sockets + Drop> Port<N> {
             spare,
             wanting,
             places: LARGE_PLACES,
+            held_back,
             left: limits.count,
             waiting: true,
             full_until: Duration::from_millis(0),
@@ -285,8 +293,24 @@ impl<N: Sockets + Drop> Port<N> {
         }
     }
 
+    // Has a client wait until the round is settled.
+    fn hold_back(&mut self, key: usize) -> Turned {
+        let Some(peer) = self.peers.get(key) else {
+            return Turned::Gone;
+        };
+        if self.held_back.push(key, peer.bytes_held_back()) {
+            Turned::HeldBack
+        } else {
+            Turned::Failed(StreamFault::Memory)
+        }
+    }
+
     // Does with a client what its turn has shown.
-    fn settle<J: Journal>(&mut self, key: usize, turned: Turned, now: Duration, journal: &mut J) {
+    fn act_on<J: Journal>(&mut self, key: usize, turned: Turned, now: Duration, journal: &mut J) {
+        let turned = match turned {
+            Turned::HeldBack => self.hold_back(key),
+            _ => turned,
+        };
         let turned = match turned {
             Turned::Failed(fault) => {
                 journal.failed(fault);
@@ -300,7 +324,7 @@ impl<N: Sockets + Drop> Port<N> {
         };
         match turned {
             Turned::Again => self.queue(key),
-            Turned::Rests => {}
+            Turned::Rests | Turned::HeldBack => {}
             Turned::WantsPlace => return self.ask_for_place(key, now),
             Turned::Gone | Turned::Failed(_) => return self.close(key, now),
         }
@@ -322,8 +346,20 @@ impl<N: Sockets + Drop> Port<N> {
         }
     }
 
+    // Counts what a client was told in its turn, and does what that has shown.
+    fn conclude<J: Journal>(&mut self, key: usize, turned: Turned, now: Duration, journal: &mut J) {
+        let Some(peer) = self.peers.get_mut(key) else {
+            return;
+        };
+        if let Some(answer) = peer.take_answer() {
+            self.figures
+                .answer(answer.status, answer.size, answer.stops);
+        }
+        self.act_on(key, turned, now, journal);
+    }
+
     // Gives a client its turn.
-    fn turn<S: Space + Drop, M: Moments, J: Journal>(
+    fn turn<S: Settles + Drop, M: Moments, J: Journal>(
         &mut self,
         key: usize,
         desk: Desk<'_>,
@@ -332,7 +368,8 @@ impl<N: Sockets + Drop> Port<N> {
         now: Duration,
         journal: &mut J,
     )
-        ensures { GoesOn S.Space (callers_of desk.entry.tokens.now) service.old service.new }
+        ensures { GoesOn S.Space S.Settles.own M.Moments (callers_of desk.entry.tokens.now)
+            service.old service.new moments.old moments.new }
     {
         let Some(peer) = self.peers.get_mut(key) else {
             return;
@@ -340,16 +377,66 @@ impl<N: Sockets + Drop> Port<N> {
         peer.set_queued(false);
         let was_ending = peer.is_ending();
         let turned = peer.turn(desk, service, moments, now);
-        if let Some(answer) = peer.take_answer() {
-            self.figures
-                .answer(answer.status, answer.size, answer.stops);
-        }
-        self.settle(key, turned, now, journal);
+        self.conclude(key, turned, now, journal);
         self.count_ending(key, was_ending);
     }
 
-    /// Gives each client that has one its turn.
-    pub(crate) fn round<S: Space + Drop, M: Moments, J: Journal>(
+    // Tells a client the answer that was held back, by how its round was settled.
+    fn tell<J: Journal>(
+        &mut self,
+        key: usize,
+        settled: Result<(), SpaceFault>,
+        now: Duration,
+        journal: &mut J,
+    ) {
+        let Some(peer) = self.peers.get_mut(key) else {
+            return;
+        };
+        let was_ending = peer.is_ending();
+        let turned = peer.tell(self.alloc, settled, now);
+        self.conclude(key, turned, now, journal);
+        self.count_ending(key, was_ending);
+    }
+
+    // Settles what the clients were answered, and has each be told that waits for it.
+    fn settle<S: Settles + Drop, J: Journal>(
+        &mut self,
+        service: &mut Service<S>,
+        now: Duration,
+        journal: &mut J,
+    )
+        ensures { (settled : Result (Unit {0}) SpaceFault)
+            × IsSettled S.Space S.Settles.own service.old service.new settled }
+    {
+        let settled = service.settle();
+        for _ in 0..usize::MAX {
+            let Some(key) = self.held_back.pop() else {
+                return;
+            };
+            self.tell(key, settled, now, journal);
+        }
+    }
+
+    // Settles it where enough clients wait for that.
+    fn settle_if_enough<S: Settles + Drop, J: Journal>(
+        &mut self,
+        service: &mut Service<S>,
+        now: Duration,
+        journal: &mut J,
+    )
+        ensures { (service.new ≡ service.old) ⊎ ((settled : Result (Unit {0}) SpaceFault)
+            × IsSettled S.Space S.Settles.own service.old service.new settled) }
+    {
+        if !self.held_back.are_enough() {
+            return;
+        }
+        self.settle(service, now, journal);
+    }
+
+    /// Gives each client that has one its turn, and settles what they were answered. Each answer that
+    /// waits for that is told then: before the changes are kept, no answer to one, nor one that has
+    /// seen it, is sent. Where many wait, the round is settled more than once.
+    pub(crate) fn round<S: Settles + Drop, M: Moments, J: Journal>(
         &mut self,
         desk: Desk<'_>,
         service: &mut Service<S>,
@@ -357,13 +444,19 @@ impl<N: Sockets + Drop> Port<N> {
         now: Duration,
         journal: &mut J,
     )
-        ensures { GoesOn S.Space (callers_of desk.entry.tokens.now) service.old service.new }
+        ensures { ServesAll S.Space S.Settles.own M.Moments (callers_of desk.entry.tokens.now)
+            service.old service.new moments.old moments.new }
     {
+        if self.next.is_empty() {
+            return;
+        }
         let spare = mem::replace(&mut self.spare, Vec::new(self.alloc));
         let mut keys = mem::replace(&mut self.next, spare);
         for key in &keys {
             self.turn(*key, desk, service, moments, now, journal);
+            self.settle_if_enough(service, now, journal);
         }
+        self.settle(service, now, journal);
         keys.clear();
         self.spare = keys;
     }
@@ -381,7 +474,7 @@ impl<N: Sockets + Drop> Port<N> {
             Some(fault) => Turned::Failed(fault),
             None => Turned::Gone,
         };
-        self.settle(key, turned, now, journal);
+        self.act_on(key, turned, now, journal);
         self.count_ending(key, was_ending);
     }
 

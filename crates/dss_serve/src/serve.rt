@@ -10,7 +10,7 @@ use crate::port::Port;
 use crate::sockets::Sockets;
 use dss_admin::figures::Build;
 use service_core::service::Service;
-use space_core::space::Space;
+use space_core::settle::Settles;
 use std::alloc::Global;
 use std::io;
 use std::io::ErrorKind;
@@ -25,13 +25,21 @@ use wire_route::routes::Routes;
 /// was asked one list of calls, each made by a request that bears the token of its caller. Each
 /// client that has something to do has a turn before any has its second.
 ///
+/// Calls are made in rounds, of one turn of each client. The changes of a round are kept at its end,
+/// all of them or none, and no answer to a change, nor one that has seen it, is sent before that. Where
+/// they are not kept, each of those answers is told as a fault: several clients have status 500 then,
+/// or 503 where the service has stopped. When the function returns, every round has ended so.
+///
+/// Each call is made at a moment of the clock, which tells one for each request: only where it fails,
+/// or memory lacks, is a request not asked.
+///
 /// With a build there is an operator's port, whose connections are answered in the same rounds; nothing
 /// that is asked there is a call of the service.
 ///
 /// It is done only where a number of connections is given, or an operator may tell it to end. An
 /// error is one of the system that ends the service; the calls before it stand. A fault of a client
 /// is told to the journal, and ends that client's connection alone.
-pub fn serve_clients<S: Space + Drop, M: Moments, N: Sockets + Drop, J: Journal>(
+pub fn serve_clients<S: Settles + Drop, M: Moments, N: Sockets + Drop, J: Journal>(
     alloc: Global,
     routes: &Routes,
     tokens: &TokenTable,
@@ -42,7 +50,8 @@ pub fn serve_clients<S: Space + Drop, M: Moments, N: Sockets + Drop, J: Journal>
     operated: Option<Build<'_>>,
     journal: &mut J,
 ) -> io::Result<()>
-    ensures serves { ServesAll S.Space (callers_of tokens.now) service.old service.new }
+    ensures serves { ServesAll S.Space S.Settles.own M.Moments (callers_of tokens.now)
+        service.old service.new moments.old moments.new }
     ensures counted { OnOk result (IsSome limits.count ⊎ IsSome operated.entry) }
 {
     let desk = Desk {

@@ -1,5 +1,6 @@
 pub mod CallLaws
 pub mod CallUnique
+pub mod HeldBackLaws
 pub mod HeldLaws
 pub mod KnownBytes
 pub mod ManyLaws

@@ -1,5 +1,5 @@
 -- How a connection stays served, one thing after the other.
-use Rattle.std.proofs.Common.{◌≡◌, ℕ, suc, ◌-◌, List, [], ◌∷◌, ◌++◌, take, drop, false, refl, sym, ap, subst, ◌∙◌, append_assoc, arith}
+use Rattle.std.proofs.Common.{◌≡◌, ℕ, suc, ◌-◌, ◌≤◌, List, [], ◌∷◌, ◌++◌, length, take, drop, false, refl, sym, ap, subst, ◌∙◌, append_assoc, arith}
 use Rattle.std.specs.Prelude.{◌==◌}
 use Rattle.std.specs.List.{concat}
 use Rattle.std.proofs.lemmas.List.{append-nil, length-append, take-append-drop}
@@ -14,12 +14,14 @@ use Rattle.wire_http.specs.declared.connection.Connection.{Connection}
 use Rattle.wire_http.specs.declared.connection.Step.{Step}
 use Rattle.wire_http.specs.declared.connection.Step.TheVariants as steps
 use Rattle.wire_http.specs.declared.end.End.{End}
-use Rattle.wire_http.specs.Connection.{held_of, has_ended, is_done, left_of, output_of, IsStep}
+use Rattle.wire_http.specs.Connection.{held_of, has_ended, is_done, left_of, output_of, ready_of, slot_for, slot_of, IsStep}
 use Rattle.wire_http.specs.Count.{most_requests}
 use Rattle.wire_http.specs.Held.{MayCome}
-use Rattle.wire_http.specs.Many.{AnyMoment, IsNextCall, IsServed, IsServedAfter, IsServedWhole}
+use Rattle.wire_http.specs.Many.{AnyMoment, HoldsBackLast, IsNextCall, IsServed, IsServedAfter, IsServedWhole}
 use Rattle.wire_http.specs.Text.{answer_text, end_texts}
 use Rattle.wire_http.specs.Wire.{Asked, Asks, answers, left_after}
+use Rattle.wire_http.specs.HeldBack.{text_at}
+use Rattle.wire_http.proofs.HeldBackLaws.{ready_first}
 use Rattle.wire_http.proofs.StreamLaws.{answers_more, concat_more, leads_more}
 
 module _ (callers : Callers) where
@@ -64,6 +66,35 @@ module _ (callers : Callers) where
     goes_on = d ∙ s.goes_on;
   }
 
+-- ---- an answer that is held back
+
+pub back_rests : (all : List Asked) (replies : List Reply) (asked : Asked) (sent : List ℕ) (c c' : Connection) → HoldsBackLast all replies asked sent c
+    → slot_of c' ≡ slot_of c → ready_of c' ≡ ready_of c → HoldsBackLast all replies asked sent c'
+back_rests all replies asked sent c c' h slot ready = record { slot = slot ∙ h.slot; before = ap (λ v. sent ++ v) ready ∙ h.before }
+
+pub back_sent : (all : List Asked) (replies : List Reply) (asked : Asked) (sent : List ℕ) (n : ℕ) (c c' : Connection) → HoldsBackLast all replies asked sent c
+    → n ≤ length (ready_of c) → slot_of c' ≡ slot_of c → ready_of c' ≡ drop n (ready_of c) → HoldsBackLast all replies asked (sent ++ take n (output_of c)) c'
+back_sent all replies asked sent n c c' h fits slot ready = record {
+  slot = slot ∙ h.slot;
+  before = ap (λ v. (sent ++ v) ++ ready_of c') (ready_first c n fits) ∙ ap (λ v. (sent ++ take n (ready_of c)) ++ v) ready
+      ∙ append_assoc sent (take n (ready_of c)) (drop n (ready_of c)) ∙ ap (λ v. sent ++ v) (take-append-drop n (ready_of c)) ∙ h.before;
+}
+
+pub served_replaced : (callers : Callers) (came : List ℕ) (all : List Asked) (replies : List Reply) (asked : Asked) (reply other : Reply) (sent : List ℕ) (c c' : Connection)
+    → IsServed callers came (all ++ asked ∷ []) (replies ++ reply ∷ []) sent c → HoldsBackLast all replies asked sent c
+    → held_of c' ≡ held_of c → output_of c' ≡ ready_of c ++ text_at (slot_of c) other → left_of c' ≡ left_of c → is_done c' ≡ is_done c
+    → IsServed callers came (all ++ asked ∷ []) (replies ++ other ∷ []) sent c'
+served_replaced callers came all replies asked reply other sent c c' s h held output left done =
+    let text : List ℕ = answer_text asked.place asked.closing other in
+    let as_many : length replies ≡ length all = omega (arith, s.one_each, length-append all (asked ∷ []), length-append replies (reply ∷ [])) in
+    record {
+      one_each = omega (arith, as_many, length-append all (asked ∷ []), length-append replies (other ∷ []));
+      spells = λ later. rw (left, held) (s.spells later);
+      texts = ap (λ v. sent ++ v) output ∙ ap (λ v. sent ++ (ready_of c ++ text_at v other)) h.slot ∙ sym (append_assoc sent (ready_of c) text) ∙ ap (λ v. v ++ text) h.before
+          ∙ sym (concat_more (answers all replies) text) ∙ ap concat (sym (answers_more all replies asked other as_many));
+      goes_on = done ∙ s.goes_on;
+    }
+
 none_came : (came : List ℕ) → [] ≡ came ++ [] → came ≡ []
 none_came came e = sym (e ∙ append-nil came)
 
@@ -76,7 +107,7 @@ module _ {S M : Type 0} (g : Ghosts S) (Gives : M → ℕ → M → Type 0) (cal
   pub served_answered : (came : List ℕ) (all : List Asked) (replies : List Reply) (sent : List ℕ) (n : ℕ) (c c' : Connection)
       → IsServed callers came all replies sent c → IsStep g Gives callers old new clock clock' c c' (steps.Answered n)
       → IsNextCall g Gives callers old new clock clock' came all replies sent c'
-  served_answered came all replies sent n c c' s (some, (asked, reply, more, took, consumed, asks, wrote), left_is, ended, done) =
+  served_answered came all replies sent n c c' s (some, (asked, reply, more, took, consumed, asks, wrote), left_is, ended, done, ready, slot) =
       let none : more ≡ [] = none_came more consumed in
       let k : ℕ = left_of c - 1 in
       let next : left_of c ≡ suc k = omega (arith, some) in
@@ -99,13 +130,14 @@ module _ {S M : Type 0} (g : Ghosts S) (Gives : M → ℕ → M → Type 0) (cal
               ∙ sym (concat_more (answers all replies) text) ∙ ap concat (sym (answers_more all replies asked reply s.one_each));
           goes_on = done ∙ s.goes_on;
         };
+        held_back = record { slot = slot; before = ap (λ v. sent ++ v) ready ∙ s.texts };
       }
 
   pub served_whole : (came : List ℕ) (all : List Asked) (replies : List Reply) (sent : List ℕ) (end : End) (c c' : Connection)
       → IsServed callers came all replies sent c → IsStep g Gives callers old new clock clock' c c' (steps.Ended end)
       → (later : List ℕ) → MayCome (has_ended c) later
       → IsServedWhole callers (came ++ later) all replies end (sent ++ output_of c')
-  served_whole came all replies sent end c c' s (same, ticks, stops, wrote, held, left, done) later may = record {
+  served_whole came all replies sent end c c' s (same, ticks, stops, wrote, held, left, done, slot) later may = record {
     n = left_of c;
     rest = held_of c ++ later;
     spells = s.spells later;

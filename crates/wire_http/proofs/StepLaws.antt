@@ -12,12 +12,18 @@ use Rattle.wire_http.specs.declared.held.Held.{Held}
 use Rattle.wire_http.specs.declared.held.Held.TheVariants.{Gives, Wants}
 use Rattle.wire_http.specs.declared.request.Next.{Next}
 use Rattle.wire_http.specs.declared.request.Next.TheVariants.{Request, Stop}
+use Rattle.wire_http.specs.declared.fault.StreamFault.{StreamFault}
+use Rattle.wire_http.specs.declared.fault.StreamFault.TheVariants as faults
+use Rattle.wire_http.specs.Connection.{slot_for}
+use Rattle.wire_http.specs.Count.{one_more}
+use Rattle.wire_http.specs.Fault.{GaveUpAsking}
 use Rattle.wire_http.specs.Held.{IsHeld, MayCome}
+use Rattle.wire_http.specs.HeldBack.{Slot}
 use Rattle.wire_http.specs.Input.{Came}
 use Rattle.wire_http.specs.Next.{IsNext}
 use Rattle.wire_http.specs.Reply.{Replies, RepliesPart}
 use Rattle.wire_http.specs.Stop.{StopsAs}
-use Rattle.wire_http.specs.Wire.{Finishes}
+use Rattle.wire_http.specs.Wire.{Asked, Finishes}
 
 -- nothing came
 pub came_none : (x : List ℕ) → Came (Some []) (Some []) x x
@@ -56,3 +62,20 @@ module _ {S : Type 0} (g : Ghosts S) (old new : Service S) (moment : ℕ) (call 
 
   pub part_unsent : RepliesPart g old new moment call place closing (Some p) (Some q) → RepliesPart g old new moment call place closing (Some (drop sent p)) (Some (drop sent q))
   part_unsent r = record { reply = r.reply; is_reply = r.is_reply; size = r.size; short = r.short; written = unsent_more sent p q _ fits r.written }
+
+abbrev slot : Option Place → Bool → Slot
+slot place closing = record { place = place; closing = closing }
+
+-- what is held back answers a request at that place
+pub slot_is : (asked : Asked) (place : Option Place) (closing : Bool) → asked.place ≡ place → asked.closing ≡ closing
+    → Some (slot place closing) ≡ Some (slot_for asked)
+slot_is asked place closing e f = ap (λ v. Some (slot v closing)) (sym e) ∙ ap (λ v. Some (slot asked.place v)) (sym f)
+
+-- a clock that failed did so once
+pub clock_failed : (fault : StreamFault) (failures failures' : ℕ) → GaveUpAsking fault failures failures'
+    → fault ≡ faults.Clock → failures' ≡ one_more failures
+clock_failed faults.Clock failures failures' gave e = gave
+clock_failed faults.Memory failures failures' gave e = absurd (let is = e in cc)
+clock_failed faults.Read failures failures' gave e = absurd gave
+clock_failed faults.Write failures failures' gave e = absurd gave
+clock_failed faults.Turns failures failures' gave e = absurd gave

@@ -212,6 +212,32 @@ module _ {S M : Type 0} (sp : Ghosts S) (Gives : M → ℕ → M → Type 0) (ca
     next_is = after_it;
   }
 
+  -- the request that was answered is at that place
+  pub turn_answered_at : (a b : Option (List ℕ)) (front buffer bytes left : List ℕ) (fields : List HeaderSpan) (m : Next) (spans : RequestSpans) (size : ℕ) (place : Option Place) (moment : ℕ) (call : Call) (n : ℕ)
+      (old new : Service S) (clock clock' : M) (before text : Option (List ℕ))
+      → m ≡ Request spans size → bytes ≡ buffer → Came a b front buffer → IsNext (known_bytes b) buffer fields m
+      → spans.len + size ≤ length buffer → left ≡ drop (spans.len + size) buffer
+      → Makes bytes fields spans size place call → Leaves bytes fields spans n → Gives clock moment clock'
+      → Replies sp old new moment call place (n == 0) before text
+      → (turn : IsTurn sp Gives callers k old new clock clock' before text a b front left (Answered n)) × (turn.0.place ≡ place) × (turn.0.closing ≡ (n == 0))
+  turn_answered_at a b front buffer bytes left fields m spans size place moment call n old new clock clock' before text e g (came, grown, p) h fits d made leaves gives r =
+      let x : IsNext (known_bytes b) buffer fields (Request spans size) = known_next (known_bytes b) buffer fields m (Request spans size) e h in
+      let asked : Asked = record { head = x.0; place = place; moment = moment; call = call; closing = n == 0 } in (
+        (
+          asked,
+          r.reply,
+          came,
+          took buffer bytes fields spans place moment call n old new clock clock' before text r.reply x.0 g x.2 leaves r.is_reply,
+          p,
+          λ later. subst (λ (rest : List ℕ). Asks Gives callers rest clock asked (left ++ later) clock') (rest_at front buffer came later grown)
+              (asks (buffer ++ later) buffer bytes (left ++ later) fields spans size place moment call n clock clock' x.0 g (x.1 later) x.2 made gives
+              (unread_next later buffer (buffer ++ later) left x.0 spans.len size refl x.2.len fits d)),
+          r.written,
+        ),
+        refl,
+        refl,
+      )
+
   pub turn_answered : (a b : Option (List ℕ)) (front buffer bytes left : List ℕ) (fields : List HeaderSpan) (m : Next) (spans : RequestSpans) (size : ℕ) (place : Option Place) (moment : ℕ) (call : Call) (n : ℕ)
       (old new : Service S) (clock clock' : M) (before text : Option (List ℕ))
       → m ≡ Request spans size → bytes ≡ buffer → Came a b front buffer → IsNext (known_bytes b) buffer fields m
@@ -219,19 +245,8 @@ module _ {S M : Type 0} (sp : Ghosts S) (Gives : M → ℕ → M → Type 0) (ca
       → Makes bytes fields spans size place call → Leaves bytes fields spans n → Gives clock moment clock'
       → Replies sp old new moment call place (n == 0) before text
       → IsTurn sp Gives callers k old new clock clock' before text a b front left (Answered n)
-  turn_answered a b front buffer bytes left fields m spans size place moment call n old new clock clock' before text e g (came, grown, p) h fits d made leaves gives r =
-      let x : IsNext (known_bytes b) buffer fields (Request spans size) = known_next (known_bytes b) buffer fields m (Request spans size) e h in
-      let asked : Asked = record { head = x.0; place = place; moment = moment; call = call; closing = n == 0 } in (
-        asked,
-        r.reply,
-        came,
-        took buffer bytes fields spans place moment call n old new clock clock' before text r.reply x.0 g x.2 leaves r.is_reply,
-        p,
-        λ later. subst (λ (rest : List ℕ). Asks Gives callers rest clock asked (left ++ later) clock') (rest_at front buffer came later grown)
-            (asks (buffer ++ later) buffer bytes (left ++ later) fields spans size place moment call n clock clock' x.0 g (x.1 later) x.2 made gives
-            (unread_next later buffer (buffer ++ later) left x.0 spans.len size refl x.2.len fits d)),
-        r.written,
-      )
+  turn_answered a b front buffer bytes left fields m spans size place moment call n old new clock clock' before text e g p h fits d made leaves gives r =
+      (turn_answered_at a b front buffer bytes left fields m spans size place moment call n old new clock clock' before text e g p h fits d made leaves gives r).0
 
   pub part_answered : (a b : Option (List ℕ)) (front buffer bytes : List ℕ) (fields : List HeaderSpan) (m : Next) (spans : RequestSpans) (size : ℕ) (place : Option Place) (moment : ℕ) (call : Call) (n : ℕ)
       (old new : Service S) (clock clock' : M) (before text : Option (List ℕ)) (fault : StreamFault)

@@ -1,5 +1,5 @@
 -- What one connection holds, and what a step of it does.
-use Rattle.std.specs.Prelude.{◌≡◌, ◌<◌, ◌≤◌, ◌-◌, ℕ, Bool, true, false, List, [], ◌++◌, length, drop, Some}
+use Rattle.std.specs.Prelude.{◌≡◌, ◌<◌, ◌≤◌, ◌-◌, ℕ, Bool, true, false, List, [], ◌++◌, length, drop, Option, Some, None, is_some, option_map}
 use Rattle.std.specs.List.{concat}
 use Rattle.space_core.specs.declared.space.Space.{Ghosts}
 use Rattle.service_core.specs.declared.service.Service.{Service}
@@ -10,9 +10,10 @@ use Rattle.wire_http.specs.declared.connection.Step.TheVariants as steps
 use Rattle.wire_http.specs.declared.fault.StreamFault.{StreamFault}
 use Rattle.wire_http.specs.declared.serve.Turn.TheVariants as turns
 use Rattle.wire_http.specs.Held.{HasNoRequest, MayCome, most_held}
+use Rattle.wire_http.specs.HeldBack.{Slot, before_last, last_alone, slot_at}
 use Rattle.wire_http.specs.Text.{end_texts}
 use Rattle.wire_http.specs.Turn.{IsTurn, IsTurnPart}
-use Rattle.wire_http.specs.Wire.{Finishes}
+use Rattle.wire_http.specs.Wire.{Asked, Finishes}
 
 -- the bytes that came and belong to no earlier request
 abbrev pub held_of : Connection → List ℕ
@@ -34,6 +35,24 @@ is_done c = c.done
 abbrev pub output_of : Connection → List ℕ
 output_of c = drop c.sent c.answers.items
 
+-- whether the last answer is held back, and what it answers
+abbrev pub holds_back : Connection → Bool
+holds_back c = is_some c.held_back
+
+abbrev pub slot_of : Connection → Option Slot
+slot_of c = option_map slot_at c.held_back
+
+-- of the bytes that are not sent yet: those that may be sent, and those that are held back
+abbrev pub ready_of : Connection → List ℕ
+ready_of c = before_last c.sent (output_of c) c.held_back
+
+abbrev pub held_back_of : Connection → List ℕ
+held_back_of c = last_alone c.sent (output_of c) c.held_back
+
+-- what is held back answers that request
+abbrev pub slot_for : Asked → Slot
+slot_for asked = record { place = asked.place; closing = asked.closing }
+
 -- there is room for these bytes
 abbrev pub HasRoom : Connection → List ℕ → Type 0
 HasRoom c bytes = length bytes ≤ most_held - length (held_of c)
@@ -42,6 +61,8 @@ HasRoom c bytes = length bytes ≤ most_held - length (held_of c)
 pub record IsSame (c c' : Connection) : Type 0 where
   pub held : held_of c' ≡ held_of c
   pub output : output_of c' ≡ output_of c
+  pub ready : ready_of c' ≡ ready_of c
+  pub slot : slot_of c' ≡ slot_of c
   pub left : left_of c' ≡ left_of c
   pub ended : has_ended c' ≡ has_ended c
   pub done : is_done c' ≡ is_done c
@@ -49,23 +70,25 @@ pub record IsSame (c c' : Connection) : Type 0 where
 module _ {S M : Type 0} (g : Ghosts S) (Gives : M → ℕ → M → Type 0) (callers : Callers)
     (old new : Service S) (clock clock' : M) (c c' : Connection) where
   -- Nothing was done: a request may still come, none is held whole, and there is room for more. Or
-  -- one more was answered, as one turn of a stream whose reader has nothing more to give. Or the
-  -- stream ended, whatever may still come.
+  -- one more was answered, as one turn of a stream whose reader has nothing more to give, and its
+  -- answer is held back. Or the stream ended, whatever may still come.
   abbrev pub IsStep : Step → Type 0
   IsStep steps.Waits =
       (new ≡ old) × (clock' ≡ clock) × IsSame c c' × (0 < left_of c) × (has_ended c ≡ false)
       × HasNoRequest (held_of c) × (length (held_of c) < most_held)
   IsStep (steps.Answered n) =
       (0 < left_of c)
-      × IsTurn g Gives callers (left_of c - 1) old new clock clock' (Some (output_of c))
-      (Some (output_of c')) (Some []) (Some []) (held_of c) (held_of c') (turns.Answered n)
+      × (turn : IsTurn g Gives callers (left_of c - 1) old new clock clock' (Some (output_of c))
+      (Some (output_of c')) (Some []) (Some []) (held_of c) (held_of c') (turns.Answered n))
       × (left_of c' ≡ n) × (has_ended c' ≡ has_ended c) × (is_done c' ≡ is_done c)
+      × (ready_of c' ≡ output_of c) × (slot_of c' ≡ Some (slot_for turn.0))
   IsStep (steps.Ended end) =
       (new ≡ old) × (clock' ≡ clock)
       × ((later : List ℕ) → MayCome (has_ended c) later
       → Finishes (left_of c) (held_of c ++ later) end)
       × (output_of c' ≡ output_of c ++ concat (end_texts end))
       × (held_of c' ≡ held_of c) × (left_of c' ≡ left_of c) × (is_done c' ≡ true)
+      × (slot_of c' ≡ slot_of c)
 
   -- A fault came: a turn was given up, no byte of its text is to be sent, and no request more is
   -- answered.
@@ -75,3 +98,4 @@ module _ {S M : Type 0} (g : Ghosts S) (Gives : M → ℕ → M → Type 0) (cal
       × IsTurnPart g Gives callers (left_of c - 1) old new clock clock' (Some (output_of c))
       (Some (output_of c')) (Some []) (held_of c) fault
       × (output_of c' ≡ output_of c) × (held_of c' ≡ held_of c) × (is_done c' ≡ true)
+      × (slot_of c' ≡ slot_of c)

@@ -5,6 +5,7 @@ pub mod Connection
 pub mod Counted
 pub mod Fault
 pub mod Held
+pub mod HeldBack
 pub mod Many
 pub mod Moments
 pub mod Next

@@ -1,5 +1,5 @@
 -- What was served of one connection among many, whatever was asked on the others in between.
-use Rattle.std.specs.Prelude.{◌≡◌, ℕ, false, List, [], ◌∷◌, ◌++◌, length}
+use Rattle.std.specs.Prelude.{◌≡◌, ℕ, false, List, [], ◌∷◌, ◌++◌, length, Some}
 use Rattle.std.specs.List.{concat}
 use Rattle.space_core.specs.declared.space.Space.{Ghosts}
 use Rattle.service_core.specs.declared.service.Service.{Service}
@@ -10,7 +10,7 @@ use Rattle.wire_http.specs.declared.connection.Connection.{Connection}
 use Rattle.wire_http.specs.declared.connection.Step.{Step}
 use Rattle.wire_http.specs.declared.connection.Step.TheVariants as steps
 use Rattle.wire_http.specs.declared.end.End.{End}
-use Rattle.wire_http.specs.Connection.{has_ended, held_of, is_done, left_of, output_of}
+use Rattle.wire_http.specs.Connection.{has_ended, held_of, is_done, left_of, output_of, ready_of, slot_for, slot_of}
 use Rattle.wire_http.specs.Count.{most_requests}
 use Rattle.wire_http.specs.Held.{MayCome}
 use Rattle.wire_http.specs.Text.{end_texts}
@@ -35,6 +35,13 @@ pub record IsServed (callers : Callers) (came : List ℕ) (all : List Asked) (re
   pub texts : sent ++ output_of c ≡ concat (answers all replies)
   pub goes_on : is_done c ≡ false
 
+-- The answer to that request is held back, and it is the last: what was sent and what may be sent are
+-- the answers to the requests before it.
+pub record HoldsBackLast (all : List Asked) (replies : List Reply) (asked : Asked) (sent : List ℕ)
+    (c : Connection) : Type 0 where
+  pub slot : slot_of c ≡ Some (slot_for asked)
+  pub before : sent ++ ready_of c ≡ concat (answers all replies)
+
 -- The whole of an input was served so: its requests were asked and answered, and then it ended, as a
 -- stream of that input is served alone.
 pub record IsServedWhole (callers : Callers) (input : List ℕ) (all : List Asked)
@@ -46,7 +53,7 @@ pub record IsServedWhole (callers : Callers) (input : List ℕ) (all : List Aske
   pub text_is : text ≡ concat (answers all replies ++ end_texts end)
 
 -- the next call: at the clock's next moment, its request is the next of the connection, and it is
--- answered there
+-- answered there, where its answer is held back
 pub record IsNextCall {S M : Type 0} (g : Ghosts S) (Gives : M → ℕ → M → Type 0)
     (callers : Callers) (old new : Service S) (clock clock' : M) (came : List ℕ) (all : List Asked)
     (replies : List Reply) (sent : List ℕ) (c : Connection) : Type 0 where
@@ -55,6 +62,7 @@ pub record IsNextCall {S M : Type 0} (g : Ghosts S) (Gives : M → ℕ → M →
   pub moment : Gives clock asked.moment clock'
   pub is_reply : IsReplyTo g old new asked.moment asked.call reply
   pub served : IsServed callers came (all ++ asked ∷ []) (replies ++ reply ∷ []) sent c
+  pub held_back : HoldsBackLast all replies asked sent c
 
 -- how a connection is served after a step: as before it, with its next call, or whole, whatever may
 -- still come

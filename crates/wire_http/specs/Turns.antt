@@ -1,5 +1,5 @@
 -- Many connections on one service: whose turn each call was.
-use Rattle.std.specs.Prelude.{◌≡◌, ◌==◌, if◌then◌else◌, ℕ, false, List, [], ◌∷◌, ◌++◌, map}
+use Rattle.std.specs.Prelude.{◌≡◌, ◌==◌, if◌then◌else◌, ℕ, false, List, [], ◌∷◌, ◌++◌, All, map}
 use Rattle.space_core.specs.declared.space.Space.{Ghosts}
 use Rattle.service_core.specs.declared.service.Service.{Service}
 use Rattle.service_core.specs.Run.{Answered}
@@ -7,14 +7,25 @@ use Rattle.service_step.specs.declared.reply.Reply.{Reply}
 use Rattle.token_conf.specs.TokenFile.{Callers}
 use Rattle.wire_http.specs.declared.connection.Connection.{Connection}
 use Rattle.wire_http.specs.Connection.{is_done}
-use Rattle.wire_http.specs.Many.{IsServed}
+use Rattle.wire_http.specs.Many.{HoldsBackLast, IsServed}
 use Rattle.wire_http.specs.Wire.{Asked, timed}
 
--- a call that was made: for which connection, what was asked, and the reply
+-- A call that was made: for which connection, what was asked, the reply, and what the caller is told:
+-- that reply, unless the answer was replaced.
 pub record MadeCall : Type 0 where
   pub connection : ℕ
   pub asked : Asked
   pub reply : Reply
+  pub told : Reply
+
+-- the same call, of which that is told
+abbrev pub retold : MadeCall → Reply → MadeCall
+retold call told = record {
+  connection = call.connection;
+  asked = call.asked;
+  reply = call.reply;
+  told = told;
+}
 
 -- those that were made for one connection, in order
 abbrev pub made_for : ℕ → List MadeCall → List MadeCall
@@ -25,8 +36,8 @@ made_for who (call ∷ log) =
 abbrev pub asked_for : ℕ → List MadeCall → List Asked
 asked_for who log = map (λ call. call.asked) (made_for who log)
 
-abbrev pub replies_for : ℕ → List MadeCall → List Reply
-replies_for who log = map (λ call. call.reply) (made_for who log)
+abbrev pub told_for : ℕ → List MadeCall → List Reply
+told_for who log = map (λ call. call.told) (made_for who log)
 
 -- the same of each connection but one
 abbrev pub set_at : {X : Type 0} → (ℕ → X) → ℕ → X → ℕ → X
@@ -34,20 +45,24 @@ set_at values who value other = if other == who then value else values other
 
 -- The calls of all connections, in the order in which they were made, are one list, and answered as
 -- one. Each connection that is not done was served by its own, whatever was asked on the others in
--- between. One that nobody has opened yet is as a new one.
+-- between, with what is told of each. One that nobody has opened yet is as a new one.
 pub record AreServed {S : Type 0} (g : Ghosts S) (callers : Callers) (first now : Service S)
     (log : List MadeCall) (came sent : ℕ → List ℕ) (connections : ℕ → Connection) : Type 0 where
   pub one_list : Answered g first (map (λ call. timed call.asked) log)
       (map (λ call. call.reply) log) now
   pub each : (who : ℕ) → is_done (connections who) ≡ false
-      → IsServed callers (came who) (asked_for who log) (replies_for who log) (sent who)
+      → IsServed callers (came who) (asked_for who log) (told_for who log) (sent who)
       (connections who)
 
--- so it is after calls for that connection
+-- So it is after calls for that connection, at most one. It is told as it was answered, and its answer
+-- is held back.
 pub record AreServedAfter {S : Type 0} (g : Ghosts S) (callers : Callers) (first now : Service S)
     (log : List MadeCall) (came sent : ℕ → List ℕ) (connections : ℕ → Connection) (who : ℕ)
     (next : Connection) : Type 0 where
   pub more : List MadeCall
   pub its_own : made_for who more ≡ more
+  pub as_made : All (λ call. call.told ≡ call.reply) more
+  pub held_back : is_done next ≡ false → All (λ call.
+      HoldsBackLast (asked_for who log) (told_for who log) call.asked (sent who) next) more
   pub served : AreServed g callers first now (log ++ more) came sent
       (set_at connections who next)

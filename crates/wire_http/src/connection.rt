@@ -1,10 +1,12 @@
 //! One connection as steps over bytes. It makes no system call: its caller moves the bytes.
 ghost use Rattle.std.specs.Prelude.{◌≡◌, ◌<◌, ◌≤◌, ◌+◌, ◌-◌, length, drop, take, Some, ◌++◌, OnOk, OnErr, vec_len, vec_capacity};
 ghost use Rattle.std.specs.List.{concat};
+ghost use Rattle.std.specs.Option.{ForSome};
 ghost use Rattle.service_core.specs.Held.{Stays};
 ghost use Rattle.wire_http.specs.Held.{HasNoneBelow, HeldFits, IsHeld, IsLight, most_held};
+ghost use Rattle.wire_http.specs.HeldBack.{StandsWithin};
 ghost use Rattle.wire_http.specs.Reply.{Replies, RepliesPart};
-ghost use Rattle.wire_http.specs.Text.{end_texts};
+ghost use Rattle.wire_http.specs.Text.{answer_text, end_texts};
 
 use crate::call::{Pending, Received, ask, left_after};
 use crate::end::End;
@@ -17,9 +19,11 @@ use crate::source::shift;
 use crate::text::{answer_text, rule_text};
 use httparse::spans::{EMPTY_HEADER_SPAN, HeaderSpan, RequestSpans};
 use service_core::service::Service;
+use service_step::reply::Reply;
 use space_core::space::Space;
 use std::alloc::{AllocError, Global};
 use token_conf::token_table::TokenTable;
+use wire_route::place::Place;
 use wire_route::routes::Routes;
 
 // The most bytes that are held: those of a head and of a body.
@@ -62,6 +66,29 @@ fn put_behind(buffer: &mut Vec<u8>, bytes: &[u8]) -> Result<(), AllocError>
     done
 }
 
+// Puts the answer to a reply behind what is to be sent, or, for want of memory, nothing.
+fn answer_behind(
+    alloc: Global,
+    output: &mut Vec<u8>,
+    place: Option<Place>,
+    closing: bool,
+    reply: &Reply,
+) -> Result<(), AllocError>
+    requires light { IsLight (vec_len output.old) (vec_capacity output.old) }
+    ensures whole { OnOk result
+        (output.new.items ≡ output.old.items ++ answer_text place closing reply.now) }
+    ensures same { OnErr result (output.new.items ≡ output.old.items) }
+    ensures light { IsLight (vec_len output.new) (vec_capacity output.new) }
+{
+    let Ok(text) = answer_text(alloc, place, closing, reply) else {
+        return Err(AllocError);
+    };
+    match put_behind(output, text.as_slice()) {
+        Ok(()) => Ok(()),
+        Err(_) => Err(AllocError),
+    }
+}
+
 // The reply to a call, asked for once, and its text put behind what is to be sent.
 fn reply_behind<S: Space + Drop>(
     alloc: Global,
@@ -83,10 +110,7 @@ fn reply_behind<S: Space + Drop>(
     ensures light { IsLight (vec_len output.new) (vec_capacity output.new) }
 {
     let reply = service.call(alloc, pending.moment, &pending.call);
-    let Ok(text) = answer_text(alloc, pending.place, closing, &reply) else {
-        return Err(AllocError);
-    };
-    match put_behind(output, text.as_slice()) {
+    match answer_behind(alloc, output, pending.place, closing, &reply) {
         Ok(()) => Ok(()),
         Err(_) => Err(AllocError),
     }
@@ -112,8 +136,20 @@ fn end_behind(alloc: Global, output: &mut Vec<u8>, end: End) -> Result<(), Alloc
     }
 }
 
+// The answer that is held back, the last of all: where its text begins, the place of its request, and
+// whether the connection closes after it.
+#[derive(Clone, Copy)]
+struct HeldBack {
+    start: usize,
+    place: Option<Place>,
+    closing: bool,
+}
+
 /// The bytes that one connection holds: those that came and belong to no earlier request, and
 /// those of answers that are not sent yet.
+///
+/// The answer to the last request is held back, and no byte of it is to be sent, until the caller lets
+/// it go or has it replaced.
 #[derive(Drop)]
 pub struct Connection {
     held: Vec<u8>,
@@ -124,19 +160,23 @@ pub struct Connection {
     done: bool,
     answers: Vec<u8>,
     sent: usize,
+    held_back: Option<HeldBack>,
     ghost held_fits: { length held.items ≤ most_held },
     ghost wanted_fits: { wanted ≤ most_held },
     ghost none_below: { HasNoneBelow held.items wanted },
     ghost sent_fits: { sent ≤ length answers.items },
+    ghost last_fits: { ForSome held_back (StandsWithin sent (length answers.items)) },
     // An empty buffer keeps little memory.
     ghost held_light: { IsLight (vec_len held) (vec_capacity held) },
     ghost answers_light: { IsLight (vec_len answers) (vec_capacity answers) },
 }
 
 impl Connection {
-    ghost use Rattle.std.specs.Prelude.{[], true, false, IsTrue, ◌↔◌, IfOk, IfErr};
+    ghost use Rattle.std.specs.Prelude.{[], true, false, IsTrue, ◌↔◌, Err, IfOk, IfErr, None};
     ghost use Rattle.token_conf.specs.TokenFile.{callers_of};
-    ghost use Rattle.wire_http.specs.Connection.{held_of, left_of, has_ended, is_done, output_of, HasRoom, IsStep, IsStepPart};
+    ghost use Rattle.wire_http.specs.Connection.{held_of, left_of, has_ended, is_done, output_of, ready_of, held_back_of, holds_back, slot_of, HasRoom, IsStep, IsStepPart};
+    ghost use Rattle.wire_http.specs.HeldBack.{text_at};
+    ghost use Rattle.wire_http.specs.Count.{one_more};
 
     /// A connection from which nothing has come. It takes no memory.
     pub fn new(alloc: Global) -> Connection
@@ -145,6 +185,7 @@ impl Connection {
         ensures left { left_of result ≡ 100 }
         ensures ended { has_ended result ≡ false }
         ensures done { is_done result ≡ false }
+        ensures slot { slot_of result ≡ None }
     {
         Connection {
             held: Vec::new(alloc),
@@ -154,6 +195,7 @@ impl Connection {
             done: false,
             answers: Vec::new(alloc),
             sent: 0,
+            held_back: None,
         }
     }
 
@@ -192,6 +234,8 @@ impl Connection {
         ensures held { OnOk result (held_of self.new ≡ held_of self.old ++ bytes.now) }
         ensures none { OnErr result (held_of self.new ≡ held_of self.old) }
         ensures output { output_of self.new ≡ output_of self.old }
+        ensures ready { ready_of self.new ≡ ready_of self.old }
+        ensures slot { slot_of self.new ≡ slot_of self.old }
         ensures left { left_of self.new ≡ left_of self.old }
         ensures ended { has_ended self.new ≡ has_ended self.old }
         ensures done { is_done self.new ≡ is_done self.old }
@@ -206,6 +250,8 @@ impl Connection {
     pub fn end_of_input(&mut self)
         ensures held { held_of self.new ≡ held_of self.old }
         ensures output { output_of self.new ≡ output_of self.old }
+        ensures ready { ready_of self.new ≡ ready_of self.old }
+        ensures slot { slot_of self.new ≡ slot_of self.old }
         ensures left { left_of self.new ≡ left_of self.old }
         ensures ended { has_ended self.new ≡ true }
         ensures done { is_done self.new ≡ is_done self.old }
@@ -213,35 +259,100 @@ impl Connection {
         self.ended = true;
     }
 
-    /// The bytes to send next.
+    /// The bytes to send next: those of answers that are not held back.
     pub fn output(&self) -> &[u8]
-        ensures { result.now ≡ output_of self.now }
+        ensures { result.now ≡ ready_of self.now }
     {
-        &self.answers[self.sent..]
+        match self.held_back {
+            Some(last) => &self.answers[self.sent..last.start],
+            None => &self.answers[self.sent..],
+        }
     }
 
     /// Whether bytes are to be sent.
     pub fn wants_write(&self) -> bool
-        ensures { IsTrue result ↔ (0 < length (output_of self.now)) }
+        ensures { IsTrue result ↔ (0 < length (ready_of self.now)) }
     {
-        self.sent < self.answers.len()
+        !self.output().is_empty()
     }
 
     /// Says that so many of them were sent.
     pub fn sent(&mut self, count: usize)
-        requires { count ≤ length (output_of self.old) }
+        requires { count ≤ length (ready_of self.old) }
         ensures held { held_of self.new ≡ held_of self.old }
         ensures output { output_of self.new ≡ drop count (output_of self.old) }
+        ensures ready { ready_of self.new ≡ drop count (ready_of self.old) }
+        ensures slot { slot_of self.new ≡ slot_of self.old }
         ensures left { left_of self.new ≡ left_of self.old }
         ensures ended { has_ended self.new ≡ has_ended self.old }
         ensures done { is_done self.new ≡ is_done self.old }
     {
-        if self.answers.len() - self.sent <= count {
+        if self.held_back.is_none() && self.answers.len() - self.sent <= count {
             self.answers.clear();
             self.sent = 0;
             give_back(&mut self.answers);
         } else {
             self.sent += count;
+        }
+    }
+
+    /// Whether an answer is held back.
+    pub fn holds_back(&self) -> bool
+        ensures { result ≡ holds_back self.now }
+    {
+        self.held_back.is_some()
+    }
+
+    /// The answer that is held back; no bytes where none is.
+    pub fn held_back(&self) -> &[u8]
+        ensures { result.now ≡ held_back_of self.now }
+    {
+        match self.held_back {
+            Some(last) => &self.answers[last.start..],
+            None => &[],
+        }
+    }
+
+    /// Lets the answer that is held back go.
+    pub fn let_go(&mut self)
+        ensures held { held_of self.new ≡ held_of self.old }
+        ensures output { output_of self.new ≡ output_of self.old }
+        ensures ready { ready_of self.new ≡ output_of self.old }
+        ensures slot { slot_of self.new ≡ None }
+        ensures left { left_of self.new ≡ left_of self.old }
+        ensures ended { has_ended self.new ≡ has_ended self.old }
+        ensures done { is_done self.new ≡ is_done self.old }
+    {
+        self.held_back = None;
+    }
+
+    /// Puts the answer to this reply in the place of the one that is held back, and lets it go.
+    ///
+    /// For want of memory no byte of either is to be sent, and no request more is answered.
+    pub fn replace(&mut self, alloc: Global, reply: &Reply) -> Result<(), AllocError>
+        ensures held { held_of self.new ≡ held_of self.old }
+        ensures output { OnOk result
+            (output_of self.new ≡ ready_of self.old ++ text_at (slot_of self.old) reply.now) }
+        ensures dropped { OnErr result (output_of self.new ≡ ready_of self.old) }
+        ensures ready { ready_of self.new ≡ output_of self.new }
+        ensures slot { slot_of self.new ≡ None }
+        ensures left { left_of self.new ≡ left_of self.old }
+        ensures ended { has_ended self.new ≡ has_ended self.old }
+        ensures done { OnOk result (is_done self.new ≡ is_done self.old) }
+        ensures gives_up { OnErr result (is_done self.new ≡ true) }
+    {
+        let Some(last) = self.held_back else {
+            return Ok(());
+        };
+        self.held_back = None;
+        self.answers.truncate(last.start);
+        give_back(&mut self.answers);
+        match answer_behind(alloc, &mut self.answers, last.place, last.closing, reply) {
+            Ok(()) => Ok(()),
+            Err(_) => {
+                self.done = true;
+                Err(AllocError)
+            }
         }
     }
 
@@ -257,6 +368,7 @@ impl Connection {
         spans: RequestSpans,
         size: usize,
     ) -> Result<Step, StreamFault>
+        requires none_back { holds_back self.old ≡ false }
         requires some { 0 < left_of self.old }
         requires held { IsHeld (held_of self.old) (has_ended self.old) fields.now
             (Held.Gives (Next.Request spans size)) }
@@ -266,6 +378,8 @@ impl Connection {
             service.old service.new moments.old moments.new self.old self.new) }
         ensures part { IfErr result (IsStepPart S.Space M.gives (callers_of tokens.now)
             service.old service.new moments.old moments.new self.old self.new) }
+        ensures clock { result ≡ Err StreamFault.Clock
+            → M.failures moments.new ≡ one_more (M.failures moments.old) }
         ensures stays { Stays S.Space service.old service.new }
     {
         let received = Received {
@@ -282,6 +396,7 @@ impl Connection {
                 return Err(fault);
             }
         };
+        let start = self.answers.len();
         match reply_behind(alloc, service, &mut self.answers, &pending, left == 0) {
             Ok(()) => {}
             Err(_) => {
@@ -293,11 +408,16 @@ impl Connection {
         give_back(&mut self.held);
         self.wanted = 0;
         self.left = left;
+        self.held_back = Some(HeldBack {
+            start,
+            place: pending.place,
+            closing: left == 0,
+        });
         Ok(Step::Answered(left))
     }
 
-    /// Answers the next request, if it is held whole, or ends the stream: what `serve_stream` does
-    /// next of the same bytes, with no reading and no writing.
+    /// Answers the next request, if it is held whole, and holds its answer back; or ends the stream:
+    /// what `serve_stream` does next of the same bytes, with no reading and no writing.
     ///
     /// After a fault no request more is answered, and nothing was put behind the output. At most one
     /// call was made whose answer is lost, and it stands as it was done.
@@ -310,10 +430,13 @@ impl Connection {
         moments: &mut M,
     ) -> Result<Step, StreamFault>
         requires not_done { is_done self.old ≡ false }
+        requires none_back { holds_back self.old ≡ false }
         ensures step { IfOk result (IsStep S.Space M.gives (callers_of tokens.now)
             service.old service.new moments.old moments.new self.old self.new) }
         ensures part { IfErr result (IsStepPart S.Space M.gives (callers_of tokens.now)
             service.old service.new moments.old moments.new self.old self.new) }
+        ensures clock { result ≡ Err StreamFault.Clock
+            → M.failures moments.new ≡ one_more (M.failures moments.old) }
         ensures stays { Stays S.Space service.old service.new }
     {
         if self.left == 0 {

@@ -1,15 +1,6 @@
 use Rattle.std.proofs.Common.{Some, sym, append-nil, ◌∙◌}
-use Rattle.wire_http.proofs.Written.{Appends-none, some_message}
+use Rattle.wire_http.proofs.Written.{some_message}
 use Rattle.wire_http.proofs.connection.reply_behind.Goals as goal
-
-pub returns-in_default-clause-part : goal.returns-in_default-clause-part
-returns-in_default-clause-part g c = record {
-  reply = c.call-reply.result;
-  is_reply = c.call-reply.ensures.reply;
-  size = 0;
-  short = some_message _ _ _ _;
-  written = Appends-none (Some c.args.output.now.items);
-}
 
 pub returns-clause-part : goal.returns-clause-part
 returns-clause-part g c = record {

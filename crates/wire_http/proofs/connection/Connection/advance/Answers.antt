@@ -9,7 +9,7 @@ returns-then-len-self-clause-step g c =
     let fewer : length self.held.items < self.wanted = omega arith in (
       refl,
       refl,
-      record { held = refl; output = refl; left = refl; ended = refl; done = refl },
+      record { held = refl; output = refl; ready = refl; slot = refl; left = refl; ended = refl; done = refl },
       omega (arith, c.if-self-eq0.false),
       c.if-not-self.true,
       none_here self.held.items self.wanted self.none_below fewer,
@@ -28,7 +28,7 @@ returns-in-Wants-clause-step g c =
     let h = held_wants self.held.items self.ended c.next_held.new.fields c.next_held.result c.in-Wants.count c.in-Wants.is (rw c.as_slice.ensures.value at c.next_held.ensures.held) in (
       refl,
       refl,
-      record { held = refl; output = refl; left = refl; ended = refl; done = refl },
+      record { held = refl; output = refl; ready = refl; slot = refl; left = refl; ended = refl; done = refl },
       omega (arith, c.if-self-eq0.false),
       h.0,
       none_here self.held.items c.in-Wants.count h.3 h.1,
@@ -43,6 +43,7 @@ returns-in-Ok-clause-step g c =
       λ later may. finishes self.left (self.held.items ++ later) c.in-Gives-Stop.end (omega (arith, c.if-self-eq0.false))
           (held_stops self.held.items self.ended c.next_held.new.fields c.next_held.result c.in-Gives-Stop.field-0 c.in-Gives-Stop.end c.in-Gives-Stop.is c.in-Gives-Stop.field-0-is (rw c.as_slice.ensures.value at c.next_held.ensures.held) later may),
       unsent_more self.sent self.answers.items c.end_behind.new.output.items _ self.sent_fits c.in-Ok.ensures.whole,
+      refl,
       refl,
       refl,
       refl,

@@ -1,8 +1,10 @@
-use Rattle.std.proofs.Common.{◌-◌, ◌∙◌, [], drop, Some, Err, refl, ap}
+use Rattle.std.proofs.Common.{◌≡◌, ◌-◌, ◌∙◌, [], drop, length, Some, Err, refl, ap, arith}
+use Rattle.std.specs.Prelude.{◌==◌}
 use Rattle.token_conf.specs.TokenFile.{callers_of}
 use Rattle.wire_http.specs.declared.request.Next.TheVariants.{Request}
-use Rattle.wire_http.proofs.StepLaws.{came_none, held_next, replies_unsent, part_unsent}
-use Rattle.wire_http.proofs.TurnLaws.{part_ask, part_answered, turn_answered}
+use Rattle.wire_http.proofs.HeldBackLaws.{ready_then}
+use Rattle.wire_http.proofs.StepLaws.{came_none, clock_failed, held_next, replies_unsent, part_unsent, slot_is}
+use Rattle.wire_http.proofs.TurnLaws.{part_ask, part_answered, turn_answered_at}
 use Rattle.wire_http.proofs.connection.Connection.answer_first.Goals as goal
 
 pub returns-in-Err-clause-part : goal.returns-in-Err-clause-part
@@ -16,7 +18,11 @@ returns-in-Err-clause-part g c =
       refl,
       refl,
       refl,
+      refl,
     )
+
+pub returns-in-Err-clause-clock : goal.returns-in-Err-clause-clock
+returns-in-Err-clause-clock g c = λ e. clock_failed c.in-Err.fault _ _ c.in-Err.ensures.err (let is = e in cc)
 
 pub returns-in-Err-reply_behind-clause-part : goal.returns-in-Err-reply_behind-clause-part
 returns-in-Err-reply_behind-clause-part g c =
@@ -33,22 +39,27 @@ returns-in-Err-reply_behind-clause-part g c =
       ap (λ v. drop self.sent v) c.in-Err-reply_behind.ensures.same,
       refl,
       refl,
+      refl,
     )
 
 pub returns-clause-step : goal.returns-clause-step
 returns-clause-step g c =
     let self = c.args.self.now in
-    let next = Request c.args.spans c.args.size in (
+    let next = Request c.args.spans c.args.size in
+    let starts : c.len-start.result ≡ length self.answers.items = omega arith in
+    let turn = turn_answered_at g.S.Space g.M.Moments.gives (callers_of c.args.tokens.now) (self.left - 1)
+    (Some []) (Some []) self.held.items self.held.items c.as_slice.result.now c.give_back.new.buffer.items c.args.fields.now next c.args.spans c.args.size
+    c.in-Ok.pending.place c.in-Ok.pending.moment c.in-Ok.pending.call c.left_after-left.result
+    c.args.service.now c.reply_behind.new.service c.args.moments.now c.ask.new.moments _ _
+    refl c.as_slice.ensures.value (came_none self.held.items) (held_next self.held.items self.ended c.args.fields.now next c.requires.held)
+    c.requires.fits.2 (c.give_back.ensures.same ∙ c.shift.ensures)
+    c.in-Ok.ensures.made c.left_after-left.ensures c.in-Ok.ensures.moment
+    (replies_unsent g.S.Space _ _ _ _ _ _ self.sent self.answers.items c.reply_behind.new.output.items self.sent_fits c.in-Ok-reply_behind.ensures.replies) in (
       c.requires.some,
-      turn_answered g.S.Space g.M.Moments.gives (callers_of c.args.tokens.now) (self.left - 1)
-          (Some []) (Some []) self.held.items self.held.items c.as_slice.result.now c.give_back.new.buffer.items c.args.fields.now next c.args.spans c.args.size
-          c.in-Ok.pending.place c.in-Ok.pending.moment c.in-Ok.pending.call c.left_after-left.result
-          c.args.service.now c.reply_behind.new.service c.args.moments.now c.ask.new.moments _ _
-          refl c.as_slice.ensures.value (came_none self.held.items) (held_next self.held.items self.ended c.args.fields.now next c.requires.held)
-          c.requires.fits.2 (c.give_back.ensures.same ∙ c.shift.ensures)
-          c.in-Ok.ensures.made c.left_after-left.ensures c.in-Ok.ensures.moment
-          (replies_unsent g.S.Space _ _ _ _ _ _ self.sent self.answers.items c.reply_behind.new.output.items self.sent_fits c.in-Ok-reply_behind.ensures.replies),
+      turn.0,
       refl,
       refl,
       refl,
+      ready_then self.sent c.len-start.result self.answers.items c.reply_behind.new.output.items _ self.sent_fits starts c.in-Ok-reply_behind.ensures.replies.written,
+      slot_is turn.0.0 c.in-Ok.pending.place (c.left_after-left.result == 0) turn.1 turn.2,
     )
