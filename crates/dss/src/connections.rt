@@ -1,39 +1,24 @@
 //! The command `serve`: connections to a port of this machine, many at once.
 use crate::clock::SystemClock;
 use crate::sockets::PortSockets;
-use crate::tokens::token_table;
+use crate::tokens::token_text;
 use dss_command::clients::{Answering, Listen, Operated};
 use dss_command::fault::Fault;
-use dss_command::tokens::salt_of;
+use dss_command::limits::tell_limits;
+use dss_command::token_files::tell_tokens;
+use dss_command::tokens::{salt_of, table_of};
 use dss_files::files::{self, opened};
+use dss_line::serving::Serving;
 use dss_serve::limits::{Limits, MOST_CLIENTS};
 use sqlite::Start;
 use std::io;
 use std::io::Write;
 use std::net::Ipv4Addr;
+use token_conf::token_table::TokenTable;
 use wire_http::Moments;
 
-/// What the command `serve` was given.
-#[derive(Clone, Copy)]
-pub(crate) struct ServeLine<'a> {
-    /// The name of the token file.
-    pub(crate) tokens: &'a str,
-    /// The name of the database's file.
-    pub(crate) database: &'a str,
-    /// The address that is listened on.
-    pub(crate) listen: Ipv4Addr,
-    /// Its port.
-    pub(crate) port: u16,
-    /// How many connections are served, if not as many as come.
-    pub(crate) count: Option<u64>,
-    /// How many of them at once.
-    pub(crate) clients: u64,
-    /// The operator's port of 127.0.0.1, if there is one.
-    pub(crate) admin: Option<u16>,
-}
-
 // The limits that a command line gives.
-fn limits_of(given: &ServeLine<'_>) -> Limits {
+fn limits_of(given: &Serving<'_>) -> Limits {
     Limits {
         count: given.count,
         clients: match usize::try_from(given.clients) {
@@ -63,7 +48,7 @@ impl<'a> Listen for Ports<'a> {
 }
 
 // The operator's port that a command line names. Where the system tells no time, the start is at 0.
-fn operated(rt: &HostRuntime, given: &ServeLine<'_>) -> Option<Operated> {
+fn operated(rt: &HostRuntime, given: &Serving<'_>) -> Option<Operated> {
     let port = given.admin?;
     let started = match SystemClock::new(rt).next() {
         Ok(moment) => moment,
@@ -72,14 +57,32 @@ fn operated(rt: &HostRuntime, given: &ServeLine<'_>) -> Option<Operated> {
     Some(Operated { port, started })
 }
 
+// The table of the token file. Where more is to be told it is, first what is wrong with the file or
+// surely not meant, and then the limits: that it cannot be told is no reason not to serve.
+fn tokens_of<E: Write>(
+    rt: &HostRuntime,
+    given: &Serving<'_>,
+    error: &mut E,
+) -> Result<TokenTable, Fault> {
+    let text = token_text(rt, given.tokens)?;
+    if given.verbose {
+        let _ = tell_tokens(rt.alloc(), text.as_str(), error);
+    }
+    let tokens = table_of(rt.alloc(), text.as_str())?;
+    if given.verbose {
+        let _ = tell_limits(given.clients, given.count, given.most_kept, error);
+    }
+    Ok(tokens)
+}
+
 /// Runs the command over the database, which is closed last.
 pub(crate) fn serve<F: Start, E: Write>(
     rt: &HostRuntime,
-    given: &ServeLine<'_>,
+    given: &Serving<'_>,
     start: F,
     error: &mut E,
 ) -> Result<(), Fault> {
-    let tokens = token_table(rt, given.tokens)?;
+    let tokens = tokens_of(rt, given, error)?;
     let salt = salt_of(&tokens)?;
     let (space, listed) = opened(rt, given.database, start)?;
     let answering = Answering {
@@ -95,6 +98,7 @@ pub(crate) fn serve<F: Start, E: Write>(
         rt.alloc(),
         space,
         listed,
+        given.most_kept,
         salt,
         answering,
         &mut clock,

@@ -1,14 +1,13 @@
 //! The commands, as this system does them.
-use crate::connections::{self, ServeLine};
 use crate::loopback::{self, LoopbackLine};
 use crate::run::{self, RunLine};
-use crate::tokens_command;
+use crate::{connections, tokens_command};
 use dss_command::fault::Fault;
 use dss_command::line::Commands;
 use dss_files::files;
-use sqlite::Start;
+use dss_line::serving::Serving;
+use sqlite::{Start, Wary};
 use std::io::{Read, Write};
-use std::net::Ipv4Addr;
 use wire_http::Counted;
 
 /// The system, and what stands for all that the file and the log of a database may hold.
@@ -41,27 +40,11 @@ impl<'a, F: Start> Commands for Program<'a, F> {
         run::run(rt, &given, start, input, output)
     }
 
-    fn serve<E: Write>(
-        self,
-        tokens: &str,
-        database: &str,
-        listen: Ipv4Addr,
-        port: u16,
-        count: Option<u64>,
-        clients: u64,
-        admin: Option<u16>,
-        error: &mut E,
-    ) -> Result<(), Fault> {
+    fn serve<E: Write>(self, given: Serving<'_>, error: &mut E) -> Result<(), Fault> {
         let Program { rt, start } = self;
-        let given = ServeLine {
-            tokens,
-            database,
-            listen,
-            port,
-            count,
-            clients,
-            admin,
-        };
+        if given.wary {
+            return connections::serve(rt, &given, Wary, error);
+        }
         connections::serve(rt, &given, start, error)
     }
 

@@ -1,4 +1,5 @@
 pub mod Fault
+pub mod Limits
 pub mod Line
 pub mod Service
 pub mod Stream

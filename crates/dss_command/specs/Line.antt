@@ -8,7 +8,17 @@ use Rattle.dss_line.specs.Line.{Asks, Explains}
 use Rattle.dss_line.specs.declared.fault.LineFault.{LineFault}
 use Rattle.dss_line.specs.declared.fault.LineFault.TheVariants as fault
 use Rattle.dss_line.specs.declared.line.Line.{Line}
-use Rattle.dss_line.specs.declared.line.Line.TheVariants.{Cell, CheckTokens, Loopback, NewSalt, NewToken, Report, Run, Serve, Upgrade}
+use Rattle.dss_line.specs.declared.line.Line.TheVariants.{
+  Cell,
+  CheckTokens,
+  Loopback,
+  NewSalt,
+  NewToken,
+  Report,
+  Run,
+  Serve,
+  Upgrade,
+}
 use Rattle.dss_report.specs.Cell.{IsLineOfToken}
 use Rattle.dss_command.specs.Fault.{status_of}
 use Rattle.dss_command.specs.declared.fault.Fault.{Fault}
@@ -36,9 +46,8 @@ module _ (does : Doing) where
       → Result (Unit {0}) Fault → Type 0
   Does (Run tokens now database requests) remaining output output' error error' done =
       does (Run tokens now database requests) remaining output output' done × (error' ≡ error)
-  Does (Serve tokens database listen port count clients admin) remaining output output' error error' done =
-      does (Serve tokens database listen port count clients admin) None error error' done
-      × (output' ≡ output)
+  Does (Serve given) remaining output output' error error' done =
+      does (Serve given) None error error' done × (output' ≡ output)
   Does (Loopback tokens now request) remaining output output' error error' done =
       does (Loopback tokens now request) remaining output output' done × (error' ≡ error)
   Does (Cell token) remaining output output' error error' done =

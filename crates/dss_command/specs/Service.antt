@@ -2,8 +2,10 @@
 use Rattle.std.specs.Prelude.{◌≡◌, false}
 use Rattle.service_core.specs.Held as held
 use Rattle.service_core.specs.declared.service.Service.{Service}
-use Rattle.space_core.specs.declared.space.Space.{Ghosts}
+use Rattle.space_core.specs.declared.settle.Settles as settles
+use Rattle.space_core.specs.declared.space.Space as spaces
 use Rattle.token_conf.specs.TokenFile.{TokenFile, callers_of, salt_of}
+use Rattle.wire_http.specs.declared.moments.Moments as moments
 use Rattle.dss_serve.specs.Serve.{ServesAll}
 
 -- a service over that space, which was asked nothing, with the salt of the token file
@@ -13,12 +15,12 @@ pub record IsServiceOver {S : Type 0} (tokens : TokenFile) (space : S) (service 
   pub salt_is : held.salt_of service ≡ salt_of tokens
   pub goes : held.is_shut service ≡ false
 
--- Such a service was asked calls of requests, each of the caller whose token it bears, and no other,
--- and the space is given back as it is then.
-pub record ServesClients {S : Type 0} (g : Ghosts S) (tokens : TokenFile) (old new : S)
-    : Type 0 where
+-- Such a service was asked calls of requests, each of the caller whose token it bears, and no other, in
+-- rounds that were all settled, and the space is given back as it is then.
+pub record ServesClients {S M : Type 0} (g : spaces.Ghosts S) (k : settles.Ghosts S)
+    (m : moments.Ghosts M) (tokens : TokenFile) (old new : S) (clock clock' : M) : Type 0 where
   pub first : Service S
   pub last : Service S
   pub starts : IsServiceOver tokens old first
-  pub serves : ServesAll g (callers_of tokens) first last
+  pub serves : ServesAll g k m (callers_of tokens) first last clock clock'
   pub ends : new ≡ held.space_of last

@@ -16,7 +16,7 @@ use dss_serve::serve::serve_clients;
 use dss_serve::sockets::Sockets;
 use entity_core::salt::Salt;
 use service_core::service::Service;
-use space_core::space::Space;
+use space_core::settle::Settles;
 use std::alloc::Global;
 use std::io;
 use std::io::Write;
@@ -131,7 +131,7 @@ fn operators_port(operated: Option<Operated>) -> Option<u16> {
 }
 
 // Answers the clients of the sockets by a service over a space.
-fn serve_sockets<S: Space + Drop, M: Moments, N: Sockets + Drop, E: Write>(
+fn serve_sockets<S: Settles + Drop, M: Moments, N: Sockets + Drop, E: Write>(
     alloc: Global,
     space: S,
     salt: Salt,
@@ -142,7 +142,8 @@ fn serve_sockets<S: Space + Drop, M: Moments, N: Sockets + Drop, E: Write>(
     error: &mut E,
 ) -> (Result<(), Fault>, S)
     requires { salt ≡ salt_of given.tokens.now }
-    ensures served { ServesClients S.Space given.entry.tokens.now space result.1 }
+    ensures served { ServesClients S.Space S.Settles.own M.Moments given.entry.tokens.now
+        space result.1 moments.old moments.new }
     ensures counted { OnOk result.0 (IsSome given.entry.limits.count
         ⊎ IsSome given.entry.operated) }
 {
@@ -163,9 +164,10 @@ fn serve_sockets<S: Space + Drop, M: Moments, N: Sockets + Drop, E: Write>(
 }
 
 /// Answers the clients of a port by a service that it makes over a space, which is given back as it is
-/// then. It tells that the port is listened on, and later the fault of each client that is given up.
+/// then, after the last round of calls was settled. It tells that the port is listened on, and later
+/// the fault of each client that is given up.
 /// It is done only where a number of connections is given, or an operator's port.
-pub fn serve_port<S: Space + Drop, M: Moments, L: Listen + Drop, E: Write>(
+pub fn serve_port<S: Settles + Drop, M: Moments, L: Listen + Drop, E: Write>(
     alloc: Global,
     space: S,
     salt: Salt,
@@ -175,9 +177,11 @@ pub fn serve_port<S: Space + Drop, M: Moments, L: Listen + Drop, E: Write>(
     error: &mut E,
 ) -> (Result<(), Fault>, S)
     requires { salt ≡ salt_of given.tokens.now }
-    ensures served { OnOk result.0 (ServesClients S.Space given.entry.tokens.now space result.1) }
-    ensures part { OnErr result.0 ((result.1 ≡ space)
-        ⊎ ServesClients S.Space given.entry.tokens.now space result.1) }
+    ensures served { OnOk result.0 (ServesClients S.Space S.Settles.own M.Moments
+        given.entry.tokens.now space result.1 moments.old moments.new) }
+    ensures part { OnErr result.0 ((result.1 ≡ space) × (moments.new ≡ moments.old)
+        ⊎ ServesClients S.Space S.Settles.own M.Moments
+        given.entry.tokens.now space result.1 moments.old moments.new) }
     ensures counted { OnOk result.0 (IsSome given.entry.limits.count
         ⊎ IsSome given.entry.operated) }
 {

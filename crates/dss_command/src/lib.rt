@@ -3,6 +3,7 @@
 
 pub mod clients;
 pub mod fault;
+pub mod limits;
 pub mod line;
 pub mod moment;
 pub mod print;

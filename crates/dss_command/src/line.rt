@@ -10,16 +10,16 @@ use crate::fault::{Fault, status, tell};
 use crate::print::cell;
 use dss_line::fault::LineFault;
 use dss_line::line::{Line, parse};
+use dss_line::serving::Serving;
 use std::alloc::Global;
 use std::io::{Read, Write};
-use std::net::Ipv4Addr;
 use wire_http::Counted;
 
-/// The commands that need the system. What it holds and does, no clause can say: which text the file of
-/// a name has, who listens on a port, what time it is.
+/// The commands that need the system. What it holds and does, no clause can say: which text the file
+/// of a name has, who listens on a port, what time it is.
 ///
-/// `does line remaining before after done`: the command of that line may end so, where the reader has
-/// this to give and the writer is left so.
+/// `does line remaining before after done`: the command of that line may end so, where the reader
+/// has this to give and the writer is left so.
 pub trait Commands {
     ghost use Rattle.std.specs.Prelude.{ℕ, List, Option, Result, Some, None, OnOk, ◌≡◌};
     ghost use Rattle.dss_line.specs.declared.line.Line.{Line};
@@ -43,19 +43,9 @@ pub trait Commands {
             (W.contents (inner_of output.old)) (W.contents (inner_of output.new)) result };
 
     /// The command `serve`.
-    fn serve<E: Write>(
-        self,
-        tokens: &str,
-        database: &str,
-        listen: Ipv4Addr,
-        port: u16,
-        count: Option<u64>,
-        clients: u64,
-        admin: Option<u16>,
-        error: &mut E,
-    ) -> Result<(), Fault>
-        ensures { does (Line.Serve tokens.entry database.entry listen port count clients admin) None
-            (E.contents error.old) (E.contents error.new) result };
+    fn serve<E: Write>(self, given: Serving<'_>, error: &mut E) -> Result<(), Fault>
+        ensures { does (Line.Serve given.entry) None (E.contents error.old) (E.contents error.new)
+            result };
 
     /// The command `self`.
     fn loop_back<R: Read, W: Write>(
@@ -123,8 +113,8 @@ fn shown<O: Write>(text: &String, output: &mut O) -> Result<(), Fault>
     }
 }
 
-/// What a command line that asks for no command gets, and its exit status: help, which is written to
-/// `output`, or why it was refused, to `error`.
+/// What a command line that asks for no command gets, and its exit status: help, which is written
+/// to `output`, or why it was refused, to `error`.
 pub fn refused<O: Write, E: Write>(fault: LineFault, output: &mut O, error: &mut E) -> u8
     ensures { EndsRefused fault (O.contents output.old) (O.contents output.new) result }
 {
@@ -158,15 +148,7 @@ fn perform<C: Commands + Drop, R: Read, O: Write, E: Write>(
             database,
             requests,
         } => commands.run(tokens, now, database, requests, input, output),
-        Line::Serve {
-            tokens,
-            database,
-            listen,
-            port,
-            count,
-            clients,
-            admin,
-        } => commands.serve(tokens, database, listen, port, count, clients, admin, error),
+        Line::Serve(given) => commands.serve(given, error),
         Line::Loopback {
             tokens,
             now,
@@ -181,9 +163,9 @@ fn perform<C: Commands + Drop, R: Read, O: Write, E: Write>(
     }
 }
 
-/// Runs one command line, whose first word is the program's name, over a reader and two writers, and
-/// answers the exit status: 0 where it is done, 1 after a fault, which is told on one line of `error`,
-/// and 2 for a command line that is refused.
+/// Runs one command line, whose first word is the program's name, over a reader and two writers,
+/// and answers the exit status: 0 where it is done, 1 after a fault, which is told on one line of
+/// `error`, and 2 for a command line that is refused.
 pub fn run_line<'a, C: Commands + Drop, R: Read, O: Write, E: Write>(
     alloc: Global,
     words: &'a [&'a str],

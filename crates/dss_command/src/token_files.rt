@@ -1,11 +1,11 @@
 //! The command `tokens`, over texts and random bytes: a token file is checked, or a token or a salt is
 //! made for one.
-ghost use Rattle.std.specs.Prelude.{◌≡◌, IfErr, OnOk};
+ghost use Rattle.std.specs.Prelude.{◌≡◌, ◌⊎◌, IfErr, OnOk};
 ghost use Rattle.std.specs.Io.KnownBytes.{Appends};
 ghost use Rattle.token_conf.specs.TokenFile.{file_of};
 ghost use Rattle.token_report.specs.New.{names_in, salt_line_of, table_of};
 ghost use Rattle.dss_command.specs.Tokens.{EndsCheck, Judges};
-ghost use Rattle.dss_command.specs.declared.fault.Fault.TheVariants.{Output};
+ghost use Rattle.dss_command.specs.declared.fault.Fault.TheVariants.{Memory, Output};
 
 use crate::fault::Fault;
 use crate::print::put;
@@ -34,6 +34,17 @@ fn judged(mistakes: &[Mistake]) -> Result<(), Fault>
         Some(mistake) => Err(Fault::Tokens(mistake.fault())),
         None => Ok(()),
     }
+}
+
+/// Tells what is wrong with the text of a token file, and what it surely does not mean, in the lines
+/// of `check_tokens`.
+pub fn tell_tokens<E: Write>(alloc: Global, text: &str, error: &mut E) -> Result<(), Fault>
+    ensures { IfErr result (λ fault. (fault ≡ Memory) ⊎ (fault ≡ Output)) }
+{
+    let Ok(report) = report_on(alloc, text) else {
+        return Err(Fault::Memory);
+    };
+    put_lines(report.lines.as_slice(), error)
 }
 
 /// What is wrong with the text of the token file of that name, and what it surely does not mean, on a

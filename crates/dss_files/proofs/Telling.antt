@@ -6,13 +6,12 @@ use Rattle.std.specs.Io.KnownBytes.{Appends}
 use Rattle.sqlite_disk.specs.declared.Disk as disk
 use Rattle.sqlite_disk.specs.declared.Files.{Files}
 use Rattle.sqlite_store.specs.declared.store.FileStore.{FileStore}
-use Rattle.sqlite_trees.specs.declared.store.Store as stores
 use Rattle.sqlite.specs.Files.{over_files}
 use Rattle.sqlite.specs.Recovery.{Image}
 use Rattle.dss_report.specs.Report.{report_of}
 use Rattle.entity_core.specs.Airspace.{Airspace}
 use Rattle.service_tables.specs.Life.{StandFor}
-use Rattle.space_core.specs.Space.{IsContent}
+use Rattle.service_tables.proofs.Lives.{content_found}
 use Rattle.space_core.specs.declared.space.Space as spaces
 use Rattle.space_sql.specs.Found.{FilesSpell, FindsSpelt}
 use Rattle.space_sql.specs.Holding.{Kept, holds_of, is_sound_of, is_whole_of}
@@ -63,11 +62,6 @@ pub record IsOver {D : Type 0} {g : disk.Ghosts D} (space : spaces.Ghosts (Kept 
   pub whole : (k : Kept (FileStore D g)) → space.is_whole k → is_whole_of over_files k
   pub holds : (k : Kept (FileStore D g)) (a : Airspace) → holds_of over_files k a → space.holds k a
 
--- a space that was taken over files holds what they stood for, and no other
-content_found : {S : Type 0} (image : Image) (space : spaces.Ghosts (Kept S)) (k : Kept S) → FindsSpelt image space k → space.is_sound k → (a : Airspace) → StandFor image a → IsContent space.holds k a
-content_found image space k finds sound a (inl it) = finds.spelt sound it.0 a it.1
-content_found image space k finds sound a (inr it) = subst (λ b. IsContent space.holds k b) (sym it.1) (finds.new sound it.0)
-
 -- the line by which a space tells whether it was in format 1 is that of the format
 line_told : (upgraded : Bool) (format : Format) → (IsTrue upgraded ↔ (format ≡ One))
     → (if upgraded then codes "format 2, was 1\n" else codes "format 2\n") ≡ format_line format
@@ -106,13 +100,3 @@ module _ {D : Type 0} {g : disk.Ghosts D} (space : spaces.Ghosts (Kept (FileStor
     kept = kept_after over k files closes (λ is a stands.
         let content = content_found image space k finds is a stands in (finds.whole is a content.held, content.only));
   }
-
--- the words of a space over tables
-abbrev pub words_of : {S : Type 0} → stores.Ghosts S → spaces.Ghosts (Kept S)
-words_of g = record {
-  holds = holds_of g;
-  is_sound = is_sound_of g;
-  is_whole = is_whole_of g;
-  refusals = λ k. k.refusals;
-  is_broken = λ k. k.broken;
-}

@@ -1,5 +1,5 @@
 -- What the commands over a database tell, by what its files held, and what they leave there.
-use Rattle.std.specs.Prelude.{◌≡◌, ◌⊎◌, ℕ, List, Option, Result, Ok, Err, OnOk, OnErr, IfErr, codes}
+use Rattle.std.specs.Prelude.{◌≡◌, ◌⊎◌, ℕ, List, Option, false, Result, Ok, Err, OnOk, OnErr, IfErr, codes}
 use Rattle.std.specs.Io.KnownBytes.{Appends}
 use Rattle.sqlite_disk.specs.declared.Disk as disk
 use Rattle.sqlite_disk.specs.declared.Files.{Files}
@@ -8,6 +8,7 @@ use Rattle.sqlite.specs.Recovery.{Image}
 use Rattle.sqlite.specs.WalReads.{AreClean}
 use Rattle.dss_report.specs.Report.{report_of}
 use Rattle.entity_core.specs.Airspace.{Airspace}
+use Rattle.service_tables.specs.Crash.{bound_waiting_of}
 use Rattle.service_tables.specs.Life.{StandFor}
 use Rattle.space_core.specs.declared.space.Space as spaces
 use Rattle.space_core.specs.Space.{Reads}
@@ -15,12 +16,15 @@ use Rattle.space_core.specs.declared.space.SpaceFault.{SpaceFault}
 use Rattle.space_opening.specs.declared.open_fault.OpenFault.{OpenFault}
 use Rattle.space_reading.specs.Judging.{listed_airspace}
 use Rattle.space_reading.specs.declared.judgement.Listed.{Listed}
+use Rattle.space_bounds.specs.Bounded.{Bound}
+use Rattle.space_rounds.specs.Grouped.{Group, waits_in}
 use Rattle.space_sql.specs.Found.{FilesSpell, FindsSpelt}
 use Rattle.space_sql.specs.Holding.{Kept}
 use Rattle.space_sql.specs.Restart.{ClosesFiles, FilesHave, without_log}
 use Rattle.space_tables.specs.declared.format.Format.{Format}
 use Rattle.space_tables.specs.declared.format.Format.TheVariants.{One, Two}
 use Rattle.token_conf.specs.TokenFile.{TokenFile}
+use Rattle.wire_http.specs.declared.moments.Moments as moments
 use Rattle.dss_command.specs.Service.{ServesClients}
 use Rattle.dss_command.specs.Stream.{ServesOver, ServesPartOver}
 use Rattle.dss_command.specs.declared.fault.Fault.{Fault}
@@ -92,22 +96,33 @@ pub record ServesClosing {D : Type 0} {g : disk.Ghosts D}
   pub part : IfErr done (ServesPartOver space tokens now remaining before after old new)
   pub closed : EndsClosing done new result
 
--- The clients of a port were answered over a space, after it was read once at most for a copy of it in
--- memory; after a fault some were, or none.
-pub record ServesCopied {S : Type 0} (space : spaces.Ghosts (Kept S)) (tokens : TokenFile)
-    (old new : Kept S) (done : Result (Unit {0}) Fault) : Type 0 where
-  pub mid : Kept S
+-- The clients of a port were answered over a space over tables with a copy of it in memory, after it
+-- was read once at most for the copy, in rounds that were all settled; after a fault some were, or
+-- none. Then it is given back, without the copy.
+pub record ServesCopied {S M : Type 0} (tables : spaces.Ghosts (Kept S))
+    (space : spaces.Ghosts (Bound (Group (Kept S))))
+    (m : moments.Ghosts M) (tokens : TokenFile) (old new : Kept S) (clock clock' : M)
+    (done : Result (Unit {0}) Fault) : Type 0 where
+  pub first : Bound (Group (Kept S))
+  pub last : Bound (Group (Kept S))
   pub answer : Result Listed SpaceFault
-  pub reads : Reads space.holds space.is_sound space.is_whole old mid answer
+  pub reads : Reads tables.holds tables.is_sound tables.is_whole old first.space.store answer
       (λ a found. listed_airspace found ≡ a)
-  pub served : OnOk done (ServesClients space tokens mid new)
-  pub part : OnErr done ((new ≡ mid) ⊎ ServesClients space tokens mid new)
+  pub calm : waits_in first.space ≡ false
+  pub served : OnOk done
+      (ServesClients space (bound_waiting_of tables) m tokens first last clock clock')
+  pub part : OnErr done ((last ≡ first) × (clock' ≡ clock)
+      ⊎ ServesClients space (bound_waiting_of tables) m tokens first last clock clock')
+  pub sound : tables.is_sound last.space.store → space.is_sound last
+  pub released : new ≡ last.space.store
 
--- And the space was closed last.
-pub record ClosesServed {D : Type 0} {g : disk.Ghosts D}
-    (space : spaces.Ghosts (Kept (FileStore D g))) (tokens : TokenFile)
-    (old : Kept (FileStore D g)) (result : Result (Files D) Fault) : Type 0 where
+-- And the space over tables was closed last.
+pub record ClosesServed {D M : Type 0} {g : disk.Ghosts D}
+    (tables : spaces.Ghosts (Kept (FileStore D g)))
+    (space : spaces.Ghosts (Bound (Group (Kept (FileStore D g)))))
+    (m : moments.Ghosts M) (tokens : TokenFile) (old : Kept (FileStore D g))
+    (clock clock' : M) (result : Result (Files D) Fault) : Type 0 where
   pub new : Kept (FileStore D g)
   pub done : Result (Unit {0}) Fault
-  pub served : ServesCopied space tokens old new done
+  pub served : ServesCopied tables space m tokens old new clock clock' done
   pub closed : EndsClosing done new result

@@ -19,8 +19,11 @@ use dss_command::print::{put_format, put_report};
 use dss_command::stream::serve_stream_over;
 use entity_core::salt::Salt;
 use mirror_tables::mirrored::mirrored;
+use space_bounds::bounded::Bounded;
+use space_bounds::tally::Tally;
 use space_core::space::Space;
 use space_reading::judgement::Listed;
+use space_rounds::grouped::Grouped;
 use space_sql::space::SqlSpace;
 use sqlite::{Alter, FileFrom, FileStore, Files, Start};
 use sqlite_disk::Disk;
@@ -156,11 +159,20 @@ pub fn run<F: Start, R: Read, W: Write>(
     closed(done, space)
 }
 
+// A tally of what is kept of each supplier, where there is a bound.
+fn tally_of(alloc: Global, most_kept: Option<u32>) -> Option<Tally> {
+    match most_kept {
+        Some(most) => Some(Tally::new(alloc, most)),
+        None => None,
+    }
+}
+
 // Answers the clients of a port over tables in some store, with a copy of them in memory.
 fn served_by_copy<A: Alter + Drop, M: Moments, L: Listen + Drop, E: Write>(
     alloc: Global,
     space: SqlSpace<A>,
     listed: Option<Listed>,
+    most_kept: Option<u32>,
     salt: Salt,
     given: Answering<'_>,
     moments: &mut M,
@@ -169,22 +181,29 @@ fn served_by_copy<A: Alter + Drop, M: Moments, L: Listen + Drop, E: Write>(
 ) -> (Result<(), Fault>, SqlSpace<A>)
     requires salt { salt ≡ salt_of given.tokens.now }
     requires listed { IfSome listed (IsAllOf A.Store space) }
-    ensures served { ServesCopied ⟦<SqlSpace<A> as Space>⟧ given.entry.tokens.now
-        space result.1 result.0 }
+    ensures served { ServesCopied ⟦<SqlSpace<A> as Space>⟧
+        ⟦<Bounded<Grouped<SqlSpace<A>>> as Space>⟧ M.Moments
+        given.entry.tokens.now space result.1 moments.old moments.new result.0 }
     ensures counted { OnOk result.0 (IsSome given.entry.limits.count
         ⊎ IsSome given.entry.operated) }
 {
-    let mirror = mirrored(alloc, space, listed);
-    let (done, mirror) = serve_port(alloc, mirror, salt, given, moments, listener, error);
-    (done, mirror.release())
+    let mut tally = tally_of(alloc, most_kept);
+    let grouped = mirrored(alloc, space, listed, &mut tally);
+    let bounded = Bounded::new(grouped, tally);
+    let (done, served) = serve_port(alloc, bounded, salt, given, moments, listener, error);
+    let inside = served.release();
+    (done, inside.release())
 }
 
 /// The command `serve` over a database that was opened, which is closed last, with a copy of it in
-/// memory as long as there is memory for it.
+/// memory as long as there is memory for it. Changes that wait for the end of a round are kept then,
+/// or none of them. With a number no more than so many entities and subscriptions are kept of each
+/// supplier.
 pub fn serve<F: Start, M: Moments, L: Listen + Drop, E: Write>(
     alloc: Global,
     space: SqlSpace<FileStore<FileFrom<F>>>,
     listed: Option<Listed>,
+    most_kept: Option<u32>,
     salt: Salt,
     given: Answering<'_>,
     moments: &mut M,
@@ -194,10 +213,13 @@ pub fn serve<F: Start, M: Moments, L: Listen + Drop, E: Write>(
     requires salt { salt ≡ salt_of given.tokens.now }
     requires listed { IfSome listed (IsAllOf over_files space) }
     ensures served { ClosesServed ⟦<SqlSpace<FileStore<FileFrom<F>>> as Space>⟧
-        given.entry.tokens.now space result }
+        ⟦<Bounded<Grouped<SqlSpace<FileStore<FileFrom<F>>>>> as Space>⟧ M.Moments
+        given.entry.tokens.now space moments.old moments.new result }
     ensures counted { OnOk result (IsSome given.entry.limits.count
         ⊎ IsSome given.entry.operated) }
 {
-    let (done, space) = served_by_copy(alloc, space, listed, salt, given, moments, listener, error);
+    let (done, space) = served_by_copy(
+        alloc, space, listed, most_kept, salt, given, moments, listener, error,
+    );
     closed(done, space)
 }

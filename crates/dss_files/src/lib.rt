@@ -2,3 +2,4 @@
 #![tactic(auto)]
 
 pub mod files;
+pub mod laws;

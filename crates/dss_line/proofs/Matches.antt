@@ -15,8 +15,8 @@ use Rattle.clap.specs.declared.parser.matches.Found.{Found}
 use Rattle.clap.proofs.WalkLemmas.{one_text-rows}
 use Rattle.clap.specs.declared.error.kind.ErrorKind.{ErrorKind}
 use Rattle.clap.specs.declared.error.kind.ErrorKind.TheVariants.{DisplayHelp, DisplayVersion, OutOfMemory}
-use Rattle.dss_line.specs.Line.{Asks, AsksNothing, Explains, HasAdmin, HasCount, HasListen, HasNumber, HasNumberIn, HasValues, is_set, line_of_options}
-use Rattle.dss_line.specs.declared.line.TheConstants.{LAST_PORT, MOST_CONNECTIONS}
+use Rattle.dss_line.specs.Line.{Asks, AsksNothing, Explains, HasChoice, HasListen, HasNumber, HasNumberIn, HasServing, HasValues, is_set, line_of_options}
+use Rattle.dss_line.specs.declared.serving.Serving.{Serving}
 use Rattle.dss_line.specs.LineFault.{IsFaultOf}
 use Rattle.dss_line.specs.declared.fault.LineFault.{LineFault}
 use Rattle.dss_line.specs.declared.fault.LineFault.TheVariants as fault
@@ -50,7 +50,7 @@ other a b differ same = not_from_Decides (bytes_eq a b) (bytes_eq-Decides a b) d
 -- the command `run` asks for nothing where no line of it has the values
 pub nothing_of_run : (rows : List Row) → ((tokens : Bor (List ℕ)) (now : ℕ) (database : Option (Bor (List ℕ))) (requests : Bor (List ℕ)) → HasValues rows (Run tokens now database requests) → ⊥) → AsksNothing (Some (codes "run", rows))
 nothing_of_run rows none (Run tokens now database requests) asks = none tokens now database requests asks.1
-nothing_of_run rows none (Serve tokens database listen port count clients admin) asks = other _ _ refl asks.0
+nothing_of_run rows none (Serve given) asks = other _ _ refl asks.0
 nothing_of_run rows none (Loopback tokens now request) asks = other _ _ refl asks.0
 nothing_of_run rows none (Cell token) asks = other _ _ refl asks.0
 nothing_of_run rows none (Report database) asks = other _ _ refl asks.0
@@ -60,9 +60,9 @@ nothing_of_run rows none (NewToken uss scopes) asks = other _ _ refl asks.0
 nothing_of_run rows none NewSalt asks = other _ _ refl asks.0
 
 -- the command `serve` asks for nothing where no line of it has the values
-pub nothing_of_serve : (rows : List Row) → ((tokens : Bor (List ℕ)) (database : Bor (List ℕ)) (listen : Ipv4Addr) (port : ℕ) (count : Option ℕ) (clients : ℕ) (admin : Option ℕ) → HasValues rows (Serve tokens database listen port count clients admin) → ⊥) → AsksNothing (Some (codes "serve", rows))
+pub nothing_of_serve : (rows : List Row) → ((given : Serving) → HasServing rows given → ⊥) → AsksNothing (Some (codes "serve", rows))
 nothing_of_serve rows none (Run tokens now database requests) asks = other _ _ refl asks.0
-nothing_of_serve rows none (Serve tokens database listen port count clients admin) asks = none tokens database listen port count clients admin asks.1
+nothing_of_serve rows none (Serve given) asks = none given asks.1
 nothing_of_serve rows none (Loopback tokens now request) asks = other _ _ refl asks.0
 nothing_of_serve rows none (Cell token) asks = other _ _ refl asks.0
 nothing_of_serve rows none (Report database) asks = other _ _ refl asks.0
@@ -74,7 +74,7 @@ nothing_of_serve rows none NewSalt asks = other _ _ refl asks.0
 -- the command `self` asks for nothing where no line of it has the values
 pub nothing_of_self : (rows : List Row) → ((tokens : Bor (List ℕ)) (now : ℕ) (request : Bor (List ℕ)) → HasValues rows (Loopback tokens now request) → ⊥) → AsksNothing (Some (codes "self", rows))
 nothing_of_self rows none (Run tokens now database requests) asks = other _ _ refl asks.0
-nothing_of_self rows none (Serve tokens database listen port count clients admin) asks = other _ _ refl asks.0
+nothing_of_self rows none (Serve given) asks = other _ _ refl asks.0
 nothing_of_self rows none (Loopback tokens now request) asks = none tokens now request asks.1
 nothing_of_self rows none (Cell token) asks = other _ _ refl asks.0
 nothing_of_self rows none (Report database) asks = other _ _ refl asks.0
@@ -86,7 +86,7 @@ nothing_of_self rows none NewSalt asks = other _ _ refl asks.0
 -- the command `cell` asks for nothing where no line of it has the values
 pub nothing_of_cell : (rows : List Row) → ((token : Bor (List ℕ)) → HasValues rows (Cell token) → ⊥) → AsksNothing (Some (codes "cell", rows))
 nothing_of_cell rows none (Run tokens now database requests) asks = other _ _ refl asks.0
-nothing_of_cell rows none (Serve tokens database listen port count clients admin) asks = other _ _ refl asks.0
+nothing_of_cell rows none (Serve given) asks = other _ _ refl asks.0
 nothing_of_cell rows none (Loopback tokens now request) asks = other _ _ refl asks.0
 nothing_of_cell rows none (Cell token) asks = none token asks.1
 nothing_of_cell rows none (Report database) asks = other _ _ refl asks.0
@@ -98,7 +98,7 @@ nothing_of_cell rows none NewSalt asks = other _ _ refl asks.0
 -- the command `report` asks for nothing where no line of it has the values
 pub nothing_of_report : (rows : List Row) → ((database : Bor (List ℕ)) → HasValues rows (Report database) → ⊥) → AsksNothing (Some (codes "report", rows))
 nothing_of_report rows none (Run tokens now database requests) asks = other _ _ refl asks.0
-nothing_of_report rows none (Serve tokens database listen port count clients admin) asks = other _ _ refl asks.0
+nothing_of_report rows none (Serve given) asks = other _ _ refl asks.0
 nothing_of_report rows none (Loopback tokens now request) asks = other _ _ refl asks.0
 nothing_of_report rows none (Cell token) asks = other _ _ refl asks.0
 nothing_of_report rows none (Report database) asks = none database asks.1
@@ -110,7 +110,7 @@ nothing_of_report rows none NewSalt asks = other _ _ refl asks.0
 -- the command `upgrade` asks for nothing where no line of it has the values
 pub nothing_of_upgrade : (rows : List Row) → ((database : Bor (List ℕ)) → HasValues rows (Upgrade database) → ⊥) → AsksNothing (Some (codes "upgrade", rows))
 nothing_of_upgrade rows none (Run tokens now database requests) asks = other _ _ refl asks.0
-nothing_of_upgrade rows none (Serve tokens database listen port count clients admin) asks = other _ _ refl asks.0
+nothing_of_upgrade rows none (Serve given) asks = other _ _ refl asks.0
 nothing_of_upgrade rows none (Loopback tokens now request) asks = other _ _ refl asks.0
 nothing_of_upgrade rows none (Cell token) asks = other _ _ refl asks.0
 nothing_of_upgrade rows none (Report database) asks = other _ _ refl asks.0
@@ -148,7 +148,7 @@ no_salt None None None true a b c d none = cc
 -- the command `tokens` asks for nothing where its options make no line
 pub nothing_of_tokens : (rows : List Row) (check new scopes : Option (Bor (List ℕ))) (flag : Bool) → text_of check ≡ first_of (codes "check") rows → text_of new ≡ first_of (codes "new") rows → text_of scopes ≡ first_of (codes "scopes") rows → flag ≡ is_set (codes "new-salt") rows → line_of_options check new scopes flag ≡ None → AsksNothing (Some (codes "tokens", rows))
 nothing_of_tokens rows check new scopes flag a b c d none (Run tokens now database requests) asks = other _ _ refl asks.0
-nothing_of_tokens rows check new scopes flag a b c d none (Serve tokens database listen port count clients admin) asks = other _ _ refl asks.0
+nothing_of_tokens rows check new scopes flag a b c d none (Serve given) asks = other _ _ refl asks.0
 nothing_of_tokens rows check new scopes flag a b c d none (Loopback tokens now request) asks = other _ _ refl asks.0
 nothing_of_tokens rows check new scopes flag a b c d none (Cell token) asks = other _ _ refl asks.0
 nothing_of_tokens rows check new scopes flag a b c d none (Report database) asks = other _ _ refl asks.0
@@ -209,15 +209,10 @@ pub some_text : (o : Option (Bor (List ℕ))) (found : Option Text) → is_some 
 some_text None found some is none = let bad : false ≡ true = some in cc
 some_text (Some word) found some is none = let bad : Some word.now ≡ None = is ∙ none in cc
 
--- where the count is there and is no number of its range, there is no count
-pub no_count : (rows : List Row) → ((n : ℕ) → HasNumberIn (codes "count") 1 MOST_CONNECTIONS rows n → ⊥) → (first_of (codes "count") rows ≡ None → ⊥) → (count : Option ℕ) → HasCount rows count → ⊥
-no_count rows number there None has = there has
-no_count rows number there (Some n) has = number n has
-
--- where the operator's port is there and is no number of its range, there is no such port
-pub no_admin : (rows : List Row) → ((n : ℕ) → HasNumberIn (codes "admin") 1 LAST_PORT rows n → ⊥) → (first_of (codes "admin") rows ≡ None → ⊥) → (admin : Option ℕ) → HasAdmin rows admin → ⊥
-no_admin rows number there None has = there has
-no_admin rows number there (Some n) has = number n has
+-- where an option is there and its value is no number of its range, it has no choice
+pub no_choice : (id : Text) (least greatest : ℕ) (rows : List Row) → ((n : ℕ) → HasNumberIn id least greatest rows n → ⊥) → (first_of id rows ≡ None → ⊥) → (choice : Option ℕ) → HasChoice id least greatest rows choice → ⊥
+no_choice id least greatest rows number there None has = there has
+no_choice id least greatest rows number there (Some n) has = number n has
 
 -- the fault of an error whose kind is a mistake of the words, or want of memory
 pub fault_of_kind : (mistakes : List ErrorKind) (subcommand : Option (Text × List Row)) (kind : ErrorKind) (found : LineFault) → (kind ≡ OutOfMemory) ⊎ IsAmong kind mistakes → IsFaultOf kind found → Explains mistakes subcommand found

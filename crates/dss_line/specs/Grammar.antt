@@ -1,10 +1,16 @@
 -- The command line's grammar, in `clap`'s words: its commands, and the rule of each argument.
-use Rattle.std.specs.Prelude.{Some, codes, true}
+use Rattle.std.specs.Prelude.{ℕ, Some, codes, true}
 use Rattle.clap.specs.Simple.{on_top}
 use Rattle.clap.specs.Words.{App, Rule, Text, new_app, new_rule, with_rule, with_subcommand}
 use Rattle.clap.specs.declared.builder.value_parser.ValueParser.TheVariants.{Unsigned}
 use Rattle.clap.specs.declared.builder.action.ArgAction.TheVariants.{SetTrue}
-use Rattle.dss_line.specs.declared.line.TheConstants.{LAST_MOMENT, LAST_PORT, MOST_CLIENTS, MOST_CONNECTIONS}
+use Rattle.dss_line.specs.declared.line.TheConstants.{
+  GREATEST_BOUND,
+  LAST_MOMENT,
+  LAST_PORT,
+  MOST_CLIENTS,
+  MOST_CONNECTIONS,
+}
 
 -- ---- arguments
 
@@ -37,28 +43,12 @@ port_rule = record (option_rule (codes "port")) {
   parser = Some (Unsigned 1 LAST_PORT);
 }
 
--- the value is a number from 1 to the most connections; it need not be there
-abbrev pub count_rule : Rule
-count_rule = record (new_rule (codes "count")) {
-  long = Some (codes "count");
+-- an option with a number between these as its value, which need not be there
+abbrev pub number_rule : Text → ℕ → ℕ → Rule
+number_rule name least greatest = record (new_rule name) {
+  long = Some name;
   value_names = 1;
-  parser = Some (Unsigned 1 MOST_CONNECTIONS);
-}
-
--- the value is a number from 1 to the most that are served at once; it need not be there
-abbrev pub clients_rule : Rule
-clients_rule = record (new_rule (codes "clients")) {
-  long = Some (codes "clients");
-  value_names = 1;
-  parser = Some (Unsigned 1 MOST_CLIENTS);
-}
-
--- the value is a number from 1 to the last port; it need not be there
-abbrev pub admin_rule : Rule
-admin_rule = record (new_rule (codes "admin")) {
-  long = Some (codes "admin");
-  value_names = 1;
-  parser = Some (Unsigned 1 LAST_PORT);
+  parser = Some (Unsigned least greatest);
 }
 
 -- an option with a value, which need not be there
@@ -86,22 +76,37 @@ token_rule = record (word_rule (codes "token")) { value_names = 1 }
 
 abbrev pub run_app : App
 run_app =
-    with_rule (with_rule (with_rule (with_rule (new_app (codes "run")) tokens_rule) now_rule) database_rule)
+    with_rule
+    (with_rule (with_rule (with_rule (new_app (codes "run")) tokens_rule) now_rule) database_rule)
     requests_rule
+
+-- the options that `serve` has to be given
+abbrev pub serve_needs : App
+serve_needs =
+    with_rule (with_rule (with_rule (new_app (codes "serve")) tokens_rule) store_rule) port_rule
+
+-- those that bound what it serves
+abbrev pub serve_bounds : App
+serve_bounds =
+    with_rule
+    (with_rule
+    (with_rule serve_needs (number_rule (codes "count") 1 MOST_CONNECTIONS))
+    (number_rule (codes "clients") 1 MOST_CLIENTS))
+    (number_rule (codes "most-kept") 1 GREATEST_BOUND)
 
 abbrev pub serve_app : App
 serve_app =
     with_rule
     (with_rule
     (with_rule
-    (with_rule (with_rule (with_rule (with_rule (new_app (codes "serve")) tokens_rule) store_rule) port_rule)
-    count_rule)
-    clients_rule)
-    admin_rule)
-    (choice_rule (codes "listen"))
+    (with_rule serve_bounds (number_rule (codes "admin") 1 LAST_PORT))
+    (choice_rule (codes "listen")))
+    (flag_rule (codes "wary")))
+    (flag_rule (codes "verbose"))
 
 abbrev pub self_app : App
-self_app = with_rule (with_rule (with_rule (new_app (codes "self")) tokens_rule) now_rule) request_rule
+self_app =
+    with_rule (with_rule (with_rule (new_app (codes "self")) tokens_rule) now_rule) request_rule
 
 abbrev pub cell_app : App
 cell_app = with_rule (new_app (codes "cell")) token_rule
@@ -116,11 +121,18 @@ abbrev pub tokens_app : App
 tokens_app =
     with_rule
     (with_rule
-    (with_rule (with_rule (new_app (codes "tokens")) (choice_rule (codes "check"))) (choice_rule (codes "new")))
+    (with_rule
+    (with_rule (new_app (codes "tokens")) (choice_rule (codes "check")))
+    (choice_rule (codes "new")))
     (choice_rule (codes "scopes")))
     (flag_rule (codes "new-salt"))
 
--- one of the commands has to be there, or the version is asked for
+-- the program's own command: one of those below has to be there, or the version is asked for
+abbrev pub own_app : App
+own_app =
+    on_top (λ s. record s { subcommand_required = true; has_version = true })
+    (new_app (codes "dss"))
+
 abbrev pub dss_app : App
 dss_app =
     with_subcommand
@@ -129,7 +141,7 @@ dss_app =
     (with_subcommand
     (with_subcommand
     (with_subcommand
-    (with_subcommand (on_top (λ s. record s { subcommand_required = true; has_version = true }) (new_app (codes "dss"))) run_app.top)
+    (with_subcommand own_app run_app.top)
     serve_app.top)
     self_app.top)
     cell_app.top)

@@ -1,5 +1,23 @@
 -- What a command line asks for.
-use Rattle.std.specs.Prelude.{◌≡◌, ◌≤◌, ◌⊎◌, ℕ, Bool, true, false, List, [], ◌∷◌, Option, Some, None, codes, map, nat_eq, option_map}
+use Rattle.std.specs.Prelude.{
+  ◌≡◌,
+  ◌≤◌,
+  ◌⊎◌,
+  ℕ,
+  Bool,
+  true,
+  false,
+  List,
+  [],
+  ◌∷◌,
+  Option,
+  Some,
+  None,
+  codes,
+  map,
+  nat_eq,
+  option_map,
+}
 use Rattle.std.specs.Cmp.Lexicographic.{pointwise}
 use Rattle.std.specs.Option.{option_map_or}
 use Rattle.std.specs.Borrow.{Bor}
@@ -13,9 +31,26 @@ use Rattle.clap.specs.declared.error.kind.ErrorKind.{ErrorKind}
 use Rattle.dss_line.specs.LineFault.{IsFaultOf}
 use Rattle.dss_line.specs.declared.fault.LineFault.{LineFault}
 use Rattle.dss_line.specs.declared.fault.LineFault.TheVariants as fault
-use Rattle.dss_line.specs.declared.line.TheConstants.{LAST_MOMENT, LAST_PORT, MOST_CLIENTS, MOST_CONNECTIONS}
+use Rattle.dss_line.specs.declared.line.TheConstants.{
+  GREATEST_BOUND,
+  LAST_MOMENT,
+  LAST_PORT,
+  MOST_CLIENTS,
+  MOST_CONNECTIONS,
+}
 use Rattle.dss_line.specs.declared.line.Line.{Line}
-use Rattle.dss_line.specs.declared.line.Line.TheVariants.{Cell, CheckTokens, Loopback, NewSalt, NewToken, Report, Run, Serve, Upgrade}
+use Rattle.dss_line.specs.declared.line.Line.TheVariants.{
+  Cell,
+  CheckTokens,
+  Loopback,
+  NewSalt,
+  NewToken,
+  Report,
+  Run,
+  Serve,
+  Upgrade,
+}
+use Rattle.dss_line.specs.declared.serving.Serving.{Serving}
 
 -- the texts of some words
 abbrev pub texts : List (Bor (List ℕ)) → List Text
@@ -31,10 +66,10 @@ HasNumber id rows n =
 abbrev pub HasNumberIn : Text → ℕ → ℕ → List Row → ℕ → Type 0
 HasNumberIn id least greatest rows n = HasNumber id rows n × (least ≤ n) × (n ≤ greatest)
 
--- the number of connections that are served, where the option is there
-abbrev pub HasCount : List Row → Option ℕ → Type 0
-HasCount rows None = first_of (codes "count") rows ≡ None
-HasCount rows (Some n) = HasNumberIn (codes "count") 1 MOST_CONNECTIONS rows n
+-- the number of an option that need not be there, where it is there
+abbrev pub HasChoice : Text → ℕ → ℕ → List Row → Option ℕ → Type 0
+HasChoice id least greatest rows None = first_of id rows ≡ None
+HasChoice id least greatest rows (Some n) = HasNumberIn id least greatest rows n
 
 -- the number of connections that are served at once: the option's, or without it the most
 abbrev pub HasClients : List Row → ℕ → Type 0
@@ -48,14 +83,10 @@ HasListen rows a =
     ((text : List ℕ) × (first_of (codes "listen") rows ≡ Some text) × IsIpv4Text text a)
     ⊎ ((first_of (codes "listen") rows ≡ None) × (ipv4_octets a ≡ 127 ∷ 0 ∷ 0 ∷ 1 ∷ []))
 
--- the operator's port, where the option is there
-abbrev pub HasAdmin : List Row → Option ℕ → Type 0
-HasAdmin rows None = first_of (codes "admin") rows ≡ None
-HasAdmin rows (Some n) = HasNumberIn (codes "admin") 1 LAST_PORT rows n
-
 -- whether a flag is set
 abbrev pub is_set : Text → List Row → Bool
-is_set id rows = option_map_or (λ text. pointwise nat_eq text (codes "true")) (first_of id rows) false
+is_set id rows =
+    option_map_or (λ text. pointwise nat_eq text (codes "true")) (first_of id rows) false
 
 -- the options of the command `tokens` have these values, and its flag is set or not
 abbrev pub HasOptions : List Row → Option Text → Option Text → Option Text → Bool → Type 0
@@ -65,10 +96,23 @@ HasOptions rows check new scopes new_salt =
     × (first_of (codes "scopes") rows ≡ scopes)
     × (is_set (codes "new-salt") rows ≡ new_salt)
 
+-- the arguments of the command `serve` have these values
+pub record HasServing (rows : List Row) (given : Serving) : Type 0 where
+  pub tokens : first_of (codes "tokens") rows ≡ Some given.tokens.now
+  pub database : first_of (codes "db") rows ≡ Some given.database.now
+  pub listen : HasListen rows given.listen
+  pub port : HasNumberIn (codes "port") 1 LAST_PORT rows given.port
+  pub count : HasChoice (codes "count") 1 MOST_CONNECTIONS rows given.count
+  pub clients : HasClients rows given.clients
+  pub most_kept : HasChoice (codes "most-kept") 1 GREATEST_BOUND rows given.most_kept
+  pub admin : HasChoice (codes "admin") 1 LAST_PORT rows given.admin
+  pub wary : is_set (codes "wary") rows ≡ given.wary
+  pub verbose : is_set (codes "verbose") rows ≡ given.verbose
+
 -- the name of the command that asks for the line
 abbrev pub name_of : Line → Text
 name_of (Run tokens now database requests) = codes "run"
-name_of (Serve tokens database listen port count clients admin) = codes "serve"
+name_of (Serve given) = codes "serve"
 name_of (Loopback tokens now request) = codes "self"
 name_of (Cell token) = codes "cell"
 name_of (Report database) = codes "report"
@@ -84,14 +128,7 @@ HasValues rows (Run tokens now database requests) =
     × HasNumberIn (codes "now") 0 LAST_MOMENT rows now
     × (first_of (codes "db") rows ≡ option_map (λ word. word.now) database)
     × (first_of (codes "requests") rows ≡ Some requests.now)
-HasValues rows (Serve tokens database listen port count clients admin) =
-    (first_of (codes "tokens") rows ≡ Some tokens.now)
-    × (first_of (codes "db") rows ≡ Some database.now)
-    × HasListen rows listen
-    × HasNumberIn (codes "port") 1 LAST_PORT rows port
-    × HasCount rows count
-    × HasClients rows clients
-    × HasAdmin rows admin
+HasValues rows (Serve given) = HasServing rows given
 HasValues rows (Loopback tokens now request) =
     (first_of (codes "tokens") rows ≡ Some tokens.now)
     × HasNumberIn (codes "now") 0 LAST_MOMENT rows now
@@ -103,9 +140,10 @@ HasValues rows (CheckTokens file) = HasOptions rows (Some file.now) None None fa
 HasValues rows (NewToken uss scopes) = HasOptions rows None (Some uss.now) (Some scopes.now) false
 HasValues rows NewSalt = HasOptions rows None None None true
 
--- the line of these values of the options of `tokens`: a file to check alone, a supplier with scopes
--- alone, or the flag alone
-abbrev pub line_of_options : Option (Bor Text) → Option (Bor Text) → Option (Bor Text) → Bool → Option Line
+-- the line of these values of the options of `tokens`: a file to check alone, a supplier with
+-- scopes alone, or the flag alone
+abbrev pub line_of_options
+    : Option (Bor Text) → Option (Bor Text) → Option (Bor Text) → Bool → Option Line
 line_of_options (Some file) None None false = Some (CheckTokens file)
 line_of_options None (Some uss) (Some scopes) false = Some (NewToken uss scopes)
 line_of_options None None None true = Some NewSalt
@@ -120,8 +158,9 @@ Asks (Some (name, rows)) line = (name ≡ name_of line) × HasValues rows line
 abbrev pub AsksNothing : Option (Text × List Row) → Type 0
 AsksNothing subcommand = (line : Line) → Asks subcommand line → ⊥
 
--- The fault explains a command line whose words have these mistakes and else this subcommand: it is
--- of one of the mistakes, or there is none and no line is asked for. Memory may run out at any line.
+-- The fault explains a command line whose words have these mistakes and else this subcommand: it
+-- is of one of the mistakes, or there is none and no line is asked for. Memory may run out at any
+-- line.
 abbrev pub Explains : List ErrorKind → Option (Text × List Row) → LineFault → Type 0
 Explains mistakes subcommand fault.Memory = Unit {0}
 Explains mistakes subcommand (fault.Shown text) = (kind : ErrorKind) × IsAmong kind mistakes

@@ -1,7 +1,11 @@
 -- Why a command line asks for no command.
 use Rattle.std.specs.Prelude.{◌≡◌, ◌≢◌, ◌⊎◌, ℕ}
 use Rattle.clap.specs.declared.error.kind.ErrorKind.{ErrorKind}
-use Rattle.clap.specs.declared.error.kind.ErrorKind.TheVariants.{DisplayHelp, DisplayVersion, OutOfMemory}
+use Rattle.clap.specs.declared.error.kind.ErrorKind.TheVariants.{
+  DisplayHelp,
+  DisplayVersion,
+  OutOfMemory,
+}
 use Rattle.dss_line.specs.declared.fault.LineFault.{LineFault}
 use Rattle.dss_line.specs.declared.fault.LineFault.TheVariants as fault
 

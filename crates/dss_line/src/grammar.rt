@@ -3,15 +3,13 @@ ghost use Rattle.std.specs.Prelude.{◌≡◌, IfOk, codes, false};
 ghost use Rattle.clap.specs.Words.{app_of, rule_of};
 ghost use Rattle.clap.specs.declared.builder.command.Command.TheViews.{out-Command};
 ghost use Rattle.dss_line.specs.Grammar.{
-  admin_rule,
   cell_app,
   choice_rule,
-  clients_rule,
-  count_rule,
   database_rule,
   dss_app,
   flag_rule,
   now_rule,
+  number_rule,
   option_rule,
   port_rule,
   report_app,
@@ -28,7 +26,7 @@ ghost use Rattle.dss_line.specs.Grammar.{
   word_rule,
 };
 
-use crate::line::{FIRST_PORT, LAST_MOMENT, LAST_PORT, MOST_CLIENTS, MOST_CONNECTIONS};
+use crate::line::{GREATEST_BOUND, LAST_MOMENT, LAST_PORT, MOST_CLIENTS, MOST_CONNECTIONS};
 use crate::version::SHOWN;
 use clap::builder::ValueParser;
 use clap::{Arg, ArgAction, Command};
@@ -91,41 +89,51 @@ fn port_option<'a>(alloc: Global) -> Arg<'a>
         .value_parser(ValueParser::unsigned(1, LAST_PORT))
 }
 
-fn count_option<'a>(alloc: Global) -> Arg<'a>
-    ensures rule { rule_of result ≡ count_rule }
+// An option with a number from 1 as its value, which need not be there.
+fn number_option<'a>(alloc: Global, name: &'a str, value: &'a str, greatest: u64) -> Arg<'a>
+    ensures rule { rule_of result ≡ number_rule name.entry.now 1 greatest }
     ensures local { result.global ≡ false }
 {
-    Arg::new(alloc, "count")
-        .long("count")
-        .value_name("NUMBER")
-        .help(
-            "How many connections to serve before it ends, from 1 to 1000000; without it as many as come",
-        )
-        .value_parser(ValueParser::unsigned(1, MOST_CONNECTIONS))
+    Arg::new(alloc, name)
+        .long(name)
+        .value_name(value)
+        .value_parser(ValueParser::unsigned(1, greatest))
+}
+
+fn count_option<'a>(alloc: Global) -> Arg<'a>
+    ensures rule { rule_of result ≡ number_rule (codes "count") 1 MOST_CONNECTIONS }
+    ensures local { result.global ≡ false }
+{
+    number_option(alloc, "count", "NUMBER", MOST_CONNECTIONS).help(
+        "How many connections to serve before it ends, from 1 to 1000000; else as many as come",
+    )
 }
 
 fn clients_option<'a>(alloc: Global) -> Arg<'a>
-    ensures rule { rule_of result ≡ clients_rule }
+    ensures rule { rule_of result ≡ number_rule (codes "clients") 1 MOST_CLIENTS }
     ensures local { result.global ≡ false }
 {
-    Arg::new(alloc, "clients")
-        .long("clients")
-        .value_name("NUMBER")
-        .help("How many connections to serve at once, from 1 to 1000; without it 1000")
-        .value_parser(ValueParser::unsigned(1, MOST_CLIENTS))
+    number_option(alloc, "clients", "NUMBER", MOST_CLIENTS).help(
+        "How many connections to serve at once, from 1 to 1000; without it 1000",
+    )
+}
+
+fn most_kept_option<'a>(alloc: Global) -> Arg<'a>
+    ensures rule { rule_of result ≡ number_rule (codes "most-kept") 1 GREATEST_BOUND }
+    ensures local { result.global ≡ false }
+{
+    number_option(alloc, "most-kept", "NUMBER", GREATEST_BOUND).help(
+        "How many entities and subscriptions to keep of each supplier, with 64 cells for each, from 1 to 4294967295; without it there is no bound",
+    )
 }
 
 fn admin_option<'a>(alloc: Global) -> Arg<'a>
-    ensures rule { rule_of result ≡ admin_rule }
+    ensures rule { rule_of result ≡ number_rule (codes "admin") 1 LAST_PORT }
     ensures local { result.global ≡ false }
 {
-    Arg::new(alloc, "admin")
-        .long("admin")
-        .value_name("PORT")
-        .help(
-            "The operator's port of 127.0.0.1, from 1 to 65535, for /health, /metrics and /stop; without it there is none",
-        )
-        .value_parser(ValueParser::unsigned(FIRST_PORT, LAST_PORT))
+    number_option(alloc, "admin", "PORT", LAST_PORT).help(
+        "The operator's port of 127.0.0.1, from 1 to 65535, for /health, /metrics and /stop; without it there is none",
+    )
 }
 
 // The address that is listened on.
@@ -206,15 +214,40 @@ fn scopes_option<'a>(alloc: Global) -> Arg<'a>
         .help("The names of the new token's scopes, with commas between")
 }
 
+// A flag, which is set or not.
+fn flag<'a>(alloc: Global, name: &'a str) -> Arg<'a>
+    ensures rule { rule_of result ≡ flag_rule name.entry.now }
+    ensures local { result.global ≡ false }
+{
+    Arg::new(alloc, name).long(name).action(ArgAction::SetTrue)
+}
+
 // Whether a salt is made.
 fn new_salt_flag<'a>(alloc: Global) -> Arg<'a>
     ensures rule { rule_of result ≡ flag_rule (codes "new-salt") }
     ensures local { result.global ≡ false }
 {
-    Arg::new(alloc, "new-salt")
-        .long("new-salt")
-        .action(ArgAction::SetTrue)
-        .help("The line of a new salt is printed")
+    flag(alloc, "new-salt").help("The line of a new salt is printed")
+}
+
+// Whether nothing is supposed of a torn write.
+fn wary_flag<'a>(alloc: Global) -> Arg<'a>
+    ensures rule { rule_of result ≡ flag_rule (codes "wary") }
+    ensures local { result.global ≡ false }
+{
+    flag(alloc, "wary").help(
+        "Suppose nothing of a torn write: each change is synced twice, which else is synced once",
+    )
+}
+
+// Whether more is told before it listens.
+fn verbose_flag<'a>(alloc: Global) -> Arg<'a>
+    ensures rule { rule_of result ≡ flag_rule (codes "verbose") }
+    ensures local { result.global ≡ false }
+{
+    flag(alloc, "verbose").help(
+        "Tell on standard error what the token file surely does not mean, and the limits",
+    )
 }
 
 fn run_command<'a>(alloc: Global) -> Result<Command<'a>, AllocError>
@@ -240,8 +273,11 @@ fn serve_command<'a>(alloc: Global) -> Result<Command<'a>, AllocError>
         .arg(port_option(alloc))?
         .arg(count_option(alloc))?
         .arg(clients_option(alloc))?
+        .arg(most_kept_option(alloc))?
         .arg(admin_option(alloc))?
-        .arg(listen_option(alloc))
+        .arg(listen_option(alloc))?
+        .arg(wary_flag(alloc))?
+        .arg(verbose_flag(alloc))
 }
 
 fn self_command<'a>(alloc: Global) -> Result<Command<'a>, AllocError>

@@ -5,4 +5,5 @@
 pub mod fault;
 mod grammar;
 pub mod line;
+pub mod serving;
 pub mod version;

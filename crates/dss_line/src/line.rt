@@ -1,14 +1,38 @@
 //! What a command line asks for.
 ghost use Rattle.std.specs.Net.Grammar.{IsIpv4Text};
 ghost use Rattle.std.specs.declared.net.ipv4_addr.Ipv4Addr.{Ipv4Addr};
-ghost use Rattle.std.specs.Prelude.{ℕ, ◌≤◌, ◌≡◌, [], IfErr, IfNone, IfOk, IfSome, Option, Some, codes};
+ghost use Rattle.std.specs.Prelude.{
+  ℕ,
+  ◌≤◌,
+  ◌≡◌,
+  [],
+  IfErr,
+  IfNone,
+  IfOk,
+  IfSome,
+  Option,
+  Some,
+  codes,
+};
 ghost use Rattle.clap.specs.Faults.{fault_of as mistakes_of};
 ghost use Rattle.clap.specs.Words.{found_of, rows_of, subcommand_of, subcommand_rows_of};
 ghost use Rattle.dss_line.specs.Grammar.{dss_app};
-ghost use Rattle.dss_line.specs.Line.{Asks, AsksNothing, Explains, HasAdmin, HasClients, HasCount, HasListen, HasNumberIn, is_set, line_of_options, texts};
+ghost use Rattle.dss_line.specs.Line.{
+  Asks,
+  AsksNothing,
+  Explains,
+  HasChoice,
+  HasClients,
+  HasListen,
+  HasNumberIn,
+  is_set,
+  line_of_options,
+  texts,
+};
 
 use crate::fault::{LineFault, fault_of};
 use crate::grammar::command;
+use crate::serving::Serving;
 use clap::ArgMatches;
 use std::alloc::Global;
 use std::net::Ipv4Addr;
@@ -16,17 +40,18 @@ use std::net::Ipv4Addr;
 /// The last moment that a command line may name, in seconds since 1970: the end of the year 9999.
 pub const LAST_MOMENT: u64 = 253_402_300_799;
 
-/// The least number of a TCP port.
-pub const FIRST_PORT: u64 = 1;
-
 /// The greatest number of a TCP port.
 pub const LAST_PORT: u64 = 65_535;
 
 /// The most connections that one call may serve.
 pub const MOST_CONNECTIONS: u64 = 1_000_000;
 
-/// The most connections that are served at once, as many as are where the command line names no number.
+/// The most connections that are served at once, as many as are where the command line names no
+/// number.
 pub const MOST_CLIENTS: u64 = 1_000;
+
+/// The greatest bound of what is kept of each supplier.
+pub const GREATEST_BOUND: u64 = 4_294_967_295;
 
 /// What a command line asks for.
 #[derive(Clone, Copy, Debug, PartialEq, Eq)]
@@ -43,22 +68,7 @@ pub enum Line<'a> {
         requests: &'a str,
     },
     /// Serve connections to a port of this machine.
-    Serve {
-        /// The name of the token file.
-        tokens: &'a str,
-        /// The name of the database's file.
-        database: &'a str,
-        /// The address that is listened on.
-        listen: Ipv4Addr,
-        /// The port, at least 1.
-        port: u16,
-        /// How many connections, from 1 to a million, or as many as come.
-        count: Option<u64>,
-        /// How many of them at once, from 1 to a thousand.
-        clients: u64,
-        /// The operator's port, at least 1, if there is one.
-        admin: Option<u16>,
-    },
+    Serve(Serving<'a>),
     /// Serve one stream of requests in memory, through a socket of the program's own.
     Loopback {
         /// The name of the token file.
@@ -145,16 +155,17 @@ fn port_in(matches: &ArgMatches<'_>) -> Option<u16>
     }
 }
 
-// How many connections are served, if a number is there; `None` where it is out of its range.
-fn count_in(matches: &ArgMatches<'_>) -> Option<Option<u64>>
-    ensures some { IfSome result (HasCount (rows_of (found_of matches.now))) }
-    ensures none { IfNone result ((count : Option ℕ) → HasCount (rows_of (found_of matches.now)) count
-        → ⊥) }
+// The number of an option, if it is there; `None` where it is there and out of its range.
+fn choice_in(matches: &ArgMatches<'_>, name: &str, least: u64, greatest: u64) -> Option<Option<u64>>
+    ensures some { IfSome result (HasChoice name.now least greatest
+        (rows_of (found_of matches.now))) }
+    ensures none { IfNone result ((choice : Option ℕ) → HasChoice name.now least greatest
+        (rows_of (found_of matches.now)) choice → ⊥) }
 {
-    if matches.get_str("count").is_none() {
+    if matches.get_str(name).is_none() {
         return Some(None);
     }
-    Some(Some(number_in(matches, "count", 1, MOST_CONNECTIONS)?))
+    Some(Some(number_in(matches, name, least, greatest)?))
 }
 
 // How many connections are served at once; `None` where a number is there and out of its range.
@@ -193,16 +204,33 @@ fn listen_in(matches: &ArgMatches<'_>) -> Option<Ipv4Addr>
 
 // The operator's port, if one is there; `None` where it is out of its range.
 fn admin_in(matches: &ArgMatches<'_>) -> Option<Option<u16>>
-    ensures some { IfSome result (HasAdmin (rows_of (found_of matches.now))) }
-    ensures none { IfNone result ((admin : Option ℕ) → HasAdmin (rows_of (found_of matches.now)) admin
-        → ⊥) }
+    ensures some { IfSome result (HasChoice (codes "admin") 1 LAST_PORT
+        (rows_of (found_of matches.now))) }
+    ensures none { IfNone result ((admin : Option ℕ) → HasChoice (codes "admin") 1 LAST_PORT
+        (rows_of (found_of matches.now)) admin → ⊥) }
 {
-    if matches.get_str("admin").is_none() {
+    let Some(number) = choice_in(matches, "admin", 1, LAST_PORT)? else {
         return Some(None);
-    }
-    let number = number_in(matches, "admin", 1, LAST_PORT)?;
+    };
     match u16::try_from(number) {
         Ok(port) => Some(Some(port)),
+        Err(_) => None,
+    }
+}
+
+// How much is kept of each supplier at most, if a number is there; `None` where it is out of its
+// range.
+fn most_kept_in(matches: &ArgMatches<'_>) -> Option<Option<u32>>
+    ensures some { IfSome result (HasChoice (codes "most-kept") 1 GREATEST_BOUND
+        (rows_of (found_of matches.now))) }
+    ensures none { IfNone result ((most : Option ℕ) → HasChoice (codes "most-kept") 1 GREATEST_BOUND
+        (rows_of (found_of matches.now)) most → ⊥) }
+{
+    let Some(number) = choice_in(matches, "most-kept", 1, GREATEST_BOUND)? else {
+        return Some(None);
+    };
+    match u32::try_from(number) {
+        Ok(most) => Some(Some(most)),
         Err(_) => None,
     }
 }
@@ -213,15 +241,18 @@ fn serve_line<'a>(matches: &ArgMatches<'a>) -> Option<Line<'a>>
     ensures none { IfNone result (AsksNothing
         (Some (codes "serve", rows_of (found_of matches.now)))) }
 {
-    Some(Line::Serve {
+    Some(Line::Serve(Serving {
         tokens: matches.get_str("tokens")?,
         database: matches.get_str("db")?,
         listen: listen_in(matches)?,
         port: port_in(matches)?,
-        count: count_in(matches)?,
+        count: choice_in(matches, "count", 1, MOST_CONNECTIONS)?,
         clients: clients_in(matches)?,
+        most_kept: most_kept_in(matches)?,
         admin: admin_in(matches)?,
-    })
+        wary: is_set(matches, "wary"),
+        verbose: is_set(matches, "verbose"),
+    }))
 }
 
 // The same of the subcommand `self`.

@@ -8,48 +8,56 @@ pub returns-clause-some : goal.returns-clause-some
 returns-clause-some c =
     let f = found_of c.args.matches.now in (
       refl,
-      (
-        sym (c.in_ok-get_str.ensures ∙ first_value-rows f (codes "tokens")),
-        sym (c.in_ok-get_str-2.ensures ∙ first_value-rows f (codes "db")),
-        c.in_ok-listen_in.ensures.some,
-        c.in_ok-port_in.ensures.some,
-        c.in_ok-count_in.ensures.some,
-        c.in_ok-clients_in.ensures.some,
-        c.in_ok-admin_in.ensures.some,
-      ),
+      record {
+        tokens = sym (c.in_ok-get_str.ensures ∙ first_value-rows f (codes "tokens"));
+        database = sym (c.in_ok-get_str-2.ensures ∙ first_value-rows f (codes "db"));
+        listen = c.in_ok-listen_in.ensures.some;
+        port = c.in_ok-port_in.ensures.some;
+        count = c.in_ok-choice_in.ensures.some;
+        clients = c.in_ok-clients_in.ensures.some;
+        most_kept = c.in_ok-most_kept_in.ensures.some;
+        admin = c.in_ok-admin_in.ensures.some;
+        wary = sym c.is_set.ensures;
+        verbose = sym c.is_set-2.ensures;
+      },
     )
 
 pub returns-in_err-get_str-clause-none : goal.returns-in_err-get_str-clause-none
 returns-in_err-get_str-clause-none c =
     let f = found_of c.args.matches.now in
-    anyway _ _ (nothing_of_serve (rows_of f) (λ tokens db listen port count clients admin values. absent _ _ (sym (c.in_err-get_str.ensures ∙ first_value-rows f (codes "tokens"))) (values.0)))
+    anyway _ _ (nothing_of_serve (rows_of f) (λ given has. absent _ _ (sym (c.in_err-get_str.ensures ∙ first_value-rows f (codes "tokens"))) has.tokens))
 
 pub returns-in_err-get_str-2-clause-none : goal.returns-in_err-get_str-2-clause-none
 returns-in_err-get_str-2-clause-none c =
     let f = found_of c.args.matches.now in
-    anyway _ _ (nothing_of_serve (rows_of f) (λ tokens db listen port count clients admin values. absent _ _ (sym (c.in_err-get_str-2.ensures ∙ first_value-rows f (codes "db"))) (values.1)))
+    anyway _ _ (nothing_of_serve (rows_of f) (λ given has. absent _ _ (sym (c.in_err-get_str-2.ensures ∙ first_value-rows f (codes "db"))) has.database))
 
 pub returns-in_err-port_in-clause-none : goal.returns-in_err-port_in-clause-none
 returns-in_err-port_in-clause-none c =
     let f = found_of c.args.matches.now in
-    anyway _ _ (nothing_of_serve (rows_of f) (λ tokens db listen port count clients admin values. c.in_err-port_in.ensures.none port (values.3)))
+    anyway _ _ (nothing_of_serve (rows_of f) (λ given has. c.in_err-port_in.ensures.none given.port has.port))
 
-pub returns-in_err-count_in-clause-none : goal.returns-in_err-count_in-clause-none
-returns-in_err-count_in-clause-none c =
+pub returns-in_err-choice_in-clause-none : goal.returns-in_err-choice_in-clause-none
+returns-in_err-choice_in-clause-none c =
     let f = found_of c.args.matches.now in
-    anyway _ _ (nothing_of_serve (rows_of f) (λ tokens db listen port count clients admin values. c.in_err-count_in.ensures.none count (values.4)))
+    anyway _ _ (nothing_of_serve (rows_of f) (λ given has. c.in_err-choice_in.ensures.none given.count has.count))
 
 pub returns-in_err-clients_in-clause-none : goal.returns-in_err-clients_in-clause-none
 returns-in_err-clients_in-clause-none c =
     let f = found_of c.args.matches.now in
-    anyway _ _ (nothing_of_serve (rows_of f) (λ tokens db listen port count clients admin values. c.in_err-clients_in.ensures.none clients (values.5)))
+    anyway _ _ (nothing_of_serve (rows_of f) (λ given has. c.in_err-clients_in.ensures.none given.clients has.clients))
 
 pub returns-in_err-admin_in-clause-none : goal.returns-in_err-admin_in-clause-none
 returns-in_err-admin_in-clause-none c =
     let f = found_of c.args.matches.now in
-    anyway _ _ (nothing_of_serve (rows_of f) (λ tokens db listen port count clients admin values. c.in_err-admin_in.ensures.none admin (values.6)))
+    anyway _ _ (nothing_of_serve (rows_of f) (λ given has. c.in_err-admin_in.ensures.none given.admin has.admin))
+
+pub returns-in_err-most_kept_in-clause-none : goal.returns-in_err-most_kept_in-clause-none
+returns-in_err-most_kept_in-clause-none c =
+    let f = found_of c.args.matches.now in
+    anyway _ _ (nothing_of_serve (rows_of f) (λ given has. c.in_err-most_kept_in.ensures.none given.most_kept has.most_kept))
 
 pub returns-in_err-listen_in-clause-none : goal.returns-in_err-listen_in-clause-none
 returns-in_err-listen_in-clause-none c =
     let f = found_of c.args.matches.now in
-    anyway _ _ (nothing_of_serve (rows_of f) (λ tokens db listen port count clients admin values. c.in_err-listen_in.ensures.none listen (values.2)))
+    anyway _ _ (nothing_of_serve (rows_of f) (λ given has. c.in_err-listen_in.ensures.none given.listen has.listen))

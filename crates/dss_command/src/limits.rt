@@ -1,0 +1,38 @@
+//! The line with the limits of the command `serve`.
+ghost use Rattle.std.specs.Prelude.{OnOk};
+ghost use Rattle.std.specs.Io.KnownBytes.{Appends};
+ghost use Rattle.dss_command.specs.Limits.{limits_line};
+
+use std::io;
+use std::io::Write;
+
+/// Tells on one line how many clients are served at once, how many connections in all, if there is
+/// a number, and how much is kept of each supplier at most, if there is a bound.
+pub fn tell_limits<E: Write>(
+    clients: u64,
+    count: Option<u64>,
+    most_kept: Option<u32>,
+    error: &mut E,
+) -> io::Result<()>
+    ensures { OnOk result (Appends (E.contents error.old) (E.contents error.new)
+        (limits_line clients count most_kept)) }
+{
+    match (count, most_kept) {
+        (None, None) => writeln!(
+            error,
+            "dss: limits: {clients} clients at once, any number of connections",
+        ),
+        (Some(count), None) => writeln!(
+            error,
+            "dss: limits: {clients} clients at once, {count} connections",
+        ),
+        (None, Some(most)) => writeln!(
+            error,
+            "dss: limits: {clients} clients at once, any number of connections, at most {most} kept of each supplier",
+        ),
+        (Some(count), Some(most)) => writeln!(
+            error,
+            "dss: limits: {clients} clients at once, {count} connections, at most {most} kept of each supplier",
+        ),
+    }
+}

@@ -1,0 +1,56 @@
+-- What `serve` leaves in the files of a database, and what the next start finds there.
+use Rattle.std.specs.Prelude.{Ok}
+use Rattle.sqlite_disk.specs.declared.Disk as disk
+use Rattle.sqlite_disk.specs.declared.Files.{Files}
+use Rattle.sqlite_store.specs.declared.store.FileStore.{FileStore}
+use Rattle.sqlite.specs.Recovery.{Image}
+use Rattle.sqlite.specs.WalReads.{AreClean}
+use Rattle.entity_core.specs.Airspace.{Airspace}
+use Rattle.service_tables.specs.Crash.{bound_waiting_of}
+use Rattle.service_tables.specs.Life.{MayCome, Run, StandFor, run_of}
+use Rattle.space_core.specs.Space.{IsContent}
+use Rattle.space_core.specs.declared.settle.Settles as settles
+use Rattle.space_core.specs.declared.space.Space as spaces
+use Rattle.space_bounds.specs.Bounded.{Bound}
+use Rattle.space_rounds.specs.Grouped.{Group}
+use Rattle.space_sql.specs.Found.{FindsSpelt}
+use Rattle.space_sql.specs.Holding.{Kept}
+use Rattle.space_sql.specs.Restart.{FilesHave, without_log}
+use Rattle.token_conf.specs.TokenFile.{TokenFile}
+use Rattle.wire_http.specs.declared.moments.Moments as moments
+use Rattle.dss_command.specs.Service.{ServesClients}
+use Rattle.dss_files.specs.Files.{ClosesServed}
+
+-- the next start finds in files what may have come, in this run, of the airspace for which they stood,
+-- and no other
+abbrev pub FindsAgain : {T : Type 0} → spaces.Ghosts (Kept T) → (before : Image) → Run
+    → (after : Image) → Type 0
+FindsAgain {T} again before run after =
+    (a : Airspace) → StandFor before a
+    → (next : Kept T) → FindsSpelt after again next → again.is_sound next
+    → ∥ ((b : Airspace) × MayCome a run b × IsContent again.holds next b) ∥₁
+
+-- What is known of files in which a database was served and closed: clients were answered in rounds,
+-- and the next start finds what may have come of the run of these, also where the log is gone.
+pub record ServedIsFound {S T M : Type 0} (space : spaces.Ghosts S) (waiting : settles.Ghosts S)
+    (m : moments.Ghosts M) (again : spaces.Ghosts (Kept T)) (tokens : TokenFile)
+    (clock clock' : M) (before after : Image) : Type 0 where
+  pub first : S
+  pub last : S
+  pub clients : ServesClients space waiting m tokens first last clock clock'
+  pub found : FindsAgain again before (run_of clients.first clients.serves.rounds) after
+  pub without_log : FindsAgain again before (run_of clients.first clients.serves.rounds)
+      (without_log after)
+
+-- It is so of what `opened` takes and `serve` then closes, over files whose disk returned what was
+-- written.
+abbrev pub NextStartFinds : {D T M : Type 0} {g : disk.Ghosts D}
+    → spaces.Ghosts (Kept (FileStore D g)) → spaces.Ghosts (Bound (Group (Kept (FileStore D g))))
+    → moments.Ghosts M → spaces.Ghosts (Kept T) → Type 0
+NextStartFinds {D} {T} {M} {g} tables space m again =
+    (before after : Image) (tokens : TokenFile) (opened : Kept (FileStore D g)) (clock clock' : M)
+    (files : Files D)
+    → FindsSpelt before tables opened
+    → ClosesServed tables space m tokens opened clock clock' (Ok files)
+    → AreClean g files.log files.db → FilesHave g files after
+    → ServedIsFound space (bound_waiting_of tables) m again tokens clock clock' before after

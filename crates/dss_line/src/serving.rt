@@ -1,0 +1,29 @@
+//! What the command `serve` is given.
+use std::net::Ipv4Addr;
+
+/// What the command `serve` is given.
+#[derive(Clone, Copy, Debug, PartialEq, Eq)]
+pub struct Serving<'a> {
+    /// The name of the token file.
+    pub tokens: &'a str,
+    /// The name of the database's file.
+    pub database: &'a str,
+    /// The address that is listened on.
+    pub listen: Ipv4Addr,
+    /// The port, at least 1.
+    pub port: u16,
+    /// How many connections, from 1 to a million, or as many as come.
+    pub count: Option<u64>,
+    /// How many of them at once, from 1 to a thousand.
+    pub clients: u64,
+    /// How many entities and subscriptions are kept of each supplier at most, at least 1, if there
+    /// is a bound.
+    pub most_kept: Option<u32>,
+    /// The operator's port, at least 1, if there is one.
+    pub admin: Option<u16>,
+    /// Whether nothing is supposed of a torn write of the database.
+    pub wary: bool,
+    /// Whether it tells, before it listens, what the token file surely does not mean, and its
+    /// limits.
+    pub verbose: bool,
+}
