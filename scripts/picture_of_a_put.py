@@ -12,43 +12,50 @@ TOP = pathlib.Path(__file__).resolve().parent.parent
 # each a step in, below a function that calls it: the file and the function
 WAY = """
 serve::serve_clients
-  peer::turn
-    link::receive
-    connection::advance
-      held::next_held
-        rest::head_so_far
-      call::ask
-        routes::find
-        place::kind
-        body::read_body
-        token_table::caller
-      service::call
-        early::early
-        decide::decide
-          look::look
-            indexed::entity
-            indexed_subscriptions::subscription
-          standing::standing
-          needed::needed_with
-            indexed::meeting
-          needed::missing_from
-            missing::missing
-        effects::prepared
-          ovn::ovn_of
-          indexed_subscriptions::for_kind
-          notice::notices_of
-        change::make_change
-          put::put_entity
-          tell::tell_all
-        copy::follow
-          list::follow
-      text::answer_text
-        answer::reply_text
-    link::send
+  port::round
+    peer::turn
+      link::receive
+      connection::advance
+        held::next_held
+          rest::head_so_far
+        call::ask
+          routes::find
+          place::kind
+          body::read_body
+          token_table::caller
+        service::call
+          early::early
+          decide::decide
+            look::look
+              indexed::entity
+              indexed_subscriptions::subscription
+            standing::standing
+            needed::needed_with
+              indexed::meeting
+            needed::missing_from
+              missing::missing
+          effects::prepared
+            ovn::ovn_of
+            indexed_subscriptions::for_kind
+            notice::notices_of
+          changes::wait
+            list::follow
+        text::answer_text
+          answer::reply_text
+    port::settle
+      service::settle
+        changes::settle
+          round::make_changes
+            put::put_entity
+            tell::tell_all
+      peer::tell
+        connection::let_go
+        link::send
 """
 # where a part of the way begins, and what it is
 PARTS = {
     "serve::serve_clients": "all connections",
+    "port::round": "a round of their calls",
     "peer::turn": "a turn of one of them",
     "connection::advance": "the next request, answered",
     "held::next_held": "a whole request",
@@ -58,9 +65,11 @@ PARTS = {
     "standing::standing": "the rules on what was found",
     "needed::needed_with": "the key",
     "effects::prepared": "the change and the answer, made",
-    "change::make_change": "one transaction",
-    "copy::follow": "and then the copy",
-    "text::answer_text": "the answer, written",
+    "changes::wait": "the change is seen, and waits",
+    "text::answer_text": "the answer, held back",
+    "port::settle": "the end of the round",
+    "round::make_changes": "one transaction, one sync",
+    "peer::tell": "and each is answered",
 }
 # the columns: the crates of each, by how their names begin
 LANES = {
@@ -111,10 +120,10 @@ def named(crate, name):
 
 @functools.cache
 def spaces():
-    """The calls of the trait of spaces, and the crates of the space over tables and of its copy in memory."""
-    calls = [name for crate, file, name in functions() if (crate, file) == ("space_core", "space")]
+    """The calls of the traits of spaces, and the crates of the space over tables and of its copy in memory."""
+    calls = [name for crate, file, name in functions() if crate == "space_core" and file in ("space", "round", "settle")]
     sources = sorted(TOP.glob("crates/*/src/*.rt"))
-    is_space = re.compile(r"Space for (SqlSpace|Mirror|ListSpace)\b")
+    is_space = re.compile(r"Space for (SqlSpace|Grouped|ListSpace)\b")
     return calls, [it.parent.parent.name for it in sources if is_space.search(it.read_text())]
 
 

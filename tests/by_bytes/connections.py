@@ -11,6 +11,7 @@ import tempfile
 import time
 
 import wire
+from devices import library
 from program import BUILT, TOP, run
 
 NOW = 1000
@@ -29,10 +30,7 @@ class Room:
         self.folder = tempfile.TemporaryDirectory()
         self.tokens = pathlib.Path(self.folder.name, "tokens.toml")
         self.tokens.write_text(wire.token_file())
-        self.library = f"{self.folder.name}/devices.so"
-        made = run(["cc", "-shared", "-fPIC", "-O1", "-o", self.library, str(TOP / "tests" / "devices" / "devices.c")])
-        if made[0]:
-            raise OSError(f"cc: {made[2]!r}")
+        self.library = library("devices", self.folder.name)
         return self
 
     def __exit__(self, *_):

@@ -8,8 +8,9 @@ import tables
 import wire
 from changed_databases import Filled
 from databases import CONSTRAINT, INTENT, NAMED, NAMING, NOW, SUBSCRIPTION, Room, ask, filled, sub_put, volume
+from devices import library
 from old_databases import HELD, MOVED, moved_wrong, unpacked
-from program import TOP, run
+from program import run
 
 STOPPED = 99
 KEPT = ("all", "synced", "half")
@@ -72,10 +73,7 @@ class Machine:
     """A room whose database is made once, and then used as it was again and again."""
 
     def __init__(self, room, made):
-        self.room, self.library = room, f"{room.folder.name}/crash.so"
-        built = run(["cc", "-shared", "-fPIC", "-O1", "-o", self.library, str(TOP / "tests" / "devices" / "crash.c")])
-        if built[0]:
-            raise OSError(f"cc: {built[2]!r}")
+        self.room, self.library = room, library("crash", room.folder.name)
         self.saved = pathlib.Path(room.folder.name, "saved")
         self.used = pathlib.Path(room.folder.name, "used")
         self.saved.mkdir()

@@ -6,8 +6,9 @@ import pathlib
 import tables
 import wire
 from databases import STORE, Room
+from devices import library
 from old_databases import HELD, MOVED, moved_wrong, unpacked
-from program import TOP, run
+from program import run
 from without_memory import FAULT, STOPPED, answers, changes, eight_calls, lost, notifying_calls, without
 
 NOT_CLOSED = b"dss: db: fault\n"
@@ -34,10 +35,7 @@ class Failing(Room):
 
     def __enter__(self):
         super().__enter__()
-        self.library, self.counted = (str(pathlib.Path(self.folder.name, it)) for it in ("fail_files.so", "calls"))
-        built = run(["cc", "-shared", "-fPIC", "-O1", "-o", self.library, str(TOP / "tests" / "devices" / "fail_files.c")])
-        if built[0]:
-            raise OSError(f"cc: {built[2]!r}")
+        self.library, self.counted = library("fail_files", self.folder.name), str(pathlib.Path(self.folder.name, "calls"))
         return self
 
     def run(self, words, given, more):
@@ -51,7 +49,7 @@ class Failing(Room):
         yield {"FAIL_CALLS": self.counted}
         for at in range(1, self.count + 1):
             yield {"FAIL_AT": str(at)}
-            yield {"FAIL_AT": str(at), "FAIL_ON": "1"}
+            yield {"FAIL_AT": str(at), "FAIL_ROW": "1000000"}
 
 
 def each_call(name, calls):

@@ -10,6 +10,7 @@ import tempfile
 import tables
 import wire
 from databases import STORE
+from devices import library
 from program import BUILT, TOP, run
 from without_memory import FAULT, NOW, STOPPED, answers, eight_calls, lost, notifying_calls
 
@@ -23,10 +24,7 @@ class Scene:
 
     def __init__(self, folder, before, calls):
         self.folder, self.before, self.calls = folder, before, calls
-        self.library = str(pathlib.Path(folder, "refuse_memory.so"))
-        built = run(["cc", "-shared", "-fPIC", "-O1", "-o", self.library, str(TOP / "tests" / "devices" / "refuse_memory.c")])
-        if built[0]:
-            raise OSError(f"cc: {built[2]!r}")
+        self.library = library("refuse_memory", folder)
         with self.room() as room:
             self.run(room, before, {})
             self.saved = pathlib.Path(room, "dss.db").read_bytes()

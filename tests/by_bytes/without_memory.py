@@ -9,6 +9,7 @@ import tempfile
 import plain_policy
 import tables
 import wire
+from devices import library
 from program import BUILT, CASES, TOP, content, first_difference, run
 
 MOST_GROWTHS = 20_000
@@ -24,13 +25,10 @@ def each_environment(step=1):
     """The environments in which each growth of memory is refused in turn, or one of each few, as long as there is such a
     growth: the number of the growth, the environment, and a file that is there once it was refused."""
     with tempfile.TemporaryDirectory() as room:
-        library, mark = f"{room}/refuse_memory.so", pathlib.Path(room, "refused")
-        built = run(["cc", "-shared", "-fPIC", "-O1", "-o", library, str(TOP / "tests" / "devices" / "refuse_memory.c")])
-        if built[0]:
-            raise OSError(f"cc: {built[2]!r}")
+        device, mark = library("refuse_memory", room), pathlib.Path(room, "refused")
         for at in range(1, MOST_GROWTHS * step, step):
             mark.unlink(missing_ok=True)
-            yield at, {"LD_PRELOAD": library, "REFUSE_AT": str(at), "REFUSED": str(mark)}, mark
+            yield at, {"LD_PRELOAD": device, "REFUSE_AT": str(at), "REFUSED": str(mark)}, mark
             if not mark.exists():
                 return
     raise ValueError(f"over {MOST_GROWTHS} growths of memory")

@@ -1,15 +1,13 @@
 /* Stops the machine at a call that changes a file. CRASH_AT is the number of the call; what it would have done is not
    done, and the program ends with status 99. CRASH_KEEPS says what the disk has then: `all` that was written; only what
-   was `synced`, file by file; or `half` of the call's own bytes, too. At a regular end the number of calls goes to the
-   file that CRASH_CALLS names. To be loaded before the C library. */
+   was `synced`, file by file; or `half` of the call's own bytes, too. The number of the call may also be that of a page
+   (page.h). At a regular end the number of calls goes to the file that CRASH_CALLS names. To be loaded before the C library. */
 #define _GNU_SOURCE
-#include <fcntl.h>
+#include "page.h"
 #include <stdio.h>
-#include <stdlib.h>
 #include <string.h>
 #include <sys/stat.h>
 #include <sys/syscall.h>
-#include <unistd.h>
 
 /* What a call replaced in a file, and the file's size before it; the newest is first. */
 struct change {
@@ -21,7 +19,8 @@ struct change {
 };
 
 static struct change *unsynced;
-static long calls;
+
+static struct page *told(void) { return page("CRASH_AT", "CRASH_ROW"); }
 
 static int keeps(const char *what) {
     const char *kept = getenv("CRASH_KEEPS");
@@ -57,10 +56,7 @@ static void stop(void) {
 }
 
 /* Whether the call that is made now is the last. */
-static int is_last(void) {
-    const char *last = getenv("CRASH_AT");
-    return ++calls == (last ? atol(last) : 0);
-}
+static int is_last(void) { return is_hit(told()); }
 
 ssize_t pwrite(int file, const void *bytes, size_t count, off_t at) {
     int last = is_last();
@@ -91,25 +87,24 @@ static void synced(int file) {
             it->file = -1;
 }
 
-int fsync(int file) {
+static int sync_by(long call, int file) {
     if (is_last())
         stop();
+    if (is_sync_told(told()))
+        return 0;
     synced(file);
-    return syscall(SYS_fsync, file);
+    return syscall(call, file);
 }
 
-int fdatasync(int file) {
-    if (is_last())
-        stop();
-    synced(file);
-    return syscall(SYS_fdatasync, file);
-}
+int fsync(int file) { return sync_by(SYS_fsync, file); }
+
+int fdatasync(int file) { return sync_by(SYS_fdatasync, file); }
 
 __attribute__((destructor)) static void ended(void) {
     const char *name = getenv("CRASH_CALLS");
     FILE *file = name ? fopen(name, "w") : NULL;
     if (file) {
-        fprintf(file, "%ld\n", calls);
+        fprintf(file, "%ld\n", told()->calls);
         fclose(file);
     }
 }

@@ -10,11 +10,13 @@ import wire
 from program import BUILT, SECONDS
 
 
-def words(folder, port, count, clients=None):
-    """The command line of the service over a folder with its token file and its database, for so many clients at once."""
+def words(folder, port, count, clients=None, most_kept=None):
+    """The command line of the service over a folder with its token file and its database, for so many clients at once, and with
+    a bound of what is kept of each supplier."""
     at_once = [] if clients is None else ["--clients", f"{clients}"]
+    bound = [] if most_kept is None else ["--most-kept", f"{most_kept}"]
     files = ["--tokens", f"{folder}/tokens.toml", "--db", f"{folder}/dss.db"]
-    return [BUILT, "serve", *files, "--port", f"{port}", "--count", f"{count}", *at_once]
+    return [BUILT, "serve", *files, "--port", f"{port}", "--count", f"{count}", *at_once, *bound]
 
 
 def until_closed(connection):
@@ -31,12 +33,13 @@ def until_closed(connection):
 class Service:
     """`dss serve` on a free port, for so many connections at most, with more in its environment."""
 
-    # the seconds in which it has to listen, and where it does
-    patience, address = SECONDS, "127.0.0.1"
+    # the seconds in which it has to listen, where it does, further options, and what is told before it listens
+    patience, address, options, told = SECONDS, "127.0.0.1", (), b""
 
-    def __init__(self, tokens=None, count=1_000_000, disk=None, more=None, clients=None):
+    def __init__(self, tokens=None, count=1_000_000, disk=None, more=None, clients=None, most_kept=None):
         self.room = tempfile.TemporaryDirectory(dir=disk)
         self.folder, self.count, self.clients = pathlib.Path(self.room.name), count, clients
+        self.most_kept = most_kept
         self.environment = {**os.environ, **(more or {})}
         (self.folder / "tokens.toml").write_text(wire.token_file(tokens))
 
@@ -50,13 +53,13 @@ class Service:
 
     def command(self):
         """The command line of the program."""
-        return words(self.folder, self.port, self.count, self.clients)
+        return [*words(self.folder, self.port, self.count, self.clients, self.most_kept), *self.options]
 
     def start(self):
         """Starts the program, and waits until it listens."""
         with socket.create_server(("127.0.0.1", 0)) as free:
             self.port = free.getsockname()[1]
-        self.listening = f"dss: listening on {self.address}:{self.port}\n".encode()
+        self.listening = self.told + f"dss: listening on {self.address}:{self.port}\n".encode()
         output, errors = self.folder / "output", self.folder / "errors"
         with output.open("wb") as stdout, errors.open("wb") as stderr:
             self.program = subprocess.Popen(

@@ -1,0 +1,130 @@
+"""`serve --most-kept N`: a supplier has no more kept than the bound, what would make more is answered a fault and changes nothing,
+and whoever else asks is not concerned."""
+import json
+
+import wire
+from serving import Service
+
+FAR = 4_000_000_000
+FAULT = 500
+# cells that go with each entity and subscription
+EACH = 64
+
+
+def cells(count):
+    """So many cells of level 13, one beside the other."""
+    return [f"{0x89c25904 + 8 * at:08x}" for at in range(count)]
+
+
+def id_of(number):
+    return f"00000000-0000-4000-8000-{number:012x}"
+
+
+def volume(number, count):
+    """A volume of so many cells, at a time of its own."""
+    times = {"time_start": FAR + 100 * number, "time_end": FAR + 100 * number + 50}
+    return {"cells": cells(count), "altitude_lower": 0, "altitude_upper": 10, **times}
+
+
+class Asking:
+    """A service with a bound, what is wrong so far, and how many changes there were."""
+
+    def __init__(self, service):
+        self.service, self.serial, self.found = service, 0, []
+
+    def ask(self, name, wanted, *call):
+        """Asks for a change, and looks whether it was made."""
+        came = self.service.exchange(wire.request(*call))
+        status = int(came.split(b" ")[1])
+        if status != wanted:
+            self.found += [f"{name}: wanted {wanted}, got {came!r}"]
+        if status == FAULT and not came.endswith(b'{"message":"fault"}'):
+            self.found += [f"{name}: {came!r}"]
+        if status in (200, 201):
+            self.serial += 1
+        if status in (200, 201) and call[0] == "PUT" and wire.ovn(self.serial).encode() not in came:
+            self.found += [f"{name}: not the change {self.serial}: {came!r}"]
+
+    def put(self, name, wanted, number, count=1, of="a", volumes=1, ovn=None):
+        """Puts an intent with volumes of so many cells; an update names the OVN of the change that it follows."""
+        extents = [volume(number, count) for _ in range(volumes)]
+        body = {"extents": extents, "key": [], "state": "Accepted", "uss_base_url": f"https://{of}.example"}
+        target = f"{wire.INTENTS}/{id_of(number)}" + (f"/{wire.ovn(ovn)}" if ovn else "")
+        self.ask(name, wanted, "PUT", target, f"Bearer tok-{of}", json.dumps(body).encode())
+
+    def delete(self, name, number, ovn, of="a"):
+        self.ask(name, 200, "DELETE", f"{wire.INTENTS}/{id_of(number)}/{wire.ovn(ovn)}", f"Bearer tok-{of}")
+
+    def subscribe(self, name, wanted, number, count=1, of="a"):
+        body = {"extents": volume(number, count), "uss_base_url": f"https://{of}.example"}
+        body |= {"notify_for_operational_intents": True, "notify_for_constraints": False}
+        self.ask(name, wanted, "PUT", f"{wire.SUBSCRIPTIONS}/{id_of(number)}", f"Bearer tok-{of}", json.dumps(body).encode())
+
+
+def counted_together():
+    """Intents and subscriptions count together; another supplier has a bound of its own."""
+    with Service(most_kept=2) as service:
+        it = Asking(service)
+        it.put("the first", 201, 1)
+        it.subscribe("the second", 201, 2)
+        it.put("one too many", FAULT, 3)
+        it.subscribe("a subscription too many", FAULT, 4)
+        it.put("another supplier's", 201, 5, of="b")
+        it.put("an update", 200, 1, ovn=1)
+        it.delete("a removal", 1, ovn=4)
+        it.put("in its place", 201, 6)
+        it.put("one too many again", FAULT, 7)
+        return it.found
+
+
+def counted_cells():
+    """64 cells go with each entity; those of all volumes count, and an update that has no more than before passes."""
+    with Service(most_kept=1) as service:
+        it = Asking(service)
+        it.put("a cell too many", FAULT, 1, count=EACH + 1)
+        it.put("too many in all", FAULT, 1, count=EACH // 2 + 1, volumes=2)
+        it.put("as many as there may be", 201, 1, count=EACH // 2, volumes=2)
+        it.put("an update with one more", FAULT, 1, count=EACH + 1, ovn=1)
+        it.put("an update with as many", 200, 1, count=EACH, ovn=1)
+        it.put("an update with fewer", 200, 1, count=1, ovn=2)
+        it.put("an update with more again", 200, 1, count=EACH, ovn=3)
+        return it.found
+
+
+def counted_at_start():
+    """What a start finds counts: a supplier that is over the bound may only take away, or keep as much as it has."""
+    with Service() as service:
+        it = Asking(service)
+        for number in (1, 2, 3):
+            it.put(f"without a bound {number}", 201, number, count=2 * EACH)
+        service.kill()
+        service.most_kept = 2
+        service.start()
+        it.put("one more than are there", FAULT, 4)
+        it.put("an update with as many cells", 200, 1, count=2 * EACH, ovn=1)
+        it.put("an update with one more", FAULT, 1, count=2 * EACH + 1, ovn=4)
+        it.delete("a removal", 2, ovn=2)
+        it.put("one more than there may be", FAULT, 4)
+        it.delete("another removal", 3, ovn=3)
+        it.put("a cell too many", FAULT, 4)
+        it.put("an update to fewer cells", 200, 1, count=EACH, ovn=4)
+        it.put("one more", 201, 4, count=EACH)
+        it.put("one too many", FAULT, 5)
+        return it.found
+
+
+def unbounded():
+    """Without the option nothing is refused."""
+    with Service() as service:
+        it = Asking(service)
+        for number in range(1, 40):
+            it.put(f"{number}", 201, number, count=2 * EACH)
+        return it.found
+
+
+CASES = {
+    "most-kept-counted-together": counted_together,
+    "most-kept-counted-cells": counted_cells,
+    "most-kept-counted-at-start": counted_at_start,
+    "most-kept-without-the-option": unbounded,
+}

@@ -1,0 +1,403 @@
+"""Changes of many clients at once while the machine stops, calls on files fail, the disk is full, memory lacks or the service is killed:
+what was acknowledged is there, all changes of a round are kept or none, those that were not kept are told as faults, and the service
+goes on from the airspace before them."""
+import collections
+import contextlib
+import copy
+import errno
+import os
+import pathlib
+import shutil
+import subprocess
+import tempfile
+import threading
+import time
+
+import drawn_calls
+import plain_policy
+import tables
+import wire
+from at_once import CLIENTS, FAULTED, NOW, STOPS, TOKENS, AtOnce, Changer, Judged, is_change, looked_at, watched
+from crashes import KEPT, STOPPED
+from devices import SIZES, WRITES, library
+from program import SECONDS, first_difference
+from serving import Service
+
+SEED = 81
+# so many stops of the machine at most, rounds in which a call on files fails, and rounds that begin a full disk
+MOST_STOPS, FAILURES, FULL = 30, 24, 8
+ALL_AFTER = 1_000_000
+# changes of a round whose growths of memory are refused, and of these one in so many
+FEW, STEP = 5, 61
+# kills, each among so many creations of each client
+KILLS, CREATIONS = 20, 6
+
+
+def wrong_in(judged, name, told=()):
+    """What is wrong with a round that has to be kept as a whole or not at all."""
+    found = [f"{name}: {it}" for it in judged.wrong]
+    if not judged.wrong and not judged.is_whole():
+        found += [f"{name}: {judged.made} of {judged.changes} changes of a round are kept, told were {[(it or b'')[:12] for it in told]}"]
+    return found
+
+
+# ---- wrong services, which are none but what they would tell and leave
+
+
+def asked_of_policy(airspace, calls):
+    """What the policy answers to calls in their order, and what is found after them."""
+    after = copy.deepcopy(airspace)
+    return [after.ask(*it).text() for it in calls], [after.ask(*looked_at(it)).text() for it in calls]
+
+
+def planted():
+    """Of what a wrong service would tell and leave of a round each is seen: answers before the changes are kept, a part of a round that is
+    kept, faults of what is kept, a reading of what is not kept, one serial for two, and answers of one change given to another."""
+    airspace, changers = new_airspace(), [Changer(it) for it in range(CLIENTS)]
+    calls = [it.change(airspace, 0) for it in changers]
+    for it in calls:
+        airspace.ask(*it)
+    calls = [it.change(airspace, 1) for it in changers]
+    calls[-1] = looked_at(calls[0])
+    told, found = asked_of_policy(airspace, calls)
+    _, before = asked_of_policy(airspace, [looked_at(it) for it in calls])
+    _, half = asked_of_policy(airspace, calls[:7])
+    half += before[7:]
+    faults = [FAULTED] * len(calls)
+    exchanged = [told[1], told[0], *told[2:]]
+    numbers = {it: it.replace(wire.ovn(airspace.serial + 2).encode(), wire.ovn(airspace.serial + 1).encode()) for it in found}
+    rights = {"kept": (told, found), "not kept": (faults, before), "stopped and kept": ([STOPS] * len(calls), found)}
+    wrongs = {
+        "acknowledged before it is kept": (told, before),
+        "kept in part": ([None] * len(calls), half),
+        "told as a fault and kept": (faults, found),
+        "a reading of what is not kept": ([*faults[:-1], told[-1]], before),
+        "one serial twice": ([None] * len(calls), [numbers[it] for it in found]),
+        "answers exchanged": (exchanged, found),
+    }
+    judged = lambda told, found: wrong_in(Judged(airspace, calls, told, found), "")
+    found = [f"{name}: {it}" for name, words in rights.items() for it in judged(*words)]
+    return found + [f"{name}: not seen" for name, words in wrongs.items() if not judged(*words)]
+
+
+# ---- the machine stops
+
+
+class Stopping(AtOnce):
+    """A service whose machine stops at a call that changes the files."""
+
+    def __init__(self, folder):
+        super().__init__(library("crash", folder))
+        self.saved = pathlib.Path(folder, "saved")
+
+    def save(self):
+        """Keeps what is in the files, with the program gone."""
+        self.kill()
+        self.saved.mkdir()
+        for file in self.folder.glob("dss.db*"):
+            shutil.copy(file, self.saved)
+
+    def again(self, kept):
+        """The service over the files as they were saved; by what a disk keeps at a stop."""
+        self.kill()
+        for file in self.folder.glob("dss.db*"):
+            file.unlink()
+        for file in self.saved.iterdir():
+            shutil.copy(file, self.folder)
+        self.begin({"CRASH_KEEPS": kept})
+
+    def found_again(self, calls, told):
+        """What is found of these calls after the stop, and what is wrong then. A round in which all were answered had fewer calls on
+        files."""
+        wrong = []
+        if None in told:
+            status = self.program.wait(timeout=SECONDS)
+            wrong += [] if status == STOPPED else [f"status {status}"]
+        self.kill()
+        self.environment = {**os.environ}
+        self.start()
+        found = self.found(calls)
+        self.kill()
+        return found, wrong + tables.wrong_in(self.folder / "dss.db")
+
+    def round(self, airspace, turn, **numbers):
+        calls = self.mixed(airspace, turn)
+        self.send_at_once(calls, **numbers)
+        return calls, self.told()
+
+
+def one_stop(service, airspace, kept, at, lies=0):
+    """What is wrong after a round that was answered, and a stop at that call of the next."""
+    service.again(kept)
+    calls, told = service.round(airspace, 4, lies=lies)
+    after = Judged(airspace, calls, told, service.found(calls)).after
+    calls, told = service.round(after, 5, at=at, row=1, lies=lies)
+    found, wrong = service.found_again(calls, told)
+    judged, where = Judged(after, calls, told, found), f"call {at}, {kept} kept"
+    return [f"{where}: {it}" for it in wrong] + wrong_in(judged, where, told), judged.made
+
+
+def machine_stops():
+    """A machine that stops at each call of a round, or at drawn ones of many, by what a disk may have kept. A disk that says that it has kept what it has not
+    shows that changes which were answered and are gone are seen."""
+    draw, found, ends = drawn_calls.Draw(SEED), [], collections.Counter()
+    with tempfile.TemporaryDirectory() as folder, Stopping(folder) as service:
+        airspace = service.fill()
+        service.save()
+        service.again("all")
+        service.round(airspace, 4)
+        calls = service.page.get("calls")
+        places = [(at, kept) for at in range(1, calls + 1) for kept in KEPT]
+        while len(places) > MOST_STOPS:
+            places.pop(draw.below(len(places)))
+        for at, kept in places:
+            wrong, made = one_stop(service, airspace, kept, at)
+            ends[made] += 1
+            found += wrong
+        wrong, _ = one_stop(service, airspace, "synced", 1, lies=1)
+        found += [] if wrong else ["changes that were answered and are gone were not seen"]
+    print(f"the machine stopped {len(places)} times among {calls} calls of a round, of which so many changes were kept then: {dict(sorted(ends.items()))}")
+    return found
+
+
+# ---- calls on files fail
+
+
+class Failing(AtOnce):
+    """A service whose calls on files fail, and that is started anew where it has stopped."""
+
+    def __init__(self, folder, device="fail_files", clients=CLIENTS):
+        super().__init__(library(device, folder), clients)
+        self.ends = collections.Counter()
+
+    def judged(self, airspace, calls, told):
+        """What a round came to once calls work again; of a service that has stopped what the next start finds."""
+        self.page.set()
+        found = self.found(calls)
+        if STOPS in told:
+            stays = [] if set(found) == {STOPS} else [f"stopped, and then {set(found)}"]
+            self.again()
+            judged = Judged(airspace, calls, told, self.found(calls))
+            judged.wrong += stays
+            self.ends["stopped"] += 1
+            return judged
+        judged = Judged(airspace, calls, told, found)
+        self.ends["fault" if FAULTED in told else "ended" if None in told else "done"] += 1
+        return judged
+
+    def next_works(self, airspace, turn, name):
+        """The airspace after a round in which nothing fails, and what is wrong with it. Where each change has a sync of its own, the
+        service has let its copy go, and is started anew."""
+        calls = self.changes(airspace, turn)
+        self.send_at_once(calls)
+        judged = Judged(airspace, calls, self.told(), self.found(calls))
+        if not judged.wrong and judged.made != len(calls):
+            judged.wrong += [f"{judged.made} of {len(calls)} changes were made"]
+        if self.page.get("syncs") >= len(calls):
+            self.ends["without a copy"] += 1
+            self.again()
+        return judged.after, [f"{name}, the next round: {it}" for it in judged.wrong]
+
+    def again(self):
+        """Ends it, and starts it over the same files."""
+        self.kill()
+        self.begin()
+
+
+def at_most_one_sort(told):
+    """Changes of one round are told as one thing: done, or as faults, or as stopped."""
+    sorts = {it if it in (FAULTED, STOPS) else b"done" for it in told}
+    return [] if len(sorts) == 1 else [f"one round is told as {[it[:12] for it in told]}"]
+
+
+def calls_fail():
+    """A call on files fails in a round, alone or with all after it: all changes are made, or all are told as faults and a reading finds
+    the airspace before the round, from which the next changes go on; or the service has stopped. After a call that fails alone the
+    next changes share a sync, as they do with a copy that was made anew."""
+    draw, found, most = drawn_calls.Draw(SEED), [], 0
+    with tempfile.TemporaryDirectory() as folder, Failing(folder) as service:
+        airspace = service.fill()
+        calls = service.page.get("calls")
+        for number in range(FAILURES):
+            numbers = {"at": 1 + draw.below(calls), "row": (1, ALL_AFTER)[number % 2], "error": (errno.EIO, errno.ENOSPC)[number // 2 % 2]}
+            asked = service.mixed(airspace, number)
+            service.send_at_once(asked, **numbers)
+            told = service.told()
+            judged = service.judged(airspace, asked, told)
+            found += wrong_in(judged, f"{numbers}", told)
+            found += [f"{numbers}: {it}" for it in at_most_one_sort([it for it, call in zip(told, asked) if is_change(call)])]
+            most, gone = max(most, told.count(FAULTED)), service.ends["without a copy"]
+            airspace, wrong = service.next_works(judged.after, number, f"{numbers}")
+            found += wrong
+            if numbers["row"] == 1 and service.ends["without a copy"] > gone:
+                found += [f"{numbers}: the next changes share no sync"]
+            if found:
+                break
+    print(f"{FAILURES} rounds in which calls on files failed, of some {calls} each: {dict(sorted(service.ends.items()))}")
+    return found + ([] if most > 2 else ["never several faults"])
+
+
+def full_disk():
+    """Nothing more is written from somewhere in a round on: its changes are told as faults, readings find the airspace before it, and so
+    it stays for a second round; once there is room again the next changes are made."""
+    draw, found = drawn_calls.Draw(SEED + 1), []
+    with tempfile.TemporaryDirectory() as folder, Failing(folder) as service:
+        airspace = service.fill()
+        for number in range(FULL):
+            numbers = {"at": 1 + draw.below(40), "row": ALL_AFTER, "error": errno.ENOSPC, "kinds": WRITES | SIZES}
+            for turn, at in (number, numbers["at"]), (number + 1, 1):
+                asked = service.mixed(airspace, turn)
+                service.send_at_once(asked, **{**numbers, "at": at})
+                told = service.told()
+                seen = service.found(asked)
+                judged = service.judged(airspace, asked, told)
+                found += wrong_in(judged, f"{numbers}", told)
+                if STOPS not in told and seen != service.found(asked):
+                    found += [f"{numbers}: while the disk is full: {seen!r}"]
+                airspace = judged.after
+            airspace, wrong = service.next_works(airspace, number + 2, f"{numbers}")
+            found += wrong
+            if found:
+                break
+    print(f"{2 * FULL} rounds over a full disk: {dict(sorted(service.ends.items()))}")
+    return found + ([] if service.ends["fault"] else ["never a fault"])
+
+
+# ---- memory lacks
+
+
+def growths_refused(step):
+    """Growths of memory are refused in a round of five changes, one in so many: each change is done, or told as a fault and not made, or
+    its connection ends and it was done or not; or the service has stopped, or has ended. What was acknowledged is there."""
+    found = []
+    with tempfile.TemporaryDirectory() as folder, Failing(folder, "refuse_memory", FEW) as service:
+        airspace = service.fill(10)
+        at = 1
+        while not found:
+            asked = service.changes(airspace, at)
+            service.send_at_once(asked, at=at, row=1)
+            told = service.told()
+            growths = service.page.get("calls")
+            if None in told:
+                # it may be about to end for want of memory, and is started anew as its unit does
+                with contextlib.suppress(subprocess.TimeoutExpired):
+                    service.program.wait(timeout=0.05)
+                service.again()
+            judged = service.judged(airspace, asked, told)
+            if FAULTED in told and STOPS not in told:
+                # it may have let its copy go
+                service.again()
+            found += [f"growth {at}: {it}" for it in judged.wrong]
+            found += wrong_in(judged, f"growth {at}", told) if STOPS in told else []
+            airspace, wrong = service.next_works(judged.after, at + 1, f"growth {at}")
+            found += wrong
+            if at > growths:
+                break
+            at += step
+    print(f"{FEW} changes at once: of {growths} growths of memory one in {step} refused: {dict(sorted(service.ends.items()))}")
+    return found + ([] if service.ends["fault"] else ["never a fault"])
+
+
+# ---- the service is killed
+
+
+class Asked:
+    """Creations of each of the clients, in cells of their own, all sent at once."""
+
+    def __init__(self):
+        self.changers = [[Changer(at * 1_000 + it) for it in range(CREATIONS)] for at in range(CLIENTS)]
+
+    def calls(self, at, airspace):
+        # a token of the client, for each of its creations
+        return [(method, target, f"Bearer tok-{at}", body) for method, target, _, body in (it.put_intent(airspace) for it in self.changers[at])]
+
+    def ids(self, at):
+        return [it.id for it in self.changers[at]]
+
+
+def answered_and_killed(service, sent, seen, wait):
+    """The answers to each client of a service that is killed a while after so many answers have come to the first one."""
+    came = [b""] * len(sent)
+    connections = [service.connect() for _ in sent]
+
+    def send(connection, requests):
+        with contextlib.suppress(OSError):
+            connection.sendall(requests)
+
+    senders = [threading.Thread(target=send, args=it) for it in zip(connections, sent)]
+    for it in senders:
+        it.start()
+    while len(wire.answers_of(came[0])) < seen and (piece := connections[0].recv(1 << 16)):
+        came[0] += piece
+    time.sleep(wait)
+    service.kill()
+    for at, (connection, sender) in enumerate(zip(connections, senders)):
+        sender.join()
+        with connection, contextlib.suppress(ConnectionResetError):
+            while piece := connection.recv(1 << 16):
+                came[at] += piece
+    return [wire.answers_of(it) for it in came]
+
+
+def lost(asked, airspace, told, rows):
+    """What is wrong with the intents that are kept, by their serials, after these answers: each client's are the first that it asked
+    for, what was acknowledged is among them, and the policy in the order of the serials answers as was told."""
+    place = {id_: (at, number) for at in range(CLIENTS) for number, id_ in enumerate(asked.ids(at))}
+    order = [place[id_] for _, id_ in sorted(rows)]
+    found = [] if [it for it, _ in sorted(rows)] == list(range(2, 2 + len(rows))) else [f"serials {sorted(rows)}"]
+    got = [[] for _ in range(CLIENTS)]
+    calls = [asked.calls(at, airspace) for at in range(CLIENTS)]
+    for at, number in order:
+        found += [] if number == len(got[at]) else [f"client {at}: creation {number} before {len(got[at])}"]
+        got[at].append(airspace.ask(*calls[at][len(got[at]) % CREATIONS]).text())
+    for at, answers in enumerate(told):
+        why = first_difference(got[at][: len(answers)], answers)
+        found += [f"client {at}: {why}"] if why else []
+    return found
+
+
+def new_airspace():
+    """An airspace in which all changes are watched."""
+    airspace = plain_policy.Airspace(NOW, TOKENS)
+    airspace.ask(*watched())
+    return airspace
+
+
+def one_kill(draw):
+    """What is wrong after a kill, what was asked and told, and what is kept."""
+    asked, airspace = Asked(), new_airspace()
+    with Service(TOKENS) as service:
+        service.ask([wire.request(*watched())])
+        sent = [b"".join(wire.request(*it) for it in asked.calls(at, airspace)) for at in range(CLIENTS)]
+        told = answered_and_killed(service, sent, draw.below(CREATIONS), draw.below(20) / 2_000)
+        service.start()
+        service.kill()
+        file = service.folder / "dss.db"
+        with tables.opened(file) as database:
+            rows = database.execute("SELECT serial, id FROM entity").fetchall()
+        return tables.wrong_in(file) + lost(asked, new_airspace(), told, rows), asked, told, rows
+
+
+def killed():
+    """A service that is killed while sixteen clients create one intent after the other. One answer more than there were shows that the loss
+    of a change would be seen."""
+    draw, found, between = drawn_calls.Draw(SEED), [], 0
+    for number in range(KILLS):
+        wrong, asked, told, rows = one_kill(draw)
+        found += [f"kill {number}: {it}" for it in wrong]
+        between += 0 < len(rows) < CLIENTS * CREATIONS
+    print(f"{KILLS} kills, {between} of them between the first change and the last")
+    told[0] = [*told[0], wire.answer(201, "{}")]
+    found += [] if lost(asked, new_airspace(), told, rows) else ["an answer of which nothing is kept was not seen"]
+    return found + ([] if 2 * between >= KILLS else [f"only {between} kills of {KILLS} fell among the changes"])
+
+
+CASES = {
+    "at-once-planted": planted,
+    "at-once-machine-that-stops": machine_stops,
+    "at-once-calls-on-files-that-fail": calls_fail,
+    "at-once-full-disk": full_disk,
+    "at-once-without-memory": lambda: growths_refused(STEP),
+    "at-once-killed": killed,
+}
+SCENES = {"changes-at-once-without-memory": lambda: growths_refused(1)}

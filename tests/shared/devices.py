@@ -1,0 +1,40 @@
+"""What is loaded before the C library so that calls of a program fail, and the page by which a test tells a program that runs which."""
+import mmap
+import pathlib
+import struct
+
+from program import TOP, run
+
+# the numbers of a page, as tests/devices/page.h has them
+NUMBERS = ("calls", "at", "row", "error", "kinds", "syncs", "waits", "lies")
+READS, WRITES, SIZES, SYNCS = 1, 2, 4, 8
+
+
+def library(name, folder):
+    """Makes the library of that name from its source in tests/devices, in a folder; its path."""
+    file = pathlib.Path(folder, f"{name}.so")
+    built = run(["cc", "-shared", "-fPIC", "-O1", "-o", str(file), str(TOP / "tests" / "devices" / f"{name}.c")])
+    if built[0]:
+        raise OSError(f"cc: {built[2]!r}")
+    return str(file)
+
+
+class Page:
+    """The numbers that a device reads and changes while its program runs."""
+
+    def __init__(self, folder):
+        self.file = pathlib.Path(folder, "page")
+        self.file.write_bytes(bytes(8 * len(NUMBERS)))
+        with self.file.open("r+b") as opened:
+            self.numbers = mmap.mmap(opened.fileno(), 0)
+
+    def get(self, name):
+        return struct.unpack_from("q", self.numbers, 8 * NUMBERS.index(name))[0]
+
+    def set(self, **numbers):
+        """Sets the numbers that are named, and all others to 0."""
+        for at, name in enumerate(NUMBERS):
+            struct.pack_into("q", self.numbers, 8 * at, numbers.get(name, 0))
+
+    def environment(self, device):
+        return {"LD_PRELOAD": device, "DEVICE_PAGE": str(self.file)}
