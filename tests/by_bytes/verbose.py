@@ -72,7 +72,7 @@ class Verbose(Service):
     """`dss serve` with the option, and the token file of an example."""
 
     options = ("--verbose",)
-    told = f"line 1: {IS_EXAMPLE}\nline 1: {is_short(len(wire.SALT))}\n{limits('1 connections')}".encode()
+    preface = f"line 1: {IS_EXAMPLE}\nline 1: {is_short(len(wire.SALT))}\n{limits('1 connections')}".encode()
 
 
 def listening():

@@ -34,7 +34,7 @@ class Service:
     """`dss serve` on a free port, for so many connections at most, with more in its environment."""
 
     # the seconds in which it has to listen, where it does, further options, and what is told before it listens
-    patience, address, options, told = SECONDS, "127.0.0.1", (), b""
+    patience, address, options, preface = SECONDS, "127.0.0.1", (), b""
 
     def __init__(self, tokens=None, count=1_000_000, disk=None, more=None, clients=None, most_kept=None):
         self.room = tempfile.TemporaryDirectory(dir=disk)
@@ -59,7 +59,7 @@ class Service:
         """Starts the program, and waits until it listens."""
         with socket.create_server(("127.0.0.1", 0)) as free:
             self.port = free.getsockname()[1]
-        self.listening = self.told + f"dss: listening on {self.address}:{self.port}\n".encode()
+        self.listening = self.preface + f"dss: listening on {self.address}:{self.port}\n".encode()
         output, errors = self.folder / "output", self.folder / "errors"
         with output.open("wb") as stdout, errors.open("wb") as stderr:
             self.program = subprocess.Popen(
