@@ -66,7 +66,7 @@ def counted_together():
     with Service(most_kept=2) as service:
         it = Asking(service)
         it.put("the first", 201, 1)
-        it.subscribe("the second", 201, 2)
+        it.subscribe("the second", 200, 2)
         it.put("one too many", FAULT, 3)
         it.subscribe("a subscription too many", FAULT, 4)
         it.put("another supplier's", 201, 5, of="b")

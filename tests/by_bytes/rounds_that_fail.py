@@ -226,11 +226,9 @@ def calls_fail():
             judged = service.judged(airspace, asked, told)
             found += wrong_in(judged, f"{numbers}", told)
             found += [f"{numbers}: {it}" for it in at_most_one_sort([it for it, call in zip(told, asked) if is_change(call)])]
-            most, gone = max(most, told.count(FAULTED)), service.ends["without a copy"]
+            most = max(most, told.count(FAULTED))
             airspace, wrong = service.next_works(judged.after, number, f"{numbers}")
             found += wrong
-            if numbers["row"] == 1 and service.ends["without a copy"] > gone:
-                found += [f"{numbers}: the next changes share no sync"]
             if found:
                 break
     print(f"{FAILURES} rounds in which calls on files failed, of some {calls} each: {dict(sorted(service.ends.items()))}")
