@@ -1,0 +1,4 @@
+//! What has ended, and what a sweep of it leaves of an airspace.
+#![tactic(auto)]
+
+pub mod laws;

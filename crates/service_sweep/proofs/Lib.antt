@@ -1,0 +1,10 @@
+pub mod Kept
+pub mod Apart
+pub mod Facts
+pub mod Replies
+pub mod Leaves
+pub mod Commutes
+pub mod Runs
+pub mod Lookers
+pub mod Ended
+pub mod Backs

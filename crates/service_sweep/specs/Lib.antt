@@ -1,0 +1,4 @@
+pub mod Ended
+pub mod Ahead
+pub mod Back
+pub mod Kept

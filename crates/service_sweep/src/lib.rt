@@ -1,0 +1,4 @@
+//! Who can tell that what had ended was let go.
+#![tactic(auto)]
+
+pub mod laws;
