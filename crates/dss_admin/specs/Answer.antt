@@ -6,7 +6,9 @@ use Rattle.dss_admin.specs.declared.asked.Asked.{Asked}
 use Rattle.dss_admin.specs.declared.asked.Asked.TheVariants.{Does, Refuses, Unknown}
 use Rattle.dss_admin.specs.declared.asked.Health.{Health}
 use Rattle.dss_admin.specs.declared.asked.Health.TheVariants as state
+use Rattle.dss_admin.specs.declared.backup.Backup.{Backup}
 use Rattle.dss_admin.specs.Asked.{method_of, status_of}
+use Rattle.dss_admin.specs.Backup as backups
 
 -- the reason phrase of a status
 unfoldable pub reason_of : ℕ → List ℕ
@@ -14,16 +16,19 @@ reason_of status =
     if status == 200 then codes "OK"
     else (if status == 404 then codes "Not Found"
     else (if status == 405 then codes "Method Not Allowed"
+    else (if status == 409 then codes "Conflict"
     else (if status == 413 then codes "Content Too Large"
     else (if status == 431 then codes "Request Header Fields Too Large"
     else (if status == 501 then codes "Not Implemented"
-    else (if status == 503 then codes "Service Unavailable" else codes "Bad Request"))))))
+    else (if status == 503 then codes "Service Unavailable" else codes "Bad Request")))))))
 
--- the media type of a body: that of metrics is Prometheus's own
+-- the media type of a body: that of metrics is Prometheus's own, and the airspace is JSON
 abbrev pub type_of : Option Page → List ℕ
 type_of (Some page.Metrics) = codes "text/plain; version=0.0.4; charset=utf-8"
 type_of (Some page.Health) = codes "text/plain; charset=utf-8"
 type_of (Some page.Stop) = codes "text/plain; charset=utf-8"
+type_of (Some page.Backup) = codes "text/plain; charset=utf-8"
+type_of (Some page.Airspace) = codes "application/json"
 type_of None = codes "text/plain; charset=utf-8"
 
 -- a line with its end
@@ -61,6 +66,7 @@ text_of status media refused body = front_of status media refused (length body) 
 -- the body that tells how the service is
 abbrev pub words_of : Health → List ℕ
 words_of state.Serving = codes "serving\n"
+words_of state.Failing = codes "failing: the database did not keep the last changes that it was given\n"
 words_of state.Stopped = codes "stopped: the database failed, and no call is answered any more\n"
 words_of state.Stopping = codes "stopping: it was told to end\n"
 
@@ -73,7 +79,16 @@ Answers (Does page.Metrics) health text =
     × (text ≡ text_of (status_of (Does page.Metrics) health) (type_of (Some page.Metrics)) None body)
 Answers (Does page.Stop) health text =
     text ≡ text_of (status_of (Does page.Stop) health) (type_of None) None (codes "stopping\n")
+Answers (Does page.Backup) health text =
+    text ≡ text_of (status_of (Does page.Backup) health) (type_of None) None (codes "no such path\n")
+Answers (Does page.Airspace) health text =
+    text ≡ text_of (status_of (Does page.Airspace) health) (type_of None) None (codes "nothing is shown\n")
 Answers (Refuses p) health text =
     (body : List ℕ) × (text ≡ text_of (status_of (Refuses p) health) (type_of None) (Some p) body)
 Answers Unknown health text =
     (body : List ℕ) × (text ≡ text_of (status_of Unknown health) (type_of None) None body)
+
+-- The answer to one who asked for a backup, by what became of it.
+abbrev pub AnswersBackup : Backup → (text : List ℕ) → Type 0
+AnswersBackup backup text =
+    text ≡ text_of (backups.status_of backup) (type_of None) None (backups.words_of backup)

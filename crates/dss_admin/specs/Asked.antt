@@ -11,11 +11,15 @@ abbrev pub path_of : Page → List ℕ
 path_of page.Health = codes "/health"
 path_of page.Metrics = codes "/metrics"
 path_of page.Stop = codes "/stop"
+path_of page.Backup = codes "/backup"
+path_of page.Airspace = codes "/airspace"
 
 abbrev pub method_of : Page → List ℕ
 method_of page.Health = codes "GET"
 method_of page.Metrics = codes "GET"
 method_of page.Stop = codes "POST"
+method_of page.Backup = codes "POST"
+method_of page.Airspace = codes "GET"
 
 -- no page has this path
 abbrev pub IsNoPath : List ℕ → Type 0
@@ -27,13 +31,17 @@ IsAsked method path (Does p) = (path ≡ path_of p) × (method ≡ method_of p)
 IsAsked method path (Refuses p) = (path ≡ path_of p) × (method ≢ method_of p)
 IsAsked method path Unknown = IsNoPath path
 
--- the status of a page's answer: its health alone tells how the service is
+-- the status of a page's answer: its health alone tells how the service is; of backups this is the
+-- answer where there is no folder for them, and of the airspace that where nothing is shown
 abbrev pub status_at : Page → Health → ℕ
 status_at page.Health state.Serving = 200
+status_at page.Health state.Failing = 503
 status_at page.Health state.Stopped = 503
 status_at page.Health state.Stopping = 503
 status_at page.Metrics health = 200
 status_at page.Stop health = 200
+status_at page.Backup health = 404
+status_at page.Airspace health = 503
 
 abbrev pub status_of : Asked → Health → ℕ
 status_of (Does p) health = status_at p health

@@ -1,5 +1,4 @@
 -- How a service is, as it is counted.
-use Rattle.std.specs.Prelude.{Bool, true, false}
 use Rattle.dss_admin.specs.declared.asked.Health.{Health}
 use Rattle.dss_admin.specs.declared.asked.Health.TheVariants as state
 use Rattle.dss_admin.specs.declared.figures.Figures.{Figures}
@@ -7,9 +6,23 @@ use Rattle.dss_admin.specs.declared.figures.Figures.{Figures}
 abbrev pub health_of : Figures → Health
 health_of figures = figures.health
 
--- how it is after an answer, which may tell that no call is answered any more
-abbrev pub after_answer : Bool → Health → Health
-after_answer true state.Serving = state.Stopped
-after_answer true state.Stopped = state.Stopped
-after_answer true state.Stopping = state.Stopping
-after_answer false health = health
+-- how it is once changes were not kept
+abbrev pub when_failing : Health → Health
+when_failing state.Serving = state.Failing
+when_failing state.Failing = state.Failing
+when_failing state.Stopped = state.Stopped
+when_failing state.Stopping = state.Stopping
+
+-- how it is once a change was kept
+abbrev pub when_kept : Health → Health
+when_kept state.Serving = state.Serving
+when_kept state.Failing = state.Serving
+when_kept state.Stopped = state.Stopped
+when_kept state.Stopping = state.Stopping
+
+-- how it is once no call is answered any more
+abbrev pub when_broken : Health → Health
+when_broken state.Serving = state.Stopped
+when_broken state.Failing = state.Stopped
+when_broken state.Stopped = state.Stopped
+when_broken state.Stopping = state.Stopping

@@ -1,11 +1,13 @@
 //! The answers of the operator's port.
 ghost use Rattle.std.specs.Prelude.{◌≡◌, IfOk};
 ghost use Rattle.std.specs.String.{string_bytes};
-ghost use Rattle.dss_admin.specs.Answer.{Answers, allow_line, front_of, length_line, reason_of, status_line, text_of, type_line, type_of, words_of};
+ghost use Rattle.dss_admin.specs.Answer.{Answers, AnswersBackup, allow_line, front_of, length_line, reason_of, status_line, text_of, type_line, type_of, words_of};
 ghost use Rattle.dss_admin.specs.Figures.{health_of};
 
 use crate::asked::{Asked, Health, Page, status};
-use crate::figures::{Build, Figures};
+use crate::backup::{self, Backup};
+use crate::build::Build;
+use crate::figures::Figures;
 use crate::metrics::metrics;
 use std::alloc::{AllocError, Global};
 use wire_head::rule::WireRule;
@@ -19,6 +21,7 @@ fn reason_of(status: u16) -> &'static str
         200 => "OK",
         404 => "Not Found",
         405 => "Method Not Allowed",
+        409 => "Conflict",
         413 => "Content Too Large",
         431 => "Request Header Fields Too Large",
         501 => "Not Implemented",
@@ -33,6 +36,7 @@ fn type_of(page: Option<Page>) -> &'static str
 {
     match page {
         Some(Page::Metrics) => "text/plain; version=0.0.4; charset=utf-8",
+        Some(Page::Airspace) => "application/json",
         _ => "text/plain; charset=utf-8",
     }
 }
@@ -101,7 +105,7 @@ fn front_of(
 }
 
 // The answer of these parts.
-fn whole(
+pub(crate) fn whole(
     alloc: Global,
     status: u16,
     page: Option<Page>,
@@ -122,12 +126,15 @@ fn words(health: Health) -> &'static str
 {
     match health {
         Health::Serving => "serving\n",
+        Health::Failing =>
+            "failing: the database did not keep the last changes that it was given\n",
         Health::Stopped => "stopped: the database failed, and no call is answered any more\n",
         Health::Stopping => "stopping: it was told to end\n",
     }
 }
 
-/// The answer to what was asked.
+/// The answer to what was asked. To one who asks for a backup it is that where there is no folder for
+/// them, and to one who asks for the airspace that where nothing is shown.
 pub fn answer(
     alloc: Global,
     asked: Asked,
@@ -145,9 +152,19 @@ pub fn answer(
             whole(alloc, status, Some(Page::Metrics), None, text.as_str())
         }
         Asked::Does(Page::Stop) => whole(alloc, status, None, None, "stopping\n"),
+        Asked::Does(Page::Backup) => whole(alloc, status, None, None, "no such path\n"),
+        Asked::Does(Page::Airspace) => whole(alloc, status, None, None, "nothing is shown\n"),
         Asked::Refuses(page) => whole(alloc, status, None, Some(page), "no such method\n"),
         Asked::Unknown => whole(alloc, status, None, None, "no such path\n"),
     }
+}
+
+/// The answer to one who asked for a backup, by what became of it.
+pub fn backup_answer(alloc: Global, backup: Backup) -> Result<Vec<u8>, AllocError>
+    ensures { IfOk result (λ text. AnswersBackup backup text.items) }
+{
+    let words = backup::words(alloc, backup)?;
+    whole(alloc, backup::status(backup), None, None, words.as_str())
 }
 
 /// The answer where a rule of the wire is broken.

@@ -11,6 +11,10 @@ pub enum Page {
     Metrics,
     /// The end of the service.
     Stop,
+    /// A backup of the database.
+    Backup,
+    /// A page of the airspace.
+    Airspace,
 }
 
 /// What a method and a path ask for.
@@ -29,6 +33,8 @@ pub enum Asked {
 pub enum Health {
     /// It answers.
     Serving,
+    /// It answers, and the last changes were not kept.
+    Failing,
     /// It answers no call any more.
     Stopped,
     /// It was told to end.
@@ -44,6 +50,8 @@ impl Page {
             Page::Health => "GET",
             Page::Metrics => "GET",
             Page::Stop => "POST",
+            Page::Backup => "POST",
+            Page::Airspace => "GET",
         }
     }
 }
@@ -61,6 +69,12 @@ fn page_at(path: &[u8]) -> Option<Page>
     }
     if path == "/stop".as_bytes() {
         return Some(Page::Stop);
+    }
+    if path == "/backup".as_bytes() {
+        return Some(Page::Backup);
+    }
+    if path == "/airspace".as_bytes() {
+        return Some(Page::Airspace);
     }
     None
 }
@@ -86,7 +100,9 @@ pub fn status(asked: Asked, health: Health) -> u16
     match (asked, health) {
         (Asked::Unknown, _) => 404,
         (Asked::Refuses(_), _) => 405,
-        (Asked::Does(Page::Health), Health::Stopped | Health::Stopping) => 503,
+        (Asked::Does(Page::Health), Health::Failing | Health::Stopped | Health::Stopping) => 503,
+        (Asked::Does(Page::Backup), _) => 404,
+        (Asked::Does(Page::Airspace), _) => 503,
         _ => 200,
     }
 }

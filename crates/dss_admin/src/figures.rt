@@ -1,50 +1,14 @@
-//! What is counted of a service.
+//! What is counted of a service, and how it is.
 ghost use Rattle.std.specs.Prelude.{◌≡◌};
-ghost use Rattle.dss_admin.specs.Figures.{after_answer, health_of};
+ghost use Rattle.dss_admin.specs.Figures.{health_of, when_broken, when_failing, when_kept};
 ghost use Rattle.dss_admin.specs.declared.asked.Health.TheVariants as health;
 
 use crate::asked::Health;
-
-/// The statuses of answers to requests.
-pub const STATUSES: [u16; 13] = [
-    200, 201, 400, 401, 403, 404, 405, 409, 413, 431, 500, 501, 503,
-];
-
-/// What stays as it is while a service runs.
-#[derive(Clone, Copy, Debug)]
-pub struct Build<'a> {
-    /// When it started, in seconds since 1970.
-    pub started: u64,
-    /// The version of the package.
-    pub version: &'a str,
-    /// The kit that it was made with.
-    pub kit: &'a str,
-}
-
-/// Why a connection was given up.
-#[derive(Clone, Copy, Debug, PartialEq, Eq)]
-pub enum Cause {
-    /// A read.
-    Read,
-    /// A write.
-    Write,
-    /// The clock.
-    Clock,
-    /// A growth of memory was refused.
-    Memory,
-    /// The reads that one stream may take are used up.
-    Turns,
-}
-
-/// How many connections were given up, by their causes.
-#[derive(Clone, Copy, Debug)]
-pub(crate) struct Failed {
-    pub(crate) read: u64,
-    pub(crate) write: u64,
-    pub(crate) clock: u64,
-    pub(crate) memory: u64,
-    pub(crate) turns: u64,
-}
+use crate::connections::{Cause, Connections};
+use crate::faults::Faults;
+use crate::kept::Kept;
+use crate::requests::Requests;
+use crate::tokens::Tokens;
 
 /// The number, for any width of an address.
 pub(crate) fn wide(number: usize) -> u64 {
@@ -54,19 +18,21 @@ pub(crate) fn wide(number: usize) -> u64 {
     }
 }
 
-/// What is counted of a service, and how it is.
+/// What is counted of a service, and how it is. Each group of figures has a module of its own, with
+/// the lines that show it.
 #[derive(Clone, Copy, Debug)]
 pub struct Figures {
-    /// How many connections are open.
-    pub open: usize,
-    /// How many clients wait until they may send a large request.
-    pub waiting: usize,
+    /// Clients' connections.
+    pub connections: Connections,
+    /// Requests and their answers.
+    pub requests: Requests,
+    /// Faults of the machine.
+    pub faults: Faults,
+    /// How much is kept.
+    pub kept: Kept,
+    /// The token file.
+    pub tokens: Tokens,
     pub(crate) health: Health,
-    pub(crate) accepted: u64,
-    pub(crate) refused: u64,
-    pub(crate) failed: Failed,
-    pub(crate) answered: [u64; 13],
-    pub(crate) bytes: u64,
 }
 
 impl Figures {
@@ -75,65 +41,56 @@ impl Figures {
         ensures { health_of result ≡ health.Serving }
     {
         Figures {
-            open: 0,
-            waiting: 0,
+            connections: Connections::new(),
+            requests: Requests::new(),
+            faults: Faults::new(),
+            kept: Kept::unknown(),
+            tokens: Tokens::new(),
             health: Health::Serving,
-            accepted: 0,
-            refused: 0,
-            failed: Failed {
-                read: 0,
-                write: 0,
-                clock: 0,
-                memory: 0,
-                turns: 0,
-            },
-            answered: [0; 13],
-            bytes: 0,
         }
-    }
-
-    /// A connection was accepted.
-    pub fn accept(&mut self)
-        ensures { health_of self.new ≡ health_of self.old }
-    {
-        self.accepted = self.accepted.saturating_add(1);
-    }
-
-    /// A connection was closed at once.
-    pub fn refuse(&mut self)
-        ensures { health_of self.new ≡ health_of self.old }
-    {
-        self.refused = self.refused.saturating_add(1);
     }
 
     /// A connection was given up.
     pub fn fail(&mut self, cause: Cause)
         ensures { health_of self.new ≡ health_of self.old }
     {
-        let failed = &mut self.failed;
-        let count = match cause {
-            Cause::Read => &mut failed.read,
-            Cause::Write => &mut failed.write,
-            Cause::Clock => &mut failed.clock,
-            Cause::Memory => &mut failed.memory,
-            Cause::Turns => &mut failed.turns,
-        };
-        *count = (*count).saturating_add(1);
+        self.connections.fail(cause);
+        match cause {
+            Cause::Memory => self.faults.note_memory(),
+            Cause::Clock => self.faults.note_clock(),
+            Cause::Read | Cause::Write | Cause::Turns => {}
+        }
     }
 
-    /// A request was answered, with that status and so many bytes. `stops`: the service answers no call
-    /// any more.
-    pub fn answer(&mut self, status: u16, size: usize, stops: bool)
-        ensures { health_of self.new ≡ after_answer stops (health_of self.old) }
+    /// The database did not keep the changes that it was given, and goes on.
+    pub fn fail_store(&mut self)
+        ensures { health_of self.new ≡ when_failing (health_of self.old) }
     {
-        self.bytes = self.bytes.saturating_add(wide(size));
-        if let Some(at) = STATUSES.iter().position(|it| *it == status)
-            && let Some(count) = self.answered.get_mut(at)
-        {
-            *count = (*count).saturating_add(1);
+        self.faults.note_store();
+        if self.health == Health::Serving {
+            self.health = Health::Failing;
         }
-        if stops && self.health == Health::Serving {
-            self.health = Health::Stopped;
+    }
+
+    /// It kept a change.
+    pub fn keep(&mut self)
+        ensures { health_of self.new ≡ when_kept (health_of self.old) }
+    {
+        if self.health == Health::Failing {
+            self.health = Health::Serving;
+        }
+    }
+
+    /// The database failed so that no call is answered any more, which is counted once.
+    pub fn break_store(&mut self)
+        ensures { health_of self.new ≡ when_broken (health_of self.old) }
+    {
+        match self.health {
+            Health::Serving | Health::Failing => {
+                self.faults.note_store();
+                self.health = Health::Stopped;
+            }
+            Health::Stopped | Health::Stopping => {}
         }
     }
 

@@ -3,6 +3,7 @@ ghost use Rattle.std.specs.Prelude.{◌≤◌, length};
 ghost use Rattle.httparse.specs.Spans.{IsRequestWithin};
 
 use crate::asked::{Asked, asked_by};
+use crate::query::query_of;
 use httparse::spans::{EMPTY_HEADER_SPAN, HeaderSpan, RequestSpans};
 use wire_head::length::length_of;
 use wire_head::rest::{HeadSoFar, head_so_far};
@@ -17,25 +18,33 @@ pub const BODY_LIMIT: usize = 1024;
 
 /// What bytes so far say.
 #[derive(Clone, Copy, Debug, PartialEq, Eq)]
-pub enum Said {
+pub enum Said<'a> {
     /// Nothing yet.
     More,
-    /// This.
-    Asks(Asked),
+    /// This, with the query of its target.
+    Asks(Asked, &'a str),
     /// That they are no request, by this rule of the wire.
     Breaks(WireRule),
 }
 
 // What a method and a target ask for.
-fn asked_of(method: &[u8], target: &[u8]) -> Asked {
+fn said_by_line<'a>(method: &[u8], target: &'a [u8]) -> Said<'a> {
     match str::from_utf8(target) {
-        Ok(target) => asked_by(method, path_of(target).as_bytes()),
-        Err(_) => Asked::Unknown,
+        Ok(target) => {
+            let asked = asked_by(method, path_of(target).as_bytes());
+            Said::Asks(asked, query_of(target))
+        }
+        Err(_) => Said::Asks(Asked::Unknown, ""),
     }
 }
 
 // What a whole head asks for, once its body is there.
-fn said_by_head(bytes: &[u8], front: &[u8], fields: &[HeaderSpan], spans: RequestSpans) -> Said
+fn said_by_head<'a>(
+    bytes: &[u8],
+    front: &'a [u8],
+    fields: &[HeaderSpan],
+    spans: RequestSpans,
+) -> Said<'a>
     requires within { IsRequestWithin front.now fields.now spans }
     requires front { length front.now ≤ length bytes.now }
 {
@@ -49,12 +58,12 @@ fn said_by_head(bytes: &[u8], front: &[u8], fields: &[HeaderSpan], spans: Reques
     if bytes.len().saturating_sub(spans.len) < size {
         return Said::More;
     }
-    Said::Asks(asked_of(spans.method.of(front), spans.path.of(front)))
+    said_by_line(spans.method.of(front), spans.path.of(front))
 }
 
 /// What the bytes so far say. A request has a head of at most 8 KiB and a body of at most 1 KiB, which
 /// nobody looks at.
-pub fn said_by(bytes: &[u8]) -> Said {
+pub fn said_by(bytes: &[u8]) -> Said<'_> {
     let front = &bytes[..bytes.len().min(HEAD_LIMIT)];
     let mut fields = [EMPTY_HEADER_SPAN; 64];
     match head_so_far(front, &mut fields) {

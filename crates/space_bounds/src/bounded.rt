@@ -21,6 +21,7 @@ use grid_core::volume::Area;
 use space_core::met::Met;
 use space_core::settle::Settles;
 use space_core::space::{Change, Space, SpaceFault};
+use space_shown::shown::{NoCopy, Shown, Shows};
 use std::marker::Model;
 
 /// A space inside, and a tally of what it keeps of each supplier.
@@ -184,5 +185,12 @@ impl<S: Settles + Drop> Space for Bounded<S> {
             change,
             notify,
         )
+    }
+}
+
+impl<S: Settles + Shows + Drop> Shows for Bounded<S> {
+    /// What the space inside shows.
+    fn shown(&self) -> Result<Shown<'_>, NoCopy> {
+        self.space.shown()
     }
 }

@@ -15,6 +15,7 @@ use entity_core::nature::Kind;
 use entity_lists::entities::Entities;
 use grid_core::sorted_area::sorted;
 use grid_core::volume::Area;
+use space_shown::counts::Counts;
 use std::alloc::{AllocError, Global};
 use std::collections::BTreeSet;
 use std::marker::Model;
@@ -25,6 +26,7 @@ use std::marker::Model;
 pub(crate) struct IndexedEntities {
     entities: Entities,
     marks: BTreeSet<Mark>,
+    counts: Counts,
 }
 
 impl Model for IndexedEntities {
@@ -128,6 +130,7 @@ impl IndexedEntities {
         IndexedEntities {
             entities: Entities::new(alloc),
             marks: BTreeSet::new(alloc),
+            counts: Counts::nothing(),
         }
     }
 
@@ -136,10 +139,28 @@ impl IndexedEntities {
         ensures { IfOk result (λ indexed. indexed ≡ entities) }
     {
         let mut marks = BTreeSet::new(alloc);
+        let mut counts = Counts::nothing();
         for entity in entities.iter() {
             mark_entity(&mut marks, entity)?;
+            counts.add(entity.nature.kind());
         }
-        Ok(IndexedEntities { entities, marks })
+        Ok(IndexedEntities {
+            entities,
+            marks,
+            counts,
+        })
+    }
+
+    /// The entities, in their order.
+    pub(crate) fn entities(&self) -> &Entities
+        ensures { result.now ≡ self.now }
+    {
+        &self.entities
+    }
+
+    /// How many there are of each kind.
+    pub(crate) fn counts(&self) -> Counts {
+        self.counts
     }
 
     /// A copy of the entity of a kind and an id, if there is one. That there is none takes no
@@ -196,13 +217,22 @@ impl IndexedEntities {
             ≡ insert (entity_map self.old) (key_of entity) entity) }
         ensures err { OnErr result (self.new ≡ self.old) }
     {
-        put_in(&mut self.entities, &mut self.marks, entity)
+        let kind = entity.nature.kind();
+        let is_new = self.entities.at(kind, entity.id.number()).is_none();
+        put_in(&mut self.entities, &mut self.marks, entity)?;
+        if is_new {
+            self.counts.add(kind);
+        }
+        Ok(())
     }
 
     /// Removes the entity of a kind and an id; where there is none, nothing is changed.
     pub(crate) fn remove(&mut self, kind: Kind, id: EntityId)
         ensures { entity_map self.new ≡ remove (entity_map self.old) (kind, id) }
     {
-        remove_from(&mut self.entities, &mut self.marks, kind, id)
+        if self.entities.at(kind, id.number()).is_some() {
+            self.counts.take(kind);
+        }
+        remove_from(&mut self.entities, &mut self.marks, kind, id);
     }
 }

@@ -331,6 +331,13 @@ impl IndexedSubscriptions {
         })
     }
 
+    /// The subscriptions, in their order.
+    pub(crate) fn subscriptions(&self) -> &Subscriptions
+        ensures { result.now ≡ self.now }
+    {
+        &self.subscriptions
+    }
+
     /// A copy of the subscription of an id, if there is one. That there is none takes no memory to
     /// tell.
     pub(crate) fn subscription(&self, id: EntityId) -> Result<Option<Sub>, AllocError>

@@ -12,3 +12,4 @@ pub mod listing;
 mod lists;
 mod near;
 pub mod settled;
+mod shown;

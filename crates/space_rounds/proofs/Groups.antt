@@ -56,6 +56,10 @@ module _ {S : Type 0} (g : Ghosts S) where
       let it = h.base sound in
       seen.2 ∙ ap (changed_all round) (it.1.only seen.0 seen.1) ∙ sym it.3
 
+  -- what a list shows is what is seen
+  pub list_shows : (s : S) (l : ListSpace) (round : List RoundChange) (a : Airspace) → IsAhead g s l round → a ≡ content_of l → g.is_sound s → (b : Airspace) → holds_in g (group s (Some round) 0) b → b ≡ a
+  list_shows s l round a h same sound b seen = seen_listed s l round 0 h sound b seen ∙ sym same
+
   -- ---- reading
 
   -- a space that is read holds one airspace as before

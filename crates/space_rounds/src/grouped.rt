@@ -3,7 +3,7 @@ ghost use Rattle.std.specs.Prelude.{◌≡◌, [], Some, None};
 ghost use Rattle.space_rounds.specs.Grouped.{IsAhead, IsSoundIn, group};
 
 use crate::upkeep::Upkeep;
-use crate::{changes, reads};
+use crate::{changes, reads, shows};
 use entity_core::availability::Availability;
 use entity_core::entity::Entity;
 use entity_core::entity_id::EntityId;
@@ -18,6 +18,7 @@ use space_core::settle::Settles;
 use space_core::space::{Change, Space, SpaceFault};
 use space_list::list::ListSpace;
 use space_list::listing::Listing;
+use space_shown::shown::{NoCopy, Shown, Shows};
 use std::alloc::Global;
 use std::marker::Model;
 
@@ -249,5 +250,12 @@ impl<S: Rounds + Listing + Drop> Space for Grouped<S> {
             change,
             notify,
         )
+    }
+}
+
+impl<S: Rounds + Listing + Drop> Shows for Grouped<S> {
+    /// The list, where there is one: with the changes that wait.
+    fn shown(&self) -> Result<Shown<'_>, NoCopy> {
+        shows::shown(&self.store, &self.list, self.upkeep, &self.round)
     }
 }

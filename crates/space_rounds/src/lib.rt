@@ -4,4 +4,5 @@
 mod changes;
 pub mod grouped;
 mod reads;
+mod shows;
 mod upkeep;

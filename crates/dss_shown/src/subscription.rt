@@ -1,0 +1,49 @@
+//! A subscription with its extent, as operators are shown it.
+use crate::members::{put_flag, put_id, put_number, put_text};
+use crate::volume::volume_json;
+use entity_core::availability::Availability;
+use entity_core::nature::Kind;
+use entity_core::subscription::Sub;
+use serde_json::{Map, Value, put};
+use std::alloc::{AllocError, Global};
+use wire_body::availability::name_of;
+
+/// A subscription: its extent, its manager, and what its manager is shown of it, but for its version
+/// and the intents that name it.
+pub(crate) fn sub_json(
+    alloc: Global,
+    sub: &Sub,
+    availability: Availability,
+) -> Result<Value, AllocError> {
+    let extents = volume_json(alloc, &sub.volume)?;
+    let (time_start, time_end) = sub.volume.time();
+    let mut members = Map::new(alloc);
+    put(&mut members, alloc, "extents", extents)?;
+    put_id(&mut members, alloc, "id", sub.id)?;
+    put_text(&mut members, alloc, "manager", sub.manager.text())?;
+    put_number(
+        &mut members,
+        alloc,
+        "notification_index",
+        sub.index.number(),
+    )?;
+    let constraints = sub.interest.wants(Kind::Constraint);
+    put_flag(&mut members, alloc, "notify_for_constraints", constraints)?;
+    let intents = sub.interest.wants(Kind::Intent);
+    put_flag(
+        &mut members,
+        alloc,
+        "notify_for_operational_intents",
+        intents,
+    )?;
+    put_number(&mut members, alloc, "time_end", time_end)?;
+    put_number(&mut members, alloc, "time_start", time_start)?;
+    put_text(
+        &mut members,
+        alloc,
+        "uss_availability",
+        name_of(availability),
+    )?;
+    put_text(&mut members, alloc, "uss_base_url", sub.url.text())?;
+    Ok(Value::from(members))
+}

@@ -1,0 +1,11 @@
+use Rattle.std.proofs.Common.{subst}
+use Rattle.std.specs.Prelude.{◌≡◌, IfOk}
+use Rattle.entity_core.specs.Airspace.{Airspace}
+use Rattle.entity_lists.specs.Lists.{airspace_of}
+use Rattle.space_rounds.specs.Grouped.{Group, IsSoundIn, ahead_of, group, holds_in}
+use Rattle.space_rounds.proofs.grouped.GroupedShows.shown.Goals as goal
+
+pub returns : goal.returns
+returns g c =
+    let Shows : Group g.row.S.Denot → Type 0 = λ k. IfOk c.shown.result (λ shown. (a : Airspace) → holds_in g.S.Space k a → a ≡ airspace_of shown.entities.now shown.subscriptions.now shown.availabilities.now shown.serial) in
+    subst (λ k. IsSoundIn g.S.Space k → Shows k) c.self.view_is (λ sound. subst (λ round. Shows (group c.self.inside.store (ahead_of c.self.inside.list round) 0)) c.deref.ensures.value (c.shown.ensures sound.store))
