@@ -1,1 +1,2 @@
+mod Salts
 pub mod Serving

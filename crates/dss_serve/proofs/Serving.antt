@@ -1,6 +1,7 @@
 -- How what was asked goes on, call by call and round by round.
 use Rattle.std.proofs.Common.{◌≡◌, ℕ, List, [], ◌∷◌, ◌++◌, map, refl, sym, ap, subst, ◌∙◌, ◌⊎◌, inl, inr, append_assoc, Option, Some, None, Result, Ok, Err}
-use Rattle.std.specs.Prelude.{◌||◌, IfErr, IfOk}
+use Rattle.std.specs.Prelude.{◌||◌, All, IfErr, IfOk, IfSome, unwrap_or}
+use Rattle.std.specs.Option.{option_or}
 use Rattle.std.specs.List.{flat_map}
 use Rattle.std.proofs.lemmas.List.{append-nil, map-append}
 use Rattle.std.proofs.lemmas.List.Concat.{flat_map-append}
@@ -13,7 +14,7 @@ use Rattle.service_core.specs.Held.{space_of}
 use Rattle.service_core.specs.Rounds.{IsSettled, Made, MadeInOrder, MadeRounds, Round, all_timed, timed_in}
 use Rattle.service_core.specs.Run.{IsReplyTo, Timed}
 use Rattle.service_step.specs.declared.reply.Reply.{Reply}
-use Rattle.token_conf.specs.TokenFile.{Callers}
+use Rattle.token_conf.specs.TokenFile.{Callers, TokenFile, callers_of}
 use Rattle.wire_http.specs.Count.{one_more}
 use Rattle.wire_http.specs.declared.connection.Connection.{Connection}
 use Rattle.wire_http.specs.declared.connection.Step.{Step}
@@ -23,7 +24,8 @@ use Rattle.wire_http.specs.declared.fault.StreamFault.TheVariants as faults
 use Rattle.wire_http.specs.declared.moments.Moments as moments
 use Rattle.wire_http.specs.Connection.{IsStep, IsStepPart}
 use Rattle.wire_http.specs.Wire.{Asked, ClockAfter, timed}
-use Rattle.dss_serve.specs.Serve.{AreAmong, GoesOn, IsAskedBy, ServesAll, ServesSoFar, Told, moments_of}
+use Rattle.dss_serve.specs.Serve.{AreAmong, AskedUnder, GoesOn, IsAskedBy, ServesAll, ServesBy, ServesSoFar, Told, moments_of}
+use Rattle.dss_serve.specs.Tokens.{IsTakenAfter}
 
 -- ---- the clock
 
@@ -105,7 +107,7 @@ module _ {S M : Type 0} (g : spaces.Ghosts S) (k : settles.Ghosts S) (m : moment
     moments = ([], [], refl, tt);
   }
 
-  pub serves_none : (s : Service S) (clock : M) → ServesAll g k m callers s s clock clock
+  pub serves_none : (s : Service S) (clock : M) → ServesBy g k m callers s s clock clock
   serves_none s clock = record {
     all = [];
     rounds = [];
@@ -117,8 +119,8 @@ module _ {S M : Type 0} (g : spaces.Ghosts S) (k : settles.Ghosts S) (m : moment
     moments = tt;
   }
 
-  pub serves_then : (old mid new : Service S) (clock between clock' : M) → ServesAll g k m callers old mid clock between → ServesAll g k m callers mid new between clock'
-      → ServesAll g k m callers old new clock clock'
+  pub serves_then : (old mid new : Service S) (clock between clock' : M) → ServesBy g k m callers old mid clock between → ServesBy g k m callers mid new between clock'
+      → ServesBy g k m callers old new clock clock'
   serves_then old mid new clock between clock' p q = record {
     all = p.all ++ q.all;
     rounds = p.rounds ++ q.rounds;
@@ -134,7 +136,7 @@ module _ {S M : Type 0} (g : spaces.Ghosts S) (k : settles.Ghosts S) (m : moment
 
   -- a round of calls is settled
   pub serves_round : (old mid new : Service S) (clock clock' : M) (settled : Result (Unit {0}) SpaceFault) → GoesOn g k m callers old mid clock clock'
-      → IsSettled g k mid new settled → ServesAll g k m callers old new clock clock'
+      → IsSettled g k mid new settled → ServesBy g k m callers old new clock clock'
   serves_round old mid new clock clock' settled h is_settled = record {
     all = h.all;
     rounds = record { calls = h.round; settled = settled } ∷ [];
@@ -150,7 +152,7 @@ module _ {S M : Type 0} (g : spaces.Ghosts S) (k : settles.Ghosts S) (m : moment
   so_far_none s clock = (s, clock, serves_none s clock, goes_still s clock)
 
   pub so_far_settled : (old mid new : Service S) (clock clock' : M) (settled : Result (Unit {0}) SpaceFault) → ServesSoFar g k m callers old mid clock clock'
-      → IsSettled g k mid new settled → ServesAll g k m callers old new clock clock'
+      → IsSettled g k mid new settled → ServesBy g k m callers old new clock clock'
   so_far_settled old mid new clock clock' settled p is_settled =
       serves_then old p.0 new clock p.1 clock' p.2 (serves_round p.0 mid new p.1 clock' settled p.3 is_settled)
 
@@ -205,3 +207,126 @@ module _ {S M : Type 0} (g : spaces.Ghosts S) (k : settles.Ghosts S) (m : moment
         → GoesOn g k m callers old new clock clock'
     asked_goes_on (Ok step) ok err failed = step_goes_on step ok
     asked_goes_on (Err fault) ok err failed = part_goes_on fault (λ is. failed (ap (λ (x : StreamFault). Err x) is)) err
+
+-- ---- what was asked under one table after the other
+
+-- the last of some tables
+abbrev pub last_of : TokenFile → List TokenFile → TokenFile
+last_of table [] = table
+last_of table (next ∷ tables) = last_of next tables
+
+last_taken : (first : TokenFile) (tables : List TokenFile) (table : TokenFile) → last_of first (tables ++ table ∷ []) ≡ table
+last_taken first [] table = refl
+last_taken first (next ∷ tables) table = last_taken next tables table
+
+asked_more : (table : TokenFile) (tables : List TokenFile) (all more : List Asked) → AskedUnder (table ∷ tables) all
+    → All (IsAskedBy (callers_of (last_of table tables))) more → AskedUnder (table ∷ tables) (all ++ more)
+asked_more table [] all more p h =
+    let same : all ≡ p.0 = p.2 ∙ ap (λ (v : List Asked). p.0 ++ v) p.4 ∙ append-nil p.0 in (
+      all ++ more,
+      [],
+      sym (append-nil (all ++ more)),
+      All-append (IsAskedBy (callers_of table)) all more (subst (λ (v : List Asked). All (IsAskedBy (callers_of table)) v) (sym same) p.3) h,
+      refl,
+    )
+asked_more table (next ∷ tables) all more p h = (
+  p.0,
+  p.1 ++ more,
+  ap (λ (v : List Asked). v ++ more) p.2 ∙ append_assoc p.0 p.1 more,
+  p.3,
+  asked_more next tables p.1 more p.4 h,
+)
+
+asked_taken : (tables : List TokenFile) (table : TokenFile) (all : List Asked) → AskedUnder tables all → AskedUnder (tables ++ table ∷ []) all
+asked_taken [] table all p = ([], [], p, All-nil (IsAskedBy (callers_of table)), refl)
+asked_taken (first ∷ tables) table all p = (p.0, p.1, p.2, p.3, asked_taken tables table p.1 p.4)
+
+-- where no table was taken, all were asked under the first
+pub asked_by_first : (table : TokenFile) (all : List Asked) → AskedUnder (table ∷ []) all → All (IsAskedBy (callers_of table)) all
+asked_by_first table all p =
+    let same : all ≡ p.0 = p.2 ∙ ap (λ (v : List Asked). p.0 ++ v) p.4 ∙ append-nil p.0 in
+    subst (λ (v : List Asked). All (IsAskedBy (callers_of table)) v) (sym same) p.3
+
+module _ {S M : Type 0} (g : spaces.Ghosts S) (k : settles.Ghosts S) (m : moments.Ghosts M) (gives : List ℕ → Type 0) (tokens : TokenFile) where
+  -- what was served until now, when a table is in force
+  pub record ServesUpTo (current : TokenFile) (old new : Service S) (clock clock' : M) : Type 0 where
+    pub serves : ServesAll g k m gives tokens old new clock clock'
+    pub in_force : last_of tokens serves.later ≡ current
+
+  pub all_none : (s : Service S) (clock : M) → ServesAll g k m gives tokens s s clock clock
+  all_none s clock = record {
+    all = [];
+    rounds = [];
+    told = [];
+    later = [];
+    taken = All-nil (IsTakenAfter gives tokens);
+    requests = ([], [], refl, All-nil (IsAskedBy (callers_of tokens)), refl);
+    calls = refl;
+    made = refl;
+    clock_told = refl;
+    moments = tt;
+  }
+
+  pub up_to_none : (s : Service S) (clock : M) → ServesUpTo tokens s s clock clock
+  unfolding all_none
+  up_to_none s clock = record { serves = all_none s clock; in_force = refl }
+
+  -- calls under the table that is in force
+  all_then : (old mid new : Service S) (clock between clock' : M) (p : ServesAll g k m gives tokens old mid clock between)
+      → ServesBy g k m (callers_of (last_of tokens p.later)) mid new between clock' → ServesAll g k m gives tokens old new clock clock'
+  all_then old mid new clock between clock' p q = record {
+    all = p.all ++ q.all;
+    rounds = p.rounds ++ q.rounds;
+    told = p.told ++ q.told;
+    later = p.later;
+    taken = p.taken;
+    requests = asked_more tokens p.later p.all q.all p.requests q.requests;
+    calls = flat_map-append timed_in p.rounds q.rounds ∙ ap (λ (v : List Timed). v ++ all_timed q.rounds) p.calls
+        ∙ ap (λ (v : List Timed). map timed p.all ++ v) q.calls ∙ sym (map-append timed p.all q.all);
+    made = rounds_then g k p.rounds q.rounds old mid new p.made q.made;
+    clock_told = told_then m p.told q.told clock between clock' p.clock_told q.clock_told;
+    moments = subst (λ (v : List ℕ). AreAmong v (p.told ++ q.told)) (sym (map-append (λ (x : Asked). x.moment) p.all q.all))
+        (among_then (moments_of p.all) (moments_of q.all) p.told q.told p.moments q.moments);
+  }
+
+  up_to_then : (current used : TokenFile) (old mid new : Service S) (clock between clock' : M) → ServesUpTo current old mid clock between → used ≡ current
+      → ServesBy g k m (callers_of used) mid new between clock' → ServesUpTo current old new clock clock'
+  unfolding all_then
+  up_to_then current used old mid new clock between clock' p same q =
+      let by_last = subst (λ (t : TokenFile). ServesBy g k m (callers_of t) mid new between clock') (same ∙ sym p.in_force) q in
+      record { serves = all_then old mid new clock between clock' p.serves by_last; in_force = p.in_force }
+
+  -- another table is taken
+  all_taken : (table : TokenFile) (old new : Service S) (clock clock' : M) → IsTakenAfter gives tokens table → ServesAll g k m gives tokens old new clock clock'
+      → ServesUpTo table old new clock clock'
+  all_taken table old new clock clock' is p = record {
+    serves = record {
+      all = p.all;
+      rounds = p.rounds;
+      told = p.told;
+      later = p.later ++ table ∷ [];
+      taken = All-append (IsTakenAfter gives tokens) p.later (table ∷ []) p.taken (All-cons (IsTakenAfter gives tokens) table [] is (All-nil (IsTakenAfter gives tokens)));
+      requests = asked_taken (tokens ∷ p.later) table p.all p.requests;
+      calls = p.calls;
+      made = p.made;
+      clock_told = p.clock_told;
+      moments = p.moments;
+    };
+    in_force = last_taken tokens p.later table;
+  }
+
+  up_to_taken : (newer taken : Option TokenFile) (old new : Service S) (clock clock' : M) → ServesUpTo (unwrap_or newer tokens) old new clock clock'
+      → IfSome taken (IsTakenAfter gives tokens) → ServesUpTo (unwrap_or (option_or taken newer) tokens) old new clock clock'
+  up_to_taken newer None old new clock clock' p is = p
+  up_to_taken newer (Some table) old new clock clock' p is = all_taken table old new clock clock' is p.serves
+
+  -- it was looked at the token file, which changes nothing or takes its table, then calls were made under the table in force, and
+  -- then the service was shown, which changes nothing
+  pub up_to_looked : (newer taken newer' : Option TokenFile) (used : TokenFile) (old mid new shown : Service S) (clock between clock' : M)
+      → ServesUpTo (unwrap_or newer tokens) old mid clock between → IfSome taken (IsTakenAfter gives tokens) → newer' ≡ option_or taken newer
+      → used ≡ unwrap_or newer' tokens → ServesBy g k m (callers_of used) mid new between clock' → shown ≡ new
+      → ServesUpTo (unwrap_or newer' tokens) old shown clock clock'
+  up_to_looked newer taken newer' used old mid new shown clock between clock' p is same is_used q same_shown =
+      let looked = subst (λ (n : Option TokenFile). ServesUpTo (unwrap_or n tokens) old mid clock between) (sym same) (up_to_taken newer taken old mid clock between p is) in
+      let asked = up_to_then (unwrap_or newer' tokens) used old mid new clock between clock' looked is_used q in
+      subst (λ (s : Service S). ServesUpTo (unwrap_or newer' tokens) old s clock clock') (sym same_shown) asked

@@ -1,2 +1,4 @@
 pub mod Link
 pub mod Serve
+pub mod StoreWatch
+pub mod Tokens

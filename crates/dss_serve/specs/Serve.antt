@@ -4,15 +4,24 @@ use Rattle.space_core.specs.declared.settle.Settles as settles
 use Rattle.space_core.specs.declared.space.Space as spaces
 use Rattle.service_core.specs.declared.service.Service.{Service}
 use Rattle.service_core.specs.Rounds.{Made, MadeInOrder, MadeRounds, Round, all_timed}
-use Rattle.token_conf.specs.TokenFile.{Callers}
+use Rattle.token_conf.specs.TokenFile.{Callers, TokenFile, callers_of}
 use Rattle.wire_http.specs.Asked.{IsCallOf}
 use Rattle.wire_http.specs.Count.{one_more}
 use Rattle.wire_http.specs.Wire.{Asked, timed}
 use Rattle.wire_http.specs.declared.moments.Moments as moments
+use Rattle.dss_serve.specs.Tokens.{IsTakenAfter}
 
 -- some request makes this call, of the caller whose token it bears
 abbrev pub IsAskedBy : Callers → Asked → Type 0
 IsAskedBy callers asked = (body : List ℕ) × IsCallOf callers asked.head body asked.place asked.call
+
+-- Calls of which each was judged by one table, where tables were taken one after the other: first calls
+-- of the callers of the first table, then calls of the callers of the second, and so on.
+abbrev pub AskedUnder : List TokenFile → List Asked → Type 0
+AskedUnder [] all = all ≡ []
+AskedUnder (table ∷ tables) all =
+    (under : List Asked) × (after : List Asked) × (all ≡ under ++ after)
+    × All (IsAskedBy (callers_of table)) under × AskedUnder tables after
 
 -- What a clock told in order: a moment, or that it failed.
 abbrev pub Told : {M : Type 0} → moments.Ghosts M → List (Option ℕ) → M → M → Type 0
@@ -34,11 +43,9 @@ moments_of all = map (λ asked. asked.moment) all
 
 module _ {S M : Type 0} (g : spaces.Ghosts S) (k : settles.Ghosts S) (m : moments.Ghosts M)
     (callers : Callers) where
-  -- The service was asked calls of requests, one after the other, and no other: one list of calls,
-  -- whoever made them. They were made in rounds, each of which was settled at its end: a client whose
-  -- reply waited for that was told it as it was made only where the changes were kept. Each call was
-  -- made at a moment of the clock, which told no more than that.
-  pub record ServesAll (old new : Service S) (clock clock' : M) : Type 0 where
+  -- The service was asked calls of requests, one after the other, and no other, while one table of
+  -- callers was in force. They were made in rounds, each of which was settled at its end.
+  pub record ServesBy (old new : Service S) (clock clock' : M) : Type 0 where
     pub all : List Asked
     pub rounds : List Round
     pub told : List (Option ℕ)
@@ -62,4 +69,24 @@ module _ {S M : Type 0} (g : spaces.Ghosts S) (k : settles.Ghosts S) (m : moment
   -- It was asked calls in rounds that are settled, and in one that is not settled yet.
   abbrev pub ServesSoFar : Service S → Service S → M → M → Type 0
   ServesSoFar old new clock clock' = (mid : Service S) × (between : M)
-      × ServesAll old mid clock between × GoesOn mid new between clock'
+      × ServesBy old mid clock between × GoesOn mid new between clock'
+
+module _ {S M : Type 0} (g : spaces.Ghosts S) (k : settles.Ghosts S) (m : moments.Ghosts M)
+    (gives : List ℕ → Type 0) (tokens : TokenFile) where
+  -- The service was asked calls of requests, one after the other, and no other: one list of calls,
+  -- whoever made them. Each was judged by one table of tokens: the first is that of the start, and each
+  -- later one was read whole of the token file as it then was, with the same salt. They were made in
+  -- rounds, each of which was settled at its end: a client whose reply waited for that was told it as it
+  -- was made only where the changes were kept. Each call was made at a moment of the clock, which told
+  -- no more than that.
+  pub record ServesAll (old new : Service S) (clock clock' : M) : Type 0 where
+    pub all : List Asked
+    pub rounds : List Round
+    pub told : List (Option ℕ)
+    pub later : List TokenFile
+    pub taken : All (IsTakenAfter gives tokens) later
+    pub requests : AskedUnder (tokens ∷ later) all
+    pub calls : all_timed rounds ≡ map timed all
+    pub made : MadeRounds g k old rounds new
+    pub clock_told : Told m told clock clock'
+    pub moments : AreAmong (moments_of all) told

@@ -1,6 +1,8 @@
 //! The command `serve`, below the system: the requests of many clients, answered on one thread.
 #![tactic(auto)]
 
+mod backing_up;
+pub mod backups;
 mod desk;
 mod held_back;
 pub mod journal;
@@ -9,7 +11,9 @@ mod link;
 mod operator;
 mod operators;
 mod peer;
-mod phase;
+pub mod phase;
 mod port;
 pub mod serve;
 pub mod sockets;
+mod store_watch;
+pub mod token_watch;

@@ -26,7 +26,7 @@ pub(crate) const ENDING: u64 = 200;
 pub(crate) const LAST_PIECES: u32 = 64;
 
 // How often it is looked for clients that were waited for long enough, in milliseconds: with one
-// among them that has its last answer, and with none.
+// among them that has its last answer, and with none. So often the token file is looked at, too.
 pub(crate) const LOOKS_SOON: u64 = 50;
 
 pub(crate) const LOOKS: u64 = 1_000;

@@ -7,13 +7,16 @@ ghost use Rattle.dss_serve.specs.Link.{connection_of, socket_of, GoesUnless, IsF
 use crate::desk::Desk;
 use crate::limits::PIECE;
 use crate::sockets::Socket;
+use dss_admin::requests::Denial;
+use policy_core::call::OpKind;
 use service_core::service::Service;
 use service_step::reply::Reply;
 use space_core::settle::Settles;
 use space_core::space::SpaceFault;
 use std::alloc::{AllocError, Global};
 use std::io::ErrorKind;
-use wire_http::{Connection, Moments, Step, StreamFault};
+use std::net::SocketAddrV4;
+use wire_http::{Connection, Moments, Noted, Outcome, Step, StreamFault};
 
 /// What a reading did.
 #[derive(Clone, Copy, Debug, PartialEq, Eq)]
@@ -35,31 +38,62 @@ pub(crate) enum Went {
     Nothing,
 }
 
-/// An answer.
+/// An answer, and what it was to.
 #[derive(Clone, Copy, Debug, PartialEq, Eq)]
 pub(crate) struct Answer {
-    /// Its status.
-    pub(crate) status: u16,
-    /// How many bytes it has.
+    /// What was asked for, where that is an operation.
+    pub(crate) operation: Option<OpKind>,
+    /// How it ended.
+    pub(crate) outcome: Outcome,
+    /// How many bytes the answer has.
     pub(crate) size: usize,
-    /// Whether it tells that the service answers no call any more.
-    pub(crate) stops: bool,
 }
 
-// The body of the answer of a service that answers no call any more.
-const STOPPED: &str = "{\"message\":\"stopped\"}";
-
-// The status of an answer, which stands behind the version.
-fn status_in(text: &[u8]) -> Option<u16> {
-    if text.len() < 12 {
-        return None;
+impl Answer {
+    /// Its status.
+    pub(crate) fn status(&self) -> u16 {
+        match self.outcome {
+            Outcome::Done => match self.operation {
+                Some(OpKind::Create(_)) => 201,
+                _ => 200,
+            },
+            Outcome::Denied(rule) => rule.status(),
+            Outcome::Fault => 500,
+            Outcome::Stopped => 503,
+            Outcome::Wire(rule) => rule.status(),
+        }
     }
-    let Ok(digits) = str::from_utf8(&text[9..12]) else {
-        return None;
-    };
-    match digits.parse::<u16>() {
-        Ok(status) => Some(status),
-        Err(_) => None,
+
+    /// The rule by which the request was refused, if it was.
+    pub(crate) fn denial(&self) -> Option<Denial> {
+        match self.outcome {
+            Outcome::Denied(rule) => Some(Denial::Policy(rule)),
+            Outcome::Wire(rule) => Some(Denial::Wire(rule)),
+            Outcome::Done | Outcome::Fault | Outcome::Stopped => None,
+        }
+    }
+
+    /// Whether a change was asked for.
+    pub(crate) fn is_to_change(&self) -> bool {
+        match self.operation {
+            Some(
+                OpKind::Create(_)
+                | OpKind::Update(_)
+                | OpKind::Delete(_)
+                | OpKind::SetAvail
+                | OpKind::CreateSub
+                | OpKind::UpdateSub
+                | OpKind::DeleteSub,
+            ) => true,
+            Some(
+                OpKind::Query(_)
+                | OpKind::Read(_)
+                | OpKind::ReadAvail
+                | OpKind::QuerySub
+                | OpKind::ReadSub,
+            )
+            | None => false,
+        }
     }
 }
 
@@ -81,10 +115,10 @@ pub(crate) struct Link<T> {
 }
 
 impl<T: Socket> Link<T> {
-    ghost use Rattle.std.specs.Prelude.{◌<◌, ◌-◌, ◌↔◌, ◌||◌, false, length, IfOk, IfErr, IsTrue};
+    ghost use Rattle.std.specs.Prelude.{◌<◌, ◌-◌, ◌↔◌, ◌||◌, false, length, IfOk, IfErr, IsTrue, option_map};
     ghost use Rattle.token_conf.specs.TokenFile.{callers_of};
     ghost use Rattle.service_core.specs.Held.{Stays, space_of};
-    ghost use Rattle.wire_http.specs.Connection.{held_of, held_back_of, holds_back, is_done, ready_of, IsStep, IsStepPart};
+    ghost use Rattle.wire_http.specs.Connection.{held_of, held_back_of, holds_back, is_done, noted_of, ready_of, IsStep, IsStepPart};
     ghost use Rattle.wire_http.specs.declared.connection.Connection.{Connection};
     ghost use Rattle.wire_http.specs.Held.{most_held};
     ghost use Rattle.dss_serve.specs.Serve.{GoesOn};
@@ -98,6 +132,11 @@ impl<T: Socket> Link<T> {
             socket,
             connection: Connection::new(alloc),
         }
+    }
+
+    /// The address and the port of the client, where the system told them.
+    pub(crate) fn client(&self) -> Option<SocketAddrV4> {
+        self.socket.client()
     }
 
     /// How many bytes of requests are held.
@@ -144,13 +183,23 @@ impl<T: Socket> Link<T> {
 
     /// The answer that is to be sent, where there is just one and it is not held back.
     pub(crate) fn answer(&self) -> Option<Answer> {
-        let text = self.connection.output();
-        let status = status_in(text)?;
+        let size = self.connection.output().len();
+        if size == 0 {
+            return None;
+        }
+        let noted = self.connection.noted()?;
         Some(Answer {
-            status,
-            size: text.len(),
-            stops: status == 503 && text.ends_with(STOPPED.as_bytes()),
+            operation: noted.operation,
+            outcome: noted.outcome,
+            size,
         })
+    }
+
+    /// What the last answer was to.
+    pub(crate) fn noted(&self) -> Option<&Noted>
+        ensures { option_map (λ noted. noted.now) result ≡ noted_of (connection_of self.now) }
+    {
+        self.connection.noted()
     }
 
     /// Whether no request more is answered.

@@ -2,11 +2,15 @@
 use crate::limits::{LAST_PIECES, OPERATOR_BYTES, OPERATOR_PIECE, OPERATOR_STEPS};
 use crate::phase::Phase;
 use crate::sockets::{Socket, Told};
-use dss_admin::answer::{answer, refusal};
+use dss_admin::airspace::airspace_answer;
+use dss_admin::answer::{answer, backup_answer, refusal};
 use dss_admin::asked::{Asked, Page};
-use dss_admin::figures::{Build, Figures};
+use dss_admin::backup::{Backup, name_in};
+use dss_admin::build::Build;
+use dss_admin::figures::Figures;
 use dss_admin::request::{Said, said_by};
-use std::alloc::Global;
+use space_shown::shown::{NoCopy, Shown};
+use std::alloc::{AllocError, Global};
 use std::io::ErrorKind;
 use std::time::Duration;
 
@@ -16,6 +20,10 @@ pub(crate) struct Board<'a> {
     pub(crate) alloc: Global,
     pub(crate) figures: &'a Figures,
     pub(crate) build: Build<'a>,
+    /// Whether there is a folder for backups.
+    pub(crate) backs_up: bool,
+    /// What the service keeps, or why nothing is shown of it.
+    pub(crate) shown: Result<Shown<'a>, NoCopy>,
 }
 
 /// What becomes of a connection.
@@ -45,6 +53,9 @@ pub(crate) struct Operator<T> {
     reset: bool,
     // Whether it asked for the end of the service.
     stops: bool,
+    // The name of the backup that it asked for, until that is begun, and whether it waits for one.
+    wanted: Option<String>,
+    waits: bool,
 }
 
 impl<T: Socket> Operator<T> {
@@ -62,6 +73,8 @@ impl<T: Socket> Operator<T> {
             writable: true,
             reset: false,
             stops: false,
+            wanted: None,
+            waits: false,
         }
     }
 
@@ -74,7 +87,7 @@ impl<T: Socket> Operator<T> {
 
     /// Whether it was waited for long enough.
     pub(crate) fn is_late(&self, now: Duration) -> bool {
-        self.until < now
+        self.until < now && !self.waits
     }
 
     /// Whether it is being waited for after its answer.
@@ -82,14 +95,49 @@ impl<T: Socket> Operator<T> {
         self.phase == Phase::Ending
     }
 
-    /// Whether it has an answer that it may not have read.
+    /// Whether it has an answer that it may not have read, or waits for one.
     pub(crate) fn is_owed(&self) -> bool {
-        self.phase == Phase::Taking || self.is_ending()
+        self.phase == Phase::Taking || self.is_ending() || self.waits
     }
 
     /// Whether it asked for the end of the service.
     pub(crate) fn stops(&self) -> bool {
         self.stops
+    }
+
+    /// The name of a backup that it asked for, once.
+    pub(crate) fn take_wanted(&mut self) -> Option<String> {
+        self.wanted.take()
+    }
+
+    // Has it wait for a backup of that name.
+    fn want(&mut self, name: String) -> Moved {
+        self.wanted = Some(name);
+        self.waits = true;
+        Moved::Rests
+    }
+
+    /// Tells it what became of the backup that it waits for.
+    pub(crate) fn tell(&mut self, alloc: Global, backup: Backup, now: Duration) {
+        if self.waits {
+            self.waits = false;
+            let _ = self.give(backup_answer(alloc, backup), now);
+        }
+    }
+
+    // Gives it its answer.
+    fn give(&mut self, made: Result<Vec<u8>, AllocError>, now: Duration) -> Moved {
+        match made {
+            Ok(text) => {
+                self.answer = text;
+                self.wait(Phase::Taking, now);
+                Moved::Again
+            }
+            Err(_) => {
+                self.reset = true;
+                Moved::Gone
+            }
+        }
     }
 
     // It is waited for anew.
@@ -108,20 +156,25 @@ impl<T: Socket> Operator<T> {
         }
         let made = match said_by(self.held.as_slice()) {
             Said::More => return Moved::Again,
-            Said::Asks(asked) => {
+            Said::Asks(Asked::Does(Page::Backup), query) if board.backs_up => {
+                let Some(name) = name_in(query) else {
+                    return self.give(backup_answer(board.alloc, Backup::NoName), now);
+                };
+                let Ok(name) = String::from_str(board.alloc, name) else {
+                    return Moved::Gone;
+                };
+                return self.want(name);
+            }
+            Said::Asks(Asked::Does(Page::Airspace), query) => {
+                airspace_answer(board.alloc, query, board.shown)
+            }
+            Said::Asks(asked, _) => {
                 self.stops = asked == Asked::Does(Page::Stop);
                 answer(board.alloc, asked, board.figures, board.build)
             }
             Said::Breaks(rule) => refusal(board.alloc, rule),
         };
-        match made {
-            Ok(text) => {
-                self.answer = text;
-                self.wait(Phase::Taking, now);
-                Moved::Again
-            }
-            Err(_) => Moved::Gone,
-        }
+        self.give(made, now)
     }
 
     // Reads one piece of the request.
@@ -207,8 +260,11 @@ impl<T: Socket> Operator<T> {
         }
     }
 
-    // One step: a piece is read, or the answer sent.
+    // One step: a piece is read, or the answer sent. While it waits for a backup, nothing is.
     fn step(&mut self, board: Board<'_>, now: Duration) -> Moved {
+        if self.waits {
+            return Moved::Rests;
+        }
         match self.phase {
             Phase::Idle | Phase::Sending => self.receive(board, now),
             Phase::Taking => self.send(now),

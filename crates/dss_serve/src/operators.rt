@@ -1,7 +1,9 @@
 //! All connections to the operator's port.
+use crate::backing_up::BackingUp;
 use crate::limits::{FULL, LOOKS, LOOKS_SOON, MOST_OPERATORS};
 use crate::operator::{Board, Moved, Operator};
 use crate::sockets::{NotTaken, Sockets, Told, Watched};
+use dss_admin::backup::Backup;
 use slab::Slab;
 use std::alloc::{AllocError, Global};
 use std::time::Duration;
@@ -17,6 +19,7 @@ pub(crate) struct Operators<N: Sockets> {
     // whether one of them may go on at once, and whether one asked for the end of the service
     again: bool,
     stops: bool,
+    backing_up: BackingUp,
 }
 
 impl<N: Sockets + Drop> Operators<N> {
@@ -30,6 +33,7 @@ impl<N: Sockets + Drop> Operators<N> {
             full_until: Duration::from_millis(0),
             again: false,
             stops: false,
+            backing_up: BackingUp::new(),
         })
     }
 
@@ -80,9 +84,9 @@ impl<N: Sockets + Drop> Operators<N> {
         true
     }
 
-    /// Whether there is none.
-    pub(crate) fn is_empty(&self) -> bool {
-        self.all.is_empty()
+    /// Whether there is none, and nothing goes on that one asked for.
+    pub(crate) fn is_idle(&self) -> bool {
+        self.all.is_empty() && !self.backing_up.goes_on()
     }
 
     /// Whether one asked for the end of the service.
@@ -142,11 +146,44 @@ impl<N: Sockets + Drop> Operators<N> {
         }
     }
 
-    /// Gives each its turn.
-    pub(crate) fn round(&mut self, board: Board<'_>, now: Duration) {
+    /// Gives each its turn, and makes a piece of the backup that one asked for.
+    pub(crate) fn round(&mut self, board: Board<'_>, sockets: &mut N, now: Duration) {
         self.again = false;
         for key in 0..MOST_OPERATORS {
             self.turn(key, board, now);
+            self.begin_wanted(key, sockets, now);
         }
+        if let Some((key, backup)) = self.backing_up.go_on(sockets.backups()) {
+            self.tell(key, backup, now);
+        }
+        self.again = self.again || self.backing_up.goes_on();
+    }
+
+    // Begins the backup that one asked for.
+    fn begin_wanted(&mut self, key: usize, sockets: &mut N, now: Duration) {
+        let Some(operator) = self.all.get_mut(key) else {
+            return;
+        };
+        let Some(name) = operator.take_wanted() else {
+            return;
+        };
+        let told = self.backing_up.begin(key, name.as_str(), sockets.backups());
+        if let Some(backup) = told {
+            self.tell(key, backup, now);
+        }
+    }
+
+    // Tells one what became of the backup that it waits for. One that came later under its key waits
+    // for none: it would have been told that one goes on.
+    fn tell(&mut self, key: usize, backup: Backup, now: Duration) {
+        if let Some(operator) = self.all.get_mut(key) {
+            operator.tell(self.alloc, backup, now);
+            self.again = true;
+        }
+    }
+
+    /// Gives up the backup that goes on, as where the service ends.
+    pub(crate) fn give_up(&mut self, sockets: &mut N) {
+        self.backing_up.give_up(sockets.backups());
     }
 }

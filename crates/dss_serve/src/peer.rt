@@ -3,6 +3,7 @@ ghost use Rattle.token_conf.specs.TokenFile.{callers_of};
 ghost use Rattle.dss_serve.specs.Serve.{GoesOn};
 
 use crate::desk::Desk;
+use crate::journal::GivenUp;
 use crate::limits::{LAST_PIECES, PIECE, SMALL};
 use crate::link::{Answer, Came, Link, Went};
 use crate::phase::Phase;
@@ -12,7 +13,7 @@ use space_core::settle::Settles;
 use space_core::space::SpaceFault;
 use std::alloc::Global;
 use std::time::Duration;
-use wire_http::{Moments, Step, StreamFault};
+use wire_http::{Moments, Noted, Step, StreamFault};
 
 /// What becomes of a client after a turn.
 #[derive(Clone, Copy, Debug, PartialEq, Eq)]
@@ -40,6 +41,8 @@ fn again_if(ready: bool) -> Turned {
 #[derive(Drop)]
 pub(crate) struct Peer<T> {
     link: Link<T>,
+    // The number of its connection.
+    number: u64,
     phase: Phase,
     until: Duration,
     last_pieces: u32,
@@ -55,15 +58,17 @@ pub(crate) struct Peer<T> {
     wants_place: bool,
     // Whether it stands among those that have a turn next.
     queued: bool,
-    // The answer that was made in its turn.
+    // The answer that was made in its turn, and when the turn began, where the clock told.
     answer: Option<Answer>,
+    asked: Option<Duration>,
 }
 
 impl<T: Socket> Peer<T> {
     /// A client of which nothing has come.
-    pub(crate) fn new(alloc: Global, socket: T, now: Duration) -> Peer<T> {
+    pub(crate) fn new(alloc: Global, socket: T, number: u64, now: Duration) -> Peer<T> {
         Peer {
             link: Link::new(alloc, socket),
+            number,
             phase: Phase::Idle,
             until: now.saturating_add(Phase::Idle.patience()),
             last_pieces: 0,
@@ -76,7 +81,27 @@ impl<T: Socket> Peer<T> {
             wants_place: false,
             queued: false,
             answer: None,
+            asked: None,
         }
+    }
+
+    /// It, as one that is given up.
+    pub(crate) fn given_up(&self) -> GivenUp {
+        GivenUp {
+            client: self.link.client(),
+            connection: self.number,
+            phase: self.phase,
+        }
+    }
+
+    /// The number of its connection.
+    pub(crate) fn number(&self) -> u64 {
+        self.number
+    }
+
+    /// What its last answer was to.
+    pub(crate) fn noted(&self) -> Option<&Noted> {
+        self.link.noted()
     }
 
     /// Notes what the system told of its socket.
@@ -184,11 +209,26 @@ impl<T: Socket> Peer<T> {
         self.end(now)
     }
 
+    /// The answer that was made in its turn, where it is not told yet.
+    pub(crate) fn answer(&self) -> Option<Answer> {
+        self.answer
+    }
+
     /// The answer that was made in its turn, which is told once.
     pub(crate) fn take_answer(&mut self) -> Option<Answer> {
         let answer = self.answer;
         self.answer = None;
         answer
+    }
+
+    /// When the turn began in which its last request was answered, where the clock told.
+    pub(crate) fn asked(&self) -> Option<Duration> {
+        self.asked
+    }
+
+    /// Notes when a turn of it begins.
+    pub(crate) fn set_asked(&mut self, asked: Option<Duration>) {
+        self.asked = asked;
     }
 
     // Reads and forgets one piece of what it still sends.

@@ -4,7 +4,7 @@ use std::time::Duration;
 
 /// What a connection is waited for.
 #[derive(Clone, Copy, Debug, PartialEq, Eq)]
-pub(crate) enum Phase {
+pub enum Phase {
     /// The first byte of a request.
     Idle,
     /// The rest of a request.

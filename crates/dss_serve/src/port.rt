@@ -3,21 +3,28 @@ ghost use Rattle.std.specs.Prelude.{◌≡◌, ◌⊎◌, IsSome, IsTrue, Result
 ghost use Rattle.token_conf.specs.TokenFile.{callers_of};
 ghost use Rattle.service_core.specs.Rounds.{IsSettled};
 ghost use Rattle.space_core.specs.declared.space.SpaceFault.{SpaceFault};
-ghost use Rattle.dss_serve.specs.Serve.{GoesOn, ServesAll};
+ghost use Rattle.dss_serve.specs.Serve.{GoesOn, ServesBy};
 
 use crate::desk::Desk;
 use crate::held_back::HeldBack;
-use crate::journal::Journal;
+use crate::journal::{Journal, LoggedRequest};
 use crate::limits::{FULL, LARGE_PLACES, LOOKS, LOOKS_SOON, Limits, MOST_CLIENTS, STOPPING};
 use crate::operator::Board;
 use crate::operators::Operators;
 use crate::peer::{Peer, Turned};
 use crate::sockets::{NotTaken, Sockets, Told, Watched};
-use dss_admin::figures::{Build, Cause, Figures};
+use crate::store_watch::{Fate, StoreWatch, fate_of_change, fate_of_round};
+use dss_admin::build::Build;
+use dss_admin::connections::Cause;
+use dss_admin::figures::Figures;
+use dss_admin::kept::Kept;
+use dss_admin::requests::Answered;
+use dss_admin::tokens::Tokens;
 use service_core::service::Service;
 use slab::Slab;
 use space_core::settle::Settles;
 use space_core::space::SpaceFault;
+use space_shown::shown::{NoCopy, Shown, Shows};
 use std::alloc::{AllocError, Global};
 use std::collections::VecDeque;
 use std::time::Duration;
@@ -50,9 +57,10 @@ pub(crate) struct Port<N: Sockets> {
     places: usize,
     // those whose answers are held back in a round: none after it
     held_back: HeldBack,
-    // how many connections may still be accepted, if they are counted, whether one may wait, and until
-    // when the system has no room for it
+    // how many connections may still be accepted, if they are counted, how many were, whether one may
+    // wait, and until when the system has no room for it
     left: Option<u64>,
+    accepted: u64,
     waiting: bool,
     full_until: Duration,
     // how many clients have their last answer, and when it was last looked for late ones
@@ -60,6 +68,7 @@ pub(crate) struct Port<N: Sockets> {
     looked: Duration,
     // what operators are told, and until when clients are waited for, where one told the service to end
     figures: Figures,
+    store: StoreWatch,
     operators: Operators<N>,
     stopping: Option<Duration>,
 }
@@ -91,11 +100,13 @@ impl<N: Sockets + Drop> Port<N> {
             places: LARGE_PLACES,
             held_back,
             left: limits.count,
+            accepted: 0,
             waiting: true,
             full_until: Duration::from_millis(0),
             ending: 0,
             looked: Duration::from_millis(0),
             figures: Figures::new(),
+            store: StoreWatch::new(),
             operators,
             stopping: None,
         })
@@ -119,31 +130,28 @@ impl<N: Sockets + Drop> Port<N> {
             && self.peers.len() < self.clients
     }
 
-    // How long the system may wait for something to tell.
-    fn patience(&self, now: Duration) -> Option<Duration> {
-        match (self.patience_for_clients(now), self.operators.patience(now)) {
-            (Some(clients), Some(operators)) => Some(clients.min(operators)),
-            (clients, None) => clients,
-            (None, operators) => operators,
+    // How long the system may wait for something to tell: at most until the token file is looked at.
+    fn patience(&self, now: Duration) -> Duration {
+        let clients = self.patience_for_clients(now);
+        match self.operators.patience(now) {
+            Some(operators) => clients.min(operators),
+            None => clients,
         }
     }
 
     // How long it may do so for the clients.
-    fn patience_for_clients(&self, now: Duration) -> Option<Duration> {
+    fn patience_for_clients(&self, now: Duration) -> Duration {
         if !self.next.is_empty() {
-            return Some(Duration::from_millis(0));
+            return Duration::from_millis(0);
         }
         if self.has_room() {
-            return Some(self.full_until.saturating_sub(now));
+            return self.full_until.saturating_sub(now);
         }
-        if self.ending > 0 || self.stopping.is_some() {
-            return Some(Duration::from_millis(LOOKS_SOON));
-        }
-        if self.peers.is_empty() {
-            None
+        Duration::from_millis(if self.ending > 0 || self.stopping.is_some() {
+            LOOKS_SOON
         } else {
-            Some(Duration::from_millis(LOOKS))
-        }
+            LOOKS
+        })
     }
 
     // Gives a client a turn next.
@@ -173,7 +181,7 @@ impl<N: Sockets + Drop> Port<N> {
     /// Waits until a client or the system has something to tell, and notes it.
     pub(crate) fn wait(&mut self, now: Duration) -> io::Result<()> {
         let patience = self.patience(now);
-        self.sockets.wait(patience)?;
+        self.sockets.wait(Some(patience))?;
         for _ in 0..usize::MAX {
             match self.sockets.next_told() {
                 Some(told) => self.note(told),
@@ -188,16 +196,17 @@ impl<N: Sockets + Drop> Port<N> {
         if let Some(left) = self.left {
             self.left = Some(left.saturating_sub(1));
         }
-        self.figures.accept();
+        self.accepted = self.accepted.saturating_add(1);
+        self.figures.connections.accept();
         let key = self.peers.vacant_key();
         let watched = self.sockets.watch(&mut socket, Watched::Client(key));
         if watched.is_err()
             || self
                 .peers
-                .insert(Peer::new(self.alloc, socket, now))
+                .insert(Peer::new(self.alloc, socket, self.accepted, now))
                 .is_err()
         {
-            self.figures.refuse();
+            self.figures.connections.refuse();
         }
     }
 
@@ -313,7 +322,9 @@ impl<N: Sockets + Drop> Port<N> {
         };
         let turned = match turned {
             Turned::Failed(fault) => {
-                journal.failed(fault);
+                if let Some(peer) = self.peers.get(key) {
+                    journal.failed(fault, peer.given_up());
+                }
                 self.figures.fail(cause_of(fault));
                 self.give_up(key, now)
             }
@@ -352,8 +363,26 @@ impl<N: Sockets + Drop> Port<N> {
             return;
         };
         if let Some(answer) = peer.take_answer() {
-            self.figures
-                .answer(answer.status, answer.size, answer.stops);
+            let took = match (peer.asked(), self.sockets.time()) {
+                (Some(asked), Ok(told)) => Some(told.saturating_sub(asked)),
+                _ => None,
+            };
+            self.figures.requests.note(&Answered {
+                operation: answer.operation,
+                denial: answer.denial(),
+                status: answer.status(),
+                size: answer.size,
+                took,
+            });
+            if let Some(noted) = peer.noted() {
+                journal.answered(&LoggedRequest {
+                    connection: peer.number(),
+                    noted,
+                    status: answer.status(),
+                    size: answer.size,
+                    took,
+                });
+            }
         }
         self.act_on(key, turned, now, journal);
     }
@@ -376,7 +405,12 @@ impl<N: Sockets + Drop> Port<N> {
         };
         peer.set_queued(false);
         let was_ending = peer.is_ending();
+        peer.set_asked(self.sockets.time().ok());
         let turned = peer.turn(desk, service, moments, now);
+        if let Some(answer) = peer.answer() {
+            let fate = fate_of_change(answer, self.store.is_failing());
+            self.note_fate(fate, now, journal);
+        }
         self.conclude(key, turned, now, journal);
         self.count_ending(key, was_ending);
     }
@@ -398,6 +432,30 @@ impl<N: Sockets + Drop> Port<N> {
         self.count_ending(key, was_ending);
     }
 
+    // Counts what became of changes, and tells what there is to tell of the store.
+    fn note_fate<J: Journal>(&mut self, fate: Option<Fate>, now: Duration, journal: &mut J) {
+        let Some(fate) = fate else {
+            return;
+        };
+        let news = match fate {
+            Fate::Kept => {
+                self.figures.keep();
+                self.store.keep()
+            }
+            Fate::NotKept => {
+                self.figures.fail_store();
+                self.store.fail(now)
+            }
+            Fate::Unknown => {
+                self.figures.break_store();
+                self.store.break_down()
+            }
+        };
+        if let Some(news) = news {
+            journal.store(news);
+        }
+    }
+
     // Settles what the clients were answered, and has each be told that waits for it.
     fn settle<S: Settles + Drop, J: Journal>(
         &mut self,
@@ -408,7 +466,9 @@ impl<N: Sockets + Drop> Port<N> {
         ensures { (settled : Result (Unit {0}) SpaceFault)
             × IsSettled S.Space S.Settles.own service.old service.new settled }
     {
+        let waited = service.is_waiting();
         let settled = service.settle();
+        self.note_fate(fate_of_round(waited, settled), now, journal);
         for _ in 0..usize::MAX {
             let Some(key) = self.held_back.pop() else {
                 return;
@@ -444,7 +504,7 @@ impl<N: Sockets + Drop> Port<N> {
         now: Duration,
         journal: &mut J,
     )
-        ensures { ServesAll S.Space S.Settles.own M.Moments (callers_of desk.entry.tokens.now)
+        ensures { ServesBy S.Space S.Settles.own M.Moments (callers_of desk.entry.tokens.now)
             service.old service.new moments.old moments.new }
     {
         if self.next.is_empty() {
@@ -459,6 +519,11 @@ impl<N: Sockets + Drop> Port<N> {
         self.settle(service, now, journal);
         keys.clear();
         self.spare = keys;
+    }
+
+    /// Has what was told of a round's requests written.
+    pub(crate) fn end_round<J: Journal>(&mut self, journal: &mut J) {
+        self.figures.faults.lost_lines = journal.end_round();
     }
 
     // Ends a client that was waited for long enough.
@@ -512,37 +577,70 @@ impl<N: Sockets + Drop> Port<N> {
         }
     }
 
-    /// Answers operators, where there may be any. `true`: one told the service to end, and it has
-    /// ended.
-    pub(crate) fn serve_operators(&mut self, operated: Option<Build<'_>>, now: Duration) -> bool
-        ensures { IsTrue result → IsSome operated.entry }
+    /// Answers operators, where there may be any, shows them what the service keeps, which stays as
+    /// it is, and makes a piece of a backup that one asked for. `true`: one told the service to end,
+    /// and it has ended.
+    pub(crate) fn serve_operators<S: Settles + Shows + Drop>(
+        &mut self,
+        operated: Option<Build<'_>>,
+        service: &mut Service<S>,
+        now: Duration,
+    ) -> bool
+        ensures told { IsTrue result → IsSome operated.entry }
+        ensures same { service.new ≡ service.old }
     {
         match operated {
-            Some(build) => self.has_ended(build, now),
+            Some(build) => self.has_ended(build, service.space().shown(), now),
             None => false,
         }
     }
 
+    /// Shows operators what was counted of the token file.
+    pub(crate) fn show_tokens(&mut self, tokens: Tokens) {
+        self.figures.tokens = tokens;
+    }
+
+    // Answers operators.
+    fn answer_operators(
+        &mut self,
+        build: Build<'_>,
+        shown: Result<Shown<'_>, NoCopy>,
+        now: Duration,
+    ) {
+        if self.operators.is_idle() {
+            return;
+        }
+        self.figures.connections.open = self.peers.len();
+        self.figures.connections.waiting = self.waiting_for_places();
+        self.figures.kept = Kept::of(shown);
+        let board = Board {
+            alloc: self.alloc,
+            figures: &self.figures,
+            build,
+            backs_up: self.sockets.backups().is_some(),
+            shown,
+        };
+        self.operators.round(board, &mut self.sockets, now);
+    }
+
     // Answers operators. Whether the service has ended, where one told it to.
-    fn has_ended(&mut self, build: Build<'_>, now: Duration) -> bool {
-        if !self.operators.is_empty() {
-            self.figures.open = self.peers.len();
-            self.figures.waiting = self.waiting_for_places();
-            let board = Board {
-                alloc: self.alloc,
-                figures: &self.figures,
-                build,
-            };
-            self.operators.round(board, now);
-        }
-        match self.stopping {
-            None => {
-                if self.operators.stops() {
-                    self.stop(now);
-                }
-                false
+    fn has_ended(
+        &mut self,
+        build: Build<'_>,
+        shown: Result<Shown<'_>, NoCopy>,
+        now: Duration,
+    ) -> bool {
+        self.answer_operators(build, shown, now);
+        let Some(until) = self.stopping else {
+            if self.operators.stops() {
+                self.stop(now);
             }
-            Some(until) => { until < now || (self.peers.is_empty() && self.operators.are_served()) }
+            return false;
+        };
+        if until < now || (self.peers.is_empty() && self.operators.are_served()) {
+            self.operators.give_up(&mut self.sockets);
+            return true;
         }
+        false
     }
 }

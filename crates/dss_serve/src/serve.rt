@@ -1,6 +1,5 @@
 //! The service to many clients at once, on one thread.
-ghost use Rattle.std.specs.Prelude.{◌⊎◌, OnOk, IsSome};
-ghost use Rattle.token_conf.specs.TokenFile.{callers_of};
+ghost use Rattle.std.specs.Prelude.{◌≡◌, ◌⊎◌, OnOk, IsSome, unwrap_or};
 ghost use Rattle.dss_serve.specs.Serve.{ServesAll};
 
 use crate::desk::Desk;
@@ -8,15 +7,27 @@ use crate::journal::Journal;
 use crate::limits::Limits;
 use crate::port::Port;
 use crate::sockets::Sockets;
-use dss_admin::figures::Build;
+use crate::token_watch::{TokenSource, TokenWatch};
+use dss_admin::build::Build;
 use service_core::service::Service;
 use space_core::settle::Settles;
+use space_shown::shown::Shows;
 use std::alloc::Global;
 use std::io;
 use std::io::ErrorKind;
 use token_conf::token_table::TokenTable;
 use wire_http::Moments;
 use wire_route::routes::Routes;
+
+// The table in force: the one that was taken last, or else the first.
+fn in_force<'a>(first: &'a TokenTable, newer: &'a Option<TokenTable>) -> &'a TokenTable
+    ensures { result.now ≡ unwrap_or newer.now first.now }
+{
+    match newer {
+        Some(table) => table,
+        None => first,
+    }
+}
 
 /// Answers the requests of the clients that are accepted, until so many connections were accepted as
 /// the limits tell and the last of them is closed; without such a number it goes on.
@@ -33,16 +44,28 @@ use wire_route::routes::Routes;
 /// Each call is made at a moment of the clock, which tells one for each request: only where it fails,
 /// or memory lacks, is a request not asked.
 ///
+/// Each call is judged by one table of tokens. The token file is looked at each second, between two
+/// rounds: where it has changed and reads whole, with the same salt, its table is in force from then
+/// on, and else it is told to the journal why not.
+///
 /// With a build there is an operator's port, whose connections are answered in the same rounds; nothing
-/// that is asked there is a call of the service.
+/// that is asked there is a call of the service. What it keeps is shown there by `&`, so that it is the
+/// same before and after. Backups that are asked for there are made between rounds, piece by piece.
 ///
 /// It is done only where a number of connections is given, or an operator may tell it to end. An
 /// error is one of the system that ends the service; the calls before it stand. A fault of a client
 /// is told to the journal, and ends that client's connection alone.
-pub fn serve_clients<S: Settles + Drop, M: Moments, N: Sockets + Drop, J: Journal>(
+pub fn serve_clients<
+    S: Settles + Shows + Drop,
+    M: Moments,
+    N: Sockets + Drop,
+    T: TokenSource + Drop,
+    J: Journal,
+>(
     alloc: Global,
     routes: &Routes,
     tokens: &TokenTable,
+    mut watch: TokenWatch<T>,
     service: &mut Service<S>,
     moments: &mut M,
     sockets: N,
@@ -50,15 +73,11 @@ pub fn serve_clients<S: Settles + Drop, M: Moments, N: Sockets + Drop, J: Journa
     operated: Option<Build<'_>>,
     journal: &mut J,
 ) -> io::Result<()>
-    ensures serves { ServesAll S.Space S.Settles.own M.Moments (callers_of tokens.now)
+    ensures serves { ServesAll S.Space S.Settles.own M.Moments T.gives tokens.now
         service.old service.new moments.old moments.new }
     ensures counted { OnOk result (IsSome limits.count ⊎ IsSome operated.entry) }
 {
-    let desk = Desk {
-        alloc,
-        routes,
-        tokens,
-    };
+    let mut newer = None;
     let is_counted = limits.count.is_some();
     let mut port = Port::new(alloc, sockets, limits, operated.is_some())?;
     let mut now = port.time()?;
@@ -69,9 +88,17 @@ pub fn serve_clients<S: Settles + Drop, M: Moments, N: Sockets + Drop, J: Journa
         port.wait(now)?;
         now = port.time()?;
         port.accept(now)?;
+        newer = watch.look(alloc, tokens, now, journal).or(newer);
+        port.show_tokens(watch.tokens());
+        let desk = Desk {
+            alloc,
+            routes,
+            tokens: in_force(tokens, &newer),
+        };
         port.round(desk, service, moments, now, journal);
+        port.end_round(journal);
         port.look(now, journal);
-        if port.serve_operators(operated, now) {
+        if port.serve_operators(operated, service, now) {
             return Ok(());
         }
     }

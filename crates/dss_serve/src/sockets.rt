@@ -1,5 +1,7 @@
 //! What the service needs of the system: sockets that do not block, and what is told of them.
+use crate::backups::Backups;
 use std::io;
+use std::net::SocketAddrV4;
 use std::time::Duration;
 
 /// The socket of a client. No call of it waits.
@@ -14,6 +16,9 @@ pub trait Socket: Drop {
     ghost coming: { Self → Option (List ℕ) };
 
     ghost gone: { Self → Option (List ℕ) };
+
+    /// The address and the port of the client, where the system told them.
+    fn client(&self) -> Option<SocketAddrV4>;
 
     /// Reads bytes that came into the piece. 0: the client sends nothing more.
     fn receive(&mut self, piece: &mut [u8]) -> io::Result<usize>
@@ -74,9 +79,14 @@ pub enum NotTaken {
     Failed(io::Error),
 }
 
-/// The sockets of a service, watched together.
+/// The sockets of a service, watched together, and what else the system does for it between rounds.
 pub trait Sockets {
     type Client: Socket;
+
+    type Backups: Backups;
+
+    /// What makes backups, where there is a folder for them.
+    fn backups(&mut self) -> Option<&mut Self::Backups>;
 
     /// Accepts the next client.
     fn accept(&mut self) -> Result<Self::Client, NotTaken>;

@@ -4,12 +4,15 @@ use Rattle.std.proofs.lemmas.List.{append-nil, drop-append-le}
 use Rattle.httparse.specs.declared.spans.HeaderSpan.{HeaderSpan}
 use Rattle.httparse.specs.declared.spans.RequestSpans.{RequestSpans}
 use Rattle.policy_core.specs.declared.call.Call.{Call}
+use Rattle.policy_core.specs.declared.call.OpKind.{OpKind}
 use Rattle.space_core.specs.declared.space.Space.{Ghosts}
 use Rattle.service_core.specs.declared.service.Service.{Service}
+use Rattle.service_step.specs.declared.reply.Reply.{Reply}
 use Rattle.wire_route.specs.declared.place.Place.{Place}
 use Rattle.wire_http.specs.declared.end.End.{End}
 use Rattle.wire_http.specs.declared.held.Held.{Held}
 use Rattle.wire_http.specs.declared.held.Held.TheVariants.{Gives, Wants}
+use Rattle.wire_http.specs.declared.noted.Outcome.{Outcome}
 use Rattle.wire_http.specs.declared.request.Next.{Next}
 use Rattle.wire_http.specs.declared.request.Next.TheVariants.{Request, Stop}
 use Rattle.wire_http.specs.declared.fault.StreamFault.{StreamFault}
@@ -21,6 +24,7 @@ use Rattle.wire_http.specs.Held.{IsHeld, MayCome}
 use Rattle.wire_http.specs.HeldBack.{Slot}
 use Rattle.wire_http.specs.Input.{Came}
 use Rattle.wire_http.specs.Next.{IsNext}
+use Rattle.wire_http.specs.Noted.{kind_asked, noted_as, noted_for, outcome_of}
 use Rattle.wire_http.specs.Reply.{Replies, RepliesPart}
 use Rattle.wire_http.specs.Stop.{StopsAs}
 use Rattle.wire_http.specs.Wire.{Asked, Finishes}
@@ -57,7 +61,7 @@ pub unsent_more : (sent : ℕ) (p q t : List ℕ) → sent ≤ length p → q �
 unsent_more sent p q t fits e = ap (λ v. drop sent v) e ∙ drop-append-le sent p t fits
 
 module _ {S : Type 0} (g : Ghosts S) (old new : Service S) (moment : ℕ) (call : Call) (place : Option Place) (closing : Bool) (sent : ℕ) (p q : List ℕ) (fits : sent ≤ length p) where
-  pub replies_unsent : Replies g old new moment call place closing (Some p) (Some q) → Replies g old new moment call place closing (Some (drop sent p)) (Some (drop sent q))
+  unfoldable pub replies_unsent : Replies g old new moment call place closing (Some p) (Some q) → Replies g old new moment call place closing (Some (drop sent p)) (Some (drop sent q))
   replies_unsent r = record { reply = r.reply; is_reply = r.is_reply; written = unsent_more sent p q _ fits r.written }
 
   pub part_unsent : RepliesPart g old new moment call place closing (Some p) (Some q) → RepliesPart g old new moment call place closing (Some (drop sent p)) (Some (drop sent q))
@@ -70,6 +74,16 @@ slot place closing = record { place = place; closing = closing }
 pub slot_is : (asked : Asked) (place : Option Place) (closing : Bool) → asked.place ≡ place → asked.closing ≡ closing
     → Some (slot place closing) ≡ Some (slot_for asked)
 slot_is asked place closing e f = ap (λ v. Some (slot v closing)) (sym e) ∙ ap (λ v. Some (slot asked.place v)) (sym f)
+
+-- what is noted is of that request and its reply
+pub noted_is : (asked : Asked) (reply made : Reply) (place : Option Place) (kind : Option OpKind) (method : List ℕ) (call : Call) (outcome : Outcome)
+    → asked.place ≡ place → asked.call ≡ call → reply ≡ made → kind ≡ kind_asked place method → method ≡ asked.head.method → outcome ≡ outcome_of made
+    → Some (noted_as kind call outcome) ≡ Some (noted_for asked reply)
+noted_is asked reply made place kind method call outcome p c r k m o =
+    let kinds : kind ≡ kind_asked asked.place asked.head.method = k ∙ ap (λ v. kind_asked v method) (sym p) ∙ ap (λ v. kind_asked asked.place v) m in
+    ap (λ v. Some (noted_as v call outcome)) kinds
+    ∙ ap (λ v. Some (noted_as (kind_asked asked.place asked.head.method) v outcome)) (sym c)
+    ∙ ap (λ v. Some (noted_as (kind_asked asked.place asked.head.method) asked.call v)) (o ∙ ap outcome_of (sym r))
 
 -- a clock that failed did so once
 pub clock_failed : (fault : StreamFault) (failures failures' : ℕ) → GaveUpAsking fault failures failures'

@@ -218,8 +218,9 @@ module _ {S M : Type 0} (sp : Ghosts S) (Gives : M → ℕ → M → Type 0) (ca
       → m ≡ Request spans size → bytes ≡ buffer → Came a b front buffer → IsNext (known_bytes b) buffer fields m
       → spans.len + size ≤ length buffer → left ≡ drop (spans.len + size) buffer
       → Makes bytes fields spans size place call → Leaves bytes fields spans n → Gives clock moment clock'
-      → Replies sp old new moment call place (n == 0) before text
+      → (r : Replies sp old new moment call place (n == 0) before text)
       → (turn : IsTurn sp Gives callers k old new clock clock' before text a b front left (Answered n)) × (turn.0.place ≡ place) × (turn.0.closing ≡ (n == 0))
+      × (turn.0.call ≡ call) × (turn.1 ≡ r.reply) × Covers buffer fields spans turn.0.head
   turn_answered_at a b front buffer bytes left fields m spans size place moment call n old new clock clock' before text e g (came, grown, p) h fits d made leaves gives r =
       let x : IsNext (known_bytes b) buffer fields (Request spans size) = known_next (known_bytes b) buffer fields m (Request spans size) e h in
       let asked : Asked = record { head = x.0; place = place; moment = moment; call = call; closing = n == 0 } in (
@@ -236,6 +237,9 @@ module _ {S M : Type 0} (sp : Ghosts S) (Gives : M → ℕ → M → Type 0) (ca
         ),
         refl,
         refl,
+        refl,
+        refl,
+        x.2,
       )
 
   pub turn_answered : (a b : Option (List ℕ)) (front buffer bytes left : List ℕ) (fields : List HeaderSpan) (m : Next) (spans : RequestSpans) (size : ℕ) (place : Option Place) (moment : ℕ) (call : Call) (n : ℕ)

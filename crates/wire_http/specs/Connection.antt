@@ -10,6 +10,8 @@ use Rattle.wire_http.specs.declared.connection.Step.TheVariants as steps
 use Rattle.wire_http.specs.declared.fault.StreamFault.{StreamFault}
 use Rattle.wire_http.specs.declared.serve.Turn.TheVariants as turns
 use Rattle.wire_http.specs.Held.{HasNoRequest, MayCome, most_held}
+use Rattle.wire_http.specs.declared.noted.Noted.{Noted}
+use Rattle.wire_http.specs.Noted.{noted_after, noted_for}
 use Rattle.wire_http.specs.HeldBack.{Slot, before_last, last_alone, slot_at}
 use Rattle.wire_http.specs.Text.{end_texts}
 use Rattle.wire_http.specs.Turn.{IsTurn, IsTurnPart}
@@ -34,6 +36,10 @@ is_done c = c.done
 -- the bytes of answers that are not sent yet
 abbrev pub output_of : Connection → List ℕ
 output_of c = drop c.sent c.answers.items
+
+-- what the last answer was to, if there was one
+abbrev pub noted_of : Connection → Option Noted
+noted_of c = c.noted
 
 -- whether the last answer is held back, and what it answers
 abbrev pub holds_back : Connection → Bool
@@ -89,6 +95,16 @@ module _ {S M : Type 0} (g : Ghosts S) (Gives : M → ℕ → M → Type 0) (cal
       × (output_of c' ≡ output_of c ++ concat (end_texts end))
       × (held_of c' ≡ held_of c) × (left_of c' ≡ left_of c) × (is_done c' ≡ true)
       × (slot_of c' ≡ slot_of c)
+
+  -- What is noted is of that request and its reply, or of the rule of the wire that ended the stream.
+  abbrev pub IsNotedAs : (step : Step) → IsStep step → Type 0
+  IsNotedAs steps.Waits is = noted_of c' ≡ noted_of c
+  IsNotedAs (steps.Answered n) is = noted_of c' ≡ Some (noted_for is.1.0 is.1.1)
+  IsNotedAs (steps.Ended end) is = noted_of c' ≡ noted_after end (noted_of c)
+
+  -- a step, and what is noted of it
+  abbrev pub IsNotedStep : Step → Type 0
+  IsNotedStep step = (is : IsStep step) × IsNotedAs step is
 
   -- A fault came: a turn was given up, no byte of its text is to be sent, and no request more is
   -- answered.

@@ -9,6 +9,7 @@ pub mod HeldBack
 pub mod Many
 pub mod Moments
 pub mod Next
+pub mod Noted
 pub mod Received
 pub mod Reply
 pub mod Source

@@ -1,14 +1,16 @@
 -- A request as it was received, and the call that it makes.
-use Rattle.std.specs.Prelude.{◌≤◌, ◌+◌, length, Option, IsUtf8}
+use Rattle.std.specs.Prelude.{◌≡◌, ◌≤◌, ◌+◌, length, Option, IsUtf8}
 use Rattle.httparse.specs.Grammar.{RequestHead}
 use Rattle.httparse.specs.Spans.{IsRequestWithin, span_bytes}
 use Rattle.policy_core.specs.declared.call.Call.{Call}
+use Rattle.policy_core.specs.declared.call.OpKind.{OpKind}
 use Rattle.token_conf.specs.TokenFile.{Callers}
 use Rattle.wire_http.specs.declared.call.Received.{Received}
 use Rattle.wire_route.specs.declared.place.Place.{Place}
 use Rattle.wire_head.specs.Found.{Covers}
 use Rattle.wire_http.specs.Next.{body_at}
 use Rattle.wire_http.specs.Asked.{IsCallOf}
+use Rattle.wire_http.specs.Noted.{kind_asked}
 
 -- the request lies in the bytes, and its target is text
 abbrev pub IsReceived : Received → Type 0
@@ -22,3 +24,7 @@ abbrev pub IsMadeBy : Callers → Received → Option Place → Call → Type 0
 IsMadeBy callers r place call =
     (h : RequestHead) → Covers r.buffer.now r.fields.now r.spans h
     → IsCallOf callers h (body_at r.buffer.now r.spans.len r.size) place call
+
+-- that is what its method asks at the place
+abbrev pub IsKindIn : Received → Option Place → Option OpKind → Type 0
+IsKindIn r place kind = kind ≡ kind_asked place (span_bytes r.buffer.now r.spans.method)

@@ -4,7 +4,8 @@ ghost use Rattle.httparse.specs.Spans.{IsHeaderWithin, header_bytes};
 ghost use Rattle.token_conf.specs.TokenFile.{callers_of};
 ghost use Rattle.wire_body.specs.Body.{words_of};
 ghost use Rattle.wire_http.specs.Fault.{GaveUpAsking};
-ghost use Rattle.wire_http.specs.Received.{IsReceived, IsMadeBy};
+ghost use Rattle.wire_http.specs.Received.{IsKindIn, IsMadeBy, IsReceived};
+ghost use Rattle.wire_http.specs.Noted.{kind_asked};
 ghost use Rattle.wire_head.specs.Close.{closes_by};
 ghost use Rattle.wire_http.specs.Asked.{caller_of, IsReadAs, IsAsked};
 
@@ -39,24 +40,46 @@ fn read_as(
     }
 }
 
-// The place of a path, and the operation that path, method and body ask for.
-fn operation_of(
+// What a path, a method and a body ask for: the place of the path, the kind that the place has of the
+// method, and the operation.
+#[derive(Drop)]
+struct Sought {
+    place: Option<Place>,
+    kind: Option<OpKind>,
+    op: Operation,
+}
+
+// What path, method and body ask for.
+fn seek(
     alloc: Global,
     routes: &Routes,
     path: &str,
     method: &[u8],
     body: &[u8],
-) -> Result<(Option<Place>, Operation), AllocError>
-    ensures { IfOk result (λ asked. IsAsked path.now method.now body.now asked.0 asked.1) }
+) -> Result<Sought, AllocError>
+    ensures asked { IfOk result (λ s. IsAsked path.now method.now body.now s.place s.op) }
+    ensures kind { IfOk result (λ s. s.kind ≡ kind_asked s.place method.now) }
 {
     let Some(Route { place, words }) = routes.find(path) else {
-        return Ok((None, Operation::NoRoute));
+        return Ok(Sought {
+            place: None,
+            kind: None,
+            op: Operation::NoRoute,
+        });
     };
     let Some(kind) = place.kind(method) else {
-        return Ok((Some(place), Operation::NoMethod));
+        return Ok(Sought {
+            place: Some(place),
+            kind: None,
+            op: Operation::NoMethod,
+        });
     };
     let op = read_as(alloc, kind, &words, body)?;
-    Ok((Some(place), op))
+    Ok(Sought {
+        place: Some(place),
+        kind: Some(kind),
+        op,
+    })
 }
 
 // The caller of the token that the fields bear.
@@ -92,23 +115,29 @@ pub(crate) struct Received<'b> {
     pub(crate) size: usize,
 }
 
-/// The call that a request makes, with the place of its path and its moment.
+/// The call that a request makes, with the place of its path, the kind that the place has of its
+/// method, and its moment.
 #[derive(Drop)]
 pub(crate) struct Pending {
     pub(crate) place: Option<Place>,
+    pub(crate) kind: Option<OpKind>,
     pub(crate) moment: u64,
     pub(crate) call: Call,
 }
 
-// The call that a request makes, with the place of its path.
+// The call that a request makes at a moment.
 fn call_of(
     alloc: Global,
     routes: &Routes,
     tokens: &TokenTable,
     received: Received<'_>,
-) -> Result<(Option<Place>, Call), AllocError>
+    moment: u64,
+) -> Result<Pending, AllocError>
     requires { IsReceived received }
-    ensures { IfOk result (λ made. IsMadeBy (callers_of tokens.now) received.entry made.0 made.1) }
+    ensures made { IfOk result (λ p.
+        IsMadeBy (callers_of tokens.now) received.entry p.place p.call) }
+    ensures kind { IfOk result (λ p. IsKindIn received.entry p.place p.kind) }
+    ensures moment { IfOk result (λ p. p.moment ≡ moment) }
 {
     let Received {
         buffer,
@@ -121,9 +150,14 @@ fn call_of(
     };
     let path = path_of(target);
     let body = &buffer[spans.len..spans.len + size];
-    let (place, op) = operation_of(alloc, routes, path, spans.method.of(buffer), body)?;
+    let Sought { place, kind, op } = seek(alloc, routes, path, spans.method.of(buffer), body)?;
     let caller = caller_of(tokens, buffer, &fields[..spans.headers])?;
-    Ok((place, Call { caller, op }))
+    Ok(Pending {
+        place,
+        kind,
+        moment,
+        call: Call { caller, op },
+    })
 }
 
 /// How many requests may follow this one, where so many could: none where the connection closes.
@@ -158,6 +192,7 @@ pub(crate) fn ask<M: Moments>(
     requires { IsReceived received }
     ensures made { IfOk result (λ p.
         IsMadeBy (callers_of tokens.now) received.entry p.place p.call) }
+    ensures kind { IfOk result (λ p. IsKindIn received.entry p.place p.kind) }
     ensures moment { IfOk result (λ p. M.gives moments.old p.moment moments.new) }
     ensures good { OnOk result (M.failures moments.new ≡ M.failures moments.old) }
     ensures taken { result ≡ Err StreamFault.Memory
@@ -168,12 +203,8 @@ pub(crate) fn ask<M: Moments>(
     let Ok(moment) = moments.next() else {
         return Err(StreamFault::Clock);
     };
-    let Ok((place, call)) = call_of(alloc, routes, tokens, received) else {
-        return Err(StreamFault::Memory);
-    };
-    Ok(Pending {
-        place,
-        moment,
-        call,
-    })
+    match call_of(alloc, routes, tokens, received, moment) {
+        Ok(pending) => Ok(pending),
+        Err(_) => Err(StreamFault::Memory),
+    }
 }

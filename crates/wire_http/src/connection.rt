@@ -1,10 +1,11 @@
 //! One connection as steps over bytes. It makes no system call: its caller moves the bytes.
-ghost use Rattle.std.specs.Prelude.{◌≡◌, ◌<◌, ◌≤◌, ◌+◌, ◌-◌, length, drop, take, Some, ◌++◌, OnOk, OnErr, vec_len, vec_capacity};
+ghost use Rattle.std.specs.Prelude.{◌≡◌, ◌<◌, ◌≤◌, ◌+◌, ◌-◌, length, drop, take, Some, ◌++◌, IfOk, OnOk, OnErr, vec_len, vec_capacity};
 ghost use Rattle.std.specs.List.{concat};
 ghost use Rattle.std.specs.Option.{ForSome};
 ghost use Rattle.service_core.specs.Held.{Stays};
 ghost use Rattle.wire_http.specs.Held.{HasNoneBelow, HeldFits, IsHeld, IsLight, most_held};
 ghost use Rattle.wire_http.specs.HeldBack.{StandsWithin};
+ghost use Rattle.wire_http.specs.Noted.{outcome_of};
 ghost use Rattle.wire_http.specs.Reply.{Replies, RepliesPart};
 ghost use Rattle.wire_http.specs.Text.{answer_text, end_texts};
 
@@ -13,6 +14,7 @@ use crate::end::End;
 use crate::fault::StreamFault;
 use crate::held::{Held, next_held};
 use crate::moments::Moments;
+use crate::noted::{Noted, Outcome, note_end, note_instead, noted_as, outcome_of};
 use crate::request::Next;
 use crate::serve::REQUESTS;
 use crate::source::shift;
@@ -89,18 +91,19 @@ fn answer_behind(
     }
 }
 
-// The reply to a call, asked for once, and its text put behind what is to be sent.
+// The reply to a call, asked for once, and its text put behind what is to be sent: what it tells.
 fn reply_behind<S: Space + Drop>(
     alloc: Global,
     service: &mut Service<S>,
     output: &mut Vec<u8>,
     pending: &Pending,
     closing: bool,
-) -> Result<(), AllocError>
+) -> Result<Outcome, AllocError>
     requires light { IsLight (vec_len output.old) (vec_capacity output.old) }
-    ensures replies { OnOk result (Replies S.Space service.old service.new
+    ensures replies { IfOk result (λ outcome. (made : Replies S.Space service.old service.new
         pending.now.moment pending.now.call pending.now.place closing
-        (Some output.old.items) (Some output.new.items)) }
+        (Some output.old.items) (Some output.new.items))
+        × (outcome ≡ outcome_of made.reply)) }
     ensures part { OnErr result (RepliesPart S.Space service.old service.new
         pending.now.moment pending.now.call pending.now.place closing
         (Some output.old.items) (Some output.new.items)) }
@@ -111,7 +114,7 @@ fn reply_behind<S: Space + Drop>(
 {
     let reply = service.call(alloc, pending.moment, &pending.call);
     match answer_behind(alloc, output, pending.place, closing, &reply) {
-        Ok(()) => Ok(()),
+        Ok(()) => Ok(outcome_of(&reply)),
         Err(_) => Err(AllocError),
     }
 }
@@ -161,6 +164,7 @@ pub struct Connection {
     answers: Vec<u8>,
     sent: usize,
     held_back: Option<HeldBack>,
+    noted: Option<Noted>,
     ghost held_fits: { length held.items ≤ most_held },
     ghost wanted_fits: { wanted ≤ most_held },
     ghost none_below: { HasNoneBelow held.items wanted },
@@ -172,11 +176,12 @@ pub struct Connection {
 }
 
 impl Connection {
-    ghost use Rattle.std.specs.Prelude.{[], true, false, IsTrue, ◌↔◌, Err, IfOk, IfErr, None};
+    ghost use Rattle.std.specs.Prelude.{[], true, false, IsTrue, ◌↔◌, Err, IfErr, None, option_map};
     ghost use Rattle.token_conf.specs.TokenFile.{callers_of};
-    ghost use Rattle.wire_http.specs.Connection.{held_of, left_of, has_ended, is_done, output_of, ready_of, held_back_of, holds_back, slot_of, HasRoom, IsStep, IsStepPart};
+    ghost use Rattle.wire_http.specs.Connection.{held_of, left_of, has_ended, is_done, output_of, ready_of, held_back_of, holds_back, slot_of, noted_of, HasRoom, IsStep, IsNotedStep, IsStepPart};
     ghost use Rattle.wire_http.specs.HeldBack.{text_at};
     ghost use Rattle.wire_http.specs.Count.{one_more};
+    ghost use Rattle.wire_http.specs.Noted.{noted_instead};
 
     /// A connection from which nothing has come. It takes no memory.
     pub fn new(alloc: Global) -> Connection
@@ -186,6 +191,7 @@ impl Connection {
         ensures ended { has_ended result ≡ false }
         ensures done { is_done result ≡ false }
         ensures slot { slot_of result ≡ None }
+        ensures noted { noted_of result ≡ None }
     {
         Connection {
             held: Vec::new(alloc),
@@ -196,6 +202,7 @@ impl Connection {
             answers: Vec::new(alloc),
             sent: 0,
             held_back: None,
+            noted: None,
         }
     }
 
@@ -221,6 +228,14 @@ impl Connection {
         !self.held.is_empty()
     }
 
+    /// What its last answer was to, and how that ended: nothing before the first. The text of a rule of
+    /// the wire is an answer, too.
+    pub fn noted(&self) -> Option<&Noted>
+        ensures { option_map (λ noted. noted.now) result ≡ noted_of self.now }
+    {
+        self.noted.as_ref()
+    }
+
     /// Whether no request more is answered.
     pub fn is_done(&self) -> bool
         ensures { result ≡ is_done self.now }
@@ -239,6 +254,7 @@ impl Connection {
         ensures left { left_of self.new ≡ left_of self.old }
         ensures ended { has_ended self.new ≡ has_ended self.old }
         ensures done { is_done self.new ≡ is_done self.old }
+        ensures noted { noted_of self.new ≡ noted_of self.old }
     {
         match put_behind(&mut self.held, bytes) {
             Ok(()) => Ok(()),
@@ -255,6 +271,7 @@ impl Connection {
         ensures left { left_of self.new ≡ left_of self.old }
         ensures ended { has_ended self.new ≡ true }
         ensures done { is_done self.new ≡ is_done self.old }
+        ensures noted { noted_of self.new ≡ noted_of self.old }
     {
         self.ended = true;
     }
@@ -286,6 +303,7 @@ impl Connection {
         ensures left { left_of self.new ≡ left_of self.old }
         ensures ended { has_ended self.new ≡ has_ended self.old }
         ensures done { is_done self.new ≡ is_done self.old }
+        ensures noted { noted_of self.new ≡ noted_of self.old }
     {
         if self.held_back.is_none() && self.answers.len() - self.sent <= count {
             self.answers.clear();
@@ -322,6 +340,7 @@ impl Connection {
         ensures left { left_of self.new ≡ left_of self.old }
         ensures ended { has_ended self.new ≡ has_ended self.old }
         ensures done { is_done self.new ≡ is_done self.old }
+        ensures noted { noted_of self.new ≡ noted_of self.old }
     {
         self.held_back = None;
     }
@@ -340,11 +359,14 @@ impl Connection {
         ensures ended { has_ended self.new ≡ has_ended self.old }
         ensures done { OnOk result (is_done self.new ≡ is_done self.old) }
         ensures gives_up { OnErr result (is_done self.new ≡ true) }
+        ensures noted { noted_of self.new
+            ≡ noted_instead (slot_of self.old) reply.now (noted_of self.old) }
     {
         let Some(last) = self.held_back else {
             return Ok(());
         };
         self.held_back = None;
+        note_instead(&mut self.noted, reply);
         self.answers.truncate(last.start);
         give_back(&mut self.answers);
         match answer_behind(alloc, &mut self.answers, last.place, last.closing, reply) {
@@ -376,6 +398,9 @@ impl Connection {
             (Held.Gives (Next.Request spans size)) }
         ensures step { IfOk result (IsStep S.Space M.gives (callers_of tokens.now)
             service.old service.new moments.old moments.new self.old self.new) }
+        ensures noted { IfOk result (IsNotedStep S.Space M.gives (callers_of tokens.now)
+            service.old service.new moments.old moments.new self.old self.new) }
+        ensures kept { OnErr result (noted_of self.new ≡ noted_of self.old) }
         ensures part { IfErr result (IsStepPart S.Space M.gives (callers_of tokens.now)
             service.old service.new moments.old moments.new self.old self.new) }
         ensures clock { result ≡ Err StreamFault.Clock
@@ -397,13 +422,13 @@ impl Connection {
             }
         };
         let start = self.answers.len();
-        match reply_behind(alloc, service, &mut self.answers, &pending, left == 0) {
-            Ok(()) => {}
+        let outcome = match reply_behind(alloc, service, &mut self.answers, &pending, left == 0) {
+            Ok(outcome) => outcome,
             Err(_) => {
                 self.done = true;
                 return Err(StreamFault::Memory);
             }
-        }
+        };
         shift(&mut self.held, spans.len + size);
         give_back(&mut self.held);
         self.wanted = 0;
@@ -413,6 +438,7 @@ impl Connection {
             place: pending.place,
             closing: left == 0,
         });
+        self.noted = Some(noted_as(pending, outcome));
         Ok(Step::Answered(left))
     }
 
@@ -433,6 +459,9 @@ impl Connection {
         requires none_back { holds_back self.old ≡ false }
         ensures step { IfOk result (IsStep S.Space M.gives (callers_of tokens.now)
             service.old service.new moments.old moments.new self.old self.new) }
+        ensures noted { IfOk result (IsNotedStep S.Space M.gives (callers_of tokens.now)
+            service.old service.new moments.old moments.new self.old self.new) }
+        ensures kept { OnErr result (noted_of self.new ≡ noted_of self.old) }
         ensures part { IfErr result (IsStepPart S.Space M.gives (callers_of tokens.now)
             service.old service.new moments.old moments.new self.old self.new) }
         ensures clock { result ≡ Err StreamFault.Clock
@@ -457,7 +486,10 @@ impl Connection {
             Held::Gives(Next::Stop(end)) => {
                 self.done = true;
                 match end_behind(alloc, &mut self.answers, end) {
-                    Ok(()) => Ok(Step::Ended(end)),
+                    Ok(()) => {
+                        note_end(&mut self.noted, end);
+                        Ok(Step::Ended(end))
+                    }
                     Err(_) => Err(StreamFault::Memory),
                 }
             }

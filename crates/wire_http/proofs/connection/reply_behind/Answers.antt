@@ -10,3 +10,13 @@ returns-clause-part g c = record {
   short = some_message _ _ _ _;
   written = c.in-Err.ensures.same ∙ sym (append-nil c.args.output.now.items);
 }
+
+pub returns-in-Ok-clause-replies : goal.returns-in-Ok-clause-replies
+returns-in-Ok-clause-replies g c = (
+  record {
+    reply = c.call-reply.result;
+    is_reply = c.call-reply.ensures.reply;
+    written = c.in-Ok.ensures.whole;
+  },
+  c.outcome_of.ensures,
+)

@@ -48,3 +48,12 @@ returns-in-Ok-clause-step g c =
       refl,
       refl,
     )
+
+pub returns-then-len-self-clause-noted : goal.returns-then-len-self-clause-noted
+returns-then-len-self-clause-noted g c = (returns-then-len-self-clause-step g c, refl)
+
+pub returns-in-Wants-clause-noted : goal.returns-in-Wants-clause-noted
+returns-in-Wants-clause-noted g c = (returns-in-Wants-clause-step g c, refl)
+
+pub returns-in-Ok-clause-noted : goal.returns-in-Ok-clause-noted
+returns-in-Ok-clause-noted g c = (returns-in-Ok-clause-step g c, c.note_end.ensures)
