@@ -1,19 +1,25 @@
 //! The command `serve`: connections to a port of this machine, many at once.
+use crate::backups::PortBackups;
+use crate::causes::Causes;
 use crate::clock::SystemClock;
+use crate::log_file::SystemLog;
 use crate::sockets::PortSockets;
-use crate::tokens::token_text;
+use crate::tokens::TokenFile;
+use dss_backups::folder::FolderBackups;
 use dss_command::clients::{Answering, Listen, Operated};
-use dss_command::fault::Fault;
+use dss_command::copy_fault::CopyFault;
+use dss_command::fault::{Fault, of_system};
 use dss_command::limits::tell_limits;
 use dss_command::token_files::tell_tokens;
 use dss_command::tokens::{salt_of, table_of};
-use dss_files::files::{self, opened};
+use dss_files::files::{self, closed, opened};
 use dss_line::serving::Serving;
 use dss_serve::limits::{Limits, MOST_CLIENTS};
+use dss_serve::token_watch::TokenWatch;
 use sqlite::Start;
-use std::io;
 use std::io::Write;
 use std::net::Ipv4Addr;
+use std::{fs, io};
 use token_conf::token_table::TokenTable;
 use wire_http::Moments;
 
@@ -28,14 +34,23 @@ fn limits_of(given: &Serving<'_>) -> Limits {
     }
 }
 
-// The ports of this system.
+// The ports of this system, its log, what makes backups, and where causes are told.
 #[derive(Drop)]
 struct Ports<'a> {
     rt: &'a HostRuntime,
+    log: Option<SystemLog<'a>>,
+    backups: Option<PortBackups<'a>>,
+    causes: Causes<'a>,
 }
 
 impl<'a> Listen for Ports<'a> {
     type Sockets = PortSockets<'a>;
+
+    type Log = SystemLog<'a>;
+
+    fn log(&mut self) -> Option<SystemLog<'a>> {
+        self.log.take()
+    }
 
     fn listen(
         self,
@@ -43,7 +58,13 @@ impl<'a> Listen for Ports<'a> {
         port: u16,
         operators: Option<u16>,
     ) -> io::Result<PortSockets<'a>> {
-        PortSockets::listen(self.rt, address, port, operators)
+        let Ports {
+            rt,
+            log: _,
+            backups,
+            causes,
+        } = self;
+        PortSockets::listen(rt, address, port, operators, backups, causes)
     }
 }
 
@@ -57,14 +78,39 @@ fn operated(rt: &HostRuntime, given: &Serving<'_>) -> Option<Operated> {
     Some(Operated { port, started })
 }
 
-// The table of the token file. Where more is to be told it is, first what is wrong with the file or
+// The folder of backups that a command line names.
+fn backups_of<'a>(
+    rt: &'a HostRuntime,
+    given: &Serving<'_>,
+    causes: Causes<'_>,
+) -> Result<Option<PortBackups<'a>>, Fault> {
+    let Some(folder) = given.backups else {
+        return Ok(None);
+    };
+    match FolderBackups::new(rt, given.database, folder) {
+        Ok(folder) => Ok(Some(PortBackups { folder })),
+        Err(cause) => {
+            causes.tell_of(folder, &cause);
+            Err(of_system(&cause, Fault::Copy(CopyFault::Write)))
+        }
+    }
+}
+
+// The token file's text and its table. Where more is to be told it is, first what is wrong with the file or
 // surely not meant, and then the limits: that it cannot be told is no reason not to serve.
 fn tokens_of<E: Write>(
     rt: &HostRuntime,
     given: &Serving<'_>,
+    causes: Causes<'_>,
     error: &mut E,
-) -> Result<TokenTable, Fault> {
-    let text = token_text(rt, given.tokens)?;
+) -> Result<(String, TokenTable), Fault> {
+    let text = match fs::read_to_string(rt, given.tokens) {
+        Ok(text) => text,
+        Err(cause) => {
+            causes.tell_of(given.tokens, &cause);
+            return Err(of_system(&cause, Fault::TokensUnread));
+        }
+    };
     if given.verbose {
         let _ = tell_tokens(rt.alloc(), text.as_str(), error);
     }
@@ -72,7 +118,25 @@ fn tokens_of<E: Write>(
     if given.verbose {
         let _ = tell_limits(given.clients, given.count, given.most_kept, error);
     }
-    Ok(tokens)
+    Ok((text, tokens))
+}
+
+// The log that a command line names.
+fn log_of<'a>(
+    rt: &'a HostRuntime,
+    given: &Serving<'a>,
+    causes: Causes<'_>,
+) -> Result<Option<SystemLog<'a>>, Fault> {
+    let Some(name) = given.log else {
+        return Ok(None);
+    };
+    match SystemLog::open(rt, name) {
+        Ok(log) => Ok(Some(log)),
+        Err(cause) => {
+            causes.tell_of(name, &cause);
+            Err(of_system(&cause, Fault::Output))
+        }
+    }
 }
 
 /// Runs the command over the database, which is closed last.
@@ -82,18 +146,40 @@ pub(crate) fn serve<F: Start, E: Write>(
     start: F,
     error: &mut E,
 ) -> Result<(), Fault> {
-    let tokens = tokens_of(rt, given, error)?;
+    let causes = Causes::new(rt, given.verbose);
+    let (text, tokens) = tokens_of(rt, given, causes, error)?;
     let salt = salt_of(&tokens)?;
-    let (space, listed) = opened(rt, given.database, start)?;
+    let log = log_of(rt, given, causes)?;
+    let (space, listed) = match opened(rt, given.database, start) {
+        Ok(taken) => taken,
+        Err(fault) => {
+            causes.tell_of_database(given.database, &fault);
+            return Err(fault);
+        }
+    };
+    let backups = match backups_of(rt, given, causes) {
+        Ok(backups) => backups,
+        Err(fault) => {
+            let _files = closed(Err(fault), space)?;
+            return Ok(());
+        }
+    };
     let answering = Answering {
         tokens: &tokens,
         address: given.listen,
         port: given.port,
         limits: limits_of(given),
         operated: operated(rt, given),
+        verbose: given.verbose,
     };
+    let watch = TokenWatch::new(TokenFile::named(rt, given.tokens), text);
     let mut clock = SystemClock::new(rt);
-    let ports = Ports { rt };
+    let ports = Ports {
+        rt,
+        log,
+        backups,
+        causes,
+    };
     let _files = files::serve(
         rt.alloc(),
         space,
@@ -101,6 +187,7 @@ pub(crate) fn serve<F: Start, E: Write>(
         given.most_kept,
         salt,
         answering,
+        watch,
         &mut clock,
         ports,
         error,

@@ -1,8 +1,13 @@
 //! The program `dss`: its commands, and what runs them.
 #![tactic(auto)]
 
+mod backup;
+mod backups;
+mod causes;
 mod clock;
 mod connections;
+mod copying;
+mod log_file;
 mod loopback;
 mod program;
 mod run;

@@ -1,7 +1,7 @@
 //! The commands, as this system does them.
 use crate::loopback::{self, LoopbackLine};
 use crate::run::{self, RunLine};
-use crate::{connections, tokens_command};
+use crate::{backup, connections, tokens_command};
 use dss_command::fault::Fault;
 use dss_command::line::Commands;
 use dss_files::files;
@@ -64,10 +64,15 @@ impl<'a, F: Start> Commands for Program<'a, F> {
         loopback::loop_back(self.rt, &given, input, output)
     }
 
-    fn report<W: Write>(self, database: &str, output: &mut W) -> Result<(), Fault> {
+    fn report<W: Write>(self, database: &str, places: bool, output: &mut W) -> Result<(), Fault> {
         let Program { rt, start } = self;
-        let _files = files::report(rt, database, start, output)?;
+        let _files = files::report(rt, database, start, places, output)?;
         Ok(())
+    }
+
+    fn backup(self, database: &str, to: &str) -> Result<(), Fault> {
+        let Program { rt, start } = self;
+        backup::backup(rt, database, to, start)
     }
 
     fn upgrade<W: Write>(self, database: &str, output: &mut W) -> Result<(), Fault> {

@@ -1,11 +1,13 @@
 //! The sockets of the system, watched together.
+use crate::backups::PortBackups;
+use crate::causes::Causes;
 use dss_serve::sockets::{NotTaken, Socket, Sockets, Told, Watched};
 use mio::event::Event;
 use mio::net::{TcpListener, TcpStream};
 use mio::{Events, Interest, Poll, Token};
 use std::io;
 use std::io::{ErrorKind, Read, Write};
-use std::net::{Ipv4Addr, Shutdown, SocketAddr};
+use std::net::{Ipv4Addr, Shutdown, SocketAddr, SocketAddrV4};
 use std::time::{Duration, Instant};
 
 // The tokens of the listeners. A client's is the key under which it is watched, and is less; that of a
@@ -32,6 +34,7 @@ const NO_BUFFER: i32 = 105;
 #[derive(Drop)]
 pub(crate) struct Client {
     stream: TcpStream,
+    address: SocketAddr,
 }
 
 impl Socket for Client {
@@ -41,6 +44,13 @@ impl Socket for Client {
     ghost coming = { λ _. None };
 
     ghost gone = { λ _. None };
+
+    fn client(&self) -> Option<SocketAddrV4> {
+        match self.address {
+            SocketAddr::V4(address) => Some(address),
+            SocketAddr::V6(_) => None,
+        }
+    }
 
     fn receive(&mut self, piece: &mut [u8]) -> io::Result<usize> {
         self.stream.read(piece)
@@ -67,6 +77,7 @@ pub(crate) struct PortSockets<'a> {
     told: Vec<Told>,
     // how many of what was told were taken
     taken: usize,
+    backups: Option<PortBackups<'a>>,
 }
 
 // What is watched under a token.
@@ -89,15 +100,23 @@ fn token_of(which: Watched) -> usize {
     }
 }
 
-// A listener on a port of an address, which is watched.
+// A listener on a port of an address, which is watched. It is told what the system says where there is
+// none to be had.
 fn listener_on(
     rt: &HostRuntime,
     poll: &Poll,
     address: Ipv4Addr,
     port: u16,
     which: Watched,
+    causes: Causes<'_>,
 ) -> io::Result<TcpListener> {
-    let mut listener = TcpListener::bind(rt, SocketAddr::from((address, port)))?;
+    let mut listener = match TcpListener::bind(rt, SocketAddr::from((address, port))) {
+        Ok(listener) => listener,
+        Err(cause) => {
+            causes.tell_of_port(address, port, &cause);
+            return Err(cause);
+        }
+    };
     let token = Token(token_of(which));
     poll.registry()
         .register(&mut listener, token, Interest::READABLE)?;
@@ -107,9 +126,9 @@ fn listener_on(
 // The next connection of a listener.
 fn accepted(listener: &TcpListener) -> Result<Client, NotTaken> {
     match listener.accept() {
-        Ok((stream, _)) => {
+        Ok((stream, address)) => {
             let _ = stream.set_nodelay(true);
-            Ok(Client { stream })
+            Ok(Client { stream, address })
         }
         Err(cause) => Err(not_taken(cause)),
     }
@@ -140,15 +159,18 @@ fn not_taken(cause: io::Error) -> NotTaken {
 }
 
 impl<'a> PortSockets<'a> {
-    /// Listens on a port of an address, and for operators on one of 127.0.0.1.
+    /// Listens on a port of an address, and for operators on one of 127.0.0.1. Backups are made where
+    /// there is a folder for them.
     pub(crate) fn listen(
         rt: &'a HostRuntime,
         address: Ipv4Addr,
         port: u16,
         operators: Option<u16>,
+        backups: Option<PortBackups<'a>>,
+        causes: Causes<'a>,
     ) -> io::Result<PortSockets<'a>> {
         let poll = Poll::new(rt)?;
-        let listener = listener_on(rt, &poll, address, port, Watched::Port)?;
+        let listener = listener_on(rt, &poll, address, port, Watched::Port, causes)?;
         let operators = match operators {
             Some(port) => Some(listener_on(
                 rt,
@@ -156,6 +178,7 @@ impl<'a> PortSockets<'a> {
                 Ipv4Addr::LOCALHOST,
                 port,
                 Watched::OperatorsPort,
+                causes,
             )?),
             None => None,
         };
@@ -168,12 +191,19 @@ impl<'a> PortSockets<'a> {
             events: Events::with_capacity(rt.alloc(), EVENTS)?,
             told: Vec::with_capacity(rt.alloc(), EVENTS)?,
             taken: 0,
+            backups,
         })
     }
 }
 
 impl<'a> Sockets for PortSockets<'a> {
     type Client = Client;
+
+    type Backups = PortBackups<'a>;
+
+    fn backups(&mut self) -> Option<&mut PortBackups<'a>> {
+        self.backups.as_mut()
+    }
 
     fn accept(&mut self) -> Result<Client, NotTaken> {
         accepted(&self.listener)

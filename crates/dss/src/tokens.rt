@@ -1,7 +1,8 @@
 //! The token file of a command.
 use dss_command::fault::{Fault, of_system};
 use dss_command::tokens::table_of;
-use std::fs;
+use dss_serve::token_watch::TokenSource;
+use std::{fs, io};
 use token_conf::token_table::TokenTable;
 
 /// The text of the token file with that name.
@@ -16,4 +17,27 @@ pub(crate) fn token_text(rt: &HostRuntime, name: &str) -> Result<String, Fault> 
 pub(crate) fn token_table(rt: &HostRuntime, name: &str) -> Result<TokenTable, Fault> {
     let text = token_text(rt, name)?;
     table_of(rt.alloc(), text.as_str())
+}
+
+/// The token file with that name, which may change.
+#[derive(Clone, Copy)]
+pub(crate) struct TokenFile<'a> {
+    rt: &'a HostRuntime,
+    name: &'a str,
+}
+
+impl<'a> TokenFile<'a> {
+    /// The file with that name.
+    pub(crate) fn named(rt: &'a HostRuntime, name: &'a str) -> TokenFile<'a> {
+        TokenFile { rt, name }
+    }
+}
+
+impl<'a> TokenSource for TokenFile<'a> {
+    // what the system's file has is not said
+    ghost gives = { λ bytes. Unit {0} };
+
+    fn read(&mut self) -> io::Result<Vec<u8>> {
+        fs::read(self.rt, self.name)
+    }
 }

@@ -9,6 +9,7 @@ use Rattle.grid_core.specs.Token as token
 use Rattle.space_opening.specs.OpenFault as opening
 use Rattle.token_conf.specs.ConfFault as conf
 use Rattle.wire_http.specs.Fault as streams
+use Rattle.dss_command.specs.CopyFault as copies
 use Rattle.dss_command.specs.declared.fault.Fault.{Fault}
 use Rattle.dss_command.specs.declared.fault.Fault.TheVariants as fault
 use Rattle.dss_report.specs.declared.fault.CellFault.{CellFault}
@@ -50,6 +51,8 @@ line_of (fault.Tokens why) =
 line_of (fault.Database why) =
     codes "dss: db: fault " ++ numbered (opening.number_of why) (opening.name_of why)
 line_of fault.DatabaseFailed = codes "dss: db: fault"
+line_of (fault.Copy why) =
+    codes "dss: copy: fault " ++ numbered (copies.number_of why) (copies.name_of why)
 line_of fault.RequestsUnread = codes "dss: requests: cannot read"
 line_of fault.RequestTooLong = codes "dss: self: request too long"
 line_of fault.AnswerTooLong = codes "dss: self: answer too long"

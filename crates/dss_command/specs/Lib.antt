@@ -1,6 +1,10 @@
+pub mod CopyFault
 pub mod Fault
 pub mod Limits
 pub mod Line
+pub mod LogLine
+pub mod Print
 pub mod Service
+pub mod StoreLines
 pub mod Stream
 pub mod Tokens

@@ -9,6 +9,7 @@ use Rattle.dss_line.specs.declared.fault.LineFault.{LineFault}
 use Rattle.dss_line.specs.declared.fault.LineFault.TheVariants as fault
 use Rattle.dss_line.specs.declared.line.Line.{Line}
 use Rattle.dss_line.specs.declared.line.Line.TheVariants.{
+  Backup,
   Cell,
   CheckTokens,
   Loopback,
@@ -41,7 +42,8 @@ WritesCell token before after = (line : List ℕ) × IsLineOfToken token line ×
 
 module _ (does : Doing) where
   -- What a line asks for was done: by the command of its name, with its values. `serve` writes to the
-  -- second writer, and every other command to the first; to both where no token is made, to tell why.
+  -- second writer, `backup` to none, and every other command to the first; to both where no token is
+  -- made, to tell why.
   abbrev pub Does : Line → (remaining output output' error error' : Option (List ℕ))
       → Result (Unit {0}) Fault → Type 0
   Does (Run tokens now database requests) remaining output output' error error' done =
@@ -52,8 +54,10 @@ module _ (does : Doing) where
       does (Loopback tokens now request) remaining output output' done × (error' ≡ error)
   Does (Cell token) remaining output output' error error' done =
       OnOk done (WritesCell token.now output output') × (error' ≡ error)
-  Does (Report database) remaining output output' error error' done =
-      does (Report database) None output output' done × (error' ≡ error)
+  Does (Report database places) remaining output output' error error' done =
+      does (Report database places) None output output' done × (error' ≡ error)
+  Does (Backup database to) remaining output output' error error' done =
+      does (Backup database to) None None None done × (output' ≡ output) × (error' ≡ error)
   Does (Upgrade database) remaining output output' error error' done =
       does (Upgrade database) None output output' done × (error' ≡ error)
   Does (CheckTokens file) remaining output output' error error' done =

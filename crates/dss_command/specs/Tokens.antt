@@ -1,11 +1,14 @@
 -- The table of a token file, as a command has it.
-use Rattle.std.specs.Prelude.{◌≡◌, List, [], ◌∷◌, ℕ, Result, Ok, Err, IsOk}
+use Rattle.std.specs.Prelude.{◌≡◌, List, [], ◌∷◌, ℕ, Result, Ok, Err, IsOk, codes}
 use Rattle.token_conf.specs.TokenFile.{ReadsFile, TokenFile, file_of}
 use Rattle.token_conf.specs.declared.conf_fault.ConfFault.{ConfFault}
 use Rattle.token_conf.specs.declared.conf_fault.ConfFault.TheVariants as conf
 use Rattle.token_conf.specs.declared.token_table.TokenTable.{TokenTable}
 use Rattle.token_report.specs.Mistake.{fault_of}
 use Rattle.token_report.specs.declared.mistake.Mistake.{Mistake}
+use Rattle.dss_serve.specs.declared.token_watch.TokensFault.{TokensFault}
+use Rattle.dss_serve.specs.declared.token_watch.TokensFault.TheVariants as refusal
+use Rattle.dss_command.specs.Fault.{line_of}
 use Rattle.dss_command.specs.declared.fault.Fault.{Fault}
 use Rattle.dss_command.specs.declared.fault.Fault.TheVariants as fault
 
@@ -36,3 +39,11 @@ abbrev pub EndsCheck : Result TokenFile ConfFault → Result (Unit {0}) Fault �
 EndsCheck said (Ok x) = IsOk said
 EndsCheck said (Err (fault.Tokens why)) = said ≡ Err why
 EndsCheck said (Err other) = Unit {0}
+
+-- The line that tells why a token file that changed was not taken, without its end: that of the fault
+-- with which a command ends by such a file, and for another salt one of its own.
+abbrev pub refusal_line : TokensFault → List ℕ
+refusal_line refusal.Unread = line_of fault.TokensUnread
+refusal_line (refusal.Wrong conf.Memory) = line_of fault.Memory
+refusal_line (refusal.Wrong why) = line_of (fault.Tokens why)
+refusal_line refusal.OtherSalt = codes "dss: tokens: another salt"

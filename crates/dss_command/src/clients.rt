@@ -8,15 +8,21 @@ ghost use Rattle.dss_command.specs.Fault.{EndsServing, TellsClient};
 ghost use Rattle.dss_command.specs.Service.{ServesClients};
 
 use crate::fault::{Fault, of_system, tell};
-use dss_admin::figures::Build;
+use crate::given_up::tell_given_up;
+use crate::request_log::{LogFile, RequestLog};
+use crate::store_lines::tell_store;
+use crate::tokens::tell_refusal;
+use dss_admin::build::Build;
 use dss_line::version::{KIT, VERSION};
-use dss_serve::journal::Journal;
+use dss_serve::journal::{GivenUp, Journal, LoggedRequest, StoreNews};
 use dss_serve::limits::Limits;
 use dss_serve::serve::serve_clients;
 use dss_serve::sockets::Sockets;
+use dss_serve::token_watch::{TokenSource, TokenWatch, TokensFault};
 use entity_core::salt::Salt;
 use service_core::service::Service;
 use space_core::settle::Settles;
+use space_shown::shown::Shows;
 use std::alloc::Global;
 use std::io;
 use std::io::Write;
@@ -49,15 +55,44 @@ pub fn tell_client<E: Write>(fault: StreamFault, error: &mut E) -> io::Result<()
     tell(&Fault::from(fault), error)
 }
 
-// Where the faults of clients are told: each on a line.
+// Where requests are told, if there is a log of them, and the faults of clients and of the token file,
+// each on a line, and, where more is to be told, whether the store keeps what it is given.
 #[derive(Drop)]
-struct Lines<'a, E: Write> {
+struct Lines<'a, E: Write, L> {
     error: &'a mut E,
+    log: Option<RequestLog<L>>,
+    verbose: bool,
 }
 
-impl<'a, E: Write> Journal for Lines<'a, E> {
-    fn failed(&mut self, fault: StreamFault) {
+impl<'a, E: Write, L: LogFile> Journal for Lines<'a, E, L> {
+    fn failed(&mut self, fault: StreamFault, given_up: GivenUp) {
         let _ = tell_client(fault, self.error);
+        if self.verbose {
+            let _ = tell_given_up(given_up, self.error);
+        }
+    }
+
+    fn answered(&mut self, request: &LoggedRequest<'_>) {
+        if let Some(log) = &mut self.log {
+            log.note(request);
+        }
+    }
+
+    fn end_round(&mut self) -> u64 {
+        match &mut self.log {
+            Some(log) => log.write(),
+            None => 0,
+        }
+    }
+
+    fn refused_tokens(&mut self, fault: TokensFault) {
+        let _ = tell_refusal(fault, self.error);
+    }
+
+    fn store(&mut self, news: StoreNews) {
+        if self.verbose {
+            let _ = tell_store(news, self.error);
+        }
     }
 }
 
@@ -83,7 +118,7 @@ pub struct Operated {
 /// By what clients are answered, on which port, and how many.
 #[derive(Clone, Copy)]
 pub struct Answering<'a> {
-    /// The token file.
+    /// The token file of the start.
     pub tokens: &'a TokenTable,
     /// The address that is listened on.
     pub address: Ipv4Addr,
@@ -93,11 +128,18 @@ pub struct Answering<'a> {
     pub limits: Limits,
     /// The operator's port, if there is one.
     pub operated: Option<Operated>,
+    /// Whether it is told, too, that changes are not kept and that they are again.
+    pub verbose: bool,
 }
 
-/// What listens on a port.
+/// What listens on a port, and where the requests that come there are logged.
 pub trait Listen {
     type Sockets: Sockets + Drop;
+
+    type Log: LogFile + Drop;
+
+    /// Where requests are logged, if they are, which is told once.
+    fn log(&mut self) -> Option<Self::Log>;
 
     /// The sockets of that port of the address, and of the operator's port of 127.0.0.1.
     fn listen(
@@ -131,56 +173,72 @@ fn operators_port(operated: Option<Operated>) -> Option<u16> {
 }
 
 // Answers the clients of the sockets by a service over a space.
-fn serve_sockets<S: Settles + Drop, M: Moments, N: Sockets + Drop, E: Write>(
+fn serve_sockets<
+    S: Settles + Shows + Drop,
+    M: Moments,
+    N: Sockets + Drop,
+    T: TokenSource + Drop,
+    J: Journal,
+>(
     alloc: Global,
     space: S,
     salt: Salt,
     routes: &Routes,
     given: Answering<'_>,
+    watch: TokenWatch<T>,
     moments: &mut M,
     sockets: N,
-    error: &mut E,
+    journal: &mut J,
 ) -> (Result<(), Fault>, S)
     requires { salt ≡ salt_of given.tokens.now }
-    ensures served { ServesClients S.Space S.Settles.own M.Moments given.entry.tokens.now
-        space result.1 moments.old moments.new }
+    ensures served { ServesClients S.Space S.Settles.own M.Moments T.gives
+        given.entry.tokens.now space result.1 moments.old moments.new }
     ensures counted { OnOk result.0 (IsSome given.entry.limits.count
         ⊎ IsSome given.entry.operated) }
 {
     let mut service = Service::new(space, salt);
-    let mut journal = Lines { error };
     let served = serve_clients(
         alloc,
         routes,
         given.tokens,
+        watch,
         &mut service,
         moments,
         sockets,
         given.limits,
         build_of(given.operated),
-        &mut journal,
+        journal,
     );
     (ended(served), service.into_space())
 }
 
 /// Answers the clients of a port by a service that it makes over a space, which is given back as it is
-/// then, after the last round of calls was settled. It tells that the port is listened on, and later
-/// the fault of each client that is given up.
+/// then, after the last round of calls was settled. The token file is watched meanwhile. It tells that
+/// the port is listened on, and later the fault of each client that is given up, and why a token file
+/// that changed was not taken; each request that is answered is logged.
+///
 /// It is done only where a number of connections is given, or an operator's port.
-pub fn serve_port<S: Settles + Drop, M: Moments, L: Listen + Drop, E: Write>(
+pub fn serve_port<
+    S: Settles + Shows + Drop,
+    M: Moments,
+    L: Listen + Drop,
+    T: TokenSource + Drop,
+    E: Write,
+>(
     alloc: Global,
     space: S,
     salt: Salt,
     given: Answering<'_>,
+    watch: TokenWatch<T>,
     moments: &mut M,
-    listener: L,
+    mut listener: L,
     error: &mut E,
 ) -> (Result<(), Fault>, S)
     requires { salt ≡ salt_of given.tokens.now }
-    ensures served { OnOk result.0 (ServesClients S.Space S.Settles.own M.Moments
+    ensures served { OnOk result.0 (ServesClients S.Space S.Settles.own M.Moments T.gives
         given.entry.tokens.now space result.1 moments.old moments.new) }
     ensures part { OnErr result.0 ((result.1 ≡ space) × (moments.new ≡ moments.old)
-        ⊎ ServesClients S.Space S.Settles.own M.Moments
+        ⊎ ServesClients S.Space S.Settles.own M.Moments T.gives
         given.entry.tokens.now space result.1 moments.old moments.new) }
     ensures counted { OnOk result.0 (IsSome given.entry.limits.count
         ⊎ IsSome given.entry.operated) }
@@ -188,6 +246,7 @@ pub fn serve_port<S: Settles + Drop, M: Moments, L: Listen + Drop, E: Write>(
     let Ok(routes) = Routes::new(alloc) else {
         return (Err(Fault::Memory), space);
     };
+    let log = listener.log();
     let sockets = match listener.listen(given.address, given.port, operators_port(given.operated)) {
         Ok(sockets) => sockets,
         Err(cause) => return (Err(of_system(&cause, Fault::Socket)), space),
@@ -196,5 +255,20 @@ pub fn serve_port<S: Settles + Drop, M: Moments, L: Listen + Drop, E: Write>(
     if let Some(operated) = given.operated {
         let _ = tell_operated(operated.port, error);
     }
-    serve_sockets(alloc, space, salt, &routes, given, moments, sockets, error)
+    let mut journal = Lines {
+        error,
+        log: log.map(|file| RequestLog::new(alloc, file)),
+        verbose: given.verbose,
+    };
+    serve_sockets(
+        alloc,
+        space,
+        salt,
+        &routes,
+        given,
+        watch,
+        moments,
+        sockets,
+        &mut journal,
+    )
 }

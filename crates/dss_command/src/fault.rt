@@ -4,6 +4,7 @@ ghost use Rattle.std.specs.Io.KnownBytes.{Appends};
 ghost use Rattle.std.specs.IoError.{error_kind};
 ghost use Rattle.dss_command.specs.Fault.{line_of, status_of, told_by};
 
+use crate::copy_fault::CopyFault;
 use dss_report::fault::{CellFault, ReportFault};
 use grid_core::token::TokenFault;
 use space_opening::open_fault::OpenFault;
@@ -24,6 +25,8 @@ pub enum Fault {
     Database(OpenFault),
     /// The database failed after it was taken.
     DatabaseFailed,
+    /// There is no whole copy of the database.
+    Copy(CopyFault),
     /// The file of requests does not open, or the request of `self` fails to be read.
     RequestsUnread,
     /// The request of `self` has over 16,384 bytes.
@@ -62,6 +65,11 @@ impl fmt::Display for Fault {
                 write!(f, "dss: db: fault {number} {name}")
             }
             Fault::DatabaseFailed => write!(f, "dss: db: fault"),
+            Fault::Copy(fault) => {
+                let number = fault.number();
+                let name = fault.name();
+                write!(f, "dss: copy: fault {number} {name}")
+            }
             Fault::RequestsUnread => write!(f, "dss: requests: cannot read"),
             Fault::RequestTooLong => write!(f, "dss: self: request too long"),
             Fault::AnswerTooLong => write!(f, "dss: self: answer too long"),
@@ -103,6 +111,17 @@ impl From<OpenFault> for Fault {
 
     fn from(fault: OpenFault) -> Fault {
         Fault::Database(fault)
+    }
+}
+
+impl From<CopyFault> for Fault {
+    ghost use Rattle.std.specs.Prelude.{◌≡◌};
+    ghost use Rattle.dss_command.specs.declared.fault.Fault.TheVariants as fault;
+
+    ghost from_gives = { λ e found. found ≡ fault.Copy e };
+
+    fn from(fault: CopyFault) -> Fault {
+        Fault::Copy(fault)
     }
 }
 

@@ -2,11 +2,16 @@
 #![tactic(auto)]
 
 pub mod clients;
+pub mod copy_fault;
 pub mod fault;
+mod given_up;
 pub mod limits;
 pub mod line;
+mod log_line;
 pub mod moment;
 pub mod print;
+pub mod request_log;
+mod store_lines;
 pub mod stream;
 pub mod token_files;
 pub mod tokens;

@@ -28,11 +28,13 @@ pub fn tell_limits<E: Write>(
         ),
         (None, Some(most)) => writeln!(
             error,
-            "dss: limits: {clients} clients at once, any number of connections, at most {most} kept of each supplier",
+            "dss: limits: {clients} clients at once, any number of connections, \
+             at most {most} kept of each supplier",
         ),
         (Some(count), Some(most)) => writeln!(
             error,
-            "dss: limits: {clients} clients at once, {count} connections, at most {most} kept of each supplier",
+            "dss: limits: {clients} clients at once, {count} connections, \
+             at most {most} kept of each supplier",
         ),
     }
 }

@@ -61,9 +61,13 @@ pub trait Commands {
             (W.contents (inner_of output.old)) (W.contents (inner_of output.new)) result };
 
     /// The command `report`.
-    fn report<W: Write>(self, database: &str, output: &mut W) -> Result<(), Fault>
-        ensures { does (Line.Report database.entry) None
+    fn report<W: Write>(self, database: &str, places: bool, output: &mut W) -> Result<(), Fault>
+        ensures { does (Line.Report database.entry places) None
             (W.contents output.old) (W.contents output.new) result };
+
+    /// The command `backup`, which prints nothing.
+    fn backup(self, database: &str, to: &str) -> Result<(), Fault>
+        ensures { does (Line.Backup database.entry to.entry) None None None result };
 
     /// The command `upgrade`.
     fn upgrade<W: Write>(self, database: &str, output: &mut W) -> Result<(), Fault>
@@ -155,7 +159,8 @@ fn perform<C: Commands + Drop, R: Read, O: Write, E: Write>(
             request,
         } => commands.loop_back(tokens, now, request, input, output),
         Line::Cell { token } => cell(alloc, token, output),
-        Line::Report { database } => commands.report(database, output),
+        Line::Report { database, places } => commands.report(database, places, output),
+        Line::Backup { database, to } => commands.backup(database, to),
         Line::Upgrade { database } => commands.upgrade(database, output),
         Line::CheckTokens { file } => commands.check_tokens(file, output),
         Line::NewToken { uss, scopes } => commands.new_token(uss, scopes, output, error),

@@ -6,9 +6,11 @@ ghost use Rattle.dss_report.specs.Cell.{IsLineOfToken};
 ghost use Rattle.dss_report.specs.Report.{report_of};
 ghost use Rattle.entity_core.specs.Airspace.{Airspace};
 ghost use Rattle.dss_command.specs.Fault.{IsOfCell};
+ghost use Rattle.dss_command.specs.Print.{WritesPlaces, WritesReport};
 
 use crate::fault::Fault;
 use dss_report::cell::token_line;
+use dss_report::places::places_text;
 use dss_report::report::report_text;
 use space_core::space::Space;
 use std::alloc::Global;
@@ -48,7 +50,7 @@ pub fn put_format<W: Write>(upgraded: bool, output: &mut W) -> Result<(), Fault>
     put(line.as_bytes(), output)
 }
 
-/// The command `report`, over a space, which is only read: the report of each airspace that it held.
+/// The report of each airspace that a space held, which is only read.
 pub fn put_report<S: Space + Drop, W: Write>(
     alloc: Global,
     space: &mut S,
@@ -65,4 +67,45 @@ pub fn put_report<S: Space + Drop, W: Write>(
 {
     let text = report_text(alloc, space)?;
     put(text.as_slice(), output)
+}
+
+/// The cells of each airspace that a space held, which is only read.
+pub fn put_places<S: Space + Drop, W: Write>(
+    alloc: Global,
+    space: &mut S,
+    output: &mut W,
+) -> Result<(), Fault>
+    ensures whole { OnOk result (S.is_sound space.new → (a : Airspace) → S.holds space.old a
+        → WritesPlaces a (W.contents output.old) (W.contents output.new)) }
+    ensures sound { S.is_sound space.new → S.is_sound space.old }
+    ensures kept { S.is_sound space.new → S.is_whole space.old → S.is_whole space.new }
+    ensures no_other { S.is_sound space.new
+        → (a : Airspace) → S.holds space.new a → S.holds space.old a }
+    ensures told { IfErr result (λ fault.
+        (fault ≡ DatabaseFailed) ⊎ (fault ≡ Memory) ⊎ (fault ≡ Output)) }
+{
+    let lines = places_text(alloc, space)?;
+    put(lines.as_slice(), output)
+}
+
+/// The command `report`, over a space, which is only read: its report, or the cells of its references.
+pub fn report<S: Space + Drop, W: Write>(
+    alloc: Global,
+    space: &mut S,
+    places: bool,
+    output: &mut W,
+) -> Result<(), Fault>
+    ensures whole { OnOk result (S.is_sound space.new → (a : Airspace) → S.holds space.old a
+        → WritesReport places a (W.contents output.old) (W.contents output.new)) }
+    ensures sound { S.is_sound space.new → S.is_sound space.old }
+    ensures kept { S.is_sound space.new → S.is_whole space.old → S.is_whole space.new }
+    ensures no_other { S.is_sound space.new
+        → (a : Airspace) → S.holds space.new a → S.holds space.old a }
+    ensures told { IfErr result (λ fault.
+        (fault ≡ DatabaseFailed) ⊎ (fault ≡ Memory) ⊎ (fault ≡ Output)) }
+{
+    match places {
+        true => put_places(alloc, space, output),
+        false => put_report(alloc, space, output),
+    }
 }

@@ -1,12 +1,16 @@
 //! The token file of a command.
-ghost use Rattle.std.specs.Prelude.{◌≡◌, IfErr, IfOk};
+ghost use Rattle.std.specs.Prelude.{◌≡◌, ◌++◌, IfErr, IfOk, OnOk, codes};
+ghost use Rattle.std.specs.Io.KnownBytes.{Appends};
 ghost use Rattle.token_conf.specs.TokenFile.{salt_of};
-ghost use Rattle.dss_command.specs.Tokens.{Passes, Tables};
+ghost use Rattle.dss_command.specs.Tokens.{Passes, Tables, refusal_line};
 ghost use Rattle.dss_command.specs.declared.fault.Fault.TheVariants.{Memory};
 
-use crate::fault::Fault;
+use crate::fault::{Fault, tell};
+use dss_serve::token_watch::TokensFault;
 use entity_core::salt::Salt;
 use std::alloc::Global;
+use std::io;
+use std::io::Write;
 use token_conf::conf_fault::ConfFault;
 use token_conf::token_table::TokenTable;
 
@@ -35,5 +39,18 @@ pub fn salt_of(tokens: &TokenTable) -> Result<Salt, Fault>
     match tokens.salt().clone() {
         Ok(salt) => Ok(salt),
         Err(_) => Err(Fault::Memory),
+    }
+}
+
+/// Tells on one line why a token file that changed was not taken.
+pub fn tell_refusal<E: Write>(fault: TokensFault, error: &mut E) -> io::Result<()>
+    ensures { OnOk result (Appends (E.contents error.old) (E.contents error.new)
+        (refusal_line fault ++ codes "\n")) }
+{
+    match fault {
+        TokensFault::Unread => tell(&Fault::TokensUnread, error),
+        TokensFault::Wrong(ConfFault::Memory) => tell(&Fault::Memory, error),
+        TokensFault::Wrong(why) => tell(&Fault::Tokens(why), error),
+        TokensFault::OtherSalt => writeln!(error, "dss: tokens: another salt"),
     }
 }

@@ -1,5 +1,5 @@
 -- From a start of `serve` to the next.
-use Rattle.std.specs.Prelude.{◌≡◌, ◌∷◌, List, [], ◌++◌, Result, Ok, Err, OnOk, refl}
+use Rattle.std.specs.Prelude.{◌≡◌, ◌∷◌, ℕ, List, [], ◌++◌, Result, Ok, Err, OnOk, refl}
 use Rattle.std.proofs.Common.{sym, ap, subst, ◌∙◌}
 use Rattle.std.proofs.Math.Logic.{∥∥₁_map}
 use Rattle.sqlite_disk.specs.declared.Disk as disk
@@ -40,8 +40,8 @@ work_done P k (Ok x) files p closes = (p, closes)
 work_done P k (Err why) files p ends = absurd (let wrong = ends in cc)
 
 module _ {D T M : Type 0} {g : disk.Ghosts D} (space : Ghosts (Bound (Group (Kept (FileStore D g))))) (clocks : moments.Ghosts M) (again : Ghosts (Kept T)) (law : ContinuesInRoundsClosed (words_of over_files) space)
-    (before after : Image) (tokens : TokenFile) (opened new : Kept (FileStore D g)) (clock clock' : M) (done : Result (Unit {0}) Fault) (files : Files D) (finds : FindsSpelt before (words_of over_files) opened)
-    (copied : ServesCopied (words_of over_files) space clocks tokens opened new clock clock' done) (clients : ServesClients space (bound_waiting_of (words_of over_files)) clocks tokens copied.first copied.last clock clock') (closes : ClosesFiles new files) (clean : AreClean g files.log files.db) (have : FilesHave g files after) where
+    (before after : Image) (gives : List ℕ → Type 0) (tokens : TokenFile) (opened new : Kept (FileStore D g)) (clock clock' : M) (done : Result (Unit {0}) Fault) (files : Files D) (finds : FindsSpelt before (words_of over_files) opened)
+    (copied : ServesCopied (words_of over_files) space clocks gives tokens opened new clock clock' done) (clients : ServesClients space (bound_waiting_of (words_of over_files)) clocks gives tokens copied.first copied.last clock clock') (closes : ClosesFiles new files) (clean : AreClean g files.log files.db) (have : FilesHave g files after) where
   read : IsOnlyRead (words_of over_files) opened copied.first.space.store
   read = record { sound = copied.reads.sound; whole = copied.reads.whole; no_other = copied.reads.no_other }
 
@@ -60,7 +60,7 @@ module _ {D T M : Type 0} {g : disk.Ghosts D} (space : Ghosts (Bound (Group (Kep
   closed : ClosesFiles (space_of clients.last).space.store files
   closed = subst (λ (k : Kept (FileStore D g)). ClosesFiles k files) (copied.released ∙ ap (λ (k : Bound (Group (Kept (FileStore D g)))). k.space.store) clients.ends) closes
 
-  served_found : ServedIsFound space (bound_waiting_of (words_of over_files)) clocks again tokens clock clock' before after
+  served_found : ServedIsFound space (bound_waiting_of (words_of over_files)) clocks again gives tokens clock clock' before after
   served_found =
       let both = law before after clients.first clients.last clients.last clients.serves.rounds [] files starts clients.serves.made refl by_store closed clean have in
       record {
@@ -72,8 +72,8 @@ module _ {D T M : Type 0} {g : disk.Ghosts D} (space : Ghosts (Bound (Group (Kep
       }
 
 pub next_start_finds : {D T M : Type 0} {g : disk.Ghosts D} (space : Ghosts (Bound (Group (Kept (FileStore D g))))) (clocks : moments.Ghosts M) (again : Ghosts (Kept T))
-    → ContinuesInRoundsClosed (words_of over_files) space → (before after : Image) (tokens : TokenFile) (opened : Kept (FileStore D g)) (clock clock' : M) (files : Files D) → FindsSpelt before (words_of over_files) opened
-    → ClosesServed (words_of over_files) space clocks tokens opened clock clock' (Ok files) → AreClean g files.log files.db → FilesHave g files after → ServedIsFound space (bound_waiting_of (words_of over_files)) clocks again tokens clock clock' before after
-next_start_finds space clocks again law before after tokens opened clock clock' files finds it clean have =
-    let both = work_done (ServesClients space (bound_waiting_of (words_of over_files)) clocks tokens it.served.first it.served.last clock clock') it.new it.done files it.served.served it.closed in
-    served_found space clocks again law before after tokens opened it.new clock clock' it.done files finds it.served both.0 both.1 clean have
+    → ContinuesInRoundsClosed (words_of over_files) space → (before after : Image) (gives : List ℕ → Type 0) (tokens : TokenFile) (opened : Kept (FileStore D g)) (clock clock' : M) (files : Files D) → FindsSpelt before (words_of over_files) opened
+    → ClosesServed (words_of over_files) space clocks gives tokens opened clock clock' (Ok files) → AreClean g files.log files.db → FilesHave g files after → ServedIsFound space (bound_waiting_of (words_of over_files)) clocks again gives tokens clock clock' before after
+next_start_finds space clocks again law before after gives tokens opened clock clock' files finds it clean have =
+    let both = work_done (ServesClients space (bound_waiting_of (words_of over_files)) clocks gives tokens it.served.first it.served.last clock clock') it.new it.done files it.served.served it.closed in
+    served_found space clocks again law before after gives tokens opened it.new clock clock' it.done files finds it.served both.0 both.1 clean have

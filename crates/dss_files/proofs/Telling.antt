@@ -8,7 +8,6 @@ use Rattle.sqlite_disk.specs.declared.Files.{Files}
 use Rattle.sqlite_store.specs.declared.store.FileStore.{FileStore}
 use Rattle.sqlite.specs.Files.{over_files}
 use Rattle.sqlite.specs.Recovery.{Image}
-use Rattle.dss_report.specs.Report.{report_of}
 use Rattle.entity_core.specs.Airspace.{Airspace}
 use Rattle.service_tables.specs.Life.{StandFor}
 use Rattle.service_tables.proofs.Lives.{content_found}
@@ -18,6 +17,7 @@ use Rattle.space_sql.specs.Holding.{Kept, holds_of, is_sound_of, is_whole_of}
 use Rattle.space_sql.specs.Restart.{ClosesFiles, without_log}
 use Rattle.space_tables.specs.declared.format.Format.{Format}
 use Rattle.space_tables.specs.declared.format.Format.TheVariants.{One, Two}
+use Rattle.dss_command.specs.Print.{WritesReport}
 use Rattle.dss_command.specs.declared.fault.Fault.{Fault}
 use Rattle.dss_command.specs.declared.fault.Fault.TheVariants.{DatabaseFailed, Memory, Output}
 use Rattle.dss_files.specs.Files.{EndsClosing, IsOfDatabase, KeepsAirspace, ReportsFiles, ReportsSpace, UpgradesFiles, format_line}
@@ -81,15 +81,20 @@ module _ {D : Type 0} {g : disk.Ghosts D} (space : spaces.Ghosts (Kept (FileStor
       let same = is.1 it.0 (over.holds new it.0 it.1) in
       (subst (λ b. FilesSpell Two left b) same it.2, subst (λ b. FilesSpell Two (without_log left) b) same it.3))
 
-  pub report_told : (old new : Kept (FileStore D g)) (done : Result (Unit {0}) Fault) (result : Result (Files D) Fault) → FindsSpelt image space old → ReportsSpace space before after old new done → EndsClosing done new result → IsOver space
-      → IfOk result (ReportsFiles g image before after)
-  report_told old new done result finds reports ends over =
-      done_closed new (space.is_sound new → (a : Airspace) → space.holds old a → Appends before after (report_of a)) (ReportsFiles g image before after) done result reports.told ends (λ told files closes. record {
+  pub report_told : (places : Bool) (old new : Kept (FileStore D g)) (done : Result (Unit {0}) Fault) (result : Result (Files D) Fault) → FindsSpelt image space old → ReportsSpace space places before after old new done → EndsClosing done new result → IsOver space
+      → IfOk result (ReportsFiles g image places before after)
+  report_told places old new done result finds reports ends over =
+      done_closed new (space.is_sound new → (a : Airspace) → space.holds old a → WritesReport places a before after) (ReportsFiles g image places before after) done result reports.told ends (λ told files closes. record {
         told = λ clean a stands. let is = over.sound new (closes.sound clean) in told is a (content_found image space old finds (reports.sound is) a stands).held;
         kept = kept_after over new files closes (λ is a stands.
             let content = content_found image space old finds (reports.sound is) a stands in
             (reports.whole is (finds.whole (reports.sound is) a content.held), λ b held. content.only b (reports.no_other is b held)));
       })
+
+  -- files that were opened and closed stand for the airspace for which they stood
+  pub settled_kept : (k : Kept (FileStore D g)) (files : Files D) → FindsSpelt image space k → ClosesFiles k files → IsOver space → KeepsAirspace g image files
+  settled_kept k files finds closes over = kept_after over k files closes (λ is a stands.
+      let content = content_found image space k finds is a stands in (finds.whole is a content.held, content.only))
 
   pub upgrade_told : (k : Kept (FileStore D g)) (files : Files D) (upgraded : Bool) → upgraded ≡ k.upgraded → FindsSpelt image space k → ClosesFiles k files
       → Appends before after (if upgraded then codes "format 2, was 1\n" else codes "format 2\n") → IsOver space → UpgradesFiles g image before after files
@@ -97,6 +102,5 @@ module _ {D : Type 0} {g : disk.Ghosts D} (space : spaces.Ghosts (Kept (FileStor
     told = λ clean format a spelt.
         let tells : IsTrue upgraded ↔ (format ≡ One) = subst (λ (b : Bool). IsTrue b ↔ (format ≡ One)) (sym same) (finds.upgraded (over.sound k (closes.sound clean)) format a spelt) in
         subst (λ (line : List ℕ). Appends before after line) (line_told upgraded format tells) told;
-    kept = kept_after over k files closes (λ is a stands.
-        let content = content_found image space k finds is a stands in (finds.whole is a content.held, content.only));
+    kept = settled_kept k files finds closes over;
   }

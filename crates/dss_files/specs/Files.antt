@@ -1,12 +1,11 @@
 -- What the commands over a database tell, by what its files held, and what they leave there.
-use Rattle.std.specs.Prelude.{◌≡◌, ◌⊎◌, ℕ, List, Option, false, Result, Ok, Err, OnOk, OnErr, IfErr, codes}
+use Rattle.std.specs.Prelude.{◌≡◌, ◌⊎◌, ℕ, Bool, List, Option, false, Result, Ok, Err, OnOk, OnErr, IfErr, codes}
 use Rattle.std.specs.Io.KnownBytes.{Appends}
 use Rattle.sqlite_disk.specs.declared.Disk as disk
 use Rattle.sqlite_disk.specs.declared.Files.{Files}
 use Rattle.sqlite_store.specs.declared.store.FileStore.{FileStore}
 use Rattle.sqlite.specs.Recovery.{Image}
 use Rattle.sqlite.specs.WalReads.{AreClean}
-use Rattle.dss_report.specs.Report.{report_of}
 use Rattle.entity_core.specs.Airspace.{Airspace}
 use Rattle.service_tables.specs.Crash.{bound_waiting_of}
 use Rattle.service_tables.specs.Life.{StandFor}
@@ -25,6 +24,7 @@ use Rattle.space_tables.specs.declared.format.Format.{Format}
 use Rattle.space_tables.specs.declared.format.Format.TheVariants.{One, Two}
 use Rattle.token_conf.specs.TokenFile.{TokenFile}
 use Rattle.wire_http.specs.declared.moments.Moments as moments
+use Rattle.dss_command.specs.Print.{WritesReport}
 use Rattle.dss_command.specs.Service.{ServesClients}
 use Rattle.dss_command.specs.Stream.{ServesOver, ServesPartOver}
 use Rattle.dss_command.specs.declared.fault.Fault.{Fault}
@@ -51,14 +51,15 @@ EndsClosing (Err why) k result = result ≡ Err why
 EndsClosing (Ok x) k (Ok files) = ClosesFiles k files
 EndsClosing (Ok x) k (Err why) = why ≡ DatabaseFailed
 
--- What was written of a space, which was only read, is the report of the airspace that it held.
-pub record ReportsSpace {S : Type 0} (space : spaces.Ghosts S) (before after : Option (List ℕ))
-    (old new : S) (done : Result (Unit {0}) Fault) : Type 0 where
+-- What was written of a space, which was only read, is the report of the airspace that it held, or the
+-- cells of its references.
+pub record ReportsSpace {S : Type 0} (space : spaces.Ghosts S) (places : Bool)
+    (before after : Option (List ℕ)) (old new : S) (done : Result (Unit {0}) Fault) : Type 0 where
   pub sound : space.is_sound new → space.is_sound old
   pub whole : space.is_sound new → space.is_whole old → space.is_whole new
   pub no_other : space.is_sound new → (a : Airspace) → space.holds new a → space.holds old a
   pub told : OnOk done (space.is_sound new → (a : Airspace) → space.holds old a
-      → Appends before after (report_of a))
+      → WritesReport places a before after)
   pub fault : IfErr done (λ fault. (fault ≡ DatabaseFailed) ⊎ (fault ≡ Memory) ⊎ (fault ≡ Output))
 
 module _ {D : Type 0} (g : disk.Ghosts D) (image : Image) where
@@ -70,10 +71,12 @@ module _ {D : Type 0} (g : disk.Ghosts D) (image : Image) where
       → (left : Image) → FilesHave g files left
       → ∥ (FilesSpell Two left a × FilesSpell Two (without_log left) a) ∥₁
 
-  -- What was written is the report of the airspace for which the files stood, and they stand for it.
-  pub record ReportsFiles (before after : Option (List ℕ)) (files : Files D) : Type 0 where
+  -- What was written is the report of the airspace for which the files stood, or the cells of its
+  -- references, and they stand for it.
+  pub record ReportsFiles (places : Bool) (before after : Option (List ℕ)) (files : Files D)
+      : Type 0 where
     pub told : AreClean g files.log files.db → (a : Airspace) → StandFor image a
-        → Appends before after (report_of a)
+        → WritesReport places a before after
     pub kept : KeepsAirspace files
 
   -- What was written is the line of the format in which the files spelt an airspace, and they stand for
@@ -101,8 +104,8 @@ pub record ServesClosing {D : Type 0} {g : disk.Ghosts D}
 -- none. Then it is given back, without the copy.
 pub record ServesCopied {S M : Type 0} (tables : spaces.Ghosts (Kept S))
     (space : spaces.Ghosts (Bound (Group (Kept S))))
-    (m : moments.Ghosts M) (tokens : TokenFile) (old new : Kept S) (clock clock' : M)
-    (done : Result (Unit {0}) Fault) : Type 0 where
+    (m : moments.Ghosts M) (gives : List ℕ → Type 0) (tokens : TokenFile) (old new : Kept S)
+    (clock clock' : M) (done : Result (Unit {0}) Fault) : Type 0 where
   pub first : Bound (Group (Kept S))
   pub last : Bound (Group (Kept S))
   pub answer : Result Listed SpaceFault
@@ -110,9 +113,9 @@ pub record ServesCopied {S M : Type 0} (tables : spaces.Ghosts (Kept S))
       (λ a found. listed_airspace found ≡ a)
   pub calm : waits_in first.space ≡ false
   pub served : OnOk done
-      (ServesClients space (bound_waiting_of tables) m tokens first last clock clock')
+      (ServesClients space (bound_waiting_of tables) m gives tokens first last clock clock')
   pub part : OnErr done ((last ≡ first) × (clock' ≡ clock)
-      ⊎ ServesClients space (bound_waiting_of tables) m tokens first last clock clock')
+      ⊎ ServesClients space (bound_waiting_of tables) m gives tokens first last clock clock')
   pub sound : tables.is_sound last.space.store → space.is_sound last
   pub released : new ≡ last.space.store
 
@@ -120,9 +123,9 @@ pub record ServesCopied {S M : Type 0} (tables : spaces.Ghosts (Kept S))
 pub record ClosesServed {D M : Type 0} {g : disk.Ghosts D}
     (tables : spaces.Ghosts (Kept (FileStore D g)))
     (space : spaces.Ghosts (Bound (Group (Kept (FileStore D g)))))
-    (m : moments.Ghosts M) (tokens : TokenFile) (old : Kept (FileStore D g))
-    (clock clock' : M) (result : Result (Files D) Fault) : Type 0 where
+    (m : moments.Ghosts M) (gives : List ℕ → Type 0) (tokens : TokenFile)
+    (old : Kept (FileStore D g)) (clock clock' : M) (result : Result (Files D) Fault) : Type 0 where
   pub new : Kept (FileStore D g)
   pub done : Result (Unit {0}) Fault
-  pub served : ServesCopied tables space m tokens old new clock clock' done
+  pub served : ServesCopied tables space m gives tokens old new clock clock' done
   pub closed : EndsClosing done new result

@@ -1,5 +1,5 @@
 -- What `serve` leaves in the files of a database, and what the next start finds there.
-use Rattle.std.specs.Prelude.{Ok}
+use Rattle.std.specs.Prelude.{ℕ, List, Ok}
 use Rattle.sqlite_disk.specs.declared.Disk as disk
 use Rattle.sqlite_disk.specs.declared.Files.{Files}
 use Rattle.sqlite_store.specs.declared.store.FileStore.{FileStore}
@@ -33,11 +33,11 @@ FindsAgain {T} again before run after =
 -- What is known of files in which a database was served and closed: clients were answered in rounds,
 -- and the next start finds what may have come of the run of these, also where the log is gone.
 pub record ServedIsFound {S T M : Type 0} (space : spaces.Ghosts S) (waiting : settles.Ghosts S)
-    (m : moments.Ghosts M) (again : spaces.Ghosts (Kept T)) (tokens : TokenFile)
-    (clock clock' : M) (before after : Image) : Type 0 where
+    (m : moments.Ghosts M) (again : spaces.Ghosts (Kept T)) (gives : List ℕ → Type 0)
+    (tokens : TokenFile) (clock clock' : M) (before after : Image) : Type 0 where
   pub first : S
   pub last : S
-  pub clients : ServesClients space waiting m tokens first last clock clock'
+  pub clients : ServesClients space waiting m gives tokens first last clock clock'
   pub found : FindsAgain again before (run_of clients.first clients.serves.rounds) after
   pub without_log : FindsAgain again before (run_of clients.first clients.serves.rounds)
       (without_log after)
@@ -46,11 +46,11 @@ pub record ServedIsFound {S T M : Type 0} (space : spaces.Ghosts S) (waiting : s
 -- written.
 abbrev pub NextStartFinds : {D T M : Type 0} {g : disk.Ghosts D}
     → spaces.Ghosts (Kept (FileStore D g)) → spaces.Ghosts (Bound (Group (Kept (FileStore D g))))
-    → moments.Ghosts M → spaces.Ghosts (Kept T) → Type 0
-NextStartFinds {D} {T} {M} {g} tables space m again =
+    → moments.Ghosts M → spaces.Ghosts (Kept T) → (List ℕ → Type 0) → Type 0
+NextStartFinds {D} {T} {M} {g} tables space m again gives =
     (before after : Image) (tokens : TokenFile) (opened : Kept (FileStore D g)) (clock clock' : M)
     (files : Files D)
     → FindsSpelt before tables opened
-    → ClosesServed tables space m tokens opened clock clock' (Ok files)
+    → ClosesServed tables space m gives tokens opened clock clock' (Ok files)
     → AreClean g files.log files.db → FilesHave g files after
-    → ServedIsFound space (bound_waiting_of tables) m again tokens clock clock' before after
+    → ServedIsFound space (bound_waiting_of tables) m again gives tokens clock clock' before after

@@ -10,13 +10,16 @@ ghost use Rattle.wire_http.specs.Counted.{inner_of};
 ghost use Rattle.dss_command.specs.Stream.{ServesOver, ServesPartOver};
 ghost use Rattle.dss_command.specs.declared.fault.Fault.TheVariants.{DatabaseFailed, Memory, Output};
 ghost use Rattle.dss_files.specs.Files.{ClosesServed, EndsClosing, IsOfDatabase, IsRefusal};
+ghost use Rattle.dss_files.specs.Files.{KeepsAirspace};
 ghost use Rattle.dss_files.specs.Files.{ReportsFiles, ReportsSpace, ServesClosing, ServesCopied};
 ghost use Rattle.dss_files.specs.Files.{UpgradesFiles};
 
 use dss_command::clients::{Answering, Listen, serve_port};
 use dss_command::fault::Fault;
-use dss_command::print::{put_format, put_report};
+use dss_command::print;
+use dss_command::print::put_format;
 use dss_command::stream::serve_stream_over;
+use dss_serve::token_watch::{TokenSource, TokenWatch};
 use entity_core::salt::Salt;
 use mirror_tables::mirrored::mirrored;
 use space_bounds::bounded::Bounded;
@@ -74,28 +77,31 @@ pub fn closed<F: Start>(
 fn reported<A: Alter + Drop, W: Write>(
     alloc: Global,
     space: &mut SqlSpace<A>,
+    places: bool,
     output: &mut W,
 ) -> Result<(), Fault>
-    ensures { ReportsSpace ⟦<SqlSpace<A> as Space>⟧
+    ensures { ReportsSpace ⟦<SqlSpace<A> as Space>⟧ places
         (W.contents output.old) (W.contents output.new) space.old space.new result }
 {
-    put_report(alloc, space, output)
+    print::report(alloc, space, places, output)
 }
 
-/// The command `report`: the report of the airspace in the file of that name.
+/// The command `report`: the report of the airspace in the file of that name, or the cells of its
+/// references.
 pub fn report<F: Start, W: Write>(
     rt: &HostRuntime,
     name: &str,
     start: F,
+    places: bool,
     output: &mut W,
 ) -> Result<Files<FileFrom<F>>, Fault>
-    ensures reported { IfOk result (ReportsFiles ⟦<FileFrom<F> as Disk>⟧ (image_at F.Start)
+    ensures reported { IfOk result (ReportsFiles ⟦<FileFrom<F> as Disk>⟧ (image_at F.Start) places
         (W.contents output.old) (W.contents output.new)) }
     ensures told { IfErr result (λ fault.
         IsOfDatabase fault ⊎ (fault ≡ Memory) ⊎ (fault ≡ Output)) }
 {
     let (mut space, _) = opened(rt, name, start)?;
-    let done = reported(rt.alloc(), &mut space, output);
+    let done = reported(rt.alloc(), &mut space, places, output);
     closed(done, space)
 }
 
@@ -116,6 +122,21 @@ pub fn upgrade<F: Start, W: Write>(
     let upgraded = space.upgraded();
     let files = closed(Ok(()), space)?;
     put_format(upgraded, output)?;
+    Ok(files)
+}
+
+/// The database in the file of that name as it is to be copied: opened, and closed, so that the file
+/// alone has all, without its log. Until the files are let go no other program opens it.
+pub fn settled<F: Start>(
+    rt: &HostRuntime,
+    name: &str,
+    start: F,
+) -> Result<Files<FileFrom<F>>, Fault>
+    ensures kept { IfOk result (KeepsAirspace ⟦<FileFrom<F> as Disk>⟧ (image_at F.Start)) }
+    ensures told { IfErr result IsOfDatabase }
+{
+    let (space, _) = opened(rt, name, start)?;
+    let files = closed(Ok(()), space)?;
     Ok(files)
 }
 
@@ -168,13 +189,14 @@ fn tally_of(alloc: Global, most_kept: Option<u32>) -> Option<Tally> {
 }
 
 // Answers the clients of a port over tables in some store, with a copy of them in memory.
-fn served_by_copy<A: Alter + Drop, M: Moments, L: Listen + Drop, E: Write>(
+fn served_by_copy<A: Alter + Drop, M: Moments, L: Listen + Drop, T: TokenSource + Drop, E: Write>(
     alloc: Global,
     space: SqlSpace<A>,
     listed: Option<Listed>,
     most_kept: Option<u32>,
     salt: Salt,
     given: Answering<'_>,
+    watch: TokenWatch<T>,
     moments: &mut M,
     listener: L,
     error: &mut E,
@@ -182,7 +204,7 @@ fn served_by_copy<A: Alter + Drop, M: Moments, L: Listen + Drop, E: Write>(
     requires salt { salt ≡ salt_of given.tokens.now }
     requires listed { IfSome listed (IsAllOf A.Store space) }
     ensures served { ServesCopied ⟦<SqlSpace<A> as Space>⟧
-        ⟦<Bounded<Grouped<SqlSpace<A>>> as Space>⟧ M.Moments
+        ⟦<Bounded<Grouped<SqlSpace<A>>> as Space>⟧ M.Moments T.gives
         given.entry.tokens.now space result.1 moments.old moments.new result.0 }
     ensures counted { OnOk result.0 (IsSome given.entry.limits.count
         ⊎ IsSome given.entry.operated) }
@@ -190,22 +212,23 @@ fn served_by_copy<A: Alter + Drop, M: Moments, L: Listen + Drop, E: Write>(
     let mut tally = tally_of(alloc, most_kept);
     let grouped = mirrored(alloc, space, listed, &mut tally);
     let bounded = Bounded::new(grouped, tally);
-    let (done, served) = serve_port(alloc, bounded, salt, given, moments, listener, error);
+    let (done, served) = serve_port(alloc, bounded, salt, given, watch, moments, listener, error);
     let inside = served.release();
     (done, inside.release())
 }
 
 /// The command `serve` over a database that was opened, which is closed last, with a copy of it in
-/// memory as long as there is memory for it. Changes that wait for the end of a round are kept then,
+/// memory as long as there is memory for it, while the token file is watched. Changes that wait for the end of a round are kept then,
 /// or none of them. With a number no more than so many entities and subscriptions are kept of each
 /// supplier.
-pub fn serve<F: Start, M: Moments, L: Listen + Drop, E: Write>(
+pub fn serve<F: Start, M: Moments, L: Listen + Drop, T: TokenSource + Drop, E: Write>(
     alloc: Global,
     space: SqlSpace<FileStore<FileFrom<F>>>,
     listed: Option<Listed>,
     most_kept: Option<u32>,
     salt: Salt,
     given: Answering<'_>,
+    watch: TokenWatch<T>,
     moments: &mut M,
     listener: L,
     error: &mut E,
@@ -213,13 +236,13 @@ pub fn serve<F: Start, M: Moments, L: Listen + Drop, E: Write>(
     requires salt { salt ≡ salt_of given.tokens.now }
     requires listed { IfSome listed (IsAllOf over_files space) }
     ensures served { ClosesServed ⟦<SqlSpace<FileStore<FileFrom<F>>> as Space>⟧
-        ⟦<Bounded<Grouped<SqlSpace<FileStore<FileFrom<F>>>>> as Space>⟧ M.Moments
+        ⟦<Bounded<Grouped<SqlSpace<FileStore<FileFrom<F>>>>> as Space>⟧ M.Moments T.gives
         given.entry.tokens.now space moments.old moments.new result }
     ensures counted { OnOk result (IsSome given.entry.limits.count
         ⊎ IsSome given.entry.operated) }
 {
     let (done, space) = served_by_copy(
-        alloc, space, listed, most_kept, salt, given, moments, listener, error,
+        alloc, space, listed, most_kept, salt, given, watch, moments, listener, error,
     );
     closed(done, space)
 }

@@ -1,6 +1,7 @@
 //! A law of the commands over a database. No program calls it: what it says is in its contract.
 ghost use Rattle.dss_files.specs.Served.{NextStartFinds};
 
+use dss_serve::token_watch::TokenSource;
 use service_tables::laws::closed_run_in_rounds_continues;
 use space_bounds::bounded::Bounded;
 use space_core::space::Space;
@@ -12,10 +13,10 @@ use wire_http::Moments;
 /// From one start of `serve` to the next: what its clients were told as done, once it is closed, is
 /// found by whoever then opens the files. It is said of what `opened` takes, by its clause `finds`, of
 /// what `serve` then closes, by its clause `served`, and of what `SqlSpace::open` takes next.
-pub fn next_start_finds<F: Start, M: Moments, T: Alter>()
+pub fn next_start_finds<F: Start, M: Moments, T: Alter, W: TokenSource>()
     ensures { NextStartFinds ⟦<SqlSpace<FileStore<FileFrom<F>>> as Space>⟧
         ⟦<Bounded<Grouped<SqlSpace<FileStore<FileFrom<F>>>>> as Space>⟧ M.Moments
-        ⟦<SqlSpace<T> as Space>⟧ }
+        ⟦<SqlSpace<T> as Space>⟧ W.gives }
 {
     closed_run_in_rounds_continues::<F>();
 }

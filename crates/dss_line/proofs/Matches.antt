@@ -1,6 +1,6 @@
 -- What the getters of `clap`'s matches read, by the rows of the matches.
 use Rattle.std.proofs.Common.{◌≡◌, ◌<◌, ◌^◌, ℕ, List, Option, Some, None, codes, refl, sym, subst, inl, inr, ap, ◌∙◌, arith, false}
-use Rattle.std.specs.Prelude.{Bool, IfNone, IfSome, is_some, option_map, true, ◌⊎◌}
+use Rattle.std.specs.Prelude.{Bool, IfNone, IfSome, is_some, not, option_map, true, ◌⊎◌}
 use Rattle.std.specs.Borrow.{Bor}
 use Rattle.std.specs.Net.Grammar.{IsIpv4Text}
 use Rattle.std.specs.declared.net.ipv4_addr.Ipv4Addr.{Ipv4Addr}
@@ -20,7 +20,7 @@ use Rattle.dss_line.specs.declared.serving.Serving.{Serving}
 use Rattle.dss_line.specs.LineFault.{IsFaultOf}
 use Rattle.dss_line.specs.declared.fault.LineFault.{LineFault}
 use Rattle.dss_line.specs.declared.fault.LineFault.TheVariants as fault
-use Rattle.dss_line.specs.declared.line.Line.TheVariants.{Cell, CheckTokens, Loopback, NewSalt, NewToken, Report, Run, Serve, Upgrade}
+use Rattle.dss_line.specs.declared.line.Line.TheVariants.{Backup, Cell, CheckTokens, Loopback, NewSalt, NewToken, Report, Run, Serve, Upgrade}
 
 -- a number that was read is that of the argument's text
 pub number_from_text : (f : Found) (id : Text) (n : ℕ) → (one_text f id ≡ None → Some n ≡ None) → ((t : List ℕ) → one_text f id ≡ Some t → (IsNumeral 10 (without_leading_plus t) × (digits_value 10 (without_leading_plus t) < 2 ^ 64)) × (n ≡ digits_value 10 (without_leading_plus t))) → HasNumber id (rows_of f) n
@@ -53,7 +53,8 @@ nothing_of_run rows none (Run tokens now database requests) asks = none tokens n
 nothing_of_run rows none (Serve given) asks = other _ _ refl asks.0
 nothing_of_run rows none (Loopback tokens now request) asks = other _ _ refl asks.0
 nothing_of_run rows none (Cell token) asks = other _ _ refl asks.0
-nothing_of_run rows none (Report database) asks = other _ _ refl asks.0
+nothing_of_run rows none (Report database places) asks = other _ _ refl asks.0
+nothing_of_run rows none (Backup database to) asks = other _ _ refl asks.0
 nothing_of_run rows none (Upgrade database) asks = other _ _ refl asks.0
 nothing_of_run rows none (CheckTokens file) asks = other _ _ refl asks.0
 nothing_of_run rows none (NewToken uss scopes) asks = other _ _ refl asks.0
@@ -65,7 +66,8 @@ nothing_of_serve rows none (Run tokens now database requests) asks = other _ _ r
 nothing_of_serve rows none (Serve given) asks = none given asks.1
 nothing_of_serve rows none (Loopback tokens now request) asks = other _ _ refl asks.0
 nothing_of_serve rows none (Cell token) asks = other _ _ refl asks.0
-nothing_of_serve rows none (Report database) asks = other _ _ refl asks.0
+nothing_of_serve rows none (Report database places) asks = other _ _ refl asks.0
+nothing_of_serve rows none (Backup database to) asks = other _ _ refl asks.0
 nothing_of_serve rows none (Upgrade database) asks = other _ _ refl asks.0
 nothing_of_serve rows none (CheckTokens file) asks = other _ _ refl asks.0
 nothing_of_serve rows none (NewToken uss scopes) asks = other _ _ refl asks.0
@@ -77,7 +79,8 @@ nothing_of_self rows none (Run tokens now database requests) asks = other _ _ re
 nothing_of_self rows none (Serve given) asks = other _ _ refl asks.0
 nothing_of_self rows none (Loopback tokens now request) asks = none tokens now request asks.1
 nothing_of_self rows none (Cell token) asks = other _ _ refl asks.0
-nothing_of_self rows none (Report database) asks = other _ _ refl asks.0
+nothing_of_self rows none (Report database places) asks = other _ _ refl asks.0
+nothing_of_self rows none (Backup database to) asks = other _ _ refl asks.0
 nothing_of_self rows none (Upgrade database) asks = other _ _ refl asks.0
 nothing_of_self rows none (CheckTokens file) asks = other _ _ refl asks.0
 nothing_of_self rows none (NewToken uss scopes) asks = other _ _ refl asks.0
@@ -89,23 +92,38 @@ nothing_of_cell rows none (Run tokens now database requests) asks = other _ _ re
 nothing_of_cell rows none (Serve given) asks = other _ _ refl asks.0
 nothing_of_cell rows none (Loopback tokens now request) asks = other _ _ refl asks.0
 nothing_of_cell rows none (Cell token) asks = none token asks.1
-nothing_of_cell rows none (Report database) asks = other _ _ refl asks.0
+nothing_of_cell rows none (Report database places) asks = other _ _ refl asks.0
+nothing_of_cell rows none (Backup database to) asks = other _ _ refl asks.0
 nothing_of_cell rows none (Upgrade database) asks = other _ _ refl asks.0
 nothing_of_cell rows none (CheckTokens file) asks = other _ _ refl asks.0
 nothing_of_cell rows none (NewToken uss scopes) asks = other _ _ refl asks.0
 nothing_of_cell rows none NewSalt asks = other _ _ refl asks.0
 
 -- the command `report` asks for nothing where no line of it has the values
-pub nothing_of_report : (rows : List Row) → ((database : Bor (List ℕ)) → HasValues rows (Report database) → ⊥) → AsksNothing (Some (codes "report", rows))
+pub nothing_of_report : (rows : List Row) → ((database : Bor (List ℕ)) (places : Bool) → HasValues rows (Report database places) → ⊥) → AsksNothing (Some (codes "report", rows))
 nothing_of_report rows none (Run tokens now database requests) asks = other _ _ refl asks.0
 nothing_of_report rows none (Serve given) asks = other _ _ refl asks.0
 nothing_of_report rows none (Loopback tokens now request) asks = other _ _ refl asks.0
 nothing_of_report rows none (Cell token) asks = other _ _ refl asks.0
-nothing_of_report rows none (Report database) asks = none database asks.1
+nothing_of_report rows none (Report database places) asks = none database places asks.1
+nothing_of_report rows none (Backup database to) asks = other _ _ refl asks.0
 nothing_of_report rows none (Upgrade database) asks = other _ _ refl asks.0
 nothing_of_report rows none (CheckTokens file) asks = other _ _ refl asks.0
 nothing_of_report rows none (NewToken uss scopes) asks = other _ _ refl asks.0
 nothing_of_report rows none NewSalt asks = other _ _ refl asks.0
+
+-- the command `backup` asks for nothing where no line of it has the values
+pub nothing_of_backup : (rows : List Row) → ((database to : Bor (List ℕ)) → HasValues rows (Backup database to) → ⊥) → AsksNothing (Some (codes "backup", rows))
+nothing_of_backup rows none (Run tokens now database requests) asks = other _ _ refl asks.0
+nothing_of_backup rows none (Serve given) asks = other _ _ refl asks.0
+nothing_of_backup rows none (Loopback tokens now request) asks = other _ _ refl asks.0
+nothing_of_backup rows none (Cell token) asks = other _ _ refl asks.0
+nothing_of_backup rows none (Report database places) asks = other _ _ refl asks.0
+nothing_of_backup rows none (Backup database to) asks = none database to asks.1
+nothing_of_backup rows none (Upgrade database) asks = other _ _ refl asks.0
+nothing_of_backup rows none (CheckTokens file) asks = other _ _ refl asks.0
+nothing_of_backup rows none (NewToken uss scopes) asks = other _ _ refl asks.0
+nothing_of_backup rows none NewSalt asks = other _ _ refl asks.0
 
 -- the command `upgrade` asks for nothing where no line of it has the values
 pub nothing_of_upgrade : (rows : List Row) → ((database : Bor (List ℕ)) → HasValues rows (Upgrade database) → ⊥) → AsksNothing (Some (codes "upgrade", rows))
@@ -113,7 +131,8 @@ nothing_of_upgrade rows none (Run tokens now database requests) asks = other _ _
 nothing_of_upgrade rows none (Serve given) asks = other _ _ refl asks.0
 nothing_of_upgrade rows none (Loopback tokens now request) asks = other _ _ refl asks.0
 nothing_of_upgrade rows none (Cell token) asks = other _ _ refl asks.0
-nothing_of_upgrade rows none (Report database) asks = other _ _ refl asks.0
+nothing_of_upgrade rows none (Report database places) asks = other _ _ refl asks.0
+nothing_of_upgrade rows none (Backup database to) asks = other _ _ refl asks.0
 nothing_of_upgrade rows none (Upgrade database) asks = none database asks.1
 nothing_of_upgrade rows none (CheckTokens file) asks = other _ _ refl asks.0
 nothing_of_upgrade rows none (NewToken uss scopes) asks = other _ _ refl asks.0
@@ -151,7 +170,8 @@ nothing_of_tokens rows check new scopes flag a b c d none (Run tokens now databa
 nothing_of_tokens rows check new scopes flag a b c d none (Serve given) asks = other _ _ refl asks.0
 nothing_of_tokens rows check new scopes flag a b c d none (Loopback tokens now request) asks = other _ _ refl asks.0
 nothing_of_tokens rows check new scopes flag a b c d none (Cell token) asks = other _ _ refl asks.0
-nothing_of_tokens rows check new scopes flag a b c d none (Report database) asks = other _ _ refl asks.0
+nothing_of_tokens rows check new scopes flag a b c d none (Report database places) asks = other _ _ refl asks.0
+nothing_of_tokens rows check new scopes flag a b c d none (Backup database to) asks = other _ _ refl asks.0
 nothing_of_tokens rows check new scopes flag a b c d none (Upgrade database) asks = other _ _ refl asks.0
 nothing_of_tokens rows check new scopes flag a b c d none (CheckTokens file) (named, has) =
     no_check check new scopes flag file.now (a ∙ has.0) (b ∙ has.1) (c ∙ has.2) (d ∙ has.3) none
@@ -198,6 +218,16 @@ listens_nowhere rows text there none a has =
       | inl is ↦ let same : Some text ≡ Some is.0 = sym there ∙ is.1 in let texts : is.0 ≡ text = cc in none a (subst (λ (t : Text). IsIpv4Text t a) texts is.2)
       | inr is ↦ absent _ text is.0 there
     ]
+
+-- a text is found where it is there
+pub found_where : (o : Option (Bor (List ℕ))) (found : Option Text) → option_map (λ word. word.now) o ≡ found → is_some found ≡ is_some o
+found_where None found is = ap is_some (sym is)
+found_where (Some word) found is = ap is_some (sym is)
+
+-- and is not found where it is not
+pub absent_where : (o : Option (Bor (List ℕ))) (found : Option Text) (none : Bool) → is_some o ≡ not none → option_map (λ word. word.now) o ≡ found → none ≡ not (is_some found)
+absent_where o found true none is = sym (ap not (found_where o found is ∙ none))
+absent_where o found false none is = sym (ap not (found_where o found is ∙ none))
 
 -- a text that is not there is not found
 pub no_text : (o : Option (Bor (List ℕ))) (found : Option Text) → is_some o ≡ false → option_map (λ word. word.now) o ≡ found → found ≡ None

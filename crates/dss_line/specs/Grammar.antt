@@ -1,7 +1,18 @@
 -- The command line's grammar, in `clap`'s words: its commands, and the rule of each argument.
-use Rattle.std.specs.Prelude.{ℕ, Some, codes, true}
+use Rattle.std.specs.Prelude.{◌≡◌, ℕ, Some, codes, false, true}
 use Rattle.clap.specs.Simple.{on_top}
-use Rattle.clap.specs.Words.{App, Rule, Text, new_app, new_rule, with_rule, with_subcommand}
+use Rattle.clap.specs.Words.{
+  App,
+  Rule,
+  Text,
+  app_of,
+  new_app,
+  new_rule,
+  with_rule,
+  with_subcommand,
+}
+use Rattle.clap.specs.declared.builder.command.Command.{Command}
+use Rattle.clap.specs.declared.builder.command.Command.TheViews.{out-Command}
 use Rattle.clap.specs.declared.builder.value_parser.ValueParser.TheVariants.{Unsigned}
 use Rattle.clap.specs.declared.builder.action.ArgAction.TheVariants.{SetTrue}
 use Rattle.dss_line.specs.declared.line.TheConstants.{
@@ -11,6 +22,10 @@ use Rattle.dss_line.specs.declared.line.TheConstants.{
   MOST_CLIENTS,
   MOST_CONNECTIONS,
 }
+
+-- the command has this grammar, of whose arguments none is for the commands below too
+abbrev pub HasGrammar : App → Command → Type 0
+HasGrammar app command = (app_of command ≡ app) × ((out-Command command).has_globals ≡ false)
 
 -- ---- arguments
 
@@ -72,6 +87,9 @@ request_rule = record (word_rule (codes "request")) { value_names = 1 }
 abbrev pub token_rule : Rule
 token_rule = record (word_rule (codes "token")) { value_names = 1 }
 
+abbrev pub to_rule : Rule
+to_rule = record (word_rule (codes "to")) { value_names = 1 }
+
 -- ---- commands
 
 abbrev pub run_app : App
@@ -94,15 +112,20 @@ serve_bounds =
     (number_rule (codes "clients") 1 MOST_CLIENTS))
     (number_rule (codes "most-kept") 1 GREATEST_BOUND)
 
-abbrev pub serve_app : App
-serve_app =
+-- those for who runs it
+abbrev pub serve_watch : App
+serve_watch =
     with_rule
     (with_rule
     (with_rule
     (with_rule serve_bounds (number_rule (codes "admin") 1 LAST_PORT))
+    (choice_rule (codes "backups")))
     (choice_rule (codes "listen")))
-    (flag_rule (codes "wary")))
-    (flag_rule (codes "verbose"))
+    (choice_rule (codes "log"))
+
+abbrev pub serve_app : App
+serve_app =
+    with_rule (with_rule serve_watch (flag_rule (codes "wary"))) (flag_rule (codes "verbose"))
 
 abbrev pub self_app : App
 self_app =
@@ -112,7 +135,11 @@ abbrev pub cell_app : App
 cell_app = with_rule (new_app (codes "cell")) token_rule
 
 abbrev pub report_app : App
-report_app = with_rule (new_app (codes "report")) store_rule
+report_app =
+    with_rule (with_rule (new_app (codes "report")) store_rule) (flag_rule (codes "places"))
+
+abbrev pub backup_app : App
+backup_app = with_rule (with_rule (new_app (codes "backup")) store_rule) to_rule
 
 abbrev pub upgrade_app : App
 upgrade_app = with_rule (new_app (codes "upgrade")) store_rule
@@ -141,10 +168,12 @@ dss_app =
     (with_subcommand
     (with_subcommand
     (with_subcommand
+    (with_subcommand
     (with_subcommand own_app run_app.top)
     serve_app.top)
     self_app.top)
     cell_app.top)
     report_app.top)
+    backup_app.top)
     upgrade_app.top)
     tokens_app.top

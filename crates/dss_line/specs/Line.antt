@@ -14,9 +14,12 @@ use Rattle.std.specs.Prelude.{
   Some,
   None,
   codes,
+  is_some,
   map,
   nat_eq,
+  not,
   option_map,
+  ◌&&◌,
 }
 use Rattle.std.specs.Cmp.Lexicographic.{pointwise}
 use Rattle.std.specs.Option.{option_map_or}
@@ -40,6 +43,7 @@ use Rattle.dss_line.specs.declared.line.TheConstants.{
 }
 use Rattle.dss_line.specs.declared.line.Line.{Line}
 use Rattle.dss_line.specs.declared.line.Line.TheVariants.{
+  Backup,
   Cell,
   CheckTokens,
   Loopback,
@@ -96,6 +100,15 @@ HasOptions rows check new scopes new_salt =
     × (first_of (codes "scopes") rows ≡ scopes)
     × (is_set (codes "new-salt") rows ≡ new_salt)
 
+-- the value of an option, if it is there
+abbrev pub HasText : Text → List Row → Option (Bor Text) → Type 0
+HasText id rows word = first_of id rows ≡ option_map (λ text. text.now) word
+
+-- a folder for copies is named, and no operator's port, at which they are asked for
+abbrev pub lacks_port : List Row → Bool
+lacks_port rows =
+    is_some (first_of (codes "backups") rows) && not (is_some (first_of (codes "admin") rows))
+
 -- the arguments of the command `serve` have these values
 pub record HasServing (rows : List Row) (given : Serving) : Type 0 where
   pub tokens : first_of (codes "tokens") rows ≡ Some given.tokens.now
@@ -106,6 +119,9 @@ pub record HasServing (rows : List Row) (given : Serving) : Type 0 where
   pub clients : HasClients rows given.clients
   pub most_kept : HasChoice (codes "most-kept") 1 GREATEST_BOUND rows given.most_kept
   pub admin : HasChoice (codes "admin") 1 LAST_PORT rows given.admin
+  pub backups : HasText (codes "backups") rows given.backups
+  pub log : HasText (codes "log") rows given.log
+  pub copies : lacks_port rows ≡ false
   pub wary : is_set (codes "wary") rows ≡ given.wary
   pub verbose : is_set (codes "verbose") rows ≡ given.verbose
 
@@ -115,7 +131,8 @@ name_of (Run tokens now database requests) = codes "run"
 name_of (Serve given) = codes "serve"
 name_of (Loopback tokens now request) = codes "self"
 name_of (Cell token) = codes "cell"
-name_of (Report database) = codes "report"
+name_of (Report database places) = codes "report"
+name_of (Backup database to) = codes "backup"
 name_of (Upgrade database) = codes "upgrade"
 name_of (CheckTokens file) = codes "tokens"
 name_of (NewToken uss scopes) = codes "tokens"
@@ -126,7 +143,7 @@ abbrev pub HasValues : List Row → Line → Type 0
 HasValues rows (Run tokens now database requests) =
     (first_of (codes "tokens") rows ≡ Some tokens.now)
     × HasNumberIn (codes "now") 0 LAST_MOMENT rows now
-    × (first_of (codes "db") rows ≡ option_map (λ word. word.now) database)
+    × HasText (codes "db") rows database
     × (first_of (codes "requests") rows ≡ Some requests.now)
 HasValues rows (Serve given) = HasServing rows given
 HasValues rows (Loopback tokens now request) =
@@ -134,7 +151,10 @@ HasValues rows (Loopback tokens now request) =
     × HasNumberIn (codes "now") 0 LAST_MOMENT rows now
     × (first_of (codes "request") rows ≡ Some request.now)
 HasValues rows (Cell token) = first_of (codes "token") rows ≡ Some token.now
-HasValues rows (Report database) = first_of (codes "db") rows ≡ Some database.now
+HasValues rows (Report database places) =
+    (first_of (codes "db") rows ≡ Some database.now) × (is_set (codes "places") rows ≡ places)
+HasValues rows (Backup database to) =
+    (first_of (codes "db") rows ≡ Some database.now) × (first_of (codes "to") rows ≡ Some to.now)
 HasValues rows (Upgrade database) = first_of (codes "db") rows ≡ Some database.now
 HasValues rows (CheckTokens file) = HasOptions rows (Some file.now) None None false
 HasValues rows (NewToken uss scopes) = HasOptions rows None (Some uss.now) (Some scopes.now) false

@@ -1,8 +1,9 @@
 //! The command line's grammar: the commands of the program, with their arguments.
 ghost use Rattle.std.specs.Prelude.{◌≡◌, IfOk, codes, false};
-ghost use Rattle.clap.specs.Words.{app_of, rule_of};
-ghost use Rattle.clap.specs.declared.builder.command.Command.TheViews.{out-Command};
+ghost use Rattle.clap.specs.Words.{rule_of};
 ghost use Rattle.dss_line.specs.Grammar.{
+  HasGrammar,
+  backup_app,
   cell_app,
   choice_rule,
   database_rule,
@@ -19,6 +20,7 @@ ghost use Rattle.dss_line.specs.Grammar.{
   self_app,
   serve_app,
   store_rule,
+  to_rule,
   token_rule,
   tokens_app,
   tokens_rule,
@@ -123,7 +125,8 @@ fn most_kept_option<'a>(alloc: Global) -> Arg<'a>
     ensures local { result.global ≡ false }
 {
     number_option(alloc, "most-kept", "NUMBER", GREATEST_BOUND).help(
-        "How many entities and subscriptions to keep of each supplier, with 64 cells for each, from 1 to 4294967295; without it there is no bound",
+        "How many entities and subscriptions to keep of each supplier, with 64 cells for each, \
+         from 1 to 4294967295; without it there is no bound",
     )
 }
 
@@ -132,7 +135,27 @@ fn admin_option<'a>(alloc: Global) -> Arg<'a>
     ensures local { result.global ≡ false }
 {
     number_option(alloc, "admin", "PORT", LAST_PORT).help(
-        "The operator's port of 127.0.0.1, from 1 to 65535, for /health, /metrics and /stop; without it there is none",
+        "The operator's port of 127.0.0.1, from 1 to 65535, for /health, /metrics and /stop; \
+         without it there is none",
+    )
+}
+
+// An option with a value, which need not be there.
+fn choice<'a>(alloc: Global, name: &'a str, value: &'a str) -> Arg<'a>
+    ensures rule { rule_of result ≡ choice_rule name.entry.now }
+    ensures local { result.global ≡ false }
+{
+    Arg::new(alloc, name).long(name).value_name(value)
+}
+
+// The folder for copies that are asked for at the operator's port.
+fn backups_option<'a>(alloc: Global) -> Arg<'a>
+    ensures rule { rule_of result ≡ choice_rule (codes "backups") }
+    ensures local { result.global ≡ false }
+{
+    choice(alloc, "backups", "FOLDER").help(
+        "Where POST /backup of the operator's port puts copies of the database, with --admin; \
+         without it none are made",
     )
 }
 
@@ -141,10 +164,17 @@ fn listen_option<'a>(alloc: Global) -> Arg<'a>
     ensures rule { rule_of result ≡ choice_rule (codes "listen") }
     ensures local { result.global ≡ false }
 {
-    Arg::new(alloc, "listen")
-        .long("listen")
-        .value_name("ADDRESS")
-        .help("The IPv4 address to listen on; without it 127.0.0.1")
+    choice(alloc, "listen", "ADDRESS").help("The IPv4 address to listen on; without it 127.0.0.1")
+}
+
+// The file to which a line is written for each request.
+fn log_option<'a>(alloc: Global) -> Arg<'a>
+    ensures rule { rule_of result ≡ choice_rule (codes "log") }
+    ensures local { result.global ≡ false }
+{
+    choice(alloc, "log", "FILE").help(
+        "Where a line is written for each request, - for standard error; without it nowhere",
+    )
 }
 
 // A word that has to be there.
@@ -182,15 +212,24 @@ fn token_word<'a>(alloc: Global) -> Arg<'a>
         .help("The token of the cell")
 }
 
+// The file of a copy.
+fn to_word<'a>(alloc: Global) -> Arg<'a>
+    ensures rule { rule_of result ≡ to_rule }
+    ensures local { result.global ≡ false }
+{
+    word(alloc, "to")
+        .value_name("TO")
+        .help("The file of the copy, which must not be there yet")
+}
+
 // The token file that is checked.
 fn check_option<'a>(alloc: Global) -> Arg<'a>
     ensures rule { rule_of result ≡ choice_rule (codes "check") }
     ensures local { result.global ≡ false }
 {
-    Arg::new(alloc, "check")
-        .long("check")
-        .value_name("FILE")
-        .help("The token file: what is wrong with it is told line by line")
+    choice(alloc, "check", "FILE").help(
+        "The token file: what is wrong with it is told line by line",
+    )
 }
 
 // The supplier of a new token.
@@ -198,7 +237,7 @@ fn new_option<'a>(alloc: Global) -> Arg<'a>
     ensures rule { rule_of result ≡ choice_rule (codes "new") }
     ensures local { result.global ≡ false }
 {
-    Arg::new(alloc, "new").long("new").value_name("USS").help(
+    choice(alloc, "new", "USS").help(
         "The id of a supplier: the table of a new token is printed, with --scopes",
     )
 }
@@ -208,10 +247,9 @@ fn scopes_option<'a>(alloc: Global) -> Arg<'a>
     ensures rule { rule_of result ≡ choice_rule (codes "scopes") }
     ensures local { result.global ≡ false }
 {
-    Arg::new(alloc, "scopes")
-        .long("scopes")
-        .value_name("SCOPES")
-        .help("The names of the new token's scopes, with commas between")
+    choice(alloc, "scopes", "SCOPES").help(
+        "The names of the new token's scopes, with commas between",
+    )
 }
 
 // A flag, which is set or not.
@@ -228,6 +266,17 @@ fn new_salt_flag<'a>(alloc: Global) -> Arg<'a>
     ensures local { result.global ≡ false }
 {
     flag(alloc, "new-salt").help("The line of a new salt is printed")
+}
+
+// Whether the cells of each reference are told.
+fn places_flag<'a>(alloc: Global) -> Arg<'a>
+    ensures rule { rule_of result ≡ flag_rule (codes "places") }
+    ensures local { result.global ≡ false }
+{
+    flag(alloc, "places").help(
+        "Print a line for each cell of each volume in place of one for each reference, \
+         and no serial",
+    )
 }
 
 // Whether nothing is supposed of a torn write.
@@ -251,8 +300,7 @@ fn verbose_flag<'a>(alloc: Global) -> Arg<'a>
 }
 
 fn run_command<'a>(alloc: Global) -> Result<Command<'a>, AllocError>
-    ensures { IfOk result (λ command. (app_of command ≡ run_app)
-        × ((out-Command command).has_globals ≡ false)) }
+    ensures { IfOk result (HasGrammar run_app) }
 {
     Command::new(alloc, "run")
         .about("Serves one stream of requests")
@@ -263,8 +311,7 @@ fn run_command<'a>(alloc: Global) -> Result<Command<'a>, AllocError>
 }
 
 fn serve_command<'a>(alloc: Global) -> Result<Command<'a>, AllocError>
-    ensures { IfOk result (λ command. (app_of command ≡ serve_app)
-        × ((out-Command command).has_globals ≡ false)) }
+    ensures { IfOk result (HasGrammar serve_app) }
 {
     Command::new(alloc, "serve")
         .about("Serves connections to a port of this machine, many at once")
@@ -275,14 +322,15 @@ fn serve_command<'a>(alloc: Global) -> Result<Command<'a>, AllocError>
         .arg(clients_option(alloc))?
         .arg(most_kept_option(alloc))?
         .arg(admin_option(alloc))?
+        .arg(backups_option(alloc))?
         .arg(listen_option(alloc))?
+        .arg(log_option(alloc))?
         .arg(wary_flag(alloc))?
         .arg(verbose_flag(alloc))
 }
 
 fn self_command<'a>(alloc: Global) -> Result<Command<'a>, AllocError>
-    ensures { IfOk result (λ command. (app_of command ≡ self_app)
-        × ((out-Command command).has_globals ≡ false)) }
+    ensures { IfOk result (HasGrammar self_app) }
 {
     Command::new(alloc, "self")
         .about("Serves one stream of requests in memory, through a socket of its own")
@@ -292,8 +340,7 @@ fn self_command<'a>(alloc: Global) -> Result<Command<'a>, AllocError>
 }
 
 fn cell_command<'a>(alloc: Global) -> Result<Command<'a>, AllocError>
-    ensures { IfOk result (λ command. (app_of command ≡ cell_app)
-        × ((out-Command command).has_globals ≡ false)) }
+    ensures { IfOk result (HasGrammar cell_app) }
 {
     Command::new(alloc, "cell")
         .about("Prints the cell of a token")
@@ -301,17 +348,25 @@ fn cell_command<'a>(alloc: Global) -> Result<Command<'a>, AllocError>
 }
 
 fn report_command<'a>(alloc: Global) -> Result<Command<'a>, AllocError>
-    ensures { IfOk result (λ command. (app_of command ≡ report_app)
-        × ((out-Command command).has_globals ≡ false)) }
+    ensures { IfOk result (HasGrammar report_app) }
 {
     Command::new(alloc, "report")
         .about("Prints the references that a database keeps, and its serial")
-        .arg(store_option(alloc))
+        .arg(store_option(alloc))?
+        .arg(places_flag(alloc))
+}
+
+fn backup_command<'a>(alloc: Global) -> Result<Command<'a>, AllocError>
+    ensures { IfOk result (HasGrammar backup_app) }
+{
+    Command::new(alloc, "backup")
+        .about("Copies a database that nothing has open: the copy is whole, or there is none")
+        .arg(store_option(alloc))?
+        .arg(to_word(alloc))
 }
 
 fn upgrade_command<'a>(alloc: Global) -> Result<Command<'a>, AllocError>
-    ensures { IfOk result (λ command. (app_of command ≡ upgrade_app)
-        × ((out-Command command).has_globals ≡ false)) }
+    ensures { IfOk result (HasGrammar upgrade_app) }
 {
     Command::new(alloc, "upgrade")
         .about("Brings a database to format 2, and prints which format it had")
@@ -319,12 +374,12 @@ fn upgrade_command<'a>(alloc: Global) -> Result<Command<'a>, AllocError>
 }
 
 fn tokens_command<'a>(alloc: Global) -> Result<Command<'a>, AllocError>
-    ensures { IfOk result (λ command. (app_of command ≡ tokens_app)
-        × ((out-Command command).has_globals ≡ false)) }
+    ensures { IfOk result (HasGrammar tokens_app) }
 {
     Command::new(alloc, "tokens")
         .about(
-            "Checks a token file, or makes a token or a salt for one: one of --check, --new, --new-salt",
+            "Checks a token file, or makes a token or a salt for one: \
+             one of --check, --new, --new-salt",
         )
         .arg(check_option(alloc))?
         .arg(new_option(alloc))?
@@ -334,8 +389,7 @@ fn tokens_command<'a>(alloc: Global) -> Result<Command<'a>, AllocError>
 
 /// The commands of the program.
 pub(crate) fn command<'a>(alloc: Global) -> Result<Command<'a>, AllocError>
-    ensures { IfOk result (λ command. (app_of command ≡ dss_app)
-        × ((out-Command command).has_globals ≡ false)) }
+    ensures { IfOk result (HasGrammar dss_app) }
 {
     Command::new(alloc, "dss")
         .about("A discovery and synchronization service for drone suppliers")
@@ -346,6 +400,7 @@ pub(crate) fn command<'a>(alloc: Global) -> Result<Command<'a>, AllocError>
         .subcommand(self_command(alloc)?)?
         .subcommand(cell_command(alloc)?)?
         .subcommand(report_command(alloc)?)?
+        .subcommand(backup_command(alloc)?)?
         .subcommand(upgrade_command(alloc)?)?
         .subcommand(tokens_command(alloc)?)
 }

@@ -26,6 +26,7 @@ ghost use Rattle.dss_line.specs.Line.{
   HasListen,
   HasNumberIn,
   is_set,
+  lacks_port,
   line_of_options,
   texts,
 };
@@ -52,6 +53,11 @@ pub const MOST_CLIENTS: u64 = 1_000;
 
 /// The greatest bound of what is kept of each supplier.
 pub const GREATEST_BOUND: u64 = 4_294_967_295;
+
+// What is told where the words have no mistake by themselves and ask for nothing.
+const NO_LINE: &str =
+    "error: the command line names no whole command, no IPv4 address after --listen, \
+    or --backups without --admin\n";
 
 /// What a command line asks for.
 #[derive(Clone, Copy, Debug, PartialEq, Eq)]
@@ -87,6 +93,15 @@ pub enum Line<'a> {
     Report {
         /// The name of the database's file.
         database: &'a str,
+        /// Whether the cells of each reference are told.
+        places: bool,
+    },
+    /// Copy a database that nobody has open.
+    Backup {
+        /// The name of the database's file.
+        database: &'a str,
+        /// The name of the copy's file.
+        to: &'a str,
     },
     /// Bring a database to the newest format, and say which it had.
     Upgrade {
@@ -235,12 +250,22 @@ fn most_kept_in(matches: &ArgMatches<'_>) -> Option<Option<u32>>
     }
 }
 
+// Whether a folder for copies is named, and no operator's port, at which they are asked for.
+fn lacks_port(matches: &ArgMatches<'_>) -> bool
+    ensures { result ≡ lacks_port (rows_of (found_of matches.now)) }
+{
+    matches.get_str("backups").is_some() && matches.get_str("admin").is_none()
+}
+
 // The same of the subcommand `serve`.
 fn serve_line<'a>(matches: &ArgMatches<'a>) -> Option<Line<'a>>
     ensures some { IfSome result (Asks (Some (codes "serve", rows_of (found_of matches.now)))) }
     ensures none { IfNone result (AsksNothing
         (Some (codes "serve", rows_of (found_of matches.now)))) }
 {
+    if lacks_port(matches) {
+        return None;
+    }
     Some(Line::Serve(Serving {
         tokens: matches.get_str("tokens")?,
         database: matches.get_str("db")?,
@@ -250,6 +275,8 @@ fn serve_line<'a>(matches: &ArgMatches<'a>) -> Option<Line<'a>>
         clients: clients_in(matches)?,
         most_kept: most_kept_in(matches)?,
         admin: admin_in(matches)?,
+        backups: matches.get_str("backups"),
+        log: matches.get_str("log"),
         wary: is_set(matches, "wary"),
         verbose: is_set(matches, "verbose"),
     }))
@@ -287,6 +314,19 @@ fn report_line<'a>(matches: &ArgMatches<'a>) -> Option<Line<'a>>
 {
     Some(Line::Report {
         database: matches.get_str("db")?,
+        places: is_set(matches, "places"),
+    })
+}
+
+// The same of the subcommand `backup`, which names a copy, too.
+fn backup_line<'a>(matches: &ArgMatches<'a>) -> Option<Line<'a>>
+    ensures some { IfSome result (Asks (Some (codes "backup", rows_of (found_of matches.now)))) }
+    ensures none { IfNone result (AsksNothing
+        (Some (codes "backup", rows_of (found_of matches.now)))) }
+{
+    Some(Line::Backup {
+        database: matches.get_str("db")?,
+        to: matches.get_str("to")?,
     })
 }
 
@@ -351,6 +391,7 @@ fn line_of<'a>(name: &str, matches: &ArgMatches<'a>) -> Option<Line<'a>>
         "self" => loopback_line(matches),
         "cell" => cell_line(matches),
         "report" => report_line(matches),
+        "backup" => backup_line(matches),
         "upgrade" => upgrade_line(matches),
         "tokens" => tokens_line(matches),
         _ => None,
@@ -384,9 +425,6 @@ pub fn parse<'a>(alloc: Global, words: &'a [&'a str]) -> Result<Line<'a>, LineFa
     };
     match line_in(&matches) {
         Some(line) => Ok(line),
-        None => Err(LineFault::Refused(String::from_str(
-            alloc,
-            "error: the command line names no whole command, or no IPv4 address after --listen\n",
-        )?)),
+        None => Err(LineFault::Refused(String::from_str(alloc, NO_LINE)?)),
     }
 }

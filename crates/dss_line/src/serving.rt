@@ -21,6 +21,12 @@ pub struct Serving<'a> {
     pub most_kept: Option<u32>,
     /// The operator's port, at least 1, if there is one.
     pub admin: Option<u16>,
+    /// The name of the folder for copies that are asked for at the operator's port, if there is
+    /// one; then there is an operator's port.
+    pub backups: Option<&'a str>,
+    /// The name of the file to which a line is written for each request, if there is one; `-` is
+    /// standard error.
+    pub log: Option<&'a str>,
     /// Whether nothing is supposed of a torn write of the database.
     pub wary: bool,
     /// Whether it tells, before it listens, what the token file surely does not mean, and its

@@ -1,9 +1,10 @@
 //! What the program prints of an airspace and of the grid: a report, which has a line for each
-//! reference that a space keeps, and its serial; and the line of a cell.
+//! reference that a space keeps, and its serial; the cells of references; and the line of a cell.
 #![tactic(auto)]
 
 pub mod cell;
 pub mod fault;
 mod kept;
 mod line;
+pub mod places;
 pub mod report;

@@ -16,8 +16,8 @@ use entity_core::entity::Entity;
 use entity_core::nature::{Kind, Nature};
 use std::alloc::{AllocError, Global};
 
-// The word of a kind.
-fn kind_word(kind: Kind) -> &'static str
+/// The word of a kind.
+pub(crate) fn kind_word(kind: Kind) -> &'static str
     ensures { result.now ≡ kind_word kind }
 {
     match kind {
@@ -26,8 +26,8 @@ fn kind_word(kind: Kind) -> &'static str
     }
 }
 
-// The word of a state: its name, and of a constraint a dash.
-fn state_word(nature: Nature) -> &'static str
+/// The word of a state: its name, and of a constraint a dash.
+pub(crate) fn state_word(nature: Nature) -> &'static str
     ensures { result.now ≡ state_word nature }
 {
     match nature {

@@ -1,12 +1,20 @@
-use Rattle.std.proofs.Common.{rules, ap, ap₂, codes, false, ◌≡◌, ◌∙◌, ◌||◌}
+use Rattle.std.proofs.Common.{ap, codes, ◌∙◌}
 use Rattle.std.proofs.lemmas.Result.{IfOk-weaker}
 use Rattle.clap.specs.Simple.{app_of_fields}
-use Rattle.clap.specs.Words.{app_of, new_app, with_rule}
-use Rattle.clap.specs.declared.builder.command.Command.TheViews.{out-Command}
+use Rattle.clap.specs.Words.{new_app}
+use Rattle.clap.specs.declared.builder.command.Command.{Command}
+use Rattle.clap.specs.declared.builder.command.Command.TheOpen.{Command-F}
+use Rattle.dss_line.specs.Grammar.{HasGrammar}
+use Rattle.dss_line.proofs.Adding.{arg_more}
 use Rattle.dss_line.proofs.grammar.report_command.Goals as goal
 
 pub returns : goal.returns
 returns c =
-    let named : app_of c.about.result ≡ new_app (codes "report") = ap app_of_fields c.about.ensures ∙ c.new.ensures.app in
-    let local : (out-Command c.about.result).has_globals ≡ false = search rules in
-    IfOk-weaker c.arg.result _ _ (λ command h. (h.shape (search rules) ∙ ap₂ with_rule named c.store_option.ensures.rule, h.globals ∙ ap₂ (λ a b. a || b) local c.store_option.ensures.local)) c.arg.ensures
+    let with_0 : HasGrammar (new_app (codes "report")) c.about.result = (
+      ap app_of_fields c.about.ensures ∙ c.new.ensures.app,
+      ap (λ (f : Command-F Command). f.has_globals) c.about.ensures ∙ c.new.ensures.local,
+    ) in
+    let with_1 = arg_more with_0 c.store_option.ensures.rule c.store_option.ensures.local c.in_ok-arg.ensures in
+    IfOk-weaker c.arg-2.result _ _
+    (λ command adds. arg_more with_1 c.places_flag.ensures.rule c.places_flag.ensures.local adds)
+    c.arg-2.ensures

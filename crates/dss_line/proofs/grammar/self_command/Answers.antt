@@ -1,15 +1,21 @@
-use Rattle.std.proofs.Common.{rules, ap, ap₂, codes, false, ◌≡◌, ◌∙◌, ◌||◌}
+use Rattle.std.proofs.Common.{ap, codes, ◌∙◌}
 use Rattle.std.proofs.lemmas.Result.{IfOk-weaker}
 use Rattle.clap.specs.Simple.{app_of_fields}
-use Rattle.clap.specs.Words.{app_of, new_app, with_rule}
-use Rattle.clap.specs.declared.builder.command.Command.TheViews.{out-Command}
-use Rattle.dss_line.specs.Grammar.{now_rule, tokens_rule}
+use Rattle.clap.specs.Words.{new_app}
+use Rattle.clap.specs.declared.builder.command.Command.{Command}
+use Rattle.clap.specs.declared.builder.command.Command.TheOpen.{Command-F}
+use Rattle.dss_line.specs.Grammar.{HasGrammar}
+use Rattle.dss_line.proofs.Adding.{arg_more}
 use Rattle.dss_line.proofs.grammar.self_command.Goals as goal
 
 pub returns : goal.returns
 returns c =
-    let named : app_of c.about.result ≡ new_app (codes "self") = ap app_of_fields c.about.ensures ∙ c.new.ensures.app in
-    let with_1 : app_of c.in_ok-arg.field-0 ≡ with_rule (new_app (codes "self")) tokens_rule = c.in_ok-arg.ensures.shape (search rules) ∙ ap₂ with_rule named c.tokens_option.ensures.rule in
-    let with_2 : app_of c.in_ok-arg-2.field-0 ≡ with_rule (with_rule (new_app (codes "self")) tokens_rule) now_rule = c.in_ok-arg-2.ensures.shape (search rules) ∙ ap₂ with_rule with_1 c.now_option.ensures.rule in
-    let local : (out-Command c.in_ok-arg-2.field-0).has_globals ≡ false = search rules in
-    IfOk-weaker c.arg-3.result _ _ (λ command h. (h.shape (search rules) ∙ ap₂ with_rule with_2 c.request_word.ensures.rule, h.globals ∙ ap₂ (λ a b. a || b) local c.request_word.ensures.local)) c.arg-3.ensures
+    let with_0 : HasGrammar (new_app (codes "self")) c.about.result = (
+      ap app_of_fields c.about.ensures ∙ c.new.ensures.app,
+      ap (λ (f : Command-F Command). f.has_globals) c.about.ensures ∙ c.new.ensures.local,
+    ) in
+    let with_1 = arg_more with_0 c.tokens_option.ensures.rule c.tokens_option.ensures.local c.in_ok-arg.ensures in
+    let with_2 = arg_more with_1 c.now_option.ensures.rule c.now_option.ensures.local c.in_ok-arg-2.ensures in
+    IfOk-weaker c.arg-3.result _ _
+    (λ command adds. arg_more with_2 c.request_word.ensures.rule c.request_word.ensures.local adds)
+    c.arg-3.ensures

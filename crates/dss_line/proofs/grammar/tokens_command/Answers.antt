@@ -1,16 +1,22 @@
-use Rattle.std.proofs.Common.{rules, ap, ap₂, codes, false, ◌≡◌, ◌∙◌, ◌||◌}
+use Rattle.std.proofs.Common.{ap, codes, ◌∙◌}
 use Rattle.std.proofs.lemmas.Result.{IfOk-weaker}
 use Rattle.clap.specs.Simple.{app_of_fields}
-use Rattle.clap.specs.Words.{app_of, new_app, with_rule}
-use Rattle.clap.specs.declared.builder.command.Command.TheViews.{out-Command}
-use Rattle.dss_line.specs.Grammar.{choice_rule}
+use Rattle.clap.specs.Words.{new_app}
+use Rattle.clap.specs.declared.builder.command.Command.{Command}
+use Rattle.clap.specs.declared.builder.command.Command.TheOpen.{Command-F}
+use Rattle.dss_line.specs.Grammar.{HasGrammar}
+use Rattle.dss_line.proofs.Adding.{arg_more}
 use Rattle.dss_line.proofs.grammar.tokens_command.Goals as goal
 
 pub returns : goal.returns
 returns c =
-    let named : app_of c.about.result ≡ new_app (codes "tokens") = ap app_of_fields c.about.ensures ∙ c.new.ensures.app in
-    let with_1 : app_of c.in_ok-arg.field-0 ≡ with_rule (new_app (codes "tokens")) (choice_rule (codes "check")) = c.in_ok-arg.ensures.shape (search rules) ∙ ap₂ with_rule named c.check_option.ensures.rule in
-    let with_2 : app_of c.in_ok-arg-2.field-0 ≡ with_rule (with_rule (new_app (codes "tokens")) (choice_rule (codes "check"))) (choice_rule (codes "new")) = c.in_ok-arg-2.ensures.shape (search rules) ∙ ap₂ with_rule with_1 c.new_option.ensures.rule in
-    let with_3 : app_of c.in_ok-arg-3.field-0 ≡ with_rule (with_rule (with_rule (new_app (codes "tokens")) (choice_rule (codes "check"))) (choice_rule (codes "new"))) (choice_rule (codes "scopes")) = c.in_ok-arg-3.ensures.shape (search rules) ∙ ap₂ with_rule with_2 c.scopes_option.ensures.rule in
-    let local : (out-Command c.in_ok-arg-3.field-0).has_globals ≡ false = search rules in
-    IfOk-weaker c.arg-4.result _ _ (λ command h. (h.shape (search rules) ∙ ap₂ with_rule with_3 c.new_salt_flag.ensures.rule, h.globals ∙ ap₂ (λ a b. a || b) local c.new_salt_flag.ensures.local)) c.arg-4.ensures
+    let with_0 : HasGrammar (new_app (codes "tokens")) c.about.result = (
+      ap app_of_fields c.about.ensures ∙ c.new.ensures.app,
+      ap (λ (f : Command-F Command). f.has_globals) c.about.ensures ∙ c.new.ensures.local,
+    ) in
+    let with_1 = arg_more with_0 c.check_option.ensures.rule c.check_option.ensures.local c.in_ok-arg.ensures in
+    let with_2 = arg_more with_1 c.new_option.ensures.rule c.new_option.ensures.local c.in_ok-arg-2.ensures in
+    let with_3 = arg_more with_2 c.scopes_option.ensures.rule c.scopes_option.ensures.local c.in_ok-arg-3.ensures in
+    IfOk-weaker c.arg-4.result _ _
+    (λ command adds. arg_more with_3 c.new_salt_flag.ensures.rule c.new_salt_flag.ensures.local adds)
+    c.arg-4.ensures

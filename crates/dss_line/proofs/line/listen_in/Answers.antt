@@ -1,9 +1,6 @@
-use Rattle.std.proofs.Common.{◌≡◌, List, ℕ, Some, None, ◌∙◌, ap, codes, inl, inr, sym}
-use Rattle.std.specs.Net.Grammar.{IsIpv4Text}
-use Rattle.std.specs.declared.net.ipv4_addr.Ipv4Addr.{Ipv4Addr}
+use Rattle.std.proofs.Common.{◌∙◌, codes, inl, inr, sym}
 use Rattle.clap.specs.Words.{found_of, rows_of}
 use Rattle.clap.proofs.WalkLemmas.{first_value-rows}
-use Rattle.dss_line.specs.Line.{HasListen}
 use Rattle.dss_line.proofs.Matches.{listens_nowhere, none_too, some_too}
 use Rattle.dss_line.proofs.line.listen_in.Goals as goal
 

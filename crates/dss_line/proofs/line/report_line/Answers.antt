@@ -8,10 +8,11 @@ pub returns-clause-some : goal.returns-clause-some
 returns-clause-some c =
     let f = found_of c.args.matches.now in (
       refl,
-      sym (c.in_ok-get_str.ensures ∙ first_value-rows f (codes "db")),
+      (sym (c.in_ok-get_str.ensures ∙ first_value-rows f (codes "db")), sym c.is_set.ensures),
     )
 
 pub returns-in_err-get_str-clause-none : goal.returns-in_err-get_str-clause-none
 returns-in_err-get_str-clause-none c =
     let f = found_of c.args.matches.now in
-    anyway _ _ (nothing_of_report (rows_of f) (λ db values. absent _ _ (sym (c.in_err-get_str.ensures ∙ first_value-rows f (codes "db"))) (values)))
+    let missing = sym (c.in_err-get_str.ensures ∙ first_value-rows f (codes "db")) in
+    anyway _ _ (nothing_of_report (rows_of f) (λ db places values. absent _ _ missing values.0))

@@ -1,4 +1,4 @@
-use Rattle.std.proofs.Common.{codes, refl, sym, ◌∙◌}
+use Rattle.std.proofs.Common.{codes, false, refl, sym, true, ◌∙◌, ◌≡◌}
 use Rattle.clap.specs.Words.{found_of, rows_of}
 use Rattle.clap.proofs.WalkLemmas.{first_value-rows}
 use Rattle.dss_line.proofs.Matches.{absent, anyway, nothing_of_serve}
@@ -17,10 +17,19 @@ returns-clause-some c =
         clients = c.in_ok-clients_in.ensures.some;
         most_kept = c.in_ok-most_kept_in.ensures.some;
         admin = c.in_ok-admin_in.ensures.some;
+        backups = sym (c.get_str-3.ensures ∙ first_value-rows f (codes "backups"));
+        log = sym (c.get_str-4.ensures ∙ first_value-rows f (codes "log"));
+        copies = sym c.lacks_port.ensures ∙ c.if-lacks_port.false;
         wary = sym c.is_set.ensures;
         verbose = sym c.is_set-2.ensures;
       },
     )
+
+pub returns-then-lacks_port-clause-none : goal.returns-then-lacks_port-clause-none
+returns-then-lacks_port-clause-none c =
+    let f = found_of c.args.matches.now in
+    let lacks = sym c.lacks_port.ensures ∙ c.if-lacks_port.true in
+    nothing_of_serve (rows_of f) (λ given has. let bad : true ≡ false = sym lacks ∙ has.copies in cc)
 
 pub returns-in_err-get_str-clause-none : goal.returns-in_err-get_str-clause-none
 returns-in_err-get_str-clause-none c =

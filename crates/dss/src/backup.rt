@@ -1,0 +1,51 @@
+//! The command `backup`: a copy of a database that nothing has open.
+use crate::copying::{Copying, is_free};
+use dss_command::copy_fault::CopyFault;
+use dss_command::fault::{Fault, of_system};
+use dss_files::files::settled;
+use space_opening::open_fault::OpenFault;
+use sqlite::Start;
+use std::fs;
+use std::fs::File;
+
+// The file of a database that is there: none is made in order to copy it.
+fn is_database(rt: &HostRuntime, name: &str) -> Result<(), Fault> {
+    match fs::metadata(rt, name) {
+        Ok(found) if found.is_file() => Ok(()),
+        _ => Err(Fault::Database(OpenFault::Store)),
+    }
+}
+
+// Copies a file.
+fn copied(rt: &HostRuntime, name: &str, to: &str) -> Result<(), Fault> {
+    let source = match File::open(rt, name) {
+        Ok(source) => source,
+        Err(cause) => return Err(of_system(&cause, Fault::Copy(CopyFault::Read))),
+    };
+    let mut copying = Copying::begin(rt, source, to)?;
+    for _ in 0..u64::MAX {
+        match copying.go_on() {
+            Ok(true) => {}
+            Ok(false) => return copying.finish(),
+            Err(fault) => {
+                copying.give_up();
+                return Err(fault);
+            }
+        }
+    }
+    copying.give_up();
+    Err(Fault::Copy(CopyFault::Read))
+}
+
+/// Runs the command. As long as it copies, no other program opens the database.
+pub(crate) fn backup<F: Start>(
+    rt: &HostRuntime,
+    database: &str,
+    to: &str,
+    start: F,
+) -> Result<(), Fault> {
+    is_free(rt, to)?;
+    is_database(rt, database)?;
+    let _files = settled(rt, database, start)?;
+    copied(rt, database, to)
+}

@@ -1,0 +1,74 @@
+-- The line that a log has for a request.
+use Rattle.std.specs.Prelude.{◌≡◌, ◌/◌, ◌++◌, ℕ, List, false, Option, Some, None, codes, decimal}
+use Rattle.std.specs.Duration.{as_nanos}
+use Rattle.std.specs.declared.time.Duration.{Duration}
+use Rattle.jiff_core.specs.declared.timestamp.Timestamp.{Timestamp}
+use Rattle.jiff_fmt.specs.declared.temporal.printer.DateTimePrinter.{DateTimePrinter}
+use Rattle.jiff_fmt.specs.Printer.{IsTimestampText, options}
+use Rattle.entity_core.specs.EntityId.{printed}
+use Rattle.policy_core.specs.Rule as policy
+use Rattle.wire_head.specs.Rule as wire
+use Rattle.wire_http.specs.declared.noted.Noted.{Noted}
+use Rattle.wire_http.specs.declared.noted.Outcome.{Outcome}
+use Rattle.wire_http.specs.declared.noted.Outcome.TheVariants as outcomes
+use Rattle.dss_admin.specs.Operation.{operation_word}
+use Rattle.dss_serve.specs.declared.journal.LoggedRequest.{LoggedRequest}
+
+-- the instant in UTC (RFC 3339), with three places of a second; `-` where none is told
+abbrev pub IsMoment : Option Timestamp → List ℕ → Type 0
+IsMoment None text = text ≡ codes "-"
+IsMoment (Some moment) text = (printer : DateTimePrinter)
+    × (options printer ≡ (false, 84, Some 3)) × IsTimestampText printer moment text
+
+abbrev pub supplier_word : Option (List ℕ) → List ℕ
+supplier_word None = codes "-"
+supplier_word (Some id) = id
+
+abbrev pub entity_word : Option ℕ → List ℕ
+entity_word None = codes "-"
+entity_word (Some id) = printed id
+
+-- a rule by its number: P4 of the policy, H2 of the wire
+abbrev pub rule_word : Outcome → List ℕ
+rule_word outcomes.Done = codes "-"
+rule_word (outcomes.Denied rule) = codes "P" ++ decimal (policy.number_of rule)
+rule_word outcomes.Fault = codes "-"
+rule_word outcomes.Stopped = codes "-"
+rule_word (outcomes.Wire rule) = codes "H" ++ decimal (wire.number_of rule)
+
+-- whole microseconds
+abbrev pub microseconds_word : Option Duration → List ℕ
+microseconds_word None = codes "-"
+microseconds_word (Some took) = decimal (as_nanos took / 1_000)
+
+-- when and by whom a request was made
+unfoldable pub who : List ℕ → ℕ → List ℕ → List ℕ
+who time connection supplier =
+    codes "time=" ++ (time
+    ++ (codes " connection=" ++ (decimal connection ++ (codes " supplier=" ++ supplier))))
+
+-- what it asked for, and with which status it was answered
+unfoldable pub what : List ℕ → List ℕ → ℕ → List ℕ
+what operation entity status =
+    codes " operation=" ++ (operation
+    ++ (codes " entity=" ++ (entity ++ (codes " status=" ++ decimal status))))
+
+-- which rule it broke, what its answer took, and the end of the line
+unfoldable pub how : List ℕ → List ℕ → ℕ → List ℕ
+how rule took size =
+    codes " rule=" ++ (rule
+    ++ (codes " microseconds=" ++ (took
+    ++ (codes " bytes=" ++ (decimal size ++ codes "\n")))))
+
+-- the line with its end, of a request that was answered at that time
+unfoldable pub log_line : List ℕ → LoggedRequest → List ℕ
+log_line time request =
+    who time request.connection (supplier_word request.noted.now.supplier)
+    ++ what (operation_word request.noted.now.operation) (entity_word request.noted.now.entity)
+    request.status
+    ++ how (rule_word request.noted.now.outcome) (microseconds_word request.took) request.size
+
+-- the line of a request that was answered at that moment
+abbrev pub IsLogLine : Option Timestamp → LoggedRequest → List ℕ → Type 0
+IsLogLine moment request line = (time : List ℕ) × IsMoment moment time
+    × (line ≡ log_line time request)

@@ -1,0 +1,131 @@
+//! The line that a log has for a request.
+ghost use Rattle.std.specs.Prelude.{◌≡◌, IfOk};
+ghost use Rattle.std.specs.String.{string_bytes};
+ghost use Rattle.dss_command.specs.LogLine.{IsLogLine, IsMoment, entity_word, how, log_line, microseconds_word, rule_word, supplier_word, what, who};
+
+use dss_admin::operation::operation_name;
+use dss_serve::journal::LoggedRequest;
+use entity_core::entity_id::EntityId;
+use entity_core::uss_id::UssId;
+use jiff_core::Timestamp;
+use jiff_fmt::temporal::DateTimePrinter;
+use std::alloc::{AllocError, Global};
+use std::time::Duration;
+use wire_http::Outcome;
+
+// The moment in UTC, with three places of a second; `-` where none is told.
+fn moment_text(alloc: Global, moment: Option<Timestamp>) -> Result<String, AllocError>
+    ensures { IfOk result (λ text. IsMoment moment (string_bytes text)) }
+{
+    match moment {
+        Some(moment) => {
+            let printer = DateTimePrinter::new().precision(Some(3));
+            String::from_str(alloc, printer.timestamp_text(moment).as_str())
+        }
+        None => String::from_str(alloc, "-"),
+    }
+}
+
+// A supplier's id.
+fn supplier_word(supplier: &Option<UssId>) -> &str
+    ensures { result.now ≡ supplier_word supplier.now }
+{
+    match supplier {
+        Some(uss) => uss.text(),
+        None => "-",
+    }
+}
+
+// The id of an entity or a subscription.
+fn entity_word(alloc: Global, entity: Option<EntityId>) -> Result<String, AllocError>
+    ensures { IfOk result (λ text. string_bytes text ≡ entity_word entity) }
+{
+    match entity {
+        Some(id) => id.text(alloc),
+        None => String::from_str(alloc, "-"),
+    }
+}
+
+// A rule that was broken: `P4`, `H2`.
+fn rule_word(alloc: Global, outcome: Outcome) -> Result<String, AllocError>
+    ensures { IfOk result (λ text. string_bytes text ≡ rule_word outcome) }
+{
+    match outcome {
+        Outcome::Denied(rule) => {
+            let number = rule.number();
+            format!(in alloc; "P{number}")
+        }
+        Outcome::Wire(rule) => {
+            let number = rule.number();
+            format!(in alloc; "H{number}")
+        }
+        Outcome::Done | Outcome::Fault | Outcome::Stopped => String::from_str(alloc, "-"),
+    }
+}
+
+// The whole microseconds of a time.
+fn microseconds_word(alloc: Global, took: Option<Duration>) -> Result<String, AllocError>
+    ensures { IfOk result (λ text. string_bytes text ≡ microseconds_word took) }
+{
+    match took {
+        Some(took) => {
+            let count = took.as_micros();
+            format!(in alloc; "{count}")
+        }
+        None => String::from_str(alloc, "-"),
+    }
+}
+
+// When and by whom a request was made.
+#[tactic(auto, unfolding(crate::specs::LogLine::who))]
+fn who(alloc: Global, time: &str, connection: u64, supplier: &str) -> Result<String, AllocError>
+    ensures { IfOk result (λ text. string_bytes text ≡ who time.now connection supplier.now) }
+{
+    format!(in alloc; "time={time} connection={connection} supplier={supplier}")
+}
+
+// What it asked for, and with which status it was answered.
+#[tactic(auto, unfolding(crate::specs::LogLine::what))]
+fn what(alloc: Global, operation: &str, entity: &str, status: u16) -> Result<String, AllocError>
+    ensures { IfOk result (λ text. string_bytes text ≡ what operation.now entity.now status) }
+{
+    format!(in alloc; " operation={operation} entity={entity} status={status}")
+}
+
+// Which rule it broke, and what its answer took.
+#[tactic(auto, unfolding(crate::specs::LogLine::how))]
+fn how(alloc: Global, rule: &str, took: &str, size: usize) -> Result<String, AllocError>
+    ensures { IfOk result (λ text. string_bytes text ≡ how rule.now took.now size) }
+{
+    format!(in alloc; " rule={rule} microseconds={took} bytes={size}\n")
+}
+
+// The line of a request that was answered at that time.
+#[tactic(auto, unfolding(crate::specs::LogLine::log_line))]
+fn line_at(alloc: Global, time: &str, request: &LoggedRequest<'_>) -> Result<String, AllocError>
+    ensures { IfOk result (λ line. string_bytes line ≡ log_line time.now request.now) }
+{
+    let noted = request.noted;
+    let supplier = supplier_word(&noted.supplier);
+    let entity = entity_word(alloc, noted.entity)?;
+    let rule = rule_word(alloc, noted.outcome)?;
+    let took = microseconds_word(alloc, request.took)?;
+    let operation = operation_name(noted.operation);
+    let mut line = who(alloc, time, request.connection, supplier)?;
+    line.push_str(what(alloc, operation, entity.as_str(), request.status)?.as_str())?;
+    line.push_str(how(alloc, rule.as_str(), took.as_str(), request.size)?.as_str())?;
+    Ok(line)
+}
+
+/// The line for a request that was answered at that moment, with its end. It has no part of a token, of
+/// an OVN or of a body.
+pub(crate) fn log_line(
+    alloc: Global,
+    moment: Option<Timestamp>,
+    request: &LoggedRequest<'_>,
+) -> Result<String, AllocError>
+    ensures { IfOk result (λ line. IsLogLine moment request.now (string_bytes line)) }
+{
+    let time = moment_text(alloc, moment)?;
+    line_at(alloc, time.as_str(), request)
+}
