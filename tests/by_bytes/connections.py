@@ -107,7 +107,7 @@ def joined(steps):
 
 def examples():
     """The streams of the worked examples, each with its name, its moment and its answers."""
-    for example in json.loads((TOP / "tests" / "worked_examples.json").read_text()):
+    for example in json.loads((TOP / "tests" / "data" / "worked_examples.json").read_text()):
         steps = [(step["request"].encode("latin-1"), step["answer"].encode("latin-1")) for step in example["steps"]]
         if example["in_one_stream"]:
             kept = [(request.replace(CLOSE, b""), answer.replace(CLOSE, b"")) for request, answer in steps[:-1]]

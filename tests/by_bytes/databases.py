@@ -145,7 +145,7 @@ def worked_examples():
     """Each worked example gives over a database the bytes that it gives in memory, in one stream and with a program for
     each step."""
     found = []
-    for example in json.loads((TOP / "tests" / "worked_examples.json").read_text()):
+    for example in json.loads((TOP / "tests" / "data" / "worked_examples.json").read_text()):
         requests = [step["request"].encode("latin-1") for step in example["steps"]]
         answers = [step["answer"].encode("latin-1") for step in example["steps"]]
         with Room() as room:

@@ -5,6 +5,7 @@ SHA-256."""
 import json
 import re
 import socket
+import tempfile
 
 import wire
 from program import BUILT, TOP, run
@@ -59,6 +60,22 @@ def meeting_over_sockets():
     return [] if is_right else [f"{status}, {output!r}, {error!r}"]
 
 
+def meeting_of_the_readme():
+    """The lines of the README are answered as they say: 201, 409 for the key, 201, and both flights with one OVN alone."""
+    lines = re.search(r"```bash\n(.*?)```", (TOP / "README.md").read_text(), re.DOTALL)[1]
+    with tempfile.TemporaryDirectory() as room:
+        port = free_port()
+        lines = lines.replace("8080", f"{port}").replace("/tmp/dss-meeting", f"{room}/meeting")
+        # on a machine that is busy a start takes longer than a reader's
+        lines = lines.replace("sleep 1", f"until curl -s 127.0.0.1:{port} >/dev/null; do sleep 0.1; done")
+        status, output, error = run(["bash", "-c", lines])
+    said = output.decode()
+    statuses = re.findall(r" (\d{3})$", said, re.M)
+    references = json.loads(said.splitlines()[-1])["operational_intent_references"]
+    right = statuses == ["201", "409", "201"] and "P14 KEY" in said and ["ovn" in it for it in references] == [False, True]
+    return [] if right and len(lines.splitlines()) <= 12 else [f"{status}, {said}, {error!r}"]
+
+
 def client():
     """The client declares four flights in one cell, in turn for two suppliers, and sees its own OVNs alone."""
     with Service() as service:
@@ -74,5 +91,6 @@ CASES = {f"example-{it.stem}": lambda it=it: answered(it) for it in requests()} 
     "examples-in-pairs": in_pairs,
     "bodies-for-clients": bodies_for_clients,
     "meeting-over-sockets": meeting_over_sockets,
+    "meeting-of-the-readme": meeting_of_the_readme,
     "example-of-a-client": client,
 }

@@ -1,5 +1,5 @@
-"""Each name of code in the documents is one of the repository's, the pictures are of what is there, and the first line of each
-source, definition, script and test says what it has.
+"""Each name of code in the documents is one of the repository's, each link leads somewhere, the pictures are of what is there, and
+the first line of each source, definition, script and test says what it has.
 
 What stands in backquotes is looked at word by word: a file must be there, the parts of `crate::item` must be made in
 that crate and those of `Type::call` in one file, an edit must stand among the edits of its crate, and any other name
@@ -7,7 +7,7 @@ must be made in some code, outside comments. Words in upper case stand for other
 are looked at by other tests.
 
 A name that is said to be in a file must be made there. In the tables of what is proved one must be made in the crate
-that it is said of: in README the crate of the row; in PROOF, of the contracts, the crate in brackets behind them or that
+that it is said of: in PROOF crate by crate that of the row; in its index, of the contracts, the crate in brackets behind them or that
 of `crate::module` before them, and of the definitions the crate that stands with their file, or else one of those of the
 contracts."""
 import functools
@@ -19,9 +19,9 @@ import runpy
 
 from program import TOP
 
-DOCUMENTS = sorted([*TOP.glob("*.md"), *TOP.glob("docs/*.md"), *TOP.glob("bench/*.md")])
+DOCUMENTS = sorted(it for folder in ("", "docs/", "bench/", "deploy/", "gateway/", "qualify/") for it in TOP.glob(f"{folder}*.md"))
 # How a comment begins, by the end of a file's name.
-COMMENTS = {".rt": "//", ".c": "//", ".antt": "--"} | dict.fromkeys(("", ".py", ".bash", ".txt", ".yaml", ".toml"), "#")
+COMMENTS = {".rt": "//", ".c": "//", ".antt": "--"} | dict.fromkeys(("", ".py", ".bash", ".txt", ".yaml", ".toml", ".cfg", ".conf", ".service"), "#")
 FILE = re.compile(r".+\.(rt|antt|py|bash|c|txt|yaml|toml|md|http|edit|json|answers|any)")
 # How a name is made in Rattle and in its definitions: an item, a field, a variant, a clause.
 DECLARED = {
@@ -35,7 +35,7 @@ DECLARED = {
 # What is no name: text of JSON or HTTP, a shell's signs, a rule with its name.
 NO_NAME = re.compile(r"""[{"'=<>|$~!+\\]|^/|:[/ ]|^[PH]\d+( |$)|^\W+$""")
 # Where no name is made: data of cases, and this list.
-OUTSIDE = ("tests/cases/", "tests/by_bytes/names.py")
+OUTSIDE = ("tests/data/cases/", "tests/by_bytes/names.py")
 # Names of other programs, libraries and formats.
 OTHERS = set(
     """String Vec Option ghost unfolding tactic auto plant wrote
@@ -43,7 +43,7 @@ OTHERS = set(
     89c25907 89c25909 89c2590b Host Date oauth2 libs2-dev s2geometry S2RegionCoverer RegionCoverer S2CellId CellID
     set_fixed_level set_max_cells min_level max_level max_cells GetCovering getCovering get_covering Covering region
     ToToken toToken to_token s2sphere s2-geometry-library-java github.com/golang/geo/s2 outline_polygon outline_circle
-    new_subscription 61 Start open_from open_files limit_req proxy_next_upstream Wary strace /health /metrics /stop 8078""".split()
+    new_subscription 61 Start open_from open_files Wary strace /health /metrics /airspace /backup /stop 8078""".split()
 )
 
 
@@ -84,8 +84,8 @@ def is_path(word):
 @functools.cache
 def cases():
     """The names of the cases by bytes that are data: worked examples, and folders."""
-    examples = json.loads((TOP / "tests" / "worked_examples.json").read_text())
-    return {it["name"] for it in examples} | {it.name for it in (TOP / "tests" / "cases").iterdir()}
+    examples = json.loads((TOP / "tests" / "data" / "worked_examples.json").read_text())
+    return {it["name"] for it in examples} | {it.name for it in (TOP / "tests" / "data" / "cases").iterdir()}
 
 
 def is_edit(word):
@@ -231,7 +231,7 @@ def rows_of(document, begin):
 def misplaced():
     """The names in the tables of what is proved that are not made in the crate that they are said of."""
     found, crates, rows = [], (), 0
-    for place, (crate, *cells) in rows_of("README.md", "| crate | beyond safety"):
+    for place, (crate, *cells) in rows_of("docs/PROOF.md", "| crate | beyond safety"):
         rows += 1
         names = [it for cell in cells for it in re.findall(r"`([^`]+)`", cell)]
         found += [f"{place}: {crate} has no {it}" for it in names if not is_made_in(crate.strip("`"), it)]
@@ -254,6 +254,25 @@ def headless():
     return [f"{it.relative_to(TOP)} begins otherwise" for it, text in texts if not text.startswith(begins[it.suffix])]
 
 
+def anchors(document):
+    """The anchors of a document's headings."""
+    text = re.sub(r"(?ms)^```.*?^```", "", document.read_text())
+    headings = (re.sub(r"\[([^\]]*)\]\([^)]*\)", r"\1", it) for it in re.findall(r"(?m)^#+ (.*)$", text))
+    return {re.sub(r"[^\w\- ]", "", it.lower()).replace(" ", "-") for it in headings}
+
+
+def dead_links():
+    """The links of documents to files that are not there, or to headings that they do not have."""
+    found = []
+    for document in DOCUMENTS:
+        text = re.sub(r"(?ms)^```.*?^```|^    .*?$", "", document.read_text())
+        for link, file, anchor in re.findall(r"\]\((([^)#:\s]*)(?:#([^)\s]*))?)\)", text):
+            target = document.parent / file if file else document
+            is_there = target.exists() and (not anchor or anchor in anchors(target))
+            found += [] if is_there else [f"{document.relative_to(TOP)}: there is no {link}"]
+    return found
+
+
 def pictures_are_drawn():
     """The pictures are of the crates, the functions and the calls that are there."""
     drawn = runpy.run_path(str(TOP / "scripts" / "pictures"))
@@ -264,4 +283,7 @@ def pictures_are_drawn():
     return found + (["a call is seen where there is none"] if is_blind else [])
 
 
-CASES = {"pictures": pictures_are_drawn, "names-in-docs": unknown, "names-in-tables": misplaced, "first-lines": headless}
+CASES = {
+    "pictures": pictures_are_drawn, "names-in-docs": unknown, "names-in-tables": misplaced, "links-in-docs": dead_links,
+    "first-lines": headless,
+}

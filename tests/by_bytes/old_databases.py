@@ -1,6 +1,6 @@
 """Databases of format 1, and how opening brings them to format 2: what they keep stays, and nothing is added.
 
-Those of tests/format_1 were made by the last release that knew no other format, from its calls.json: `closed.db` by one
+Those of tests/data/format_1 were made by the last release that knew no other format, from its calls.json: `closed.db` by one
 that ended, `killed.db` with its log by one that was killed after the last answer."""
 import gzip
 import json
@@ -18,7 +18,7 @@ from plain_policy import CONSTRAINT, INTENT
 from program import BUILT, TOP, first_difference, run
 from serving import Service
 
-FOLDER = TOP / "tests" / "format_1"
+FOLDER = TOP / "tests" / "data" / "format_1"
 MADE = ("closed", "killed")
 MOVED, HELD = (0, b"format 2, was 1\n", b""), (0, b"format 2\n", b"")
 # calls that are drawn after a move, with subscriptions among them

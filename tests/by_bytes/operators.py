@@ -11,10 +11,11 @@ from patience import kept_intents
 from program import BUILT, SECONDS, TOP, run
 from serving import Service, until_closed
 from sockets import ANSWER, ASKED, CLOSING, LAST, SOCKET, difference
-from without_memory import STOPPED
+from without_memory import FAULT, STOPPED
 
 PLAIN, PROMETHEUS = "text/plain; charset=utf-8", "text/plain; version=0.0.4; charset=utf-8"
 SERVING = b"serving\n"
+FAILING = b"failing: the database did not keep the last changes that it was given\n"
 STOPPING = b"stopping: it was told to end\n"
 DEAD = b"stopped: the database failed, and no call is answered any more\n"
 
@@ -27,6 +28,11 @@ NAMES = {
     "dss_connections_open": "gauge", "dss_connections_accepted_total": "counter", "dss_connections_refused_total": "counter",
     "dss_connections_failed_total": "counter", "dss_requests_total": "counter", "dss_answer_bytes_total": "counter",
     "dss_large_requests_waiting": "gauge", "dss_start_time_seconds": "gauge", "dss_build_info": "gauge",
+    "dss_requests_denied_total": "counter", "dss_request_duration_seconds": "histogram",
+    "dss_store_faults_total": "counter", "dss_memory_faults_total": "counter", "dss_clock_faults_total": "counter",
+    "dss_log_lines_lost_total": "counter",
+    "dss_copy": "gauge", "dss_entities": "gauge", "dss_subscriptions": "gauge", "dss_serial": "gauge",
+    "dss_tokens_read_time_seconds": "gauge", "dss_tokens_reload_failures_total": "counter",
 }
 
 
@@ -145,7 +151,10 @@ def counts():
         found += difference("lines of no form", lines, [])
         first = started.counted()
         found += difference("when it started", before - SECONDS < int(first["dss_start_time_seconds"]) <= before + 1, True)
-        found += difference("of no clients", {number for name, number in first.items() if "start" not in name and "build" not in name}, {"0"})
+        found += difference("when its tokens were read", first["dss_tokens_read_time_seconds"], first["dss_start_time_seconds"])
+        there = {name: number for name, number in first.items() if "_time_" not in name and "build" not in name}
+        found += difference("a copy", there.pop("dss_copy"), "1")
+        found += difference("of no clients", set(there.values()), {"0"})
         refusal = started.exchange(b"no request\r\n\r\n", ends=False)
         started.exchange(ASKED + CLOSING, ends=False)
         denied = started.exchange(wire.request("GET", wire.AVAILABILITY, None, fields=["Connection: close"]), ends=False)
@@ -155,8 +164,10 @@ def counts():
             found += difference("open", counted["dss_connections_open"], "1")
             reset(held)
         counted = until_counted(started, "dss_connections_open", "0")
-        wanted = {'dss_requests_total{status="200"}': "2", 'dss_requests_total{status="400"}': "1", 'dss_requests_total{status="404"}': "1",
-                  'dss_requests_total{status="503"}': "0", 'dss_connections_failed_total{cause="read"}': "1",
+        wanted = {'dss_requests_total{operation="read_availability",status="200"}': "2",
+                  'dss_requests_total{operation="none",status="400"}': "1", 'dss_requests_total{operation="none",status="404"}': "1",
+                  'dss_requests_denied_total{rule="H1"}': "1", 'dss_requests_denied_total{rule="P1"}': "1",
+                  'dss_request_duration_seconds_count{operation="none"}': "2", 'dss_connections_failed_total{cause="read"}': "1",
                   "dss_connections_refused_total": "0", "dss_large_requests_waiting": "0",
                   "dss_answer_bytes_total": f"{len(refusal + ANSWER + LAST + denied)}"}
         found += difference("what is counted", {it: counted.get(it) for it in wanted}, wanted)
@@ -229,11 +240,15 @@ def broken():
         for at in range(1, 100):
             environment = {"LD_PRELOAD": room.library, "FAIL_AT": f"{at}", "FAIL_ON": "1"}
             with contextlib.suppress(OSError), Operated(more=environment) as started:
-                if started.exchange(put, ends=False) == wire.answer(*STOPPED, closes=True):
+                answer = started.exchange(put, ends=False)
+                if answer == wire.answer(*STOPPED, closes=True):
                     found += difference("its health", started.asked(HEALTH), said(503, DEAD))
-                    found += difference("counted", started.counted()['dss_requests_total{status="503"}'], "1")
+                    counted = started.counted()
+                    found += difference("counted", counted['dss_requests_total{operation="set_availability",status="503"}'], "1")
+                    found += difference("faults", counted["dss_store_faults_total"], "1")
                     return found + difference("told to end", started.asked(STOP), said(200, b"stopping\n"))
-                found += difference(f"{at}: its health", started.asked(HEALTH), said(200, SERVING))
+                health = said(503, FAILING) if answer == wire.answer(*FAULT, closes=True) else said(200, SERVING)
+                found += difference(f"{at}: its health", started.asked(HEALTH), health)
     return [*found, "no change stopped"]
 
 

@@ -1,30 +1,38 @@
 """The Debian package that scripts/package makes: its paths, its program, its manual page, its unit and its completions."""
+import os
 import pathlib
 import re
 import shutil
+import socket
 import subprocess
 
 from program import BUILT, TOP, run
 from releases import GIVEN, SOME, WANTED, Checkout, difference, one_space
 
+DOCUMENTS, PAGES = "usr/share/doc/dss", ("README.md", "CHANGELOG.md", "CONTRIBUTING.md")
 # each path of the package, with its mode
 PATHS = {
     "etc/dss": 0o750,
     "usr/bin/dss": 0o755,
-    "usr/lib/systemd/system/dss.service": 0o644,
+    **{f"usr/lib/systemd/system/{it}": 0o644 for it in ("dss.service", "dss-backup.service", "dss-backup.timer")},
+    "etc/logrotate.d/dss": 0o644,
+    "DEBIAN/conffiles": 0o644,
     "usr/share/man/man1/dss.1.gz": 0o644,
     "usr/share/bash-completion/completions/dss": 0o644,
-    "usr/share/doc/dss/README.md": 0o644,
-    "usr/share/doc/dss/CHANGELOG.md": 0o644,
-    "usr/share/doc/dss/made-of": 0o644,
-    **{f"usr/share/doc/dss/{it.relative_to(TOP)}": 0o644 for it in TOP.glob("docs/*")},
-    **{f"usr/share/doc/dss/{it.relative_to(TOP)}": it.stat().st_mode & 0o755 for it in TOP.glob("examples/*")},
+    "usr/share/lintian/overrides/dss": 0o644,
+    **{f"{DOCUMENTS}/{it}": 0o644 for it in (*PAGES, "changelog.gz", "copyright", "made-of", "gateway/README.md")},
+    **{f"{DOCUMENTS}/{it.relative_to(TOP)}": 0o644 for it in (*TOP.glob("docs/*"), *TOP.glob("bench/*.md"), *TOP.glob("bench/*.svg"))},
+    **{f"{DOCUMENTS}/{it.relative_to(TOP)}": it.stat().st_mode & 0o755
+       for folder in ("examples", "deploy") for it in (TOP / folder).rglob("*") if it.is_file()},
     "DEBIAN/control": 0o644,
     "DEBIAN/postinst": 0o755,
     "DEBIAN/prerm": 0o755,
     "DEBIAN/postrm": 0o755,
 }
-COMMANDS = "run", "serve", "report", "upgrade", "tokens"
+# what pages name that is not in the package: in the repository, and of others
+ELSEWHERE = re.compile(r"(\.\./)?(qualify|release|crates|tests|gateway/|bench/)|test$|tests/|[\w./]*\.(rattle|c|go)$")
+OF_OTHERS = {"usr/bin/dss-gateway", "usr/share/man/man1/dss-gateway.1.gz", "usr/lib/dss"}
+COMMANDS = "run", "serve", "report", "backup", "upgrade", "tokens"
 # what keeps files, memory and programs of either unit from others
 KEPT = {"UMask=0077", "LimitCORE=0", "ProtectProc=invisible", "MemoryDenyWriteExecute=yes", "NoNewPrivileges=yes"}
 
@@ -44,9 +52,57 @@ def manual(root):
     how = {"LC_ALL": "C.UTF-8", "MANWIDTH": "120", "MAN_KEEP_FORMATTING": ""}
     status, text, error = run(["man", "--warnings", "-l", str(file)], more=how)
     text = re.sub(r".\x08", "", text.decode())
-    wanted = ["NAME", "SYNOPSIS", "COMMANDS", "START", "STOP", "BACKUP", "SEE ALSO", "listening on 127.0.0.1"]
+    wanted = ["NAME", "SYNOPSIS", "COMMANDS", "START", "STOP", "WATCH", "COPY", "SEE ALSO", "listening on 127.0.0.1"]
     wanted += [f"dss {it}" for it in COMMANDS]
     return difference("man", (status, error), (0, b"")) + [f"the manual page lacks {it}" for it in wanted if it not in text]
+
+
+def links(root):
+    """The files that an installed page or unit names, by a link or a whole path, and that are not there."""
+    found, top = [], root / DOCUMENTS
+    for page in sorted(top.rglob("*.md")):
+        for link in re.findall(r"\]\(([^)#:\s]+)(?:#[^)]*)?\)", page.read_text()):
+            is_there = (page.parent / link).exists()
+            found += [f"{page.relative_to(top)}: {link} is not there"] if not is_there and not ELSEWHERE.match(link) else []
+    for page in sorted([*top.rglob("*.md"), *(root / "usr/lib").rglob("*.service")]):
+        for path in set(re.findall(r"/(usr/(?:bin|lib|share)/[\w./-]*dss[\w./-]*\w)", page.read_text())) - OF_OTHERS:
+            found += [f"{page.relative_to(root)}: /{path} is not there"] if not (root / path).exists() else []
+    return found
+
+
+def example(root):
+    """The example that pages name runs where they are installed, with the program on the path."""
+    if not shutil.which("curl"):
+        return []
+    with socket.create_server(("127.0.0.1", 0)) as free:
+        port = free.getsockname()[1]
+    more = {"PATH": f"{root}/usr/bin:{os.environ['PATH']}"}
+    status, output, error = run([str(root / DOCUMENTS / "examples" / "meeting"), f"{port}"], folder=root, more=more)
+    return difference("examples/meeting", (status, output.count(b"\n7. "), error), (0, 1, b""))
+
+
+def options(root):
+    """The options that units and pages give to the program's commands are theirs."""
+    texts = [(it.relative_to(TOP), it.read_text()) for it in (*TOP.glob("*.md"), *TOP.glob("*/*.md"), TOP / "Dockerfile")]
+    texts += [(it.relative_to(TOP), it.read_text()) for it in (TOP / "deploy").rglob("*") if it.suffix in (".service", ".conf")]
+    said, found, seen = {}, [], 0
+    for place, text in texts:
+        for line in re.findall(r"(?m)^(?:    |ExecStart=|CMD |\./).*$", text.replace('", "', " ").replace('["', "/dss ")):
+            for command, words in re.findall(r"\bdss (run|serve|report|upgrade|backup|self|tokens) ([^|>&]*)", line):
+                if command not in said:
+                    said[command] = run([str(root / "usr/bin/dss"), command, "--help"])[1].decode()
+                asked = re.findall(r"(?<!\S)\[?(--[\w-]+)", words)
+                seen += len(asked)
+                found += [f"{place}: dss {command} has no {it}" for it in asked if not re.search(rf"{it}\b", said[command])]
+    return found + ([] if seen > 60 else [f"{seen} options were seen"])
+
+
+def said_by_lintian(package):
+    """The errors that lintian tells of a package, where it is here."""
+    if not shutil.which("lintian"):
+        return []
+    status, output, error = run(["lintian", "--allow-root", "--fail-on", "error", str(package)])
+    return [it for it in output.decode().splitlines() if it.startswith("E: ")] + ([f"lintian: {error!r}"] if status not in (0, 1, 2) else [])
 
 
 def units(root):
@@ -54,18 +110,21 @@ def units(root):
     if not shutil.which("systemd-analyze"):
         return []
     hosts, folder, settings = TOP / "deploy" / "hosts", root / "units", "dss.service.d/hosts.conf"
-    places = {"/usr/bin/dss": f"{root}/usr/bin/dss", "/usr/local/lib/dss": f"{hosts}", "/usr/sbin/glusterfs": "/bin/true",
-              "/usr/local/bin/dss-gateway": "/bin/true"}
+    places = {"/usr/bin/dss-gateway": "/bin/true", "/usr/bin/dss ": f"{root}/usr/bin/dss ", "/usr/local/lib/dss": f"{hosts}",
+              "/usr/sbin/glusterfs": "/bin/true"}
     files = {
         "dss.service": root / "usr/lib/systemd/system/dss.service",
-        "dss-gateway.service": TOP / "gateway" / "gateway.service",
+        "dss-gateway.service": TOP / "deploy" / "dss-gateway.service",
+        "dss-backup.service": root / "usr/lib/systemd/system/dss-backup.service",
+        "dss-backup.timer": root / "usr/lib/systemd/system/dss-backup.timer",
         "dss-volume.service": hosts / "dss-volume.service",
         settings: hosts / settings,
     }
     found = []
     for name in "dss.service", "dss-gateway.service":
         found += difference(f"what {name} keeps from others", sorted(KEPT & set(files[name].read_text().splitlines())), sorted(KEPT))
-    for names in ["dss.service"], ["dss-gateway.service", "dss.service"], list(files):
+    beside = ["dss-backup.timer", "dss-backup.service", "dss.service"], ["dss-gateway.service", "dss.service"]
+    for names in ["dss.service"], *beside, list(files):
         for name in names:
             text = files[name].read_text()
             for there, here in places.items():
@@ -94,6 +153,8 @@ def completions(root):
     found += difference("se", completed(root, "se")[:1], ["serve"] if "serve" in completed(root, "se") else ["self"])
     found += difference("--to", completed(root, "run", "--to"), ["--tokens"])
     found += difference("--d", completed(root, "upgrade", "--d"), ["--db"])
+    found += difference("--b", completed(root, "serve", "--b"), ["--backups"])
+    found += difference("a log", completed(root, "serve", "--log", "tok"), ["tokens.toml"])
     found += difference("--new", completed(root, "tokens", "--new"), ["--new", "--new-salt"])
     found += difference("a file to check", completed(root, "tokens", "--check", "tok"), ["tokens.toml"])
     return found + difference("a file", completed(root, "run", "--tokens", "tok"), ["tokens.toml"])
@@ -118,7 +179,8 @@ def package():
         fields = told("-f", packages[0], "Package", "Version", "Architecture")
         found = difference("fields", fields, ["Package: dss", f"Version: {version}", "Architecture: amd64"])
         found += difference("owners", {line.split()[1] for line in told("-c", packages[0])}, {"root/root"})
-        found += paths(root) + manual(root) + units(root) + completions(root)
+        found += paths(root) + manual(root) + units(root) + completions(root) + links(root) + options(root) + example(root)
+        found += said_by_lintian(packages[0])
         program = root / "usr/bin/dss"
         words = [str(program), "run", "--tokens", str(TOP / "examples" / "tokens.toml"), "--now", "1000", "-"]
         found += difference("program", program.read_bytes() == pathlib.Path(BUILT).read_bytes(), True)

@@ -75,10 +75,10 @@ class Checkout:
         self.home = pathlib.Path(self.room.name, "home")
         self.home.mkdir()
         self.home.chmod(0o777)
-        for name in "dss", "check", "HANDLES", ".ci/run", "README.md", "CHANGELOG.md":
+        for name in "dss", "check", "HANDLES", ".ci/run", "README.md", "CHANGELOG.md", "CONTRIBUTING.md":
             self.top.joinpath(name).parent.mkdir(exist_ok=True, parents=True)
             shutil.copy2(TOP / name, self.top / name)
-        for name in "scripts", "examples", "docs":
+        for name in "scripts", "examples", "docs", "deploy", "bench", "gateway":
             shutil.copytree(TOP / name, self.top / name)
         lines = (TOP / "crates.txt").read_text().splitlines(True)
         lines = [it for it in lines if fnmatch.fnmatch(it.split(":")[0].split(" ")[0], crates)]

@@ -5,7 +5,7 @@ import tempfile
 
 import connections
 import wire
-from databases import NOT_A_DSS, STORE, Room, ask, volume
+from databases import CONSTRAINT, INTENT, NAMING, NOT_A_DSS, STORE, Room, ask, filled, volume
 from program import BUILT, TOP, run
 
 # What the specification has for the first step of this worked example.
@@ -18,8 +18,18 @@ GREATEST = 253_402_300_799
 ID = "00000000-0000-4000-8000-{:012x}".format
 
 
-def report(database, more=None):
-    return run([BUILT, "report", "--db", str(database)], more=more)
+# The cells of a filled database.
+PLACES = f"""\
+intent {INTENT} uss-a Activated 89c25904 -100 1200 900 2000
+intent {INTENT} uss-a Activated 89c2591 -100 1200 900 2000
+intent {INTENT} uss-a Activated 89c25904 -100000 1000000 0 {GREATEST}
+intent {NAMING} uss-b Accepted 89c2590c 0 400 900 2000
+constraint {CONSTRAINT} uss-c - 89c3 0 500 900 2000
+"""
+
+
+def report(database, more=None, flags=()):
+    return run([BUILT, "report", "--db", str(database), *flags], more=more)
 
 
 def line(kind, entity, version, state, times, manager):
@@ -33,7 +43,7 @@ def difference(name, got, wanted):
 
 def worked_example():
     """The report after the worked example's first step."""
-    examples = json.loads((TOP / "tests" / "worked_examples.json").read_text())
+    examples = json.loads((TOP / "tests" / "data" / "worked_examples.json").read_text())
     example = next(it for it in examples if it["name"] == EXAMPLE)
     step = example["steps"][0]
     with Room() as room:
@@ -97,9 +107,27 @@ def not_written():
         return difference("the report", report(f"{folder}/dss.db", more), (1, b"", b"dss: output\n"))
 
 
+def places():
+    """A line for each cell, in the order of the report, of the volumes and of the cells; what is kept stays."""
+    with Room() as room:
+        room.serve(filled())
+        before = report(room.database)
+        found = difference("the cells", report(room.database, flags=["--places"]), (0, PLACES.encode(), b""))
+        found += difference("the report after it", report(room.database), before)
+    with connections.Room() as room, tempfile.TemporaryDirectory() as folder:
+        database = f"{folder}/dss.db"
+        found += difference("no file", report(database, flags=["--places"]), (0, b"", b""))
+        with Room() as other:
+            other.serve(filled())
+            more = {"LD_PRELOAD": room.library, "WRITE_FAILS": "1"}
+            got = report(other.database, more, ["--places"])
+            return found + difference("not written", got, (1, b"", b"dss: output\n"))
+
+
 CASES = {
     "report-worked-example": worked_example,
     "report-in-order": in_order,
     "report-of-nothing": of_nothing,
     "report-not-written": not_written,
+    "report-places": places,
 }

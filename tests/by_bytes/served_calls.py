@@ -21,6 +21,14 @@ class Asked:
         self.airspace = plain_policy.Airspace(int(time.time()), drawn_calls.ALL_TOKENS)
         self.drawn = drawn_calls.Drawn(drawn_calls.Draw(seed), self.airspace, AHEAD)
 
+    def calls(self, count):
+        """So many calls, each drawn over the airspace after the one before it."""
+        drawn = []
+        for _ in range(count):
+            drawn.append(self.drawn.call())
+            self.airspace.ask(*drawn[-1])
+        return drawn
+
     def differs(self, service, count):
         """How so many calls over one connection are answered otherwise than they should be."""
         requests, wanted = [], []

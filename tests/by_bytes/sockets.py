@@ -136,7 +136,7 @@ def faults_in_order():
 def through_itself():
     """`self` gives for the first step of each worked example what `run` gives, unless it has too many bytes."""
     found = []
-    for example in json.loads((TOP / "tests" / "worked_examples.json").read_text()):
+    for example in json.loads((TOP / "tests" / "data" / "worked_examples.json").read_text()):
         step = example["steps"][0]
         asked = [BUILT, "self", "--tokens", "examples/tokens.toml", "--now", str(example["now"]), "-"]
         request, answer = step["request"].encode("latin-1"), step["answer"].encode("latin-1")

@@ -43,7 +43,7 @@ def worked_examples():
     """The steps of an example follow one another on a connection, so that what they keep lasts; those that tell
     of ends of streams are a stream each."""
     found = []
-    for example in json.loads((TOP / "tests" / "worked_examples.json").read_text()):
+    for example in json.loads((TOP / "tests" / "data" / "worked_examples.json").read_text()):
         requests = [step["request"].encode("latin-1") for step in example["steps"]]
         answers = [step["answer"].encode("latin-1") for step in example["steps"]]
         if example["in_one_stream"]:

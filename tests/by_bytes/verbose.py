@@ -1,7 +1,12 @@
-"""`serve --verbose`: what `tokens --check` tells of the token file, and the limits, before the lines that are told without it."""
+"""`serve --verbose`: what `tokens --check` tells of the token file, the limits, and causes, before the lines that are told without it."""
+import errno
+import fcntl
+import os
 import pathlib
 import socket
+import struct
 import tempfile
+import time
 
 import wire
 from program import BUILT, run
@@ -10,6 +15,15 @@ from sockets import difference
 from token_reports import FILES, IS_EXAMPLE, is_short
 
 TAKEN = "dss: socket\n"
+
+
+def system(number):
+    """What the system says of an error."""
+    return f"{os.strerror(number)} (os error {number})"
+
+
+def cause(of, words):
+    return f"dss: cause: {of}: {words}\n"
 
 
 def limits(connections="any number of connections", clients=1000, most_kept=None):
@@ -30,6 +44,10 @@ class Taken:
         self.there.close()
         self.room.cleanup()
 
+    def told(self):
+        """What is told of that port, with the option."""
+        return cause(f"127.0.0.1:{self.there.getsockname()[1]}", system(errno.EADDRINUSE)) + TAKEN
+
     def serve(self, text, *options):
         """The status, the output and the lines of standard error of `serve` with this text of a token file."""
         (self.folder / "tokens.toml").write_text(text)
@@ -47,7 +65,7 @@ def token_files():
             told = "".join(f"{line}\n" for line in lines if not line.startswith("FILE: "))
             last = f"dss: tokens: fault {fault}\n" if fault else TAKEN
             found += difference(f"{text!r}", it.serve(text), (1, b"", last))
-            wanted = told + (last if fault else limits() + last)
+            wanted = told + (last if fault else limits() + it.told())
             found += difference(f"{text!r}, --verbose", it.serve(text, "--verbose"), (1, b"", wanted))
     return found
 
@@ -64,8 +82,46 @@ def limits_of_options():
     with Taken() as it:
         return [
             found for options, line in ways
-            for found in difference(f"{options}", it.serve(text, "--verbose", *options), (1, b"", line + TAKEN))
+            for found in difference(f"{options}", it.serve(text, "--verbose", *options), (1, b"", line + it.told()))
         ]
+
+
+def held(path):
+    """A descriptor of a new file that holds the lock that SQLite has of a database."""
+    descriptor = os.open(path, os.O_RDWR | os.O_CREAT, 0o600)
+    lock = struct.pack("hhqqi4x", fcntl.F_WRLCK, os.SEEK_SET, 1 << 30, 512, 0)
+    fcntl.fcntl(descriptor, fcntl.F_OFD_SETLK, lock)
+    return descriptor
+
+
+def causes():
+    """Before the line of a fault at the start there is one that says what of, and why; without the option there is none."""
+    text = wire.token_file(salt="f0" * 32)
+    found = []
+    with tempfile.TemporaryDirectory() as room:
+        tokens, lacking = f"{room}/tokens.toml", f"{room}/none/it"
+        pathlib.Path(tokens).write_text(text)
+        pathlib.Path(f"{room}/text.db").write_text("no database, but a text of some length\n" * 200)
+        pathlib.Path(f"{room}/folder.db").mkdir()
+        descriptor = held(f"{room}/held.db")
+        of_store, nowhere = "dss: db: fault 3 Store\n", system(errno.ENOENT)
+        ways = (
+            (lacking, f"{room}/a.db", [], "", cause(lacking, nowhere), "dss: tokens: cannot read\n"),
+            (tokens, lacking, [], limits(), cause(lacking, nowhere), of_store),
+            (tokens, f"{room}/text.db", [], limits(), cause(f"{room}/text.db", "it is no SQLite database"), of_store),
+            (tokens, f"{room}/folder.db", [], limits(), cause(f"{room}/folder.db", "it is no file"), of_store),
+            (tokens, f"{room}/held.db", [], limits(), cause(f"{room}/held.db", "another process has it open"), of_store),
+            (tokens, f"{room}/b.db", ["--log", lacking], limits(), cause(lacking, nowhere), "dss: output\n"),
+            (tokens, f"{room}/c.db", ["--admin", "1", "--backups", lacking], limits(), cause(lacking, nowhere), "dss: copy: fault 3 Write\n"),
+        )
+        for file, database, options, before, told, last in ways:
+            words = [BUILT, "serve", "--tokens", file, "--db", database, "--port", "1", *options]
+            status, output, error = run(words)
+            found += difference(f"{words}", (status, output, error.decode()), (1, b"", last))
+            status, output, error = run([*words, "--verbose"])
+            found += difference(f"{words}, --verbose", (status, output, error.decode()), (1, b"", before + told + last))
+        os.close(descriptor)
+    return found
 
 
 class Verbose(Service):
@@ -85,8 +141,23 @@ def listening():
         return found
 
 
+def connection_given_up():
+    """Of a connection that is given up the second line says whose it was, and how far it was."""
+    with Verbose(count=1) as service:
+        with socket.create_connection(("127.0.0.1", service.port)) as client:
+            client.sendall(b"GET /")
+            address = "%s:%d" % client.getsockname()
+            # the service has them by then, as it rests
+            time.sleep(1)
+            client.setsockopt(socket.SOL_SOCKET, socket.SO_LINGER, struct.pack("ii", 1, 0))
+        wanted = f"dss: stream: fault 1 Read\ndss: stream: connection 1 of {address}, within a request\n"
+        return difference("the service", service.ended(), (0, b"", service.listening + wanted.encode()))
+
+
 CASES = {
     "verbose-tells-of-token-files": token_files,
     "verbose-tells-limits": limits_of_options,
     "verbose-listens": listening,
+    "verbose-tells-causes": causes,
+    "verbose-tells-which-connection": connection_given_up,
 }

@@ -244,7 +244,7 @@ def move(step=STEP):
     ends = collections.Counter()
     with tempfile.TemporaryDirectory() as room:
         database = pathlib.Path(room, "dss.db")
-        saved = gzip.decompress((TOP / "tests" / "format_1" / "closed.db.gz").read_bytes())
+        saved = gzip.decompress((TOP / "tests" / "data" / "format_1" / "closed.db.gz").read_bytes())
         database.write_bytes(saved)
         before = tables.rows_in(database)
 

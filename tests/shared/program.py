@@ -7,7 +7,7 @@ import tempfile
 import wire
 
 TOP = pathlib.Path(__file__).resolve().parents[2]
-CASES = TOP / "tests" / "cases"
+CASES = TOP / "tests" / "data" / "cases"
 DSS = str(TOP / "dss")
 # what ./check says that ./dss runs, which is elsewhere where the repository cannot be written
 BUILT = os.environ.get("DSS_PROGRAM") or str(TOP / ".dss" / "dss")

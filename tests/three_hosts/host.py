@@ -55,8 +55,16 @@ class Host:
         self.room, self.number, self.deploy = pathlib.Path(room), number, pathlib.Path(deploy)
         self.own = self.room / f"host{number}"
         # where the files of a host stand here
-        self.places = {"/usr/bin/dss": program, "/etc/dss": room, "/usr/local/lib/dss": deploy}
+        self.places = {"/usr/bin/dss": program, "/etc/dss": room, "/usr/local/lib/dss": deploy, **self.folders()}
         self.events = (self.own / "events").open("a", buffering=1)
+
+    def folders(self):
+        """The folders that systemd makes for the service, which are each host's own."""
+        places = {"/var/log/dss": self.own / "requests", "/var/lib/dss/backups": self.own / "backups"}
+        for folder in places.values():
+            folder.mkdir(exist_ok=True)
+            os.chown(folder, USER, USER)
+        return places
 
     def note(self, name, text):
         self.events.write(f"{time.time():.3f} {name} {text}\n")
@@ -130,7 +138,7 @@ class Host:
         self.mount()
         sys.stdin.readline()
         start_glusterd()
-        package = self.deploy.parents[1] / "scripts" / "debian" / "dss.service"
+        package = self.deploy.parent / "dss.service"
         services = {
             "dss-volume": unit(self.deploy / "dss-volume.service"),
             "dss": unit(package, self.deploy / "dss.service.d" / "hosts.conf"),

@@ -1,0 +1,288 @@
+"""Backups that are made while the service runs: whole, beside clients that change all the time, or not there."""
+import contextlib
+import errno
+import json
+import os
+import pathlib
+import signal
+import socket
+import sqlite3
+import struct
+import tempfile
+import threading
+import time
+
+import wire
+from devices import WRITES, Page, library
+from operators import METRICS, Operated, asks, said
+from program import BUILT, SECONDS, run
+from serving import until_closed
+from sockets import difference
+
+CHANGERS = 6
+# a table of another's, so that the file is copied in many pieces: so many rows, and the bytes of each
+ROWS, BYTES = 64, 100_000
+# the seconds that a client waits at most beside a backup: it is seldom more than 0.01, and the machine does other work
+PATIENCE = 1.0
+SERIALS = {wire.ovn(it): it for it in range(1, 20_000)}
+TOKENS = {**wire.TOKENS, "tok-w": ("uss-w", {wire.ARBITRATION})}
+NAMES = b"name: 1 to 64 letters, digits, - and _\n"
+EXISTS = b"exists: a backup of that name is there\n"
+BUSY = b"busy: another backup is being made\n"
+UNWRITTEN = b"not made: the folder of backups cannot be written\n"
+NO_FOLDER = b"dss: copy: fault 3 Write\n"
+
+
+def backs_up(name):
+    return asks("POST", f"/backup?name={name}", ["Content-Length: 0"])
+
+
+def row(number):
+    return bytes([number]) * BYTES
+
+
+class Backed(Operated):
+    """`dss serve` with a folder of backups, in memory, where a sync takes no time."""
+
+    def __init__(self, **more):
+        super().__init__(**{"disk": "/dev/shm", "tokens": TOKENS, **more})
+        self.backups = self.folder / "backups"
+        self.backups.mkdir()
+        self.options = ("--backups", str(self.backups))
+        database = self.folder / "dss.db"
+        run([BUILT, "upgrade", "--db", str(database)])
+        with contextlib.closing(sqlite3.connect(database)) as opened, opened:
+            opened.execute("CREATE TABLE other (content BLOB)")
+            opened.executemany("INSERT INTO other VALUES (?)", [(row(it),) for it in range(ROWS)])
+
+    def checkpoints(self):
+        """The number in the log's salt, which each checkpoint counts up."""
+        with (self.folder / "dss.db-wal").open("rb") as log:
+            return struct.unpack(">I", log.read(32)[16:20])[0]
+
+    def all(self):
+        return sorted(it.name for it in self.backups.iterdir())
+
+
+class Changer(threading.Thread):
+    """A client that sets the availability of a supplier of its own again and again, until it is told to end."""
+
+    def __init__(self, service, supplier):
+        super().__init__()
+        self.service, self.supplier = service, supplier
+        self.ends, self.version, self.told, self.longest, self.wrong = False, "", [], 0, None
+
+    def change(self, connection, turn):
+        state = ("Normal", "Down")[turn % 2]
+        body = json.dumps({"old_version": self.version, "availability": state}).encode()
+        began = time.monotonic()
+        connection.sendall(wire.request("PUT", f"{wire.AVAILABILITY}/{self.supplier}", "Bearer tok-w", body))
+        answer = connection.recv(1 << 16)
+        self.longest = max(self.longest, time.monotonic() - began)
+        self.version = json.loads(answer.partition(b"\r\n\r\n")[2])["version"]
+        self.told.append((SERIALS[self.version], state, self.version))
+
+    def run(self):
+        try:
+            for start in range(0, 1 << 20, wire.MOST_REQUESTS):
+                with self.service.connect() as connection:
+                    for turn in range(start, start + wire.MOST_REQUESTS):
+                        if self.ends:
+                            return
+                        self.change(connection, turn)
+        except (OSError, ValueError, KeyError) as error:
+            self.wrong = repr(error)
+
+
+@contextlib.contextmanager
+def changing(service):
+    """Clients that change all the time."""
+    changers = [Changer(service, f"uss-{it}") for it in range(CHANGERS)]
+    for it in changers:
+        it.start()
+    try:
+        yield changers
+    finally:
+        for it in changers:
+            it.ends = True
+        for it in changers:
+            it.join()
+
+
+def last_serial(changers):
+    return max((it.told[-1][0] for it in changers if it.told), default=0)
+
+
+def content(backup):
+    """What SQLite finds in a backup: whether it is whole, its serial, the rows of the other table, and the availabilities."""
+    with contextlib.closing(sqlite3.connect(f"file:{backup}/dss.db?mode=ro", uri=True)) as database:
+        ask = lambda text: database.execute(text).fetchall()
+        states = {uss: (state, version) for uss, state, version in ask("SELECT uss, state, version FROM availability")}
+        others = [it for (it,) in ask("SELECT content FROM other ORDER BY content")]
+        return ask("PRAGMA integrity_check"), ask("SELECT serial FROM meta"), others == [row(it) for it in range(ROWS)], states
+
+
+def states_at(changers, serial):
+    """The availabilities after the change of that serial."""
+    of = {}
+    for it in changers:
+        for at, state, version in it.told:
+            if at <= serial:
+                of[it.supplier] = (("Unknown", "Normal", "Down").index(state), version)
+    return of
+
+
+def judged(backup, changers, least, most):
+    """What is wrong with a backup that was asked for after one change was answered, and was there as another was made."""
+    whole, [(serial,)], others, states = content(backup)
+    found = difference("whole", whole, [("ok",)]) + difference("the other table", others, True)
+    found += [] if least <= serial <= most else [f"serial {serial}, which is not from {least} to {most}"]
+    found += difference("availabilities", states, states_at(changers, serial))
+    status, report, error = run([BUILT, "report", "--db", f"{backup}/dss.db"])
+    last = report.splitlines()[-1:] if report else []
+    found += difference("the report", (status, last, error), (0, [b"serial %d" % serial], b""))
+    return [f"{backup.name}: {it}" for it in found]
+
+
+def beside_changes():
+    """Backups beside clients that change all the time, and while the log is copied into the file, hold an airspace that was there
+    between two changes, with all that was answered before; nobody waits long."""
+    with Backed() as started:
+        before, taken, found = started.checkpoints(), [], []
+        with changing(started) as changers:
+            until = time.monotonic() + SECONDS
+            while (started.checkpoints() < before + 3 or len(taken) < 8) and time.monotonic() < until:
+                least = last_serial(changers)
+                answer = started.asked(backs_up(f"b{len(taken)}"))
+                taken.append((least, answer))
+                time.sleep(0.05)
+            checkpoints = started.checkpoints() - before
+        found += [it.wrong for it in changers if it.wrong]
+        found += [] if checkpoints >= 3 else [f"{checkpoints} checkpoints"]
+        longest = max(it.longest for it in changers)
+        found += [] if longest < PATIENCE else [f"a client waited {longest:.3f} s"]
+        most = last_serial(changers)
+        found += difference("names", started.all(), sorted(f"b{it}" for it in range(len(taken))))
+        for at, (least, answer) in enumerate(taken):
+            backup = started.backups / f"b{at}"
+            size = sum(it.stat().st_size for it in backup.iterdir())
+            found += difference(f"b{at}", answer, said(200, b"made: %d bytes\n" % size))
+            found += judged(backup, changers, least, most)
+        return found
+
+
+def refusals():
+    """Each refusal with its status, and that nothing is made then."""
+    with Backed() as started:
+        table = [
+            ("no name", "/backup", 400, NAMES),
+            ("an empty name", "/backup?name=", 400, NAMES),
+            ("a dot", "/backup?name=a.b", 400, NAMES),
+            ("a slash", "/backup?name=a/b", 400, NAMES),
+            ("a sign that is escaped", "/backup?name=a%2Db", 400, NAMES),
+            ("a second name", "/backup?name=a&name=b", 400, NAMES),
+            ("another field", "/backup?nam=a", 400, NAMES),
+            ("a long name", f"/backup?name={65 * 'a'}", 400, NAMES),
+            ("another path", "/backups?name=a", 404, b"no such path\n"),
+        ]
+        found = []
+        for name, target, status, body in table:
+            found += difference(name, started.asked(asks("POST", target)), said(status, body))
+        found += difference("a GET", started.asked(asks("GET", "/backup?name=a")), said(405, b"no such method\n", allow="POST"))
+        found += difference("what was made", started.all(), [])
+        longest = 64 * "a"
+        found += difference("a name", started.asked(backs_up("Az-09_"))[:12], b"HTTP/1.1 200")
+        found += difference("the longest name", started.asked(backs_up(longest))[:12], b"HTTP/1.1 200")
+        found += difference("again", started.asked(backs_up("Az-09_")), said(409, EXISTS))
+        found += difference("modes", [oct(it.stat().st_mode)[-3:] for it in (started.backups / longest).iterdir()], ["600", "600"])
+        (started.backups / "file").write_text("")
+        found += difference("a file of that name", started.asked(backs_up("file")), said(409, EXISTS))
+        found += difference("all", started.all(), sorted(["Az-09_", longest, "file"]))
+    with Operated() as plain:
+        found += difference("without a folder", plain.asked(backs_up("a")), said(404, b"no such path\n"))
+    return found
+
+
+def folders():
+    """A folder that is not there, or cannot be written, ends the start with a line, and the database is closed."""
+    found = []
+    with tempfile.TemporaryDirectory() as room:
+        folder = pathlib.Path(room)
+        (folder / "tokens.toml").write_text(wire.token_file())
+        (folder / "file").write_text("")
+        words = [BUILT, "serve", "--tokens", f"{folder}/tokens.toml", "--db", f"{folder}/dss.db", "--port", "1", "--admin", "2"]
+        for name in ("missing", "file"):
+            found += difference(name, run([*words, "--backups", str(folder / name)]), (1, b"", NO_FOLDER))
+        found += difference("the database", run([BUILT, "report", "--db", f"{folder}/dss.db"]), (0, b"serial 0\n", b""))
+    return found
+
+
+def one_at_a_time():
+    """While one is being made another is refused, clients and operators are answered, and one who goes away ends nothing."""
+    with Backed() as started:
+        found = []
+        os.kill(started.program.pid, signal.SIGSTOP)
+        first, second, gone = started.operator(), started.operator(), started.operator()
+        first.sendall(backs_up("first"))
+        second.sendall(backs_up("second"))
+        gone.sendall(METRICS)
+        os.kill(started.program.pid, signal.SIGCONT)
+        answers = sorted([until_closed(first), until_closed(second)])
+        found += difference("the one that is made", answers[0].partition(b"made: ")[0][:12], b"HTTP/1.1 200")
+        found += difference("the one that is refused", answers[1], said(503, BUSY))
+        found += difference("figures meanwhile", until_closed(gone)[:12], b"HTTP/1.1 200")
+        with started.operator() as leaving:
+            leaving.sendall(backs_up("left"))
+            leaving.setsockopt(socket.SOL_SOCKET, socket.SO_LINGER, struct.pack("ii", 1, 0))
+            time.sleep(0.1)
+        until = time.monotonic() + SECONDS
+        while "left" not in started.all() and time.monotonic() < until:
+            time.sleep(0.01)
+        found += difference("the one that nobody waits for", "left" in started.all(), True)
+        return found + difference("half made", [it for it in started.all() if it.startswith(".")], [])
+
+
+def killed():
+    """Killed while one is being made: the next start removes what was begun, and what was made stays."""
+    with Backed() as started:
+        found = difference("one before", started.asked(backs_up("before"))[:12], b"HTTP/1.1 200")
+        halves = 0
+        for at in range(40):
+            with started.operator() as operator:
+                operator.sendall(backs_up(f"k{at}"))
+                time.sleep(0.0005 * at)
+                started.kill()
+            halves += any(it.startswith(".") for it in started.all())
+            for name in started.all():
+                if not name.startswith("."):
+                    found += difference(f"{name}", content(started.backups / name)[0], [("ok",)])
+            started.start()
+            found += difference(f"after kill {at}", [it for it in started.all() if it.startswith(".")], [])
+        found += [] if halves else ["no kill came while one was being made"]
+        return found + difference("the one before", "before" in started.all(), True)
+
+
+def full_disk():
+    """A disk that is full, from the first write of a backup on or a later one: one answer tells it, nothing is left, and once there is
+    room a backup is made again."""
+    with tempfile.TemporaryDirectory() as room:
+        page = Page(room)
+        with Backed(more=page.environment(library("fail_files", room))) as started:
+            found = []
+            for at in (1, 2, 3, 5):
+                page.set(at=at, row=1 << 30, error=errno.ENOSPC, kinds=WRITES)
+                answer = started.asked(backs_up("full"))
+                page.set()
+                found += difference(f"full from write {at} on", answer, said(503, UNWRITTEN))
+                found += difference("what is left", started.all(), [])
+            return found + difference("afterwards", started.asked(backs_up("full"))[:12], b"HTTP/1.1 200")
+
+
+CASES = {
+    "backups-beside-changes": beside_changes,
+    "backups-refused": refusals,
+    "backups-in-no-folder": folders,
+    "backups-one-at-a-time": one_at_a_time,
+    "backups-killed": killed,
+    "backups-on-a-full-disk": full_disk,
+}

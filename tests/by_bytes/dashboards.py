@@ -1,0 +1,172 @@
+"""What deploy/ has for Prometheus and Grafana: the files read, each figure and label in them is one that the service tells, each figure
+is shown, and each alert comes where it should and nowhere else.
+
+Where Debian's package prometheus is installed, its promtool reads each expression and tries the alerts; a look at names, signs and
+brackets stands for it elsewhere."""
+import json
+import pathlib
+import re
+import shutil
+import subprocess
+import tempfile
+
+import yaml
+
+import wire
+from operators import METRICS, Operated
+from program import TOP
+from sockets import ASKED, CLOSING, difference
+
+DEPLOY = TOP / "deploy"
+BOARD, RULES, SCRAPE = (DEPLOY / it for it in ("grafana.json", "prometheus-rules.yaml", "prometheus.yaml"))
+# labels that Prometheus or Grafana gives
+GIVEN = {"job", "instance", "le"}
+SIGNS = re.compile(r'\s+|"[^"]*"|\d+(?:\.\d+)?[smhd]?\b|[\w:]+|[-+*/%^(){}\[\],]|=~|!~|==|!=|>=|<=|[=<>]')
+FUNCTIONS = {
+    "absent", "and", "by", "changes", "histogram_quantile", "increase", "label_values", "max", "min", "or", "rate", "sum", "time",
+}
+MINUTES = 40
+# of each alert: the series that bring it, and those that do not, each as promtool writes them
+ALERTS = {
+    "DssDown": ({'up{job="dss"}': "0x40"}, {'up{job="dss"}': "1x40"}),
+    "DssStopped": (
+        {'dss_requests_total{operation="read_intent",status="503"}': "_x39 1x1"},
+        {'dss_requests_total{operation="read_intent",status="503"}': "1x40"},
+    ),
+    "DssStoreFaults": ({"dss_store_faults_total": "0x30 1x10"}, {"dss_store_faults_total": "1x40"}),
+    "DssMemoryFaults": ({"dss_memory_faults_total": "0x30 1x10"}, {"dss_memory_faults_total": "1x40"}),
+    "DssClockFaults": ({"dss_clock_faults_total": "0x30 1x10"}, {"dss_clock_faults_total": "1x40"}),
+    "DssFails": (
+        {'dss_requests_total{operation="create_intent",status="500"}': "1x33 2x7"},
+        {'dss_requests_total{operation="create_intent",status="500"}': "3x40"},
+    ),
+    "DssSlow": (
+        {f'dss_request_duration_seconds_bucket{{le="{bound}"}}': f"0+{count}x40" for bound, count in (("0.25", 90), ("2.5", 100), ("+Inf", 100))},
+        {f'dss_request_duration_seconds_bucket{{le="{bound}"}}': "0+100x40" for bound in ("0.25", "2.5", "+Inf")},
+    ),
+    "DssDeniesMany": ({'dss_requests_denied_total{rule="P4"}': "0+600x40"}, {'dss_requests_denied_total{rule="P4"}': "0+60x40"}),
+    "DssWithoutCopy": ({"dss_copy": "0x40"}, {"dss_copy": "1x40"}),
+    "DssTokensNotTaken": ({"dss_tokens_reload_failures_total": "0x35 1x5"}, {"dss_tokens_reload_failures_total": "1x40"}),
+    "DssLogLinesLost": ({"dss_log_lines_lost_total": "0x35 9x5"}, {"dss_log_lines_lost_total": "9x40"}),
+    "DssNearItsClients": ({"dss_connections_open": "901x40"}, {"dss_connections_open": "900x40"}),
+    "DssStartsAgain": ({"dss_start_time_seconds": "1x28 2x3 3x3 4x6"}, {"dss_start_time_seconds": "1x30 2x10"}),
+}
+
+
+def alerts():
+    return [rule for group in yaml.safe_load(RULES.read_text())["groups"] for rule in group["rules"]]
+
+
+def expressions():
+    """Each expression of the files, with where it stands."""
+    board = json.loads(BOARD.read_text())
+    shown = [(panel["title"], target["expr"]) for panel in board["panels"] for target in panel["targets"]]
+    shown += [(it["name"], it["expr"]) for it in board["annotations"]["list"]]
+    shown += [(it["name"], it["definition"]) for it in board["templating"]["list"] if "definition" in it]
+    return shown, [(it["alert"], it["expr"]) for it in alerts()]
+
+
+def told():
+    """The text of the figures of a service that has answered, and their types and labels by their names."""
+    with Operated() as started:
+        started.exchange(ASKED + CLOSING, ends=False)
+        started.exchange(wire.request("GET", wire.AVAILABILITY, None, fields=["Connection: close"]), ends=False)
+        text = started.asked(METRICS).partition(b"\r\n\r\n")[2].decode()
+    kinds = dict(re.findall(r"^# TYPE (\S+) (\S+)$", text, re.M))
+    names = {base + end: base for base, kind in kinds.items() for end in ENDS.get(kind, [""])}
+    labels = {it: set() for it in kinds}
+    for name, inside in re.findall(r"^(\w+)(?:\{(.*)\})? \S+$", text, re.M):
+        labels[names.get(name, name)] |= set(re.findall(r'(\w+)="', inside))
+    return text, names, labels
+
+
+ENDS = {"histogram": ["_bucket", "_sum", "_count"]}
+
+
+def labels_in(expression):
+    """The labels that an expression takes or groups by."""
+    chosen = re.findall(r"(\w+)\s*(?:=~|!~|!=|=)", " ".join(re.findall(r"\{([^}]*)\}", expression)))
+    return set(chosen) | set(re.findall(r"\w+", " ".join(re.findall(r"\bby\s*\(([^)]*)\)", expression))))
+
+
+def unread(expression):
+    """What a look at an expression's signs finds."""
+    text, depth = expression.replace("$__rate_interval", "5m"), []
+    for sign in re.split(f"({SIGNS.pattern})", text):
+        if sign and not SIGNS.fullmatch(sign):
+            return [f"{sign!r} in {expression}"]
+        if sign in ("(", "[", "{"):
+            depth.append({"(": ")", "[": "]", "{": "}"}[sign])
+        elif sign in (")", "]", "}") and (not depth or depth.pop() != sign):
+            return [f"a bracket in {expression}"]
+    called = set(re.findall(r"\b([a-z]\w*)\s*\(", text)) - FUNCTIONS
+    return ([f"an open bracket in {expression}"] if depth else []) + [f"no function is {it}" for it in sorted(called)]
+
+
+def names():
+    """Each figure and label in the files is told by the service, and each figure is shown."""
+    text, figures, labels = told()
+    shown, watched = expressions()
+    found, seen = [], set()
+    for place, expression in shown + watched:
+        named = set(re.findall(r"\bdss_\w+", re.sub(r'"[^"]*"', "", expression)))
+        unknown = sorted(named - set(figures))
+        found += [f"{place}: the service tells no {it}" for it in unknown] + [f"{place}: {it}" for it in unread(expression)]
+        of_these = GIVEN.union(*(labels[figures[it]] for it in named - set(unknown)))
+        found += [f"{place}: no label is {it}" for it in sorted(labels_in(expression) - of_these)] if not unknown else []
+        seen |= {figures.get(it) for it in named} if (place, expression) in shown else set()
+    found += [f"{it} is not shown" for it in sorted(set(labels) - seen)]
+    document = (TOP / "docs" / "OPERATE.md").read_text()
+    found += [f"docs/OPERATE.md has no {it}" for it in sorted(labels) if not re.search(rf"`{it}\b", document)]
+    return found + promtool(["check", "metrics"], text)
+
+
+def promtool(words, given=None):
+    """What promtool says against a file, where it is here."""
+    if not shutil.which("promtool"):
+        print("promtool is not here: Debian has it in the package prometheus")
+        return []
+    done = subprocess.run(["promtool", *words], input=given, capture_output=True, text=True, timeout=60)
+    return [f"promtool {words}: {done.stdout}{done.stderr}"] if done.returncode else []
+
+
+def reads():
+    """Prometheus reads its files, and each expression that is shown."""
+    shown, _ = expressions()
+    found = promtool(["check", "config", str(SCRAPE)]) + promtool(["check", "rules", str(RULES)])
+    asked = [re.sub(r"\$\w+", ".*", it.replace("$__rate_interval", "5m")) for _, it in shown if not it.startswith("label_values")]
+    with tempfile.TemporaryDirectory() as room:
+        rules = [{"record": f"shown:{at}", "expr": it} for at, it in enumerate(asked)]
+        file = pathlib.Path(room, "shown.yaml")
+        file.write_text(yaml.safe_dump({"groups": [{"name": "shown", "rules": rules}]}))
+        return found + promtool(["check", "rules", str(file)])
+
+
+def comes(name, series, is_there):
+    """A test of promtool: whether an alert is there at the end of series."""
+    given = [{"series": it if "{" in it and "instance" in it else with_instance(it), "values": values} for it, values in series.items()]
+    asked = {"eval_time": f"{MINUTES}m", "alertname": name}
+    labels = {it.split("=")[0]: it.split("=")[1].strip('"') for it in re.findall(r'(?:rule|job)="\w+"', "".join(series))}
+    alert = next(it for it in alerts() if it["alert"] == name)
+    kept = labels if "by (" not in alert["expr"] or "rule" in labels else {}
+    words = {"summary": alert["annotations"]["summary"].replace("{{ $labels.rule }}", labels.get("rule", ""))}
+    asked["exp_alerts"] = [{"exp_labels": {**alert["labels"], **kept, "instance": "here"}, "exp_annotations": words}] if is_there else []
+    return {"interval": "1m", "input_series": given, "alert_rule_test": [asked]}
+
+
+def with_instance(series):
+    name, _, inside = series.rstrip("}").partition("{")
+    return f'{name}{{{",".join(filter(None, [inside, "instance=" + chr(34) + "here" + chr(34)]))}}}'
+
+
+def come():
+    """Each alert comes where its series bring it, and not of others."""
+    found = difference("alerts", sorted(it["alert"] for it in alerts()), sorted(ALERTS))
+    tests = [comes(name, ALERTS[name][at], not at) for name in ALERTS for at in range(2)]
+    with tempfile.TemporaryDirectory() as room:
+        file = pathlib.Path(room, "tests.yaml")
+        file.write_text(yaml.safe_dump({"rule_files": [str(RULES)], "evaluation_interval": "1m", "tests": tests}))
+        return found + promtool(["test", "rules", str(file)])
+
+
+CASES = {"figures-that-are-shown": names, "figures-are-read": reads, "alerts-come": come}

@@ -1,0 +1,198 @@
+"""What `serve` counts, beside what its clients saw: requests by operation, status and rule, how long they took, and whether the database keeps
+what it is given, on the operator's port and on standard error."""
+import collections
+import errno
+import re
+import time
+
+import yaml
+
+import drawn_calls
+import wire
+from devices import SIZES, WRITES, Page, library
+from openapi import DOCUMENT, METHODS
+from operators import FAILING, HEALTH, METRICS, PUT, SERVING, Operated, said
+from served_calls import Asked
+from sockets import ASKED, difference
+from verbose import Verbose, limits
+from without_memory import FAULT
+
+FAILS = b"dss: store: changes are not kept, and are answered as faults\n"
+WORKS = "dss: store: changes are kept again, after {} faults\n"
+STILL = "dss: store: changes are still not kept, {} faults more\n"
+# the bounds of a duration, as they are written
+BOUNDS = ("0.0005", "0.001", "0.0025", "0.005", "0.01", "0.025", "0.05", "0.1", "0.25", "0.5", "1", "2.5", "+Inf")
+RULES = [f"H{it}" for it in range(1, 6)] + [f"P{it}" for it in range(1, 18)]
+# connections of a hundred drawn calls each, whose times lie far ahead, and the rules that none of them breaks
+SEED, CONNECTIONS, UNBROKEN = 5, 12, {"P13", "P15"}
+# of each rule of the wire a connection that breaks it
+BROKEN = {
+    "H1": b"no request\r\n\r\n",
+    "H2": b"GET / HTTP/1.1\r\n" + b"A: a\r\n" * 65 + b"\r\n",
+    "H3": b"PUT / HTTP/1.1\r\nTransfer-Encoding: chunked\r\n\r\n",
+    "H4": b"PUT / HTTP/1.1\r\nContent-Length: 1\r\nContent-Length: 2\r\n\r\n",
+    "H5": b"PUT / HTTP/1.1\r\nContent-Length: 1048577\r\n\r\n",
+}
+MINUTE = 60
+
+
+# ---- what was asked
+
+
+def snake(word):
+    return re.sub(r"[A-Z]", lambda it: f"_{it[0].lower()}", word)
+
+
+def operations():
+    """Of each path and method of the document the name of its operation."""
+    paths = yaml.safe_load(DOCUMENT.read_text())["paths"]
+    return [
+        (method.upper(), re.compile(re.sub(r"\{\w+\}", "(?!query$)[^/]+", path)), snake(what["operationId"]))
+        for path, item in paths.items() for method, what in item.items() if method in METHODS
+    ]
+
+
+def asked_by(call, known=tuple(operations())):
+    """The name of the operation that a call asks for."""
+    method, target, *_ = call
+    return next((name for its_method, path, name in known if method == its_method and path.fullmatch(target)), "none")
+
+
+class Seen:
+    """What clients saw, counted: answers by operation and status, by rule, and their bytes."""
+
+    def __init__(self):
+        self.answered, self.denied, self.size = collections.Counter(), collections.Counter(), 0
+
+    def see(self, operation, answer):
+        self.answered[operation, answer[9:12].decode()] += 1
+        self.denied.update(re.findall(r'"message":"([HP]\d+) ', answer.decode()))
+        self.size += len(answer)
+
+    def differs(self, counted):
+        """How what is counted is otherwise."""
+        requests = {f'dss_requests_total{{operation="{name}",status="{status}"}}': f"{it}" for (name, status), it in self.answered.items()}
+        rules = {f'dss_requests_denied_total{{rule="{it}"}}': f"{self.denied[it]}" for it in RULES}
+        found = difference("bytes", counted["dss_answer_bytes_total"], f"{self.size}")
+        for name, wanted in ("dss_requests_total", requests), ("dss_requests_denied_total", rules):
+            found += difference(name, {key: it for key, it in counted.items() if key.startswith(f"{name}{{")}, wanted)
+        return found + self.took(counted)
+
+    def took(self, counted):
+        """What is wrong with the durations of each operation: as many as were answered, rising to all of them, and a sum within the bounds."""
+        found, of_each = [], collections.Counter()
+        for (name, _), count in self.answered.items():
+            of_each[name] += count
+        base = "dss_request_duration_seconds"
+        told = {it for key in counted for it in re.findall(rf'^{base}_\w+\{{operation="(\w+)"', key)}
+        found += difference("operations that took long", told, set(of_each))
+        for name, count in of_each.items():
+            buckets = [int(counted.get(f'{base}_bucket{{operation="{name}",le="{it}"}}', -1)) for it in BOUNDS]
+            found += difference(f"{name}: all", (buckets[-1], counted.get(f'{base}_count{{operation="{name}"}}')), (count, f"{count}"))
+            found += difference(f"{name}: rising", buckets, sorted(buckets))
+            total = float(counted[f'{base}_sum{{operation="{name}"}}'])
+            between = [after - before for before, after in zip([0, *buckets], buckets)]
+            least = sum(it * float(bound) for it, bound in zip(between[1:], BOUNDS))
+            most = sum(it * float(bound) for it, bound in zip(between, BOUNDS) if it)
+            found += [] if least - 1e-3 <= total <= most + 1e-3 else [f"{name}: {total} is the sum of {buckets}"]
+        return found
+
+
+def drawn():
+    """Drawn calls and requests that break rules of the wire are counted as they were answered; every rule but P13 and P15 is broken. Nothing is
+    counted of what is asked on the operator's port."""
+    asked, seen = Asked(SEED), Seen()
+    with Operated(drawn_calls.ALL_TOKENS) as started:
+        for _ in range(CONNECTIONS):
+            calls = asked.calls(wire.MOST_REQUESTS)
+            answers = started.ask([wire.request(*it) for it in calls])
+            for call, answer in zip(calls, answers, strict=True):
+                seen.see(asked_by(call), answer)
+        for sent in BROKEN.values():
+            seen.see("none", started.exchange(sent, ends=False))
+        for sent in HEALTH, METRICS:
+            started.asked(sent)
+        found = seen.differs(started.counted())
+    unbroken = {it for it in RULES if not seen.denied[it]}
+    return found + difference("rules that none broke", unbroken, UNBROKEN)
+
+
+# ---- the database does not keep what it is given
+
+
+class Full(Operated):
+    """The same over a disk that a test fills and empties while it runs."""
+
+    def __init__(self):
+        super().__init__()
+        self.page = Page(self.folder)
+        self.environment |= self.page.environment(library("fail_files", self.folder))
+
+    def fill(self):
+        self.page.set(at=1, row=1_000_000, error=errno.ENOSPC, kinds=WRITES | SIZES)
+
+    def empty(self):
+        self.page.set()
+
+    def told(self):
+        """What was told on standard error since it listened."""
+        return (self.folder / "errors").read_bytes().removeprefix(self.listening)
+
+    def change(self):
+        """The answer to a change of an availability, of which the first version is known."""
+        return self.exchange(PUT.replace(b"\r\n\r\n", b"\r\nConnection: close\r\n\r\n"), ends=False)
+
+
+class FullAndVerbose(Full):
+    """The same, which tells more."""
+
+    options = ("--verbose",)
+    preface = Verbose.preface.replace(limits("1 connections").encode(), limits("1000000 connections").encode())
+
+
+FAULTED = wire.answer(*FAULT, closes=True)
+
+
+def states(started):
+    """Its health, and how many faults of the database are counted."""
+    return started.asked(HEALTH), started.counted()["dss_store_faults_total"]
+
+
+def full_disk():
+    """While the disk is full, changes are faults, the service is failing, and readings are answered; once one is kept again, it is
+    serving. On standard error stand its lines with --verbose, and none without."""
+    found = []
+    for kind, lines in (Full, b""), (FullAndVerbose, FAILS + WORKS.format(3).encode()):
+        with kind() as started:
+            found += difference("before", states(started), (said(200, SERVING), "0"))
+            started.fill()
+            for number in range(1, 4):
+                found += difference(f"change {number}", started.change(), FAULTED)
+                found += difference(f"after {number}", states(started), (said(503, FAILING), f"{number}"))
+                found += difference("a reading", started.ask([ASKED])[0][:12], b"HTTP/1.1 200")
+            found += difference("a denial", started.ask([wire.request("GET", wire.AVAILABILITY, None)])[0][:12], b"HTTP/1.1 404")
+            found += difference("after a denial", states(started), (said(503, FAILING), "3"))
+            started.empty()
+            found += difference("room again", states(started), (said(503, FAILING), "3"))
+            found += difference("a change", started.change()[:12], b"HTTP/1.1 200")
+            found += difference("after it", states(started), (said(200, SERVING), "3"))
+            found += difference("lines", started.told(), lines)
+    return found
+
+
+def still_failing():
+    """A disk that stays full is told of once a minute."""
+    with FullAndVerbose() as started:
+        started.fill()
+        found = difference("changes", {started.change() for _ in range(5)}, {FAULTED})
+        found += difference("at once", started.told(), FAILS)
+        time.sleep(MINUTE)
+        found += difference("a change more", started.change(), FAULTED)
+        return found + difference("after a minute", started.told(), FAILS + STILL.format(5).encode())
+
+
+CASES = {
+    "figures-of-drawn-calls": drawn,
+    "figures-of-a-full-disk": full_disk,
+    "figures-of-a-disk-that-stays-full": still_failing,
+}

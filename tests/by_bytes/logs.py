@@ -1,0 +1,232 @@
+"""`serve --log`: a line for each request, to the letter, with nothing of tokens, OVNs and bodies; a file that is moved away, one that cannot
+be written to, and one that cannot be opened."""
+import datetime
+import re
+import time
+
+import drawn_calls
+import wire
+from figures import BROKEN, asked_by
+from operators import Operated
+from program import SECONDS, run
+from served_calls import Asked
+from serving import Service
+from sockets import ASKED, difference
+
+# connections of a hundred drawn calls each
+SEED, CONNECTIONS = 17, 6
+KEYS = ("time", "connection", "supplier", "operation", "entity", "status", "rule", "microseconds", "bytes")
+LINE = re.compile(" ".join(rf"{it}=(\S+)" for it in KEYS))
+MOMENT = re.compile(r"\d{4}-\d\d-\d\dT\d\d:\d\d:\d\d\.\d{3}Z")
+UUID = re.compile(r"[0-9A-Fa-f]{8}(?:-[0-9A-Fa-f]{4}){3}-[0-9A-Fa-f]{12}")
+# bytes of a file that a process may write, and what is left of them for the first line
+MOST, LEFT = 4_194_304, 50
+LOST = "dss_log_lines_lost_total"
+
+
+class Logged(Operated):
+    """`dss serve` with a log in the folder of its database, and an operator's port."""
+
+    name = "log"
+
+    @property
+    def log(self):
+        return self.folder / self.name
+
+    def command(self):
+        return [*super().command(), "--log", str(self.log)]
+
+
+def lines_of(file):
+    return file.read_text().splitlines()
+
+
+def until_lines(file, count):
+    """The lines of a file, once there are so many."""
+    until = time.monotonic() + SECONDS
+    while (not file.exists() or file.read_bytes().count(b"\n") < count) and time.monotonic() < until:
+        time.sleep(0.005)
+    return lines_of(file) if file.exists() else []
+
+
+def supplier_of(call, suppliers):
+    """The supplier of a call's token, if it is one of the file's."""
+    _, _, authorization, *_ = call
+    found = re.fullmatch(r"[Bb][Ee][Aa][Rr][Ee][Rr] +(\S+)", authorization or "")
+    return suppliers.get(found and found.group(1), "-")
+
+
+def wanted(call, answer, suppliers):
+    """What is wanted of a line: supplier, operation, status, rule and bytes."""
+    denied = re.search(r'"message":"([HP]\d+) ', answer.decode())
+    rule = denied.group(1) if denied else "-"
+    operation = "none" if rule in ("P1", "P2") else asked_by(call)
+    return supplier_of(call, suppliers), operation, answer[9:12].decode(), rule, f"{len(answer)}"
+
+
+def entity_is_right(call, entity, rule):
+    """Whether that is what is told of the entity: the id of the path, or none where path and body have not the form of one that names it."""
+    method, target, *_ = call
+    if entity == "-":
+        ids = "query" in target or "availability" in target or asked_by(call) == "none"
+        return ids or rule in ("P1", "P2", "P3", "P4", "P5") or not UUID.search(target)
+    return entity.lower() in target.lower()
+
+
+def drawn():
+    """Drawn calls over several connections and requests that break rules of the wire have each its line, in order; nothing of a token, an OVN
+    or a body is in it, and the moments rise and are those of the calls."""
+    asked, found = Asked(SEED), []
+    with Logged(drawn_calls.ALL_TOKENS) as started:
+        suppliers = {token: uss for token, (uss, _) in drawn_calls.ALL_TOKENS.items()}
+        began, secrets, calls_of = time.time(), set(suppliers), []
+        for connection in range(1, CONNECTIONS + 1):
+            calls = asked.calls(wire.MOST_REQUESTS)
+            answers = started.ask([wire.request(*it) for it in calls])
+            calls_of += [(connection, *it) for it in zip(calls, answers, strict=True)]
+        for sent in BROKEN.values():
+            started.exchange(sent, ends=False)
+        told = until_lines(started.log, len(calls_of) + len(BROKEN))
+        ended = time.time()
+        text = started.log.read_text()
+    found += difference("how many", len(told), len(calls_of) + len(BROKEN))
+    moments = []
+    for at, (line, (connection, call, answer)) in enumerate(zip(told, calls_of)):
+        parts = LINE.fullmatch(line)
+        if not parts:
+            found += [f"line {at}: {line!r}"]
+            continue
+        moment, number, supplier, operation, entity, status, rule, took, size = parts.groups()
+        moments.append(moment)
+        found += difference(f"line {at} of {call}", (supplier, operation, status, rule, size), wanted(call, answer, suppliers))
+        found += difference(f"line {at}: connection", number, f"{connection}")
+        found += [] if entity_is_right(call, entity, rule) else [f"line {at} of {call}: entity {entity}"]
+        found += [] if took.isdigit() and int(took) < SECONDS * 1_000_000 else [f"line {at}: {took} microseconds"]
+        secrets.update(re.findall(r'"(?:ovn|version|old_version|uss_base_url)":"([^"]{9,})"', answer.decode()))
+    for line, rule, number in zip(told[len(calls_of):], BROKEN, range(CONNECTIONS + 1, CONNECTIONS + 1 + len(BROKEN))):
+        parts = LINE.fullmatch(line)
+        got = parts and parts.groups()[1:5] + parts.groups()[6:7]
+        found += difference(rule, got, (f"{number}", "-", "none", "-", rule))
+    found += [] if all(MOMENT.fullmatch(it) for it in moments) and moments == sorted(moments) else ["the moments do not rise"]
+    for it in moments[:1] + moments[-1:]:
+        second = datetime.datetime.fromisoformat(it.replace("Z", "+00:00")).timestamp()
+        found += [] if began - 1 <= second <= ended + 1 else [f"{it} is no time of the calls"]
+    return found + [f"{it!r} is in the log" for it in secrets if it in text]
+
+
+class ToStandardError(Service):
+    """`dss serve` with its log on standard error."""
+
+    options = ("--log", "-")
+
+
+def by_letter():
+    """The line of one call, and of one without a route, on standard error; there is none without the option."""
+    with ToStandardError(count=2) as started:
+        first = started.exchange(ASKED)
+        second = started.exchange(wire.request("GET", "/nothing"))
+        status, output, error = started.ended()
+    told = re.sub(rb"time=\S+", b"time=T", re.sub(rb"microseconds=\d+", b"microseconds=N", error[len(started.listening):]))
+    lines = (
+        f"time=T connection=1 supplier=uss-a operation=read_availability entity=- status=200 rule=- microseconds=N bytes={len(first)}\n"
+        f"time=T connection=2 supplier=- operation=none entity=- status=404 rule=P1 microseconds=N bytes={len(second)}\n"
+    )
+    found = difference("standard error", (status, output, told), (0, b"", lines.encode()))
+    with Service(count=1) as started:
+        started.exchange(ASKED)
+        return found + difference("without the option", started.ended(), (0, b"", started.listening))
+
+
+def moved_away():
+    """A log that was moved away is made anew within a second, and no line is lost; one that is there is gone on with."""
+    found = []
+    with Logged() as started:
+        started.ask([ASKED] * 3)
+        found += difference("at first", len(until_lines(started.log, 3)), 3)
+        moved = started.folder / "log.1"
+        started.log.rename(moved)
+        until, asked = time.monotonic() + SECONDS, 0
+        while not started.log.exists() and time.monotonic() < until:
+            started.ask([ASKED])
+            asked += 1
+            time.sleep(0.05)
+        until_lines(started.log, 1)
+        found += difference("lines in both", len(lines_of(moved)) + len(until_lines(started.log, 1)), 3 + asked)
+        found += [] if lines_of(started.log) else ["nothing is in the new file"]
+        kept = started.log.read_text()
+        started.kill()
+        started.start()
+        started.ask([ASKED])
+        until_lines(started.log, len(kept.splitlines()) + 1)
+        found += [] if started.log.read_text().startswith(kept) else ["a new start has not gone on with the file"]
+        found += difference("lost", started.counted().get(LOST), "0")
+    return found
+
+
+class Limited(Logged):
+    """The same, where no file may have more than so many bytes."""
+
+    def command(self):
+        return ["prlimit", f"--fsize={MOST}", "env", "--ignore-signal=XFSZ", *super().command()]
+
+
+def full():
+    """A file that takes only the beginning of a line, and then nothing, delays no request; what was lost is counted, and no half line is left
+    before a whole one."""
+    found = []
+    with Limited() as started:
+        with started.log.open("r+b") as file:
+            file.truncate(MOST - LEFT)
+        answers = started.ask([ASKED] * 5)
+        found += difference("answers", [it[:12] for it in answers], [b"HTTP/1.1 200"] * 5)
+        lost = int(started.counted().get(LOST, -1))
+        found += difference("lost", lost, 5)
+        half = started.log.read_bytes()[MOST - LEFT:]
+        found += [] if len(half) == LEFT and half.startswith(b"time=") and b"\n" not in half else [f"half a line: {half!r}"]
+        with started.log.open("r+b") as file:
+            file.truncate(0)
+            file.write(half)
+        started.ask([ASKED] * 2)
+        until_lines(started.log, 3)
+        text = started.log.read_bytes()
+        lines = text.split(b"\n")
+        found += difference("the half line ends", lines[0], half)
+        found += [] if all(LINE.fullmatch(it.decode()) for it in lines[1:-1]) and len(lines) == 4 else [f"lines after it: {text!r}"]
+        found += difference("lost later", started.counted().get(LOST), "5")
+    return found
+
+
+class NoSpace(Logged):
+    """The same, with a log on a device that is full."""
+
+    name = "/dev/full"
+
+
+def no_space():
+    """A log on a device without space takes no line, and each request is answered."""
+    with NoSpace() as started:
+        answers = started.ask([ASKED] * 10)
+        found = difference("answers", [it[:12] for it in answers], [b"HTTP/1.1 200"] * 10)
+        return found + difference("lost", started.counted().get(LOST), "10")
+
+
+def not_opened():
+    """A log that cannot be opened is one line and status 1, before anything is made."""
+    with Service() as started:
+        started.kill()
+        (started.folder / "dss.db").unlink(missing_ok=True)
+        for name in f"{started.folder}/none/log", str(started.folder):
+            got = run([*started.command(), "--log", name])
+            if got != (1, b"", b"dss: output\n"):
+                return [f"{name}: {got!r}"]
+        return [] if not (started.folder / "dss.db").exists() else ["a database was made"]
+
+
+CASES = {
+    "log-of-drawn-calls": drawn,
+    "log-by-letter": by_letter,
+    "log-that-is-moved": moved_away,
+    "log-that-is-full": full,
+    "log-without-space": no_space,
+    "log-that-does-not-open": not_opened,
+}

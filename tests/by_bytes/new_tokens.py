@@ -1,0 +1,192 @@
+"""A token file that changes while `serve` runs: calls are judged by it from then on, and by the one before where it is wrong."""
+import contextlib
+import os
+import time
+
+import plain_policy
+import wire
+from devices import Page, library
+from serving import Service
+from sockets import difference
+
+# seconds within which a change is seen: the file is looked at each second
+SEEN, LOOKS = 2.0, 1.1
+NEW = {"tok-new": ("uss-new", {wire.ARBITRATION})}
+MORE = wire.TOKENS | NEW
+FEWER = {text: it for text, it in MORE.items() if text != "tok-v"}
+UNREAD, OTHER_SALT, MEMORY = b"dss: tokens: cannot read\n", b"dss: tokens: another salt\n", b"dss: memory\n"
+# growths of memory of which one is refused as a file is read that changed, and more than such a reading has
+REFUSED, ALL = (1, 2, 5, 12, 30), 1_000_000
+
+
+def setting(airspace, token, uss):
+    """A call that sets an availability, by which the airspace goes on."""
+    body = {"old_version": airspace.setting(uss)[1], "availability": "Normal"}
+    return "PUT", f"{wire.AVAILABILITY}/{uss}", f"Bearer {token}", wire.compact(body).encode()
+
+
+class Changing(Service):
+    """A service whose token file changes, and a connection that stays open."""
+
+    def __enter__(self):
+        super().__enter__()
+        self.airspace, self.told = plain_policy.Airspace(0), b""
+        self.kept = self.connect()
+        return self
+
+    def __exit__(self, *stopped):
+        self.kept.close()
+        super().__exit__(*stopped)
+
+    def write(self, text):
+        """Another file with that text in the place of the token file, at one moment."""
+        anew = self.folder / "anew"
+        anew.write_bytes(text if isinstance(text, bytes) else text.encode())
+        os.replace(anew, self.folder / "tokens.toml")
+
+    def answer_to(self, connection, call):
+        connection.sendall(wire.request(*call))
+        came = b""
+        while not (answers := wire.answers_of(came)):
+            came += connection.recv(1 << 16) or b"\r\n\r\n"
+        return answers[0]
+
+    def judged(self, what, tokens):
+        """What is wrong with calls on the open connection and on new ones, by a table of tokens."""
+        self.airspace.tokens, found = tokens, []
+        for token in sorted(MORE):
+            for new in False, True:
+                call = setting(self.airspace, token, f"uss-{token}")
+                wanted = self.airspace.ask(*call).text()
+                with self.connect() if new else contextlib.nullcontext(self.kept) as connection:
+                    found += difference(f"{what}, {token}", self.answer_to(connection, call), wanted)
+        self.kept.close()
+        self.kept = self.connect()
+        return found
+
+    def lines(self):
+        """What is told after that it listens."""
+        return (self.folder / "errors").read_bytes()[len(self.listening) :]
+
+    def tells(self, what, lines):
+        """What is wrong with what it tells, in the time within which a change is seen."""
+        until = time.monotonic() + SEEN
+        while self.lines() != self.told + lines and time.monotonic() < until:
+            time.sleep(0.01)
+        # a second look tells nothing more
+        time.sleep(LOOKS)
+        self.told += lines
+        return difference(f"{what}: what it tells", self.lines(), self.told)
+
+    def takes(self, tokens):
+        """Waits until a token of a file that was written is taken or refused, and says how long it took."""
+        began = time.monotonic()
+        probe = next(it for it in ("tok-new", "tok-v") if (it in tokens) != (it in self.airspace.tokens))
+        self.airspace.tokens = tokens
+        call = "GET", f"{wire.AVAILABILITY}/uss-none", f"Bearer {probe}", None
+        wanted = self.airspace.ask(*call).text()
+        while self.answer_to(self.kept, call) != wanted:
+            if time.monotonic() > began + SEEN:
+                return [f"{probe} is not as in the file after {SEEN} seconds"]
+            # a connection answers a hundred requests
+            time.sleep(0.05)
+        return []
+
+
+def added_and_removed():
+    """A token works within two seconds after it is in the file, and is refused once it is not, on a connection that is open, too."""
+    with Changing() as service:
+        found = service.judged("as it started", wire.TOKENS)
+        for what, tokens in ("one more", MORE), ("one less", FEWER), ("all again", wire.TOKENS | NEW):
+            service.write(wire.token_file(tokens))
+            found += service.takes(tokens)
+            found += service.judged(what, tokens)
+        return found + service.tells("good files", b"")
+
+
+def without_clients():
+    """It is looked at the file where nobody is connected, and a first call afterwards is judged by it."""
+    with Changing() as service:
+        service.kept.close()
+        service.write(wire.token_file(FEWER, "other"))
+        found = service.tells("another salt", OTHER_SALT)
+        service.write(wire.token_file(FEWER))
+        time.sleep(SEEN)
+        service.kept = service.connect()
+        return found + service.judged("a first call", FEWER)
+
+
+def wrong_files():
+    """A file that is wrong, or has another salt, changes nothing, and is told once; so is it again after a good one."""
+    good, files = wire.token_file(FEWER), (
+        ("no TOML", "salt = demo\n", b"dss: tokens: fault 1 Toml\n"),
+        ("no salt", "", b"dss: tokens: fault 2 Salt\n"),
+        ("no text", wire.token_file(FEWER) + "\n[[token]]\n", b"dss: tokens: fault 3 Token\n"),
+        ("another salt", wire.token_file(FEWER, "demo2"), OTHER_SALT),
+        ("the salt in other letters", wire.token_file(FEWER, "Demo"), OTHER_SALT),
+        ("no UTF-8", wire.token_file(FEWER).encode() + b"# \xff\n", UNREAD),
+        ("a text twice", wire.token_file(FEWER) + wire.token_file(FEWER)[len('salt = "demo"\n') :], b"dss: tokens: fault 6 Repeated\n"),
+    )
+    found = []
+    with Changing() as service:
+        for what, text, line in files:
+            service.write(text)
+            found += service.tells(what, line)
+        found += service.judged("after wrong files", wire.TOKENS)
+        service.write(good)
+        found += service.takes(FEWER)
+        found += service.judged("after a good one", FEWER)
+        service.write(files[0][1])
+        found += service.tells("a wrong one again", files[0][2])
+        return found + service.judged("after a wrong one again", FEWER)
+
+
+def gone_and_back():
+    """A file that is gone at one look alone is not told; one that stays away is, once; the tokens stay."""
+    with Changing() as service:
+        name, away = service.folder / "tokens.toml", service.folder / "away"
+        name.rename(away)
+        time.sleep(0.2)
+        away.rename(name)
+        found = service.tells("gone for a moment", b"")
+        name.rename(away)
+        time.sleep(LOOKS)
+        found += service.tells("gone", UNREAD)
+        found += service.judged("while it is gone", wire.TOKENS)
+        away.rename(name)
+        found += service.tells("back", b"")
+        found += service.judged("once it is back", wire.TOKENS)
+        service.write(wire.token_file(FEWER))
+        return found + service.takes(FEWER) + service.judged("another", FEWER)
+
+
+def without_memory():
+    """Where memory lacks for a file that changed, the tokens before stay, it is told once, and the file is taken once there is memory."""
+    found = []
+    with Changing() as service:
+        service.kill()
+        page = Page(service.folder)
+        service.environment |= page.environment(library("refuse_memory", service.folder))
+        service.start()
+        for at in REFUSED + (ALL,):
+            service.kept.close()
+            # so that no growth is one of a client's
+            time.sleep(LOOKS)
+            tokens = FEWER if service.airspace.tokens == wire.TOKENS else wire.TOKENS
+            page.set(at=1 if at == ALL else at, row=ALL if at == ALL else 1)
+            service.write(wire.token_file(tokens))
+            found += service.tells(f"growth {at}", MEMORY)
+            page.set()
+            time.sleep(LOOKS)
+            service.kept = service.connect()
+            found += service.judged(f"after growth {at}", tokens)
+        return found
+
+
+CASES = {
+    "tokens-added-and-removed-while-it-serves": added_and_removed,
+    "tokens-changed-while-nobody-is-connected": without_clients,
+    "tokens-wrong-while-it-serves": wrong_files,
+    "tokens-gone-while-it-serves": gone_and_back,
+    "tokens-changed-without-memory": without_memory,
+}

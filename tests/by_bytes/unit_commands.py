@@ -1,0 +1,89 @@
+"""The commands that the units of the package have beside the program, and what logrotate does: tried on a service that runs.
+
+That systemd runs them so is not tried; of a command it takes `%%` for `%`, `$$` for `$` and `\\\\` for `\\`."""
+import datetime
+import re
+import shutil
+import subprocess
+import threading
+import time
+
+from operators import STOP, Operated
+from program import BUILT, TOP, run
+from sockets import ASKED, CLOSING, LAST, difference
+
+DEPLOY = TOP / "deploy"
+
+
+def command(unit, name, service):
+    """The words of a command of a unit, for the operator's port of a service."""
+    text = re.search(rf"(?m)^{name}=-?/bin/bash -c '(.*)'$", (DEPLOY / unit).read_text())[1]
+    for there, here in ("%%", "%"), ("$$", "$"), ("\\\\", "\\"), ("/127.0.0.1/8078", f"/127.0.0.1/{service.admin}"):
+        text = text.replace(there, here)
+    return ["bash", "-c", text]
+
+
+class Kept(Operated):
+    """The service with a log of requests and a folder for copies, as the unit has them."""
+
+    def command(self):
+        (self.folder / "backups").mkdir(exist_ok=True)
+        return [*super().command(), "--log", f"{self.folder}/requests.log", "--backups", f"{self.folder}/backups"]
+
+    def log(self):
+        return (self.folder / "requests.log").read_text().splitlines()
+
+
+def stops():
+    """The unit's ExecStop has the service end, and waits until it has."""
+    with Operated() as started:
+        found = difference("an answer", started.exchange(CLOSING, ends=False), LAST)
+        # as systemd does, so that it is no process any more once it has ended
+        threading.Thread(target=started.program.wait, daemon=True).start()
+        got = run(command("dss.service", "ExecStop", started), more={"MAINPID": f"{started.program.pid}"})
+        found += difference("ExecStop", got, (0, b"", b""))
+        return found + difference("the service", started.ended(), (0, b"", started.listening))
+
+
+def copies():
+    """The unit of copies makes one of the day, which opens, and says that there is one where it is asked again."""
+    day = datetime.datetime.now(datetime.timezone.utc).strftime("%Y-%m-%d")
+    with Kept() as started:
+        started.exchange(CLOSING, ends=False)
+        asked = command("dss-backup.service", "ExecStart", started)
+        status, output, error = run(asked)
+        made = sorted((started.folder / "backups").iterdir())
+        found = difference("made", (status, b"made: " in output, error), (0, True, b""))
+        found += difference("made", [it.name for it in made], [day])
+        found += difference("for others", [it for it in [*made, *made[0].iterdir()] if it.stat().st_mode & 0o077], [])
+        status, output, error = run(asked)
+        found += difference("again", (status, b"exists: " in output, error), (1, True, b""))
+        started.asked(STOP)
+        started.ended()
+        return found + difference("its report", run([BUILT, "report", "--db", str(made[0] / "dss.db")]), (0, b"serial 0\n", b""))
+
+
+def rotates():
+    """logrotate moves the log away, and the service goes on in a new file of its own."""
+    program = shutil.which("logrotate", path="/usr/sbin:/usr/bin")
+    if not program:
+        print("logrotate is not here")
+        return []
+    with Kept() as started:
+        text = (DEPLOY / "logrotate").read_text().replace("/var/log/dss/", f"{started.folder}/")
+        owner = f"{started.folder.owner()} {started.folder.group()}"
+        settings = started.folder / "logrotate"
+        settings.write_text(text.replace("su dss dss", f"su {owner}"))
+        settings.chmod(0o600)
+        started.exchange(ASKED + CLOSING, ends=False)
+        found = difference("lines", len(started.log()), 2)
+        done = subprocess.run([program, "--force", "--state", started.folder / "state", settings], capture_output=True, text=True)
+        found += difference("logrotate", (done.returncode, done.stderr), (0, ""))
+        time.sleep(2)
+        started.exchange(CLOSING, ends=False)
+        found += difference("the new file", len(started.log()), 1)
+        moved = started.folder / "requests.log.1"
+        return found + difference("the old file", (moved.is_file() and len(moved.read_text().splitlines())), 2)
+
+
+CASES = {"unit-stops-the-service": stops, "unit-copies-the-database": copies, "logrotate-moves-the-log": rotates}
