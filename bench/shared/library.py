@@ -1,11 +1,11 @@
-"""What SQLite's own library does of the statements of the space, by bench/space.c. It needs what Debian calls gcc and
+"""What SQLite's own library does of the statements of the space, by bench/shared/space.c. It needs what Debian calls gcc and
 libsqlite3-dev."""
 import pathlib
 import subprocess
 import sys
 import tempfile
 
-TOP = pathlib.Path(__file__).resolve().parent.parent
+TOP = pathlib.Path(__file__).resolve().parents[2]
 sys.path.insert(0, str(TOP / "tests" / "shared"))
 
 import tables
@@ -28,8 +28,8 @@ def memory_folder():
 def built(folder):
     """The program, compiled in a folder."""
     program = f"{folder}/space"
-    if subprocess.run(["cc", "-O2", "-o", program, str(TOP / "bench" / "space.c"), "-lsqlite3"]).returncode:
-        sys.exit("bench: bench/space.c cannot be compiled")
+    if subprocess.run(["cc", "-O2", "-o", program, str(TOP / "bench" / "shared" / "space.c"), "-lsqlite3"]).returncode:
+        sys.exit("bench: bench/shared/space.c cannot be compiled")
     return program
 
 

@@ -1,4 +1,4 @@
-"""The calls that measure a service, and the program that answers them: bench/service.rattle, which is proved and built as
+"""The calls that measure a service, and the program that answers them: bench/shared/service.rattle, which is proved and built as
 one crate more in a copy of the crates. Libraries that ./dss has built in crates/*/out are not proved anew."""
 import hashlib
 import json
@@ -10,7 +10,7 @@ import tempfile
 
 from places import cell
 
-TOP = pathlib.Path(__file__).resolve().parent.parent
+TOP = pathlib.Path(__file__).resolve().parents[2]
 NAME = "bench_service"
 USES = "entity_core policy_core space_core space_list space_sql service_core wire_body wire_reply"
 CALLS = 2_000
@@ -133,7 +133,7 @@ def copy(folder):
     (folder / "crates.txt").write_text(f"{(TOP / 'crates.txt').read_text()}{NAME}: {USES}\n")
     crate = folder / "crates" / NAME
     (crate / "src").mkdir(parents=True, exist_ok=True)
-    shutil.copy2(TOP / "bench" / "service.rattle", crate / "src" / "main.rt")
+    shutil.copy2(TOP / "bench" / "shared" / "service.rattle", crate / "src" / "main.rt")
     return crate
 
 
