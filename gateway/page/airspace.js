@@ -30,7 +30,8 @@ export class Airspace {
   constructor(data) {
     this.data = data;
     this.references = data.references;
-    this.suppliers = [...new Set(this.references.map((it) => it.manager))].sort();
+    this.subscriptions = data.subscriptions ?? [];
+    this.suppliers = [...new Set([...this.references.map((it) => it.manager), ...Object.keys(data.suppliers ?? {})])].sort();
     this.waiting = new Set(this.references.flatMap((it) => it.perhaps)).size;
   }
 
@@ -40,7 +41,9 @@ export class Airspace {
   show(at, altitude) {
     const { data } = this;
     const wasAsked = data.at === at && (data.altitude ?? null) === altitude;
-    this.shown = this.references.filter((it) => wasAsked ? it.is_there : it.time_start <= at && at <= it.time_end);
+    const isThere = (it) => wasAsked ? it.is_there : it.time_start <= at && at <= it.time_end;
+    this.shown = this.references.filter(isThere);
+    this.watching = this.subscriptions.filter(isThere);
     const cells = this.byToken = new Map();
     for (const it of this.shown)
       for (const name of ["in", "perhaps"])
@@ -57,6 +60,11 @@ export class Airspace {
     }
     this.cells = [...cells.values()].sort((a, b) => a.level - b.level);
     this.findPairs();
+  }
+
+  // Of a supplier without references only a whole reading tells.
+  availabilityOf(uss) {
+    return this.data.suppliers?.[uss] ?? this.references.find((it) => it.manager === uss)?.uss_availability ?? "";
   }
 
   findPairs() {

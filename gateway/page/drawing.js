@@ -58,6 +58,8 @@ export class Drawing {
     this.airspace = null;
     this.colourOf = () => "--accepted";
     this.selected = null;
+    this.watched = [];
+    this.isEverywhere = false;
     this.isDue = this.isMoving = this.usesKeys = false;
     this.last = { canvas: document.createElement("canvas"), view: null };
     new ResizeObserver(() => this.resize()).observe(canvas);
@@ -87,15 +89,22 @@ export class Drawing {
     this.draw();
   }
 
-  setArea(outlines) {
-    this.area = outlines.map((it, k) => plane(`area ${k} ${it}`, it));
+  // Without an area everything is looked at, and what is there first is what is framed.
+  setArea(outlines, cells) {
+    this.isEverywhere = !outlines.length;
+    this.area = (this.isEverywhere ? cells : outlines).map((it, k) => plane(`area ${k} ${it}`, it));
     this.showWhole();
   }
 
   showWhole() {
-    const xs = this.area.flatMap((it) => [it[0], it[2], it[4], it[6]]), ys = this.area.flatMap((it) => [it[1], it[3], it[5], it[7]]);
+    const box = [Infinity, Infinity, -Infinity, -Infinity];
+    for (const it of this.area)
+      for (let k = 0; k < 8; k++) {
+        box[k % 2] = Math.min(box[k % 2], it[k]);
+        box[2 + k % 2] = Math.max(box[2 + k % 2], it[k]);
+      }
     this.isWhole = true;
-    if (xs.length && this.width) this.frame(Math.min(...xs), Math.min(...ys), Math.max(...xs), Math.max(...ys));
+    if (this.area.length && this.width) this.frame(...box);
   }
 
   frame(left, top, right, bottom) {
@@ -167,9 +176,11 @@ export class Drawing {
       this.drawLast();
     } else {
       context.fillStyle = this.colour("--ground");
-      for (const it of this.area) this.trace([it], (path) => context.fill(path));
+      if (this.isEverywhere) context.fillRect(0, 0, this.width, this.height);
+      else for (const it of this.area) this.trace([it], (path) => context.fill(path));
       this.drawGraticule();
       if (this.airspace) this.drawCells();
+      this.drawWatched();
       this.keepLast();
     }
     this.drawLabels();
@@ -337,6 +348,17 @@ export class Drawing {
       context.fillText(it.in.length, px, py);
     }
     context.textBaseline = "alphabetic";
+  }
+
+  // Where subscriptions are, by lines of dots.
+  drawWatched() {
+    const { context } = this;
+    const outlines = this.watched.map((it) => this.outline(it)).filter((it) => it && this.isInView(it));
+    context.strokeStyle = this.colour("--ink");
+    context.lineWidth = 2;
+    context.setLineDash([2, 5]);
+    for (let k = 0; k < outlines.length; k += AT_ONCE) this.trace(outlines.slice(k, k + AT_ONCE), (path) => context.stroke(path));
+    context.setLineDash([]);
   }
 
   drawSelected() {

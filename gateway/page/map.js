@@ -56,11 +56,18 @@ function take(data) {
   const isFirst = !airspace;
   airspace = new Airspace(data);
   if (isFirst) enter();
-  if (isFirst) drawing.setArea(data.area);
+  if (isFirst) drawing.setArea(data.area, Object.values(data.cells));
+  tellWhole(Boolean(data.subscriptions));
   const isSilent = data.fault && data.asked < data.now - 2 || data.asked && data.asked < data.now - STALE;
   tellFault(isSilent ? `The service does not answer${since(data.asked)}${data.fault ? `: ${data.fault}` : ""}` : "");
   boundTime();
   show();
+}
+
+// Whether the airspace was read as a whole, with the subscriptions.
+function tellWhole(isWhole) {
+  of("with-subscriptions").hidden = of("watching").hidden = of("read-whole").hidden = !isWhole;
+  of("read-by-queries").hidden = isWhole;
 }
 
 // A status is told once, and not again with each reading.
@@ -150,6 +157,7 @@ of("altitude").max = ALTITUDES.length - 1;
 of("time").addEventListener("input", change);
 of("altitude").addEventListener("input", change);
 of("by-supplier").addEventListener("change", show);
+of("subscriptions").addEventListener("change", show);
 
 // ---- showing
 
@@ -181,7 +189,8 @@ function showOnMap() {
   const { at } = airspace.data;
   const isSame = (airspace.data.altitude ?? null) === altitude && Math.abs(at - moment()) < 30;
   airspace.show(isSame ? at : moment(), altitude);
-  Object.assign(drawing, { airspace, colourOf });
+  const watching = of("subscriptions").checked ? airspace.watching : [];
+  Object.assign(drawing, { airspace, colourOf, watched: [...new Set(watching.flatMap((it) => it.in))] });
   drawing.draw();
   tellMoment();
   tellCounts();
@@ -192,6 +201,7 @@ function list() {
   listPairs();
   listSuppliers();
   listAll();
+  listSubscriptions();
 }
 
 function tellCounts() {
@@ -241,8 +251,7 @@ function listPairs() {
 
 function listSuppliers() {
   const rows = airspace.suppliers.map((uss) => {
-    const own = airspace.references.filter((it) => it.manager === uss);
-    const cells = [uss, own[0].uss_availability, airspace.shown.filter((it) => it.manager === uss).length];
+    const cells = [uss, airspace.availabilityOf(uss), airspace.shown.filter((it) => it.manager === uss).length];
     const it = make("tr");
     it.append(...cells.map((text, k) => make("td", text, k === 1 ? { className: text } : {})));
     return it;
@@ -258,16 +267,37 @@ function listAll() {
   if (shown.length > listed.length) of("all").append(make("li", `and ${shown.length - listed.length} more`));
 }
 
+const wanted = (it) => [["notify_for_operational_intents", "intents"], ["notify_for_constraints", "constraints"]]
+  .filter(([name]) => it[name]).map(([, text]) => text).join(" and ");
+
+function listSubscriptions() {
+  const { watching } = airspace, listed = watching.slice(0, MOST_LISTED);
+  of("watching-count").textContent = watching.length;
+  fill(of("watching-list"), listed.map((it) => row([], `${short(it.id)} of ${it.manager} for ${wanted(it)}`, it.id, () => selectSubscription(it))));
+  if (watching.length > listed.length) of("watching-list").append(make("li", `and ${watching.length - listed.length} more`));
+}
+
 // ---- what is selected
 
 // As its manager published it.
 function published(it) {
-  const list = make("dl");
   const rows = [["id", it.id], ["manager", `${it.manager} (${it.uss_availability})`], ["from", stamp(it.time_start)], ["to", stamp(it.time_end)],
     ["details at", it.uss_base_url], ["version", it.version]];
-  for (const [name, text] of rows) list.append(make("dt", name), make("dd", text));
   const item = make("li"), head = make("strong", it.kind === "constraint" ? "Constraint" : it.state);
-  item.append(swatch(colourOf(it)), head, list);
+  item.append(swatch(colourOf(it)), head, listOf(rows));
+  return item;
+}
+
+function listOf(rows) {
+  const list = make("dl");
+  for (const [name, text] of rows) list.append(make("dt", name), make("dd", text));
+  return list;
+}
+
+function publishedSubscription(it) {
+  const item = make("li");
+  item.append(make("strong", "Subscription"), listOf([["id", it.id], ["manager", `${it.manager} (${it.uss_availability})`], ["for", wanted(it)],
+    ["from", stamp(it.time_start)], ["to", stamp(it.time_end)], ["notified at", it.uss_base_url], ["notified", `${it.notification_index} times`]]));
   return item;
 }
 
@@ -297,6 +327,13 @@ function selectReference(it) {
   const tokens = it.in.concat(it.perhaps);
   if (tokens.length) drawing.goTo(tokens[0]);
   select(tokens, title(it), [it]);
+}
+
+function selectSubscription(it) {
+  selection++;
+  if (it.in.length) drawing.goTo(it.in[0]);
+  select(it.in, `Subscription ${short(it.id)} of ${it.manager}`, []);
+  of("selected-list").replaceChildren(publishedSubscription(it));
 }
 
 function selectAt(px, py) {

@@ -17,7 +17,7 @@ namespace {
 constexpr const char* kUsage =
     "gateway serve --port N|--socket PATH --service N --tokens FILE --keys FILE --issuer TEXT --audience TEXT --secret FILE\n"
     "              [--new-subscription make|ignore|refuse] [--connections N] [--kept-connections N]\n"
-    "              [--map-token FILE --map-area CELL,CELL..]\n"
+    "              [--map-token FILE [--map-area CELL,CELL..] [--airspace-url http://127.0.0.1:N]]\n"
     "gateway tokens --secret FILE --suppliers FILE\n"
     "gateway map-token --tokens FILE --supplier USS\n"
     "gateway translate [--now SECONDS]\n";
@@ -48,9 +48,10 @@ void serve_by(const Options& options) {
   int port = options.count("port") ? number_of(options.at("port"), 1, 65535, "port") : 0;
   int connections = number_of(or_else("connections", kConnections), 1, 60000, "count of connections");
   int kept = number_of(or_else("kept-connections", kKept), 0, 100, "count of connections");
-  if (options.count("map-token") != options.count("map-area")) throw std::runtime_error("--map-token and --map-area go together");
+  if (options.count("map-token") != (options.count("map-area") || options.count("airspace-url")))
+    throw std::runtime_error("--map-token goes with --map-area or --airspace-url, and they with it");
   std::optional<Map::Options> map;
-  if (options.count("map-token")) map = {options.at("map-token"), options.at("map-area")};
+  if (options.count("map-token")) map = {options.at("map-token"), or_else("map-area", ""), or_else("airspace-url", "")};
   Gateway gateway({{options.at("tokens"), options.at("keys"), options.at("issuer"), options.at("audience")}, options.at("secret"),
                    wish_of(or_else("new-subscription", "make")), number_of(options.at("service"), 1, 65535, "port"), size_t(kept),
                    map});
@@ -110,7 +111,7 @@ int run(const std::vector<std::string>& words) {
   std::vector<std::string> rest(words.begin() + !words.empty(), words.end());
   if (command == "serve") {
     serve_by(options_of(rest, {"service", "tokens", "keys", "issuer", "audience", "secret"},
-                        {"port", "socket", "new-subscription", "connections", "kept-connections", "map-token", "map-area"}));
+                        {"port", "socket", "new-subscription", "connections", "kept-connections", "map-token", "map-area", "airspace-url"}));
     return 0;
   }
   if (command == "tokens") {

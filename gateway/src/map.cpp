@@ -11,7 +11,9 @@
 
 #include "page.h"
 #include "refusal.h"
+#include "survey.h"
 #include "tokens.h"
+#include "whole.h"
 
 namespace {
 
@@ -98,7 +100,7 @@ json tokens_of(const std::set<S2CellId>& cells) {
   return tokens;
 }
 
-json head_of(const Survey::Picture& picture, const Moment& moment) {
+json head_of(const Sight::Picture& picture, const Moment& moment) {
   json head = {{"now", long(std::time(nullptr))}, {"asked", picture.asked}};
   if (!picture.fault.empty()) head["fault"] = picture.fault;
   if (moment.at) head["at"] = *moment.at;
@@ -106,28 +108,40 @@ json head_of(const Survey::Picture& picture, const Moment& moment) {
   return head;
 }
 
-// Each cell once, for the page.
-json airspace_of(const Survey& survey, const Survey::Picture& picture, const Moment& moment) {
+// With the cells that it is in, each of which is among `cells` once.
+json placed_of(const Sight::Placed& it, json& cells) {
+  json made = it.reference;
+  made["is_there"] = it.is_there;
+  made["in"] = tokens_of(it.in);
+  for (const auto* held : {&it.in, &it.perhaps})
+    for (S2CellId cell : *held)
+      if (json& outline = cells[cell.ToToken()]; outline.is_null()) outline = outline_of(cell);
+  return made;
+}
+
+// For the page.
+json airspace_of(const Sight& sight, const Sight::Picture& picture, const Moment& moment) {
   json made = head_of(picture, moment);
   json &cells = made["cells"] = json::object(), &references = made["references"] = json::array();
-  for (S2CellId it : survey.area()) made["area"].push_back(outline_of(it));
+  made["area"] = json::array();
+  for (S2CellId it : sight.area()) made["area"].push_back(outline_of(it));
   for (size_t kind = 0; kind < picture.placed.size(); kind++)
     for (const auto& [id, it] : picture.placed[kind]) {
-      json reference = it.reference;
+      json reference = placed_of(it, cells);
       reference["kind"] = name_of(kind);
-      reference["is_there"] = it.is_there;
-      reference["in"] = tokens_of(it.in);
       reference["perhaps"] = tokens_of(it.perhaps);
-      for (const auto* held : {&it.in, &it.perhaps})
-        for (S2CellId cell : *held)
-          if (json& outline = cells[cell.ToToken()]; outline.is_null()) outline = outline_of(cell);
       references.push_back(std::move(reference));
     }
+  if (picture.subscriptions) {
+    json& subscriptions = made["subscriptions"] = json::array();
+    for (const auto& [id, it] : *picture.subscriptions) subscriptions.push_back(placed_of(it, cells));
+    made["suppliers"] = picture.suppliers;
+  }
   return made;
 }
 
 // Each reference that is there with all its cells, for other programs.
-json features_of(const Survey::Picture& picture, const Moment& moment) {
+json features_of(const Sight::Picture& picture, const Moment& moment) {
   json made = head_of(picture, moment), features = json::array();
   for (size_t kind = 0; kind < picture.placed.size(); kind++)
     for (const auto& [id, it] : picture.placed[kind]) {
@@ -144,15 +158,14 @@ json features_of(const Survey::Picture& picture, const Moment& moment) {
   return made;
 }
 
-json cell_of(Survey& survey, const std::string& target, const Moment& moment) {
+json cell_of(Sight& sight, const std::string& target, const Moment& moment) {
   size_t from = target.find("cell=");
   std::string word = from == std::string::npos ? "" : target.substr(from + 5, target.find('&', from) - from - 5);
   S2CellId cell = S2CellId::FromToken(word);
-  bool is_cell = cell.is_valid() && cell.ToToken() == word && cell.level() >= kCoarsest && cell.level() <= kLevel;
-  auto holds = [&](S2CellId it) { return it.contains(cell); };
-  if (!is_cell || std::none_of(survey.area().begin(), survey.area().end(), holds)) throw Refusal(400, "cell is no cell of the area");
+  bool is_cell = cell.is_valid() && cell.ToToken() == word && sight.may_be_asked(cell);
+  if (!is_cell) throw Refusal(400, "cell is no cell of the area");
   json references = json::array();
-  auto found = survey.in_cell(cell, moment);
+  auto found = sight.in_cell(cell, moment);
   for (size_t kind = 0; kind < found.size(); kind++)
     for (auto& [id, reference] : found[kind]) {
       reference["kind"] = name_of(kind);
@@ -167,10 +180,16 @@ Reply data(const json& body, const char* type = "application/json") {
 
 }  // namespace
 
+// From the operator's port of the service where that is said, and else by queries.
+std::unique_ptr<Sight> Map::sight_of(const std::string& token, const Options& options, Service& service) {
+  if (options.airspace.empty()) return std::make_unique<Survey>(service, token, area_of(options.area));
+  return std::make_unique<Whole>(port_of_url(options.airspace), options.area.empty() ? Cells() : area_of(options.area));
+}
+
 Map::Map(const Options& options, Service& service) : Map(tokens_of(options.tokens), options, service) {}
 
 Map::Map(const Tokens& tokens, const Options& options, Service& service)
-    : viewer_(tokens.viewer), survey_(service, tokens.service, area_of(options.area)) {}
+    : viewer_(tokens.viewer), sight_(sight_of(tokens.service, options, service)) {}
 
 Map::Tokens Map::tokens_of(const std::string& file) {
   std::istringstream lines(contents(file));
@@ -204,10 +223,10 @@ std::optional<Task> Map::admit(const Head& head, Note& note) {
   note.uss = "map";
   auto run = [this, path, target = head.target](auto&, auto&) {
     Moment moment = moment_of(target);
-    if (path == "/map/cell.json") return data(cell_of(survey_, target, moment));
-    auto picture = survey_.picture(moment);
+    if (path == "/map/cell.json") return data(cell_of(*sight_, target, moment));
+    auto picture = sight_->picture(moment);
     bool is_for_page = path == "/map/airspace.json";
-    return is_for_page ? data(airspace_of(survey_, picture, moment)) : data(features_of(picture, moment), "application/geo+json");
+    return is_for_page ? data(airspace_of(*sight_, picture, moment)) : data(features_of(picture, moment), "application/geo+json");
   };
   return Task{kShare, false, run};
 }

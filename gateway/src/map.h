@@ -1,17 +1,19 @@
 // The map: a page, and what it shows of the airspace as JSON and as GeoJSON.
 #pragma once
 
+#include <memory>
 #include <optional>
 #include <string>
 
 #include "server.h"
-#include "survey.h"
+#include "sight.h"
 
 class Map {
  public:
   struct Options {
     std::string tokens;  // a file: a line with the token of the service that it asks with, and one with the token of its viewers
-    std::string area;    // tokens of cells, with commas
+    std::string area;    // tokens of cells, with commas; may be empty where there is an airspace
+    std::string airspace;  // the URL of the operator's port of the service, where the airspace is taken from there
   };
   Map(const Options& options, Service& service);
 
@@ -24,10 +26,11 @@ class Map {
   };
   Map(const Tokens& tokens, const Options& options, Service& service);
   static Tokens tokens_of(const std::string& file);
+  static std::unique_ptr<Sight> sight_of(const std::string& token, const Options& options, Service& service);
   void check_viewer(const Head& head) const;
 
   std::string viewer_;
-  Survey survey_;
+  std::unique_ptr<Sight> sight_;
 };
 
 // For a new file of `tokens`: the token of a supplier of the service's token file that opens queries, and a drawn one.

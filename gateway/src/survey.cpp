@@ -22,7 +22,6 @@ constexpr size_t kMoments = 64;
 constexpr size_t kFine = 64;
 // The most cells of a query that asks for several, the most references that they wait for, and how many are tried for it.
 constexpr size_t kTogether = 64, kApart = 500, kTried = 400;
-constexpr std::array<Kind, 2> kKinds = {Kind::intent, Kind::constraint};
 // What is shown of a reference, and nothing else: no OVN, which the map's own supplier would be shown of its own.
 constexpr const char* kShown[] = {"id", "manager", "uss_availability", "version", "state", "time_start", "time_end", "uss_base_url", "subscription_id"};
 
@@ -91,6 +90,10 @@ std::array<References, 2> Survey::in_cell(S2CellId cell, const Moment& moment) {
   return found;
 }
 
+bool Survey::may_be_asked(S2CellId cell) const {
+  return cell.level() <= kLevel && std::any_of(area_.begin(), area_.end(), [&](S2CellId it) { return it.contains(cell); });
+}
+
 Survey::There Survey::there(const Moment& moment) {
   There made{Clock::now(), {}};
   {
@@ -122,7 +125,7 @@ Survey::Picture Survey::picture(const Moment& moment) {
     fail(it.what());
   }
   std::lock_guard<std::mutex> lock(mutex_);
-  Picture made{{}, asked_, fault_};
+  Picture made{{}, {}, {}, asked_, fault_};
   for (Kind kind : kKinds)
     for (const auto& [id, it] : known_[size_t(kind)]) {
       bool is_there = moment.is_all() || !is_known || at_moment.ids[size_t(kind)].count(id);

@@ -8,51 +8,27 @@
 #include <condition_variable>
 #include <map>
 #include <mutex>
-#include <optional>
 #include <set>
 #include <string>
 #include <thread>
 #include <tuple>
 #include <vector>
 
-#include "geometry.h"
-#include "upstream.h"
+#include "sight.h"
 
-enum class Kind { intent, constraint };
-
-// What is looked at: a second, or all from now on; and an altitude in decimetres, or all.
-struct Moment {
-  std::optional<long> at, altitude;
-
-  bool is_all() const { return !at && !altitude; }
-  bool operator<(const Moment& other) const { return std::tie(at, altitude) < std::tie(other.at, other.altitude); }
-};
-
-using References = std::map<std::string, json>;  // by their ids, as they are shown to everybody
-
-class Survey {
+class Survey : public Sight {
  public:
   // Over an area, by a token of the service.
   Survey(Service& service, std::string token, const Cells& area);
-  ~Survey();
+  ~Survey() override;
 
-  struct Placed {
-    json reference;
-    std::set<S2CellId> in, perhaps;  // cells that it is in, and more that it may be in: it is in no others
-    bool is_there;                   // at the moment, somewhere in the area
-  };
-  struct Picture {
-    std::array<std::map<std::string, Placed>, 2> placed;  // by kind and id
-    long asked;                                           // the second of the last whole answer; 0 before the first
-    std::string fault;                                    // why there was none since, where it is not empty
-  };
   // What is known, after a look at the whole area where there was none for a while. The survey goes on as long as somebody asks for
   // pictures.
-  Picture picture(const Moment& moment);
-  // What is in a cell at a moment, as the service answers now; a Refusal where it does not.
-  std::array<References, 2> in_cell(S2CellId cell, const Moment& moment);
+  Picture picture(const Moment& moment) override;
+  std::array<References, 2> in_cell(S2CellId cell, const Moment& moment) override;
 
-  const Cells& area() const { return area_; }
+  bool may_be_asked(S2CellId cell) const override;
+  const Cells& area() const override { return area_; }
 
  private:
   using Clock = std::chrono::steady_clock;

@@ -8,6 +8,9 @@
 
 #include "translate.h"
 
+// What the operator's port of the service answers to a reading; a Refusal where that is none.
+json read_operators(int port, const std::string& target);
+
 struct Answer {
   int status;
   json body;

@@ -12,7 +12,8 @@ import shapes
 from flows import Place
 from properties import translate
 from world import (
-    CONSTRAINTS, INTENTS, MANAGEMENT, MANHATTAN, STRATEGIC, ZERO, Counted, Gateway, Service, circle, expect, extent, intent, new_id, ovn)
+    ARBITRATION, CONSTRAINTS, FRONT, INTENTS, MANAGEMENT, MANHATTAN, STRATEGIC, SUBSCRIPTIONS, ZERO, Counted, Gateway, Service, circle, expect,
+    extent, free_port, intent, new_id, ovn)
 
 AREA = "89c25"  # New York, 32 cells of level 13 a side
 INSIDE = ["89c25904", "89c2590c"]  # the cells of MANHATTAN
@@ -227,6 +228,84 @@ def the_service_gone_and_back(files, program):
         place.service.start()
         back = until(lambda: expect(place.read("/map/airspace.json"), 200), lambda it: "fault" not in it)
         assert back["asked"] > gone["asked"]
+
+
+# ---- the data as the operator's port has it
+
+@contextlib.contextmanager
+def over_whole(files, program, *options):
+    """The same, whose gateway takes the airspace from the operator's port of the service."""
+    file, viewer = map_tokens(files, program)
+    admin = free_port()
+    service = Service(files, database=f"{new_id()}.db", admin=admin)
+    gateway = Gateway(program, files, service.port, "--map-token", str(file), "--airspace-url", f"http://127.0.0.1:{admin}", *options)
+    place = Place(files, gateway, service)
+    place.program, place.viewer = program, viewer
+    place.read = lambda path: gateway.ask(viewer, "GET", path)
+    try:
+        yield place
+    finally:
+        service.end()
+        lived = gateway.end()
+    assert lived, gateway.lines()[-3000:]
+
+
+def later(place, holds):
+    """The airspace as the page has it, once it was read anew and is so."""
+    return until(lambda: expect(place.read("/map/airspace.json"), 200), holds, 10)
+
+
+def the_whole_airspace(files, program):
+    """All references with just the cells that they have at a moment, wherever they are, subscriptions, and all suppliers; without an OVN."""
+    now = int(time.time())
+    elsewhere = circle(-33.9, 18.4, 10)
+    with over_whole(files, program) as place:
+        empty = expect(place.read("/map/airspace.json"), 200)
+        assert (empty["area"], empty["cells"], empty["references"], empty["subscriptions"], empty["suppliers"]) == ([], {}, [], [], {}), empty
+        first, version = put_intent(place, extent(MANHATTAN, 0, 100, now, now + 600), extent(elsewhere, 200, 300, now + 1200, now + 1800))
+        other = put_constraint(place, circle(40.6, -74.1, 300), 200, 300, now + 1800, now + 7200)
+        watch = new_id()
+        body = {"extents": extent(elsewhere, 0, 400), "uss_base_url": "https://b.example", "notify_for_operational_intents": True}
+        expect(place.b("PUT", f"{SUBSCRIPTIONS}/{watch}", body), 200)
+        expect(place.ask("uss-v", ARBITRATION, "PUT", f"{FRONT}uss_availability/uss-b", {"availability": "Down"}), 200)
+        whole = later(place, lambda it: it["suppliers"] == {"uss-a": "Unknown", "uss-b": "Down", "uss-c": "Unknown"})
+        found = {it["id"]: it for it in whole["references"]}
+        assert set(found) == {first, other} and not any(it["perhaps"] for it in found.values()), found
+        there = [it for it in found[first]["in"] if it not in INSIDE]
+        assert there and set(found[first]["in"]) == {*INSIDE, *there} <= set(whole["cells"]), found
+        (seen,) = [it for it in whole["subscriptions"] if it["id"] == watch]
+        assert seen["in"] == there and seen["manager"] == "uss-b" and seen["is_there"] and seen["notify_for_operational_intents"], seen
+        at = lambda query: {it["id"]: set(it["in"]) for it in expect(place.read(f"/map/airspace.json?{query}"), 200)["references"] if it["is_there"]}
+        assert at(f"at={now + 60}") == {first: set(INSIDE)}
+        assert at(f"at={now + 60}&altitude=101") == {}
+        assert at(f"at={now + 1500}&altitude=250") == {first: set(there)}
+        assert set(at(f"at={now + 1800}")) == {first, other} and set(at(f"at={now + 2000}")) == {other}
+        listed = expect(place.read(f"/map/cell.json?cell={INSIDE[0]}&at={now + 60}"), 200)["references"]
+        assert [it["id"] for it in listed] == [first] and listed[0]["uss_base_url"] == "https://uss.example", listed
+        assert expect(place.read(f"/map/cell.json?cell={INSIDE[0]}&at={now + 1500}"), 200)["references"] == []
+        expect(place.read("/map/cell.json?cell=x"), 400)
+        assert set(features(place)) == {first, other} and features(place)[first]["properties"]["is_settled"]
+        texts = [place.read(it).text for it in ("/map/airspace.json", "/map/airspace.geojson", f"/map/cell.json?cell={INSIDE[0]}")]
+        assert all(first in it and version not in it and '"ovn"' not in it for it in texts)
+        expect(place.a("DELETE", f"{INTENTS}/{first}/{version}"), 200)
+        later(place, lambda it: [one["id"] for one in it["references"]] == [other])
+        place.service.end()
+        gone = later(place, lambda it: "fault" in it)
+        assert gone["fault"] == "the operator's port of the service is not there" and [it["id"] for it in gone["references"]] == [other], gone
+        place.service.start()
+        later(place, lambda it: "fault" not in it)
+    with over_whole(files, program, "--map-area", AREA) as place:
+        assert len(expect(place.read("/map/airspace.json"), 200)["area"]) == 1
+
+
+def what_is_no_airspace(files, program):
+    file, _ = map_tokens(files, program)
+    for url in ("", "x", "http://127.0.0.1", "http://127.0.0.1:", "http://127.0.0.1:0", "http://127.0.0.1:65536", "http://localhost:1",
+                "https://127.0.0.1:1", "http://127.0.0.1:1/", "http://10.0.0.1:1"):
+        words = ["serve", "--port", str(free_port()), "--service", "1", "--issuer", "i", "--audience", "a"]
+        words += [it for name, one in (("tokens", "tokens.toml"), ("keys", "keys.pem"), ("secret", "secret")) for it in (f"--{name}", files.folder / one)]
+        done = subprocess.run([program, *words, "--map-token", file, "--airspace-url", url], capture_output=True, text=True, timeout=20)
+        assert done.returncode == 1 and done.stderr.startswith("gateway: ") and done.stderr.count("\n") == 1, (url, done)
 
 
 # ---- the page
@@ -447,4 +526,4 @@ def ten_thousand_in_view(files, program):
 
 
 ALL = [who_may_look, without_the_option_there_is_no_map, where_things_are, many_are_found_together, a_wide_area_and_what_is_large, queries_are_few,
-       the_service_gone_and_back, the_page, shapes_of_the_page, ten_thousand_in_view]
+       the_service_gone_and_back, the_whole_airspace, what_is_no_airspace, the_page, shapes_of_the_page, ten_thousand_in_view]

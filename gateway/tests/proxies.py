@@ -1,17 +1,20 @@
-"""The nginx of docs/OPERATE.md, as it is written there, before a service that counts and before the gateway."""
+"""The nginx and the HAProxy of deploy/, as they are written there, before a service that counts and before the gateway."""
 import contextlib
 import datetime
 import http.client
 import os
 import shutil
+import socket
 import ssl
 import subprocess
-import textwrap
+import threading
+import time
 
 from cryptography import x509
 from cryptography.hazmat.primitives import hashes, serialization
 
 from flows import over_tables
+from maps import Skipped
 from world import FRONT, INTENTS, STRATEGIC, TOP, Counted, Gateway, free_port, key_pair, new_id, wait_for
 
 OVN = "0123456789abcdef-of-nobody-else"
@@ -42,9 +45,7 @@ def nginx(files, built, behind):
     folder, port = files.folder / new_id(), free_port()
     folder.mkdir()
     certificate(folder)
-    document = (TOP / "docs" / "OPERATE.md").read_text()
-    block = document.split("    # no path is written down whole", 1)[1].split("\n}\n")[0].split("\n\nThe proxy takes")[0]
-    block = textwrap.dedent("    #" + block)
+    block = (TOP / "deploy" / "nginx.conf").read_text()
     for old, new in (("listen 443 ssl", f"listen 127.0.0.1:{port} ssl"), ("/etc/nginx/", f"{folder}/"), ("/var/log/nginx/", f"{folder}/"),
                      ("server 127.0.0.1:8080;", f"server {behind};")):
         assert old in block, old
@@ -100,6 +101,76 @@ def the_documented_nginx(files, built):
     assert f"PUT {INTENTS}/{name} 200 " in logs and OVN not in logs and token not in logs, logs[-2000:]
 
 
+@contextlib.contextmanager
+def haproxy(files, behind):
+    """Runs it before the service of a port, without its check of health, and gives its port and the lines of its log."""
+    program = shutil.which("haproxy", path="/usr/sbin:/usr/bin")
+    if not program:
+        raise Skipped("haproxy is not here")
+    folder, port = files.folder / new_id(), free_port()
+    folder.mkdir()
+    certificate(folder)
+    (folder / "dss.pem").write_bytes((folder / "dss.crt").read_bytes() + (folder / "dss.key").read_bytes())
+    text = (TOP / "deploy" / "haproxy.cfg").read_text()
+    for old, new in (("bind :443", f"bind 127.0.0.1:{port}"), ("/etc/haproxy/", f"{folder}/"), ("log /dev/log", f"log {folder}/log"),
+                     ("server dss 127.0.0.1:8080", f"server dss 127.0.0.1:{behind}"), (" check port 8078 inter 2s fall 2 rise 1", "")):
+        assert old in text, old
+        text = text.replace(old, new)
+    (folder / "haproxy.cfg").write_text(text)
+    log = Log(folder / "log")
+    process = subprocess.Popen([program, "-q", "-db", "-f", folder / "haproxy.cfg"])
+    try:
+        wait_for(port)
+        yield port, log
+    finally:
+        process.terminate()
+        process.wait(60)
+        log.socket.close()
+
+
+class Log:
+    """A socket that takes the lines of a log, as /dev/log does."""
+
+    def __init__(self, path):
+        self.socket, self.lines = socket.socket(socket.AF_UNIX, socket.SOCK_DGRAM), []
+        self.socket.bind(str(path))
+        threading.Thread(target=self.take, daemon=True).start()
+
+    def take(self):
+        with contextlib.suppress(OSError):
+            while True:
+                self.lines.append(self.socket.recv(1 << 16).decode())
+
+    def has(self, count):
+        """All lines, once there are so many."""
+        until = time.monotonic() + 10
+        while len(self.lines) < count and time.monotonic() < until:
+            time.sleep(0.05)
+        return "\n".join(self.lines)
+
+
+def the_documented_haproxy(files, built):
+    """Its connections to the service are kept, its log has no OVN, it sends nothing twice, and it counts requests."""
+    token, name = files.token("uss-a", STRATEGIC), new_id()
+    service = Counted()
+    with haproxy(files, service.port) as (port, log):
+        for _ in range(30):
+            assert ask(port, token, "GET", PATH) == 200
+        assert service.opened <= 3 and len(service.asked) == 30, service.opened
+        assert ask(port, token, "PUT", f"{INTENTS}/{name}/{OVN}", "{}") == 200
+        for method in ("PUT", "DELETE"):
+            service.drops, before = 1, len(service.asked)
+            assert ask(port, token, method, f"{INTENTS}/{name}/{OVN}", "{}") == 502
+            assert len(service.asked) - before == 1
+        assert ask(port, token, "GET", "/health") == 404
+        service.end()
+        assert ask(port, token, "PUT", f"{INTENTS}/{name}/{OVN}", "{}") in (502, 503)
+        statuses = ask_often(600, port, "x", "GET", f"{INTENTS}/{name}/{OVN}")
+        assert 429 in statuses, set(statuses)
+        lines = log.has(30 + 5 + 600)
+    assert " PUT 200 " in lines and OVN not in lines and token not in lines, lines[-2000:]
+
+
 def nginx_before_the_gateway(files, built):
     """By a socket of Unix."""
     with over_tables(files, f"{built}/gateway") as place:
@@ -111,4 +182,4 @@ def nginx_before_the_gateway(files, built):
 
 
 # They take the folder with the programs.
-ALL = [the_documented_nginx, nginx_before_the_gateway]
+ALL = [the_documented_nginx, the_documented_haproxy, nginx_before_the_gateway]

@@ -153,14 +153,15 @@ class Gateway:
 class Service:
     """`dss serve` over a database."""
 
-    def __init__(self, files, port=None, database="dss.db"):
+    def __init__(self, files, port=None, database="dss.db", admin=None):
         self.files, self.port, self.database = files, port or free_port(), files.folder / database
+        self.options = [] if admin is None else ["--admin", str(admin)]
         self.start()
 
     def start(self):
         self.process = started(
             [TOP / "dss", "serve", "--tokens", self.files.folder / "tokens.toml", "--db", self.database,
-             "--port", str(self.port), "--count", "1000000"], stderr=subprocess.DEVNULL)
+             "--port", str(self.port), "--count", "1000000", *self.options], stderr=subprocess.DEVNULL)
         wait_for(self.port)
 
     def end(self, how=signal.SIGKILL):

@@ -3,6 +3,7 @@
 A fault takes what the proxy has seen, a request, and what passes a request on to the service; it gives the answer. One is planted
 in front of the service with its own profile and in front of the gateway, or where it says so in front of the service alone."""
 import json
+import time
 
 from proxy import ONE
 
@@ -351,12 +352,21 @@ def scopes_that_are_not_asked_for(world, asked, pass_on):
     return answer
 
 
+def soon(holds):
+    """Waits until it holds, but not for ever: the answer to a change that is made may still be on its way."""
+    until = time.monotonic() + 2
+    while not holds() and time.monotonic() < until:
+        time.sleep(0.005)
+
+
 @fault("an_old_ovn_changes_nothing", "a_lost_update_is_done_once", "one_of_two_updates_is_done")
 def an_old_version_that_is_taken(world, asked, pass_on):
     answer = pass_on(asked)
     kind, id_, version = asked.words
-    if is_change(asked) and answer.status == 409 and version in world.all.get((kind, id_), ()) and world.now.get((kind, id_)):
-        return pass_on(asked.with_path(f"/dss/v1/{kind}/{id_}/{world.now[kind, id_]}"))
+    if is_change(asked) and answer.status == 409 and version in world.all.get((kind, id_), ()):
+        soon(lambda: world.now.get((kind, id_)) != version)
+        if now := world.now.get((kind, id_)):
+            return pass_on(asked.with_path(f"/dss/v1/{kind}/{id_}/{now}"))
     return answer
 
 
@@ -382,7 +392,8 @@ def with_key(asked, ovns):
 @fault("a_key_is_needed", "one_of_two_is_kept", "drawn_volumes_meet_as_they_are")
 def a_key_that_is_not_asked_for(world, asked, pass_on):
     answer = pass_on(asked)
-    if answer.status == 409 and (answer.value.get("missing_operational_intents")):
+    if answer.status == 409 and (missing := answer.value.get("missing_operational_intents")):
+        soon(lambda: all(("operational_intent_references", it["id"]) in world.now for it in missing))
         return pass_on(with_key(asked, lambda _: [it for it in world.now.values() if it]))
     return answer
 

@@ -1,0 +1,140 @@
+#include "whole.h"
+
+#include <algorithm>
+#include <ctime>
+
+#include "refusal.h"
+
+namespace {
+
+// What was read stands so long for the next viewer.
+constexpr std::chrono::milliseconds kFresh(2500);
+// How often it is read anew where the airspace changed between two of its pages, and the most references of all pages.
+constexpr int kTries = 3;
+constexpr size_t kMost = 20000;
+constexpr const char* kUrl = "http://127.0.0.1:";
+constexpr const char* kNames[] = {"operational_intent_reference", "constraint_reference"};
+
+}  // namespace
+
+int port_of_url(const std::string& url) {
+  std::string front = kUrl, digits = url.compare(0, front.size(), front) == 0 ? url.substr(front.size()) : "";
+  bool is_number = !digits.empty() && digits.size() <= 5 && digits.find_first_not_of("0123456789") == std::string::npos;
+  int port = is_number ? std::stoi(digits) : 0;
+  if (port < 1 || port > 65535) throw std::runtime_error(url + ": --airspace-url takes " + kUrl + "PORT, the operator's port of the service");
+  return port;
+}
+
+// ---- what is read
+
+Whole::Volume Whole::volume_of(const json& volume) {
+  Volume made{{}, volume.at("altitude_lower"), volume.at("altitude_upper"), volume.at("time_start"), volume.at("time_end")};
+  for (const json& it : volume.at("cells")) made.cells.push_back(S2CellId::FromToken(it.get<std::string>()));
+  return made;
+}
+
+void Whole::take(const json& page, Read& read) {
+  for (const json& it : page.at("entities"))
+    for (Kind kind : kKinds)
+      if (auto reference = it.find(kNames[size_t(kind)]); reference != it.end()) {
+        Thing& thing = read.things[size_t(kind)][reference->at("id")];
+        thing.shown = *reference;
+        for (const json& volume : it.at("extents")) thing.volumes.push_back(volume_of(volume));
+      }
+  for (const json& it : page.at("subscriptions")) {
+    Thing& thing = read.subscriptions[it.at("id")];
+    thing.shown = it;
+    thing.shown.erase("extents");
+    thing.volumes.push_back(volume_of(it.at("extents")));
+  }
+}
+
+Whole::Read Whole::read_once() const {
+  Read read{{}, {}, long(std::time(nullptr)), -1, true, false};
+  std::string next;
+  do {
+    json page = read_operators(port_, "/airspace" + (next.empty() ? "" : "?after=" + next));
+    long serial = page.at("serial");
+    read.is_one = read.is_one && (read.serial < 0 || read.serial == serial);
+    read.serial = serial;
+    take(page, read);
+    next = page.value("next", "");
+    read.has_more = !next.empty() && read.things[0].size() + read.things[1].size() >= kMost;
+  } while (!next.empty() && !read.has_more);
+  return read;
+}
+
+std::shared_ptr<const Whole::Read> Whole::latest(std::string& fault) {
+  std::lock_guard<std::mutex> lock(mutex_);
+  if (last_try_ == Clock::time_point() || Clock::now() - last_try_ >= kFresh) try {
+      Read read = read_once();
+      for (int k = 1; k < kTries && !read.is_one; k++) read = read_once();
+      fault_ = read.has_more ? "over " + std::to_string(kMost) + " references: the first of them are shown" : "";
+      read_ = std::make_shared<const Read>(std::move(read));
+      last_try_ = Clock::now();
+    } catch (const json::exception&) {
+      fault_ = "the service's answer has not its form";
+      last_try_ = Clock::now();
+    } catch (const std::exception& it) {
+      fault_ = it.what();
+      last_try_ = Clock::now();
+    }
+  fault = fault_;
+  return read_;
+}
+
+// ---- what is shown of it
+
+bool Whole::Volume::is_there(const Moment& moment, long now) const {
+  bool is_then = moment.at ? start <= *moment.at && *moment.at <= end : now <= end;
+  return is_then && (!moment.altitude || (lower <= *moment.altitude && *moment.altitude <= upper));
+}
+
+bool Whole::Thing::is_in(S2CellId cell, const Moment& moment, long now) const {
+  auto meets = [&](S2CellId it) { return it.intersects(cell); };
+  return std::any_of(volumes.begin(), volumes.end(), [&](const Volume& it) {
+    return it.is_there(moment, now) && std::any_of(it.cells.begin(), it.cells.end(), meets);
+  });
+}
+
+// None where it has ended. Where it is not there at the moment, all its cells are those that it has at other times.
+std::optional<Sight::Placed> Whole::Thing::placed(const Moment& moment, long now) const {
+  Placed made{shown, {}, {}, false};
+  for (const Volume& it : volumes)
+    if (it.is_there(moment, now)) made.in.insert(it.cells.begin(), it.cells.end());
+  made.is_there = !made.in.empty();
+  if (made.is_there) return made;
+  for (const Volume& it : volumes)
+    if (now <= it.end) made.in.insert(it.cells.begin(), it.cells.end());
+  return made.in.empty() ? std::nullopt : std::make_optional(made);
+}
+
+Sight::Picture Whole::picture(const Moment& moment) {
+  Picture made{};
+  auto read = latest(made.fault);
+  if (!read) return made;
+  made.asked = read->asked;
+  made.subscriptions.emplace();
+  long now = std::time(nullptr);
+  auto show = [&](const std::map<std::string, Thing>& things, std::map<std::string, Placed>& placed) {
+    for (const auto& [id, it] : things) {
+      made.suppliers[it.shown.at("manager")] = it.shown.at("uss_availability");
+      if (auto one = it.placed(moment, now)) placed.emplace(id, std::move(*one));
+    }
+  };
+  for (Kind kind : kKinds) show(read->things[size_t(kind)], made.placed[size_t(kind)]);
+  show(read->subscriptions, *made.subscriptions);
+  return made;
+}
+
+std::array<References, 2> Whole::in_cell(S2CellId cell, const Moment& moment) {
+  std::string fault;
+  auto read = latest(fault);
+  if (!read) throw Refusal(502, fault);
+  std::array<References, 2> found;
+  long now = std::time(nullptr);
+  for (Kind kind : kKinds)
+    for (const auto& [id, it] : read->things[size_t(kind)])
+      if (it.is_in(cell, moment, now)) found[size_t(kind)].emplace(id, it.shown);
+  return found;
+}

@@ -1,0 +1,39 @@
+"""The Debian package of the gateway that scripts/package makes: its paths, its program, its page, and what its unit asks for."""
+import gzip
+import re
+import subprocess
+
+from world import TOP
+
+PATHS = {
+    "usr/bin/dss-gateway", "usr/lib/systemd/system/dss-gateway.service", "usr/share/man/man1/dss-gateway.1.gz",
+    "usr/share/lintian/overrides/dss-gateway", *(f"usr/share/doc/dss-gateway/{it}" for it in ("README.md", "changelog.gz", "copyright")),
+    *(f"DEBIAN/{it}" for it in ("control", "postinst", "prerm", "postrm")),
+}
+
+
+def output(*words):
+    return subprocess.run(words, capture_output=True, text=True, check=True, timeout=600).stdout
+
+
+def the_package(files, built):
+    folder = files.folder / "package"
+    folder.mkdir()
+    output(TOP / "scripts" / "package", "--gateway", folder)
+    package = next(folder.glob("dss-gateway_*_amd64.deb"))
+    root = folder / "root"
+    output("dpkg-deb", "-R", package, root)
+    made = {str(it.relative_to(root)) for it in root.rglob("*") if it.is_file()}
+    assert made == PATHS, made ^ PATHS
+    libraries = output("dpkg-deb", "-f", package, "Depends")
+    assert all(it in libraries for it in ("libs2-0", "libssl3", "dss (>= ")) and "@" not in libraries, libraries
+    said = output(root / "usr/bin/dss-gateway", "--help")
+    unit = (root / "usr/lib/systemd/system/dss-gateway.service").read_text()
+    asked = re.findall(r" (--[\w-]+)", re.search(r"(?m)^ExecStart=/usr/bin/dss-gateway serve(.*)$", unit)[1])
+    assert asked and all(it in said for it in asked), asked
+    page = gzip.decompress((root / "usr/share/man/man1/dss-gateway.1.gz").read_bytes()).decode()
+    assert "dss\\-gateway tokens" in page and ".SH \"WHAT MAPS HOW\"" in page, page[:1000]
+
+
+# It takes the folder with the programs.
+ALL = [the_package]
