@@ -1,6 +1,7 @@
-"""Prints of a program its manual page or its completions for bash, from what its --help says and docs/OPERATE.md.
+"""Prints of a program its manual page or its completions for bash, from what its --help says and docs/OPERATE.md, or the manual page
+of the gateway, of what its --help says and its README.
 
-  manual.py page|completions PROGRAM VERSION"""
+  manual.py page|completions|gateway PROGRAM VERSION"""
 import pathlib
 import re
 import subprocess
@@ -27,8 +28,8 @@ def commands(program):
 
 
 def options(text):
-    """The options of a help text, each with whether it takes a file."""
-    return {it[1]: it[2] == "FILE" for line in section(text, "Options") if (it := re.search(r"(--[\w-]+)(?: <(\w+)>)?", line))}
+    """The options of a help text, each with whether it takes a file or a folder."""
+    return {it[1]: it[2] in ("FILE", "FOLDER") for line in section(text, "Options") if (it := re.search(r"(--[\w-]+)(?: <(\w+)>)?", line))}
 
 
 def plain(text):
@@ -68,6 +69,8 @@ def page_of(document):
             block = [line[4:]]
         elif line.startswith("## ") or not page:
             page.append(f'.SH "{plain(line.removeprefix("## ").replace("`", "").upper())}"')
+        elif line.startswith("### "):
+            page.append(f'.SS "{plain(line.removeprefix("### ").replace("`", ""))}"')
         elif line.startswith("|"):
             cells = [it.strip() for it in line.strip("|").split(" | ")]
             if not set(line) <= set("|- :"):
@@ -90,6 +93,15 @@ def page(program, version):
         lines += [f".SS {name}", *as_it_is(text.rstrip("\n").splitlines())]
     lines += page_of((TOP / "docs" / "OPERATE.md").read_text().replace("./dss", "dss"))
     lines += [".SH SEE ALSO", plain("The documents in /usr/share/doc/dss.")]
+    return "\n".join(lines) + "\n"
+
+
+def gateway(program, version):
+    lines = [f'.TH DSS-GATEWAY 1 "" "dss {version}" "User Commands"', ".SH NAME"]
+    lines += ["dss-gateway \\- interface of ASTM F3548-21 before dss(1)", ".SH SYNOPSIS"]
+    said = subprocess.run([program, "--help"], capture_output=True, text=True, check=True).stdout
+    lines += as_it_is(re.sub(r"(?m)^gateway", "dss-gateway", said).splitlines())
+    lines += page_of((TOP / "gateway" / "README.md").read_text()) + [".SH SEE ALSO", "dss(1)"]
     return "\n".join(lines) + "\n"
 
 
@@ -120,4 +132,4 @@ complete -o filenames -F _dss dss
 
 
 if __name__ == "__main__":
-    sys.stdout.write({"page": page, "completions": completions}[sys.argv[1]](*sys.argv[2:]))
+    sys.stdout.write({"page": page, "completions": completions, "gateway": gateway}[sys.argv[1]](*sys.argv[2:]))

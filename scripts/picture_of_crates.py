@@ -1,7 +1,7 @@
 """Which crate of the repository stands on which, as a text of SVG, read from crates.txt.
 
-A crate stands right below the first that uses it, and one that none uses yet right above what it uses. A line is left out where another
-way leads to the same crate. What is there for tests and measuring alone is left out."""
+A crate stands right below the first that uses it, and one that the program does not use yet right above what it uses. A line is left out
+where another way leads to the same crate. What is there for tests and measuring alone is left out."""
 import functools
 import pathlib
 
@@ -29,13 +29,17 @@ def rows(below):
         return 1 + max(map(height, below[name]), default=-1)
 
     highest = max(map(height, below))
-    used = {low for its in below.values() for low in its}
-    unused = {it for it in below if it not in used and height(it) < highest}
-    users = {it: [other for other in below if it in below[other] and other not in unused] for it in below}
+    above = {it: [other for other in below if it in below[other]] for it in below}
+
+    @functools.cache
+    def is_unused(name):
+        return height(name) < highest and all(map(is_unused, above[name]))
+
+    users = {it: [other for other in above[it] if not is_unused(other)] for it in below}
 
     @functools.cache
     def level(name):
-        if name in unused:
+        if is_unused(name):
             return max(map(level, below[name])) + 1
         return min(map(level, users[name]), default=highest + 1) - 1
 
