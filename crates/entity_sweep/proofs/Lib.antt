@@ -1,3 +1,4 @@
 pub mod Maps
 pub mod Sweeps
 pub mod Pieces
+pub mod LetGo

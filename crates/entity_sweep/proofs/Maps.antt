@@ -82,7 +82,7 @@ kept_was {X} p (Some y) x h =
 
 -- ---- lists of entries
 
-below_found : {K X : Type 0} (R : K → K → Ordering) (k q : K) (x : X) (es : List (K × X)) → IsTotalOrder R → T (below_all R k es) → find R q es ≡ Some x → eq_by_cmp R q k ≡ true → ⊥
+pub below_found : {K X : Type 0} (R : K → K → Ordering) (k q : K) (x : X) (es : List (K × X)) → IsTotalOrder R → T (below_all R k es) → find R q es ≡ Some x → eq_by_cmp R q k ≡ true → ⊥
 below_found R k q x [] o below h t = cc
 below_found {X = X} R k q x (e ∷ es) o below h t =
     elim (eq_by_cmp R q e.0) as (λ b. eq_by_cmp R q e.0 ≡ b → cond b (Some e.1) (find R q es) ≡ Some x → ⊥) [
@@ -103,7 +103,7 @@ none_below {X = X} R k q es o below t =
     ] refl
 
 -- an entry that passes is found under its key
-any_found : {K X : Type 0} (R : K → K → Ordering) (p : K × X → Bool) (es : List (K × X)) → IsTotalOrder R → T (is_sorted R es) → list_any p es ≡ true → (k : K) × (x : X) × (find R k es ≡ Some x) × (p (k, x) ≡ true)
+pub any_found : {K X : Type 0} (R : K → K → Ordering) (p : K × X → Bool) (es : List (K × X)) → IsTotalOrder R → T (is_sorted R es) → list_any p es ≡ true → (k : K) × (x : X) × (find R k es ≡ Some x) × (p (k, x) ≡ true)
 any_found R p [] o rises h = cc
 any_found {K} {X} R p (e ∷ es) o rises h =
     elim (p e) as (λ b. p e ≡ b → b || list_any p es ≡ true → (k : K) × (x : X) × (cond (eq_by_cmp R k e.0) (Some e.1) (find R k es) ≡ Some x) × (p (k, x) ≡ true)) [
@@ -120,7 +120,7 @@ any_found {K} {X} R p (e ∷ es) o rises h =
           )
     ] refl h
 
-found_any : {K X : Type 0} (R : K → K → Ordering) (p : K × X → Bool) (es : List (K × X)) (k : K) (x : X) → IsAntisymmetric R → find R k es ≡ Some x → p (k, x) ≡ true → list_any p es ≡ true
+pub found_any : {K X : Type 0} (R : K → K → Ordering) (p : K × X → Bool) (es : List (K × X)) (k : K) (x : X) → IsAntisymmetric R → find R k es ≡ Some x → p (k, x) ≡ true → list_any p es ≡ true
 found_any R p [] k x same h t = cc
 found_any {X = X} R p (e ∷ es) k x same h t =
     elim (eq_by_cmp R k e.0) as (λ b. eq_by_cmp R k e.0 ≡ b → cond b (Some e.1) (find R k es) ≡ Some x → p e || list_any p es ≡ true) [

@@ -1,4 +1,5 @@
 //! Laws of a sweep, each named by a function that does nothing.
+ghost use Rattle.entity_sweep.specs.Gone.{GoneIsSwept};
 ghost use Rattle.entity_sweep.specs.Sweep.{EndedIsAll, PiecesMakeSweeps, SweepIsExact, SweepKeeps, SweepKeepsNames, SweepsJoin, SweptIsPartly};
 
 /// Volumes have ended by a moment exactly where each of them has.
@@ -28,4 +29,10 @@ pub fn sweeps_join()
 pub fn pieces_make_sweeps()
     ensures pieces { PiecesMakeSweeps }
     ensures earlier { SweptIsPartly }
+{}
+
+/// Where a sweep takes each of some things, one after the other, what is left is swept in part, and
+/// each can be let go of. What is left when some were let go of may be kept.
+pub fn gone_is_swept()
+    ensures { GoneIsSwept }
 {}
