@@ -104,6 +104,20 @@ fn put_in_place(items: &mut Vec<Setting>, setting: Setting) -> Result<(), AllocE
 }
 
 impl Setting {
+    /// The supplier.
+    pub fn uss(&self) -> &UssId
+        ensures { result.now ≡ self.now.uss }
+    {
+        &self.uss
+    }
+
+    /// What it has set.
+    pub fn availability(&self) -> Availability
+        ensures { result ≡ self.now.availability }
+    {
+        self.availability
+    }
+
     fn stated(&self) -> Result<(Availability, Ovn), AllocError>
         ensures { IfOk result (λ stated. stated ≡ (self.now.availability, self.now.version)) }
     {
@@ -119,6 +133,13 @@ impl Availabilities {
         Availabilities {
             items: Vec::new(alloc),
         }
+    }
+
+    /// What each supplier has set, in the order of their ids.
+    pub fn items(&self) -> &[Setting]
+        ensures { result.now ≡ self.now }
+    {
+        &self.items
     }
 
     /// A copy of what a supplier has set, if it has set anything. That it has set nothing takes no

@@ -105,6 +105,14 @@ impl Entities {
         self.tree.values()
     }
 
+    /// The same, and contracts see their order.
+    pub fn in_order(&self) -> Values<'_, Key, Entity>
+        ensures items { result ≡ self.now }
+        ensures order { InOrder self.now }
+    {
+        self.tree.values()
+    }
+
     /// The entity of a kind and the number of an id, which is all that an index has of it.
     pub fn at(&self, kind: Kind, number: u128) -> Option<&Entity>
         ensures { option_copied result ≡ get (entity_map self.now) (kind, number) }

@@ -8,3 +8,4 @@ pub mod Named
 pub mod IndexedMaps
 pub mod SubscriptionIndexes
 pub mod SoughtMaps
+pub mod EndedPieces

@@ -5,3 +5,4 @@ pub mod CellIndex
 pub mod Near
 pub mod Found
 pub mod IndexedSubscriptions
+pub mod Swept

@@ -58,8 +58,8 @@ fn searched(items: &[Sub], number: u128) -> Result<usize, usize>
     items.binary_search_by(|sub| sub.id.number().cmp(&number))
 }
 
-// The subscription of the number of an id, which is all that an index has of it.
-fn at(subscriptions: &Subscriptions, number: u128) -> Option<&Sub>
+/// The subscription of the number of an id, which is all that an index has of it.
+pub(crate) fn at(subscriptions: &Subscriptions, number: u128) -> Option<&Sub>
     ensures { option_copied result ≡ get (subscription_map subscriptions.now) number }
 {
     let items = subscriptions.items();

@@ -13,3 +13,4 @@ mod lists;
 mod near;
 pub mod settled;
 mod shown;
+mod swept;

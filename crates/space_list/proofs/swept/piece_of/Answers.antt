@@ -1,0 +1,26 @@
+use Rattle.std.proofs.Common.{ℕ, List, subst}
+use Rattle.std.proofs.lemmas.Result.{IfOk-weaker}
+use Rattle.entity_core.specs.declared.subscription.Sub.{Sub}
+use Rattle.entity_lists.specs.declared.availabilities.Setting.{Setting}
+use Rattle.entity_lists.specs.Lists.{airspace_of}
+use Rattle.entity_sweep.specs.Gone.{IsPiece}
+use Rattle.space_list.specs.Swept.{AreFirst, free_in}
+use Rattle.space_list.proofs.EndedPieces.{entities_go, no_entity, some_entity, subscriptions_go}
+use Rattle.space_list.proofs.swept.piece_of.Goals as goal
+
+pub returns-then-not-is_empty : goal.returns-then-not-is_empty
+returns-then-not-is_empty c settings serial =
+    entities_go c.args.until c.args.most c.args.entities.now c.args.subscriptions.now settings serial c.in_ok-gone.gone.items c.ended_entities.ensures.order c.in_ok-gone.ensures.first
+    (some_entity c.in_ok-gone.gone.items c.in_ok-gone.gone.len c.is_empty.result c.in_ok-gone.gone.ok.0 c.is_empty.ensures c.if-not-is_empty.true)
+
+pub returns : goal.returns
+returns c =
+    IfOk-weaker c.free_subscriptions.result
+    (λ gone. AreFirst c.args.most gone.items (free_in c.args.until c.in_ok-named.named c.items.result.now))
+    (λ gone. (settings : List Setting) (serial : ℕ) → IsPiece c.args.until c.args.most gone.items (airspace_of c.args.entities.now c.args.subscriptions.now settings serial))
+    (λ gone free settings serial.
+    subscriptions_go c.args.until c.args.most c.args.entities.now c.args.subscriptions.now settings serial c.in_ok-gone.gone.items gone.items c.in_ok-named.named c.in_ok-gone.ensures.first
+    (no_entity c.in_ok-gone.gone.items c.in_ok-gone.gone.len c.is_empty.result c.in_ok-gone.gone.ok.0 c.is_empty.ensures c.if-not-is_empty.false)
+    c.requires c.items.ensures.order c.in_ok-named.ensures
+    (subst (λ (ss : List Sub). AreFirst c.args.most gone.items (free_in c.args.until c.in_ok-named.named ss)) c.items.ensures.items free))
+    c.free_subscriptions.ensures
