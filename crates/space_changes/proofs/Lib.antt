@@ -30,3 +30,4 @@ pub mod ToldAll
 pub mod Availabilities
 pub mod Committed
 pub mod Rounds
+pub mod LetGo

@@ -1,22 +1,25 @@
 -- The airspace without an entity.
 use Rattle.std.proofs.Common.{◌≡◌, ℕ, ◌<◌, ℤ, List, [], filter, not, Option, Some, None, refl, sym, subst, arith, int_eq}
+use Rattle.std.specs.Prelude.{IsSome}
 use Rattle.std.specs.List.{AllByRecursion}
-use Rattle.std.specs.FinMap.{remove}
+use Rattle.std.specs.FinMap.{get, remove}
 use Rattle.sqlite_keyed.proofs.ListLemmas.{all-filter, all_of, ascending-filter}
 use Rattle.sqlite.specs.Effect.{Database}
 use Rattle.entity_core.specs.declared.nature.Kind.{Kind}
-use Rattle.entity_core.specs.Airspace.{Entities, EntityKey, key_cmp, without_entity}
+use Rattle.entity_core.specs.Airspace.{Airspace, Entities, EntityKey, key_cmp, without_entity}
 use Rattle.entity_core.specs.Serial.{greatest_serial}
 use Rattle.entity_core.proofs.Keys.{key_total, key_exact}
+use Rattle.entity_sweep.specs.declared.gone.Gone.TheVariants.{Entity}
+use Rattle.entity_sweep.specs.Sweep.{less_entity}
 use Rattle.space_core.specs.declared.space.Change.TheVariants.{Remove}
 use Rattle.space_rows.specs.declared.rows.EntityRow.{EntityRow}
 use Rattle.space_rows.specs.declared.rows.VolumeRow.{VolumeRow}
 use Rattle.space_rows.specs.declared.rows.CellRow.{CellRow}
 use Rattle.space_rows.proofs.Pieces.{Borne}
-use Rattle.space_tables.specs.Spelling.{Group, IsBefore, IsGroup, SubGroup, pair_of}
+use Rattle.space_tables.specs.Spelling.{Group, IsBefore, IsGroup, Spells, SubGroup, pair_of}
 use Rattle.space_tables.proofs.OneAirspace.{volumes_borne, cells_borne}
-use Rattle.space_changes.specs.Layout.{LaysOut, IsNumberOf, Naming, layout_of, namings_of, without_rows, with_next_serial}
-use Rattle.space_changes.specs.Statements.{FindsNumber, RelaysSound, MakesChange}
+use Rattle.space_changes.specs.Layout.{Always, LaysOut, IsNumberOf, Naming, layout_of, namings_of, without_rows, with_next_serial}
+use Rattle.space_changes.specs.Statements.{FindsNumber, RelaysSound, MakesChange, MakesLess}
 use Rattle.space_changes.proofs.Groups.{heads_left, is_other, kept_left, left_at, others_left}
 use Rattle.space_changes.proofs.Numbered.{at_of, made, made_untold, number, of_at}
 use Rattle.space_changes.proofs.Spelt.{AreEntities, entities_later, lay_out, own_entities, own_namings, own_stated, own_subs, subs_later}
@@ -42,6 +45,24 @@ entities_left n ss rows volumes cells namings gs m num k are it = record {
   kept = kept_left number pair_of key_cmp key_total key_exact gs are.rising m are.kept num k (it.group, it.there, it.number, it.key);
 }
 
+-- the entities that are left keep their numbers
+numbers_left : (db : Database) (a : Airspace) (p : Spells db a) (num : ℤ) (k : EntityKey) → IsNumberOf num k p.groups → (n : ℤ) (j : EntityKey) → IsNumberOf n j p.groups → IsSome (get (remove a.entities k) j) → IsNumberOf n j (filter (is_other number num) p.groups)
+numbers_left db a p num k it n j at there = of_at n j _ (left_at number pair_of key_cmp key_total key_exact p.groups p.rising num k (at_of num k p.groups it) a.entities n j (at_of n j p.groups at) there)
+
+-- the number is found, and its rows are removed: the serial stays
+pub lets_entity_go : (old found new : Database) (kind : Kind) (id : ℕ) (num : ℤ) → FindsNumber (kind, id) (Some num) old found → RelaysSound Always (without_rows num) found new → MakesLess (Entity kind id) old new
+lets_entity_go old found new kind id num finds clears a p can =
+    let it = finds a p in
+    let l = layout_of old a p in
+    let has = subst (λ db. LaysOut db l) (sym it.0) (lay_out old a p) in
+    made old new a (less_entity a (kind, id)) p (without_rows num l) p.subs (filter (is_other number num) p.groups) (clears.0 l tt has) (clears.1 l tt has) (record {
+      serial = refl;
+      most = p.most;
+      subs = own_subs old a p;
+      entities = entities_left _ _ _ _ _ _ _ _ num (kind, id) (own_entities old a p) it.1;
+      stated = own_stated old a p;
+    }) (numbers_left old a p num (kind, id) it.1) (λ n k at there. at)
+
 -- the number is found, its rows are removed, and the serial goes on
 pub removes_entity : (old found new : Database) (kind : Kind) (id : ℕ) (num : ℤ) → FindsNumber (kind, id) (Some num) old found → RelaysSound (λ l. l.serial < greatest_serial) (λ l. with_next_serial (without_rows num l)) found new
     → MakesChange (Remove kind id) [] old new
@@ -56,4 +77,4 @@ removes_entity old found new kind id num finds removes a p fits =
       subs = subs_later _ _ _ _ _ (own_subs old a p);
       entities = entities_left _ _ _ _ _ _ _ _ num (kind, id) (entities_later _ _ _ _ _ _ _ _ (own_entities old a p)) it.1;
       stated = own_stated old a p;
-    }) (λ n k at there. of_at n k _ (left_at number pair_of key_cmp key_total key_exact p.groups p.rising num (kind, id) (at_of num (kind, id) p.groups it.1) a.entities n k (at_of n k p.groups at) there)) (λ n k at there. at))
+    }) (numbers_left old a p num (kind, id) it.1) (λ n k at there. at))

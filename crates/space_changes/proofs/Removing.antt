@@ -18,6 +18,7 @@ use Rattle.sqlite_rules.proofs.TableLemmas.{int_is}
 use Rattle.sqlite_schema.specs.declared.schema.Keys.TheVariants.{Enforced}
 use Rattle.sqlite.specs.Rowids.TheVariants.{Given}
 use Rattle.sqlite.specs.declared.error.Error.{Error}
+use Rattle.sqlite.specs.Effect.{IsDatabase}
 use Rattle.sqlite.specs.State.{State, Executes}
 use Rattle.sqlite.proofs.Callers.{one_step}
 use Rattle.space_rows.specs.declared.rows.EntityRow.{EntityRow}
@@ -27,7 +28,8 @@ use Rattle.space_rows.specs.declared.rows.SubRow.{SubRow}
 use Rattle.space_rows.specs.declared.rows.SubCellRow.{SubCellRow}
 use Rattle.space_tables.specs.Tables.{dss_schema, cell, volume, entity, naming, subscription, subscription_cell}
 use Rattle.space_tables.specs.Spelling.{entity_values, volume_values, cell_values, sub_values, sub_cell_values, entity_columns, six_columns, sub_columns, five_columns, two_columns}
-use Rattle.space_changes.specs.Layout.{Always, AreRows, LaysOut, Relays, Naming, values_of_naming, LacksCells, LacksParts, IsFree, without_cells, without_volumes, without_naming, without_entity_row, without_sub_cells, without_sub_row}
+use Rattle.space_changes.specs.Layout.{Always, AreRows, Layout, LaysOut, Relays, Naming, values_of_naming, LacksCells, LacksParts, IsFree, without_cells, without_volumes, without_naming, without_entity_row, without_sub_cells, without_sub_row}
+use Rattle.space_changes.specs.Statements.{RelaysSound}
 use Rattle.space_changes.proofs.Texts.{clear_cells_text, clear_volumes_text, clear_naming_text, clear_row_text, clear_sub_cells_text, clear_sub_row_text}
 use Rattle.space_changes.proofs.Means.{is_first, clear_cells_is, clear_cells_plain, clear_volumes_is, clear_volumes_plain, clear_naming_is, clear_naming_plain, clear_row_is, clear_row_plain, clear_sub_cells_is, clear_sub_cells_plain, clear_sub_row_is, clear_sub_row_plain}
 use Rattle.space_changes.proofs.Lists.{all_there}
@@ -105,9 +107,8 @@ clears_volumes old new num (Ok count) h = λ l gone has.
 
 -- ---- the row of the entity, whose volumes are gone, and which names nothing
 
-pub clears_row : (old new : State) (num : ℤ) (r : Result ℕ Error) → Executes clear_row_text (Int num ∷ []) old new r → OnOk r (Relays (LacksParts num) (without_entity_row num) old.now new.now)
-clears_row old new num (Err e) h = tt
-clears_row old new num (Ok count) h = λ l gone has.
+row_cleared : (old new : State) (num : ℤ) (count : ℕ) → Executes clear_row_text (Int num ∷ []) old new (Ok count) → (l : Layout) → LacksParts num l → LaysOut old.now l → LaysOut new.now (without_entity_row num l) × IsDatabase new.now
+row_cleared old new num count h l gone has =
     let db = old.now.trees in
     let pairs = pair_apart (db 1) has.entities.apart in
     let none = rows_other 0 volume_values (λ (v : VolumeRow). v.entity) (λ v. refl) six_columns l.volumes (db 3) has.volumes num gone.0 in
@@ -115,13 +116,16 @@ clears_row old new num (Ok count) h = λ l gone has.
     let u = clears_table clear_row_text (Int num ∷ []) (entity 1) 1 (is_first 0) refl clear_row_is clear_row_plain old new count has.schema has.entities.apart refl h
     (λ ids next same wrote. entity_quiet db next ids num (taken_have (λ m. column m 0 ≡ Int num) (bears 0 num) (db 1) ids pairs same (λ r there e. head_number num r (pairs.numbers r there) e)) none unnamed wrote) in
     let left = rows_left 0 entity_values (λ (r : EntityRow). r.num) (λ r. refl) entity_columns l.entities (db 1) has.entities num in
-    subst (λ d. LaysOut d (without_entity_row num l)) (sym u.is) (entities_relaid old.now u.next l has u.step.tables _ (subst (AreRows entity_values entity_columns _) (sym u.rows) left))
+    (subst (λ d. LaysOut d (without_entity_row num l)) (sym u.is) (entities_relaid old.now u.next l has u.step.tables _ (subst (AreRows entity_values entity_columns _) (sym u.rows) left)), u.sound)
+
+pub clears_row : (old new : State) (num : ℤ) (r : Result ℕ Error) → Executes clear_row_text (Int num ∷ []) old new r → OnOk r (RelaysSound (LacksParts num) (without_entity_row num) old.now new.now)
+clears_row old new num (Err e) h = tt
+clears_row old new num (Ok count) h = ((λ l gone has. (row_cleared old new num count h l gone has).0), (λ l gone has. (row_cleared old new num count h l gone has).1))
 
 -- ---- the row of the subscription, whose cells are gone, and which no entity names
 
-pub clears_sub_row : (old new : State) (num : ℤ) (r : Result ℕ Error) → Executes clear_sub_row_text (Int num ∷ []) old new r → OnOk r (Relays (IsFree num) (without_sub_row num) old.now new.now)
-clears_sub_row old new num (Err e) h = tt
-clears_sub_row old new num (Ok count) h = λ l gone has.
+sub_row_cleared : (old new : State) (num : ℤ) (count : ℕ) → Executes clear_sub_row_text (Int num ∷ []) old new (Ok count) → (l : Layout) → IsFree num l → LaysOut old.now l → LaysOut new.now (without_sub_row num l) × IsDatabase new.now
+sub_row_cleared old new num count h l gone has =
     let db = old.now.trees in
     let pairs = pair_apart (db 10) has.subs.apart in
     let none = rows_other 0 sub_cell_values (λ (c : SubCellRow). c.subscription) (λ c. refl) five_columns l.sub_cells (db 12) has.sub_cells num gone.0 in
@@ -129,4 +133,8 @@ clears_sub_row old new num (Ok count) h = λ l gone has.
     let u = clears_table clear_sub_row_text (Int num ∷ []) (subscription 10) 5 (is_first 0) refl clear_sub_row_is clear_sub_row_plain old new count has.schema has.subs.apart refl h
     (λ ids next same wrote. sub_quiet db next ids num (taken_have (λ m. column m 0 ≡ Int num) (bears 0 num) (db 10) ids pairs same (λ r there e. head_number num r (pairs.numbers r there) e)) none unnamed wrote) in
     let left = rows_left 0 sub_values (λ (r : SubRow). r.num) (λ r. refl) sub_columns l.subs (db 10) has.subs num in
-    subst (λ d. LaysOut d (without_sub_row num l)) (sym u.is) (subs_relaid old.now u.next l has u.step.tables _ (subst (AreRows sub_values sub_columns _) (sym u.rows) left))
+    (subst (λ d. LaysOut d (without_sub_row num l)) (sym u.is) (subs_relaid old.now u.next l has u.step.tables _ (subst (AreRows sub_values sub_columns _) (sym u.rows) left)), u.sound)
+
+pub clears_sub_row : (old new : State) (num : ℤ) (r : Result ℕ Error) → Executes clear_sub_row_text (Int num ∷ []) old new r → OnOk r (RelaysSound (IsFree num) (without_sub_row num) old.now new.now)
+clears_sub_row old new num (Err e) h = tt
+clears_sub_row old new num (Ok count) h = ((λ l gone has. (sub_row_cleared old new num count h l gone has).0), (λ l gone has. (sub_row_cleared old new num count h l gone has).1))

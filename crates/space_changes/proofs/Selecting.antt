@@ -35,6 +35,7 @@ pub record Cleared (old new : Database) (table : Table) (hit : Row → Bool) : T
   pub is : new ≡ record { schema = dss_schema; trees = next }
   pub step : Applies dss_schema Enforced old.trees (edit_of old.trees table ids Given 0 []) next
   pub rows : next table.tree ≡ filter (λ r. not (hit r)) (old.trees table.tree)
+  pub sound : IsDatabase new
 
 -- the row of a table that passes is changed to another, whose rowid is the same
 pub record Changed (old new : Database) (table : Table) (hit : Row → Bool) (row : Row) : Type 0 where
@@ -61,7 +62,7 @@ module _ (text : List ℕ) (params : Row) (table : Table) (at : ℕ) (tests : Li
       let shown = IsPermutation-map (λ r. id_in (rowid r)) _ _ (shows table.tree tests (col 1 0 ∷ []) db params u.rows here (u.answer.answer Null)) in
       let ids = subst (λ k. IsPermutation k (ids_of u.rows)) (map-map (λ r. id_in (rowid r)) (λ r. eval_all (col 1 0 ∷ []) (params ∷ r ∷ [])) (filter passes (db table.tree))) shown in
       let step = quiet (ids_of u.rows) u.next ids u.wrote in
-      record { ids = ids_of u.rows; next = u.next; is = u.is; step = step; rows = step.rows ∙ clears passes (db table.tree) (ids_of u.rows) (pair_apart (db table.tree) apart) ids }
+      record { ids = ids_of u.rows; next = u.next; is = u.is; step = step; rows = step.rows ∙ clears passes (db table.tree) (ids_of u.rows) (pair_apart (db table.tree) apart) ids; sound = w.sound }
 
 first_fresh : (a b : Bool) → (not a && b) ≡ true → a ≡ false
 first_fresh true b h = cc

@@ -1,8 +1,9 @@
 -- The airspace without a subscription.
 use Rattle.std.proofs.Common.{◌≡◌, inl, inr, ℕ, ◌<◌, ℤ, List, [], ◌∷◌, map, filter, not, true, false, Option, Some, None, refl, sym, ap, subst, ◌∙◌, arith, int_eq, nat_eq}
+use Rattle.std.specs.Prelude.{IsSome}
 use Rattle.std.specs.List.{AllByRecursion}
 use Rattle.std.specs.Ordering.{nat_cmp}
-use Rattle.std.specs.FinMap.{entries, nat_cmp-IsAntisymmetric, remove}
+use Rattle.std.specs.FinMap.{entries, get, nat_cmp-IsAntisymmetric, remove}
 use Rattle.std.proofs.lemmas.Bool.{cases_Bool, eq-eqb}
 use Rattle.std.proofs.lemmas.Cmp.{nat_cmp_total}
 use Rattle.std.proofs.lemmas.List.Sorted.{IsPermutation-sym}
@@ -15,6 +16,8 @@ use Rattle.entity_core.specs.declared.entity.Entity.{Entity}
 use Rattle.entity_core.specs.Entity.{subscription_of}
 use Rattle.entity_core.specs.Search.{dependents_in, is_id, is_naming}
 use Rattle.entity_core.specs.Serial.{greatest_serial}
+use Rattle.entity_sweep.specs.declared.gone.Gone.TheVariants.{Subscription}
+use Rattle.entity_sweep.specs.Sweep.{less_subscription}
 use Rattle.space_core.specs.declared.space.Change.TheVariants.{RemoveSub}
 use Rattle.space_rows.specs.declared.rows.EntityRow.{EntityRow}
 use Rattle.space_rows.specs.declared.rows.VolumeRow.{VolumeRow}
@@ -26,7 +29,7 @@ use Rattle.space_tables.specs.Spelling.{Spells, Group, IsGroup, IsSubBefore, IsS
 use Rattle.space_tables.proofs.OneAirspace.{one_number, sub_numbers_differ}
 use Rattle.space_tables.proofs.Rising.{sub_cells_of}
 use Rattle.space_changes.specs.Layout.{IsUnnamed, LaysOut, Naming, Relays, layout_of, namings_of, with_next_serial, without_sub_rows}
-use Rattle.space_changes.specs.Statements.{FindsSubNumber, RelaysSound, MakesChange}
+use Rattle.space_changes.specs.Statements.{FindsSubNumber, RelaysSound, MakesChange, MakesLess}
 use Rattle.space_changes.proofs.Groups.{heads_left, is_other, kept_left, left_at, others_left}
 use Rattle.space_changes.proofs.Numbered.{at_from, made, number_from, sub_number}
 use Rattle.space_changes.proofs.Lists.{all_from, all_there, has_filtered, mapped_there, moved}
@@ -110,6 +113,27 @@ module _ (db : Database) (a : Airspace) (p : Spells db a) (num : ℤ) (id : ℕ)
   pub entities_unnamed : AreEntities a.serial (filter (is_other sub_number num) p.subs) (layout_of db a p).entities (layout_of db a p).volumes (layout_of db a p).cells (layout_of db a p).namings p.groups a.entities
   entities_unnamed = entities_turned _ _ _ _ _ _ _ _ _ (λ g has names. names_left g has g.naming (subscription_of g.entity.nature) refl names) (own_entities db a p)
 
+-- the subscriptions that are left keep their numbers
+sub_numbers_left : (db : Database) (a : Airspace) (p : Spells db a) (num : ℤ) (id : ℕ) → IsSubNumber p.subs num id → (n : ℤ) (k : ℕ) → IsSubNumber p.subs n k → IsSome (get (remove a.subscriptions id) k) → IsSubNumber (filter (is_other sub_number num) p.subs) n k
+sub_numbers_left db a p num id it n k at there =
+    let left = left_at sub_number sub_pair_of nat_cmp nat_cmp_total nat_cmp-IsAntisymmetric p.subs p.subs_rising num id (at_from num id p.subs it) a.subscriptions n k (at_from n k p.subs at) there in
+    number_from n k _ left.0 left.1 left.2 left.3
+
+-- the number is found, and its rows are removed: the serial stays
+pub lets_sub_go : (old found new : Database) (id : ℕ) (num : ℤ) → FindsSubNumber id (Some num) old found → RelaysSound (IsUnnamed num) (without_sub_rows num) found new → MakesLess (Subscription id) old new
+lets_sub_go old found new id num finds clears a p can =
+    let it = finds a p in
+    let l = layout_of old a p in
+    let has = subst (λ db. LaysOut db l) (sym it.0) (lay_out old a p) in
+    let unnamed = is_unnamed old a p num id it.1 can.1 in
+    made old new a (less_subscription a id) p (without_sub_rows num l) (filter (is_other sub_number num) p.subs) p.groups (clears.0 l unnamed has) (clears.1 l unnamed has) (record {
+      serial = refl;
+      most = p.most;
+      subs = subs_left _ _ _ _ _ num id (own_subs old a p) it.1;
+      entities = entities_unnamed old a p num id it.1 can.1;
+      stated = own_stated old a p;
+    }) (λ n k at there. at) (sub_numbers_left old a p num id it.1)
+
 -- the number is found, its rows are removed, and the serial goes on
 pub removes_sub : (old found left new : Database) (id : ℕ) (num : ℤ) → FindsSubNumber id (Some num) old found → Relays (IsUnnamed num) (without_sub_rows num) found left → RelaysSound (λ l. l.serial < greatest_serial) with_next_serial left new
     → MakesChange (RemoveSub id) [] old new
@@ -124,5 +148,4 @@ removes_sub old found left new id num finds clears raises a p fits =
       subs = subs_left _ _ _ _ _ num id (subs_later _ _ _ _ _ (own_subs old a p)) it.1;
       entities = entities_later _ _ _ _ _ _ _ _ (entities_unnamed old a p num id it.1 fits.due.1);
       stated = own_stated old a p;
-    }) (λ n k at there. at)
-    (λ n k at there. let left = left_at sub_number sub_pair_of nat_cmp nat_cmp_total nat_cmp-IsAntisymmetric p.subs p.subs_rising num id (at_from num id p.subs it.1) a.subscriptions n k (at_from n k p.subs at) there in number_from n k _ left.0 left.1 left.2 left.3)
+    }) (λ n k at there. at) (sub_numbers_left old a p num id it.1)

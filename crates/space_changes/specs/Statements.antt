@@ -7,6 +7,8 @@ use Rattle.sqlite.specs.Effect.{Database, IsDatabase}
 use Rattle.sqlite.specs.State.{State, HasCleanDisk, KeepsCommit, Survives}
 use Rattle.sqlite.specs.declared.error.Error.{Error}
 use Rattle.entity_core.specs.Airspace.{Airspace, EntityKey, text_cmp}
+use Rattle.entity_sweep.specs.declared.gone.Gone.{Gone}
+use Rattle.entity_sweep.specs.Gone.{AllCanGo, CanGo, less_all, less_one}
 use Rattle.space_core.specs.declared.round.RoundChange.{RoundChange}
 use Rattle.space_core.specs.declared.space.Change.{Change}
 use Rattle.space_core.specs.Round.{FitAll}
@@ -92,3 +94,20 @@ MakesRound round old new =
 abbrev pub MakesRest : List RoundChange → Database → Database → Type 0
 MakesRest round old new =
     (a : Airspace) → Spells old a → FitAll round a → IsDatabase old → MakesAll round a old new
+
+-- whatever airspace was spelt, if one thing can be let go of, the airspace without it is made
+abbrev pub MakesLess : Gone → Database → Database → Type 0
+MakesLess gone old new =
+    (a : Airspace) → Spells old a → CanGo gone a → Makes a (less_one a gone) old new
+
+-- whatever airspace was spelt, if each of these can be let go of in what those before it leave, the
+-- airspace without all of them is made
+abbrev pub MakesLessAll : List Gone → Database → Database → Type 0
+MakesLessAll gone old new =
+    (a : Airspace) → Spells old a → AllCanGo gone a → Makes a (less_all gone a) old new
+
+-- the same of what may be nothing, if the rows obeyed the schema
+abbrev pub MakesLessRest : List Gone → Database → Database → Type 0
+MakesLessRest gone old new =
+    (a : Airspace) → Spells old a → AllCanGo gone a → IsDatabase old
+    → Makes a (less_all gone a) old new

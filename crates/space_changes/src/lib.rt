@@ -4,6 +4,7 @@
 mod availability;
 pub mod change;
 mod insert;
+pub mod let_go;
 mod number;
 mod put;
 mod remove;

@@ -44,7 +44,7 @@ fn clear_row<S: Alter>(tx: &mut Transaction<'_, S>, num: i64) -> Result<usize, E
     ensures same_reference { tx.new.conn.ghost_name ≡ tx.old.conn.ghost_name }
     ensures clears { let old = state S.Store tx.old.conn.now in
         let new = state S.Store tx.new.conn.now in
-        Runs (λ _. Relays (LacksParts num) (without_entity_row num)) old new result }
+        Runs (λ _. RelaysSound (LacksParts num) (without_entity_row num)) old new result }
 {
     tx.execute("DELETE FROM entity WHERE num = ?1", params![num])
 }
@@ -67,7 +67,7 @@ pub(crate) fn clear_entity<S: Alter>(tx: &mut Transaction<'_, S>, num: i64) -> R
     ensures same_reference { tx.new.conn.ghost_name ≡ tx.old.conn.ghost_name }
     ensures clears { let old = state S.Store tx.old.conn.now in
         let new = state S.Store tx.new.conn.now in
-        Runs (λ _. Relays Always (without_rows num)) old new result }
+        Runs (λ _. RelaysSound Always (without_rows num)) old new result }
 {
     clear_parts(tx, num)?;
     clear_row(tx, num)?;

@@ -3,7 +3,7 @@ ghost use Rattle.std.specs.Prelude.{◌≡◌, []};
 ghost use Rattle.sqlite.specs.Held.{state};
 ghost use Rattle.space_core.specs.declared.space.Change.TheVariants.{RemoveSub};
 ghost use Rattle.space_changes.specs.Layout.{Always, IsFree, IsUnnamed, Relays, without_sub_cells, without_sub_row, without_sub_rows};
-ghost use Rattle.space_changes.specs.Statements.{MakesChange, Runs};
+ghost use Rattle.space_changes.specs.Statements.{MakesChange, RelaysSound, Runs};
 
 use crate::serial::raise_serial;
 use crate::sub_number::sub_number_of;
@@ -31,17 +31,17 @@ fn clear_sub_row<S: Alter>(tx: &mut Transaction<'_, S>, num: i64) -> Result<usiz
     ensures same_reference { tx.new.conn.ghost_name ≡ tx.old.conn.ghost_name }
     ensures clears { let old = state S.Store tx.old.conn.now in
         let new = state S.Store tx.new.conn.now in
-        Runs (λ _. Relays (IsFree num) (without_sub_row num)) old new result }
+        Runs (λ _. RelaysSound (IsFree num) (without_sub_row num)) old new result }
 {
     tx.execute("DELETE FROM subscription WHERE num = ?1", params![num])
 }
 
-// Removes all rows of a subscription that no entity names.
-fn clear_sub<S: Alter>(tx: &mut Transaction<'_, S>, num: i64) -> Result<(), Error>
+/// Removes all rows of a subscription that no entity names.
+pub(crate) fn clear_sub<S: Alter>(tx: &mut Transaction<'_, S>, num: i64) -> Result<(), Error>
     ensures same_reference { tx.new.conn.ghost_name ≡ tx.old.conn.ghost_name }
     ensures clears { let old = state S.Store tx.old.conn.now in
         let new = state S.Store tx.new.conn.now in
-        Runs (λ _. Relays (IsUnnamed num) (without_sub_rows num)) old new result }
+        Runs (λ _. RelaysSound (IsUnnamed num) (without_sub_rows num)) old new result }
 {
     clear_sub_cells(tx, num)?;
     clear_sub_row(tx, num)?;

@@ -1,8 +1,8 @@
 use Rattle.std.proofs.Common.{to_z, of_z, w64, Some, None, ◌≡◌, ap, pos, rules}
 use Rattle.sqlite.specs.Held.{state}
 use Rattle.entity_core.specs.Airspace.{key_of}
-use Rattle.space_changes.specs.Layout.{Always, Relays, without_rows}
-use Rattle.space_changes.specs.Statements.{FindsNumber}
+use Rattle.space_changes.specs.Layout.{Always, without_rows}
+use Rattle.space_changes.specs.Statements.{FindsNumber, RelaysSound}
 use Rattle.space_changes.specs.Putting.{MakesRoom}
 use Rattle.space_changes.proofs.Running.{runs_then, runs_as_well}
 use Rattle.space_changes.proofs.Putting.{room_left, room_there}
@@ -18,7 +18,7 @@ returns-in_ok-clear_entity-in-Some-clause-room g c =
     let own : to_z w64 (of_z w64 num) ≡ num = search rules in
     let finds = rw (c.kind.ensures, c.in-Some.is) at c.in_ok-num.ensures.finds in
     let clears = rw own at c.in_ok-clear_entity-in-Some.ensures.clears in
-    rw own (runs_then (FindsNumber (key_of e)) (λ (_ : Unit {0}). Relays Always (without_rows num)) (MakesRoom e) old found new (Some num) tt num (room_left e num old.now found.now new.now) finds clears)
+    rw own (runs_then (FindsNumber (key_of e)) (λ (_ : Unit {0}). RelaysSound Always (without_rows num)) (MakesRoom e) old found new (Some num) tt num (λ there gone. room_left e num old.now found.now new.now there gone.0) finds clears)
 
 pub returns-in-None-clause-room : goal.returns-in-None-clause-room
 returns-in-None-clause-room g c =

@@ -1,6 +1,7 @@
 use Rattle.std.proofs.Common.{to_z-of_z}
 use Rattle.sqlite.specs.Held.{state}
-use Rattle.space_changes.specs.Layout.{Relays, LacksParts, without_entity_row}
+use Rattle.space_changes.specs.Layout.{LacksParts, without_entity_row}
+use Rattle.space_changes.specs.Statements.{RelaysSound}
 use Rattle.space_changes.proofs.Texts.{clear_row_text}
 use Rattle.space_changes.proofs.Running.{runs_on}
 use Rattle.space_changes.proofs.Removing.{clears_row}
@@ -11,5 +12,5 @@ returns-clause-clears g c =
     let old = state g.S.Store c.args.tx.now.conn.now in
     let new = state g.S.Store c.execute.new.self.conn.now in
     let num = c.args.num in
-    runs_on old new clear_row_text _ c.execute.result (Relays (LacksParts num) (without_entity_row num))
+    runs_on old new clear_row_text _ c.execute.result (RelaysSound (LacksParts num) (without_entity_row num))
     (rw (c.params-to_sql.ensures, to_z-of_z c.ranges.num) at c.execute.ensures.runs) c.execute.ensures.survives (clears_row old new num c.execute.result)

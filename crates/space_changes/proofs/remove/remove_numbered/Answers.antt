@@ -2,7 +2,7 @@ use Rattle.std.proofs.Common.{to_z-of_z}
 use Rattle.std.specs.Prelude.{◌<◌}
 use Rattle.sqlite.specs.Held.{state}
 use Rattle.entity_core.specs.Serial.{greatest_serial}
-use Rattle.space_changes.specs.Layout.{Always, Relays, without_rows, with_next_serial}
+use Rattle.space_changes.specs.Layout.{Always, without_rows, with_next_serial}
 use Rattle.space_changes.specs.Statements.{RelaysSound}
 use Rattle.space_changes.proofs.Running.{runs_then}
 use Rattle.space_changes.proofs.remove.remove_numbered.Goals as goal
@@ -10,7 +10,7 @@ use Rattle.space_changes.proofs.remove.remove_numbered.Goals as goal
 pub returns-clause-removes : goal.returns-clause-removes
 returns-clause-removes g c =
     let num = c.args.num in
-    runs_then (λ _. Relays Always (without_rows num)) (λ _. RelaysSound (λ l. l.serial < greatest_serial) with_next_serial) (λ _. RelaysSound (λ l. l.serial < greatest_serial) (λ l. with_next_serial (without_rows num l)))
+    runs_then (λ _. RelaysSound Always (without_rows num)) (λ _. RelaysSound (λ l. l.serial < greatest_serial) with_next_serial) (λ _. RelaysSound (λ l. l.serial < greatest_serial) (λ l. with_next_serial (without_rows num l)))
     (state g.S.Store c.args.tx.now.conn.now) (state g.S.Store c.clear_entity.new.tx.conn.now) (state g.S.Store c.raise_serial.new.tx.conn.now) _ _ _
-    (λ clears raises. ((λ l low has. raises.0 (without_rows num l) low (clears l tt has)), (λ l low has. raises.1 (without_rows num l) low (clears l tt has))))
+    (λ clears raises. ((λ l low has. raises.0 (without_rows num l) low (clears.0 l tt has)), (λ l low has. raises.1 (without_rows num l) low (clears.0 l tt has))))
     (rw (to_z-of_z c.ranges.num) at c.in_ok-clear_entity.ensures.clears) c.in_ok-raise_serial.ensures.raises

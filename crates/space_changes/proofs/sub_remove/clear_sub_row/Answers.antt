@@ -1,6 +1,7 @@
 use Rattle.std.proofs.Common.{to_z-of_z}
 use Rattle.sqlite.specs.Held.{state}
-use Rattle.space_changes.specs.Layout.{IsFree, Relays, without_sub_row}
+use Rattle.space_changes.specs.Layout.{IsFree, without_sub_row}
+use Rattle.space_changes.specs.Statements.{RelaysSound}
 use Rattle.space_changes.proofs.Texts.{clear_sub_row_text}
 use Rattle.space_changes.proofs.Running.{runs_on}
 use Rattle.space_changes.proofs.Removing.{clears_sub_row}
@@ -11,5 +12,5 @@ returns-clause-clears g c =
     let old = state g.S.Store c.args.tx.now.conn.now in
     let new = state g.S.Store c.execute.new.self.conn.now in
     let num = c.args.num in
-    runs_on old new clear_sub_row_text _ c.execute.result (Relays (IsFree num) (without_sub_row num))
+    runs_on old new clear_sub_row_text _ c.execute.result (RelaysSound (IsFree num) (without_sub_row num))
     (rw (c.params-to_sql.ensures, to_z-of_z c.ranges.num) at c.execute.ensures.runs) c.execute.ensures.survives (clears_sub_row old new num c.execute.result)
