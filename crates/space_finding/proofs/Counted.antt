@@ -8,15 +8,15 @@ use Rattle.sqlite.specs.Effect.{Database}
 use Rattle.sqlite.specs.declared.error.Error.{Error}
 use Rattle.space_rows.proofs.Pieces.{all_turned}
 use Rattle.space_finding.specs.declared.cell_table.CellTable.{CellTable}
+use Rattle.space_finding.specs.declared.cell_table.Sought.{Sought}
 use Rattle.space_finding.specs.declared.interval.Interval.{Interval}
 use Rattle.space_finding.specs.Asked.{Keeps}
-use Rattle.space_finding.specs.CellTable.{StoredCell}
 use Rattle.space_finding.specs.Numbers.{ShowsNumbers, HasNumbers}
 
-pub numbers_told : (table : CellTable) (P : StoredCell → Type 0) (db : Database) (rows sliced : List Row) (numbers : List ℤ) (r : Result (Unit {0}) Error) → sliced ≡ rows → OnOk r ((n : ℤ) → Has sliced (Int n ∷ []) → Has numbers n) → ShowsNumbers table P db rows → IfOk r (λ _. HasNumbers table P db numbers)
-numbers_told table P db rows sliced numbers (Ok x) e each shows = λ c there p. each c.num (subst (λ (l : List Row). Has l (Int c.num ∷ [])) (sym e) (shows c there p))
-numbers_told table P db rows sliced numbers (Err x) e each shows = tt
+pub numbers_told : (table : CellTable) (sought : Sought) (i : Interval) (db : Database) (rows sliced : List Row) (numbers : List ℤ) (r : Result (Unit {0}) Error) → sliced ≡ rows → OnOk r ((n : ℤ) → Has sliced (Int n ∷ []) → Has numbers n) → ShowsNumbers table sought i db rows → IfOk r (λ _. HasNumbers table sought db numbers i)
+numbers_told table sought i db rows sliced numbers (Ok x) e each shows = λ c there p. each c.num (subst (λ (l : List Row). Has l (Int c.num ∷ [])) (sym e) (shows c there p))
+numbers_told table sought i db rows sliced numbers (Err x) e each shows = tt
 
 -- numbers that are there stay
-pub numbers_stay : (table : CellTable) (P : Interval → StoredCell → Type 0) (db : Database) (before after : List ℤ) (is : List Interval) → Keeps before after → AllByRecursion (λ i. HasNumbers table (P i) db before) is → AllByRecursion (λ i. HasNumbers table (P i) db after) is
-numbers_stay table P db before after is keeps all = all_turned (λ i. HasNumbers table (P i) db before) (λ i. HasNumbers table (P i) db after) (λ i h c there p. keeps c.num (h c there p)) is all
+pub numbers_stay : (table : CellTable) (sought : Sought) (db : Database) (before after : List ℤ) (is : List Interval) → Keeps before after → AllByRecursion (HasNumbers table sought db before) is → AllByRecursion (HasNumbers table sought db after) is
+numbers_stay table sought db before after is keeps all = all_turned (HasNumbers table sought db before) (HasNumbers table sought db after) (λ i h c there p. keeps c.num (h c there p)) is all

@@ -10,7 +10,7 @@ use Rattle.sqlite_rules.specs.Lists.{Has}
 use Rattle.sqlite_rules.proofs.ListLemmas.{all_has, has_either}
 use Rattle.sqlite_trees.specs.Tree.{IsAscending}
 use Rattle.space_tables.proofs.OneAirspace.{EntryLess, entries_rise}
-use Rattle.space_finding.specs.Candidates.{IsPart, HoldsNumbered}
+use Rattle.space_finding.specs.Candidates.{IsPart, Spelt, HoldsNumbered, HoldsNear}
 use Rattle.space_finding.proofs.Lists.{has_map, map_has, has_moved}
 
 one_more : (num : ℤ) (numbers : List ℤ) (n : ℤ) → Has (numbers ++ num ∷ []) n → Has numbers n ⊎ (n ≡ num)
@@ -56,18 +56,25 @@ module _ {K X : Type 0} (R : K → K → Ordering) (total : IsTotalOrder R) (exa
 
   -- ---- what groups spell, each under its key, is what a map has
 
-  module _ {G : Type 0} (num : G → ℤ) (val : G → X) (key : X → K) (gs : List G) (all : FinMap R X) (kept : IsPermutation (map (λ g. (key (val g), val g)) gs) (entries all)) where
-    abbrev pair : G → K × X
-    pair g = (key (val g), val g)
-
+  module _ {G : Type 0} (of : Spelt G K X R) (kept : IsPermutation (map of.pair of.groups) (entries of.all)) where
     abbrev Holds : List ℤ → FinMap R X → Type 0
-    Holds numbers found = HoldsNumbered num pair numbers gs all found
+    Holds numbers found = HoldsNumbered of numbers found
 
-    pub group_got : (g : G) → Has gs g → get all (key (val g)) ≡ Some (val g)
-    group_got g there = has_got all (key (val g)) (val g) (has_moved (map pair gs) (entries all) (pair g) kept (map_has pair gs g there))
+    group_got : (g : G) → Has of.groups g → get of.all (of.pair g).0 ≡ Some (of.pair g).1
+    group_got g there = has_got of.all (of.pair g).0 (of.pair g).1 (has_moved (map of.pair of.groups) (entries of.all) (of.pair g) kept (map_has of.pair of.groups g there))
 
-    pub got_group : (k : K) (x : X) → get all k ≡ Some x → (g : G) × Has gs g × ((k, x) ≡ pair g)
-    got_group k x h = has_map pair gs (k, x) (has_moved (entries all) (map pair gs) (k, x) (IsPermutation-sym _ _ kept) (got_has all k x h))
+    got_group : (k : K) (x : X) → get of.all k ≡ Some x → (g : G) × Has of.groups g × ((k, x) ≡ of.pair g)
+    got_group k x h = has_map of.pair of.groups (k, x) (has_moved (entries of.all) (map of.pair of.groups) (k, x) (IsPermutation-sym _ _ kept) (got_has of.all k x h))
+
+    -- where the numbers of all that passes a test are there, it is found
+    pub near_found : (is_near : X → Bool) (numbers : List ℤ) (found : FinMap R X) → ((g : G) → Has of.groups g → is_near (of.pair g).1 ≡ true → Has numbers (of.number g)) → Holds numbers found → HoldsNear is_near of.all found
+    near_found is_near numbers found listed h = record {
+      part = h.part;
+      whole = λ k x is near.
+          let g = got_group k x is in
+          let number = listed g.0 g.1 (subst (λ (p : K × X). is_near p.1 ≡ true) g.2 near) in
+          ap (λ (p : K × X). get found p.0) g.2 ∙ (h.whole g.0 g.1 number ∙ ap (λ (p : K × X). Some p.1) (sym g.2));
+    }
 
     -- ---- one number after the other
 
@@ -77,42 +84,42 @@ module _ {K X : Type 0} (R : K → K → Ordering) (total : IsTotalOrder R) (exa
       whole = λ g there none. absurd none;
     }
 
-    pub adds_none : (n : ℤ) (numbers : List ℤ) (m : FinMap R X) → ((g : G) → Has gs g → num g ≡ n → ⊥) → Holds numbers m → Holds (numbers ++ n ∷ []) m
+    pub adds_none : (n : ℤ) (numbers : List ℤ) (m : FinMap R X) → ((g : G) → Has of.groups g → of.number g ≡ n → ⊥) → Holds numbers m → Holds (numbers ++ n ∷ []) m
     adds_none n numbers m none h = record {
       part = h.part;
-      whole = λ g there k. go g there (one_more n numbers (num g) k);
+      whole = λ g there k. go g there (one_more n numbers (of.number g) k);
     }
       where
-        go : (g : G) → Has gs g → Has numbers (num g) ⊎ (num g ≡ n) → get m (key (val g)) ≡ Some (val g)
+        go : (g : G) → Has of.groups g → Has numbers (of.number g) ⊎ (of.number g ≡ n) → get m (of.pair g).0 ≡ Some (of.pair g).1
         go g there (inl before) = h.whole g there before
         go g there (inr same) = absurd (none g there same)
 
-    pub adds_one : (n : ℤ) (numbers : List ℤ) (m m' : FinMap R X) (x : X) → m' ≡ insert m (key x) x → ((g : G) → Has gs g → num g ≡ n → x ≡ val g) → (g : G) × Has gs g × (val g ≡ x) → Holds numbers m → Holds (numbers ++ n ∷ []) m'
-    adds_one n numbers m m' x put own there h = record {
+    pub adds_one : (n : ℤ) (numbers : List ℤ) (m m' : FinMap R X) (p : K × X) → m' ≡ insert m p.0 p.1 → ((g : G) → Has of.groups g → of.number g ≡ n → p ≡ of.pair g) → (g : G) × Has of.groups g × (of.pair g ≡ p) → Holds numbers m → Holds (numbers ++ n ∷ []) m'
+    adds_one n numbers m m' p put own there h = record {
       part = part;
-      whole = λ g there k. whole g there (one_more n numbers (num g) k);
+      whole = λ g there k. whole g there (one_more n numbers (of.number g) k);
     }
       where
-        here : get all (key x) ≡ Some x
-        here = subst (λ (y : X). get all (key y) ≡ Some y) there.2 (group_got there.0 there.1)
+        here : get of.all p.0 ≡ Some p.1
+        here = subst (λ (q : K × X). get of.all q.0 ≡ Some q.1) there.2 (group_got there.0 there.1)
 
-        got : (k : K) → get m' k ≡ cond (eq_by_cmp R k (key x)) (Some x) (get m k)
-        got k = ap (λ (y : FinMap R X). get y k) put ∙ get-insert total m (key x) x k
+        got : (k : K) → get m' k ≡ cond (eq_by_cmp R k p.0) (Some p.1) (get m k)
+        got k = ap (λ (y : FinMap R X). get y k) put ∙ get-insert total m p.0 p.1 k
 
-        part : IsPart m' all
-        part k y is = go (eq_by_cmp R k (key x)) refl (sym (got k) ∙ is)
+        part : IsPart m' of.all
+        part k y is = go (eq_by_cmp R k p.0) refl (sym (got k) ∙ is)
           where
-            go : (b : Bool) → eq_by_cmp R k (key x) ≡ b → cond b (Some x) (get m k) ≡ Some y → get all k ≡ Some y
-            go true t h' = let same = one R total exact k (key x) t in ap (get all) same ∙ (here ∙ h')
+            go : (b : Bool) → eq_by_cmp R k p.0 ≡ b → cond b (Some p.1) (get m k) ≡ Some y → get of.all k ≡ Some y
+            go true t h' = let same = one R total exact k p.0 t in ap (get of.all) same ∙ (here ∙ h')
             go false t h' = h.part k y h'
 
-        whole : (g : G) → Has gs g → Has numbers (num g) ⊎ (num g ≡ n) → get m' (key (val g)) ≡ Some (val g)
-        whole g there (inr same) = subst (λ (y : X). get m' (key y) ≡ Some y) (own g there same) (got (key x) ∙ ap (λ b. cond b (Some x) (get m (key x))) (tied R total exact (key x)))
-        whole g there (inl before) = go (eq_by_cmp R (key (val g)) (key x)) refl
+        whole : (g : G) → Has of.groups g → Has numbers (of.number g) ⊎ (of.number g ≡ n) → get m' (of.pair g).0 ≡ Some (of.pair g).1
+        whole g there (inr same) = subst (λ (q : K × X). get m' q.0 ≡ Some q.1) (own g there same) (got p.0 ∙ ap (λ b. cond b (Some p.1) (get m p.0)) (tied R total exact p.0))
+        whole g there (inl before) = go (eq_by_cmp R (of.pair g).0 p.0) refl
           where
-            go : (b : Bool) → eq_by_cmp R (key (val g)) (key x) ≡ b → get m' (key (val g)) ≡ Some (val g)
+            go : (b : Bool) → eq_by_cmp R (of.pair g).0 p.0 ≡ b → get m' (of.pair g).0 ≡ Some (of.pair g).1
             go true t =
-                let same = one R total exact (key (val g)) (key x) t in
-                let found = got (key (val g)) ∙ ap (λ b. cond b (Some x) (get m (key (val g)))) t in
-                found ∙ (sym here ∙ (ap (get all) (sym same) ∙ group_got g there))
-            go false t = got (key (val g)) ∙ (ap (λ b. cond b (Some x) (get m (key (val g)))) t ∙ h.whole g there before)
+                let same = one R total exact (of.pair g).0 p.0 t in
+                let found = got (of.pair g).0 ∙ ap (λ b. cond b (Some p.1) (get m (of.pair g).0)) t in
+                found ∙ (sym here ∙ (ap (get of.all) (sym same) ∙ group_got g there))
+            go false t = got (of.pair g).0 ∙ (ap (λ b. cond b (Some p.1) (get m (of.pair g).0)) t ∙ h.whole g there before)

@@ -1,4 +1,5 @@
 pub mod Lists
+pub mod Asking
 pub mod Shown
 pub mod Counted
 pub mod Found

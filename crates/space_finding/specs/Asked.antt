@@ -7,6 +7,7 @@ use Rattle.std.specs.declared.cmp.Ordering.{Ordering}
 use Rattle.sqlite_rules.specs.Lists.{Has}
 use Rattle.grid_core.specs.Cell.{Cell, IsCell, lo_of, hi_of, parent_of}
 use Rattle.grid_core.specs.Extent.{Region}
+use Rattle.space_finding.specs.declared.asked.Asked.{Asked}
 use Rattle.space_finding.specs.declared.interval.Interval.{Interval}
 
 abbrev pub interval_of : Cell → Interval
@@ -23,19 +24,22 @@ AreEachOnce asked = IsStrictlySortedBy interval_cmp asked
 abbrev pub Keeps : {X : Type 0} → List X → List X → Type 0
 Keeps {X} xs ys = (x : X) → Has xs x → Has ys x
 
--- the interval of a cell is asked for
-abbrev pub HasRange : List Interval → Cell → Type 0
-HasRange asked c = IsCell c × Has asked (interval_of c)
-
--- and so are those of the cells of levels below 13 that hold it
+-- the intervals of the cells of levels below 13 that hold a cell are there
 abbrev pub HasAncestors : List Interval → Cell → Type 0
-HasAncestors asked c =
-    (k : ℕ) → k < length c.digits → k < 13 → Has asked (interval_of (parent_of c k))
+HasAncestors is c =
+    (k : ℕ) → k < length c.digits → k < 13 → Has is (interval_of (parent_of c k))
 
--- of all cells of areas
-abbrev pub HasRanges : List Interval → List Region → Type 0
-HasRanges asked areas = AllByRecursion (λ r. AllByRecursion (HasRange asked) r.cells) areas
+-- what the first asks for, the second asks for too
+abbrev pub KeepsAsked : Asked → Asked → Type 0
+KeepsAsked old new =
+    Keeps old.ranges.items new.ranges.items × Keeps old.ancestors.items new.ancestors.items
 
-abbrev pub HasAllAncestors : List Interval → List Region → Type 0
-HasAllAncestors asked areas =
-    AllByRecursion (λ r. AllByRecursion (HasAncestors asked) r.cells) areas
+-- a cell is asked for, and those that hold it
+pub record AsksFor (asked : Asked) (c : Cell) : Type 0 where
+  pub is_cell : IsCell c
+  pub range : Has asked.ranges.items (interval_of c)
+  pub ancestors : HasAncestors asked.ancestors.items c
+
+-- all cells of areas
+abbrev pub AsksForAll : Asked → List Region → Type 0
+AsksForAll asked areas = AllByRecursion (λ r. AllByRecursion (AsksFor asked) r.cells) areas

@@ -1,82 +1,88 @@
 -- Entities and subscriptions that are found by their numbers.
-use Rattle.std.specs.Prelude.{◌≡◌, ℕ, ℤ, true, List, [], ◌∷◌, ◌++◌, Some}
+use Rattle.std.specs.Prelude.{◌≡◌, ℕ, ℤ, true, Bool, List, [], ◌∷◌, ◌++◌, Some}
 use Rattle.std.specs.FinMap.{FinMap, get}
+use Rattle.std.specs.Ordering.{nat_cmp}
 use Rattle.std.specs.declared.cmp.Ordering.{Ordering}
 use Rattle.sqlite_rules.specs.Lists.{Has}
 use Rattle.sqlite.specs.Effect.{Database}
 use Rattle.grid_core.specs.Extent.{Region}
 use Rattle.grid_core.specs.Volumes.{meets_some}
+use Rattle.entity_core.specs.declared.entity.Entity.{Entity}
 use Rattle.entity_core.specs.declared.subscription.Sub.{Sub}
-use Rattle.entity_core.specs.Airspace.{Airspace, Entities, Subscriptions}
+use Rattle.entity_core.specs.Airspace.{Airspace, EntityKey, Subscriptions, key_cmp}
+use Rattle.entity_lists.specs.Entities.{entity_map}
+use Rattle.entity_lists.specs.Subscriptions.{subscription_map}
 use Rattle.space_tables.specs.Spelling.{Group, Spells, SubGroup, pair_of, sub_pair_of}
+use Rattle.space_finding.specs.declared.asked.Asked.{Asked}
 use Rattle.space_finding.specs.declared.cell_table.CellTable.{CellTable}
-use Rattle.space_finding.specs.declared.cell_table.CellTable.TheVariants.{OfEntities, OfSubscriptions}
-use Rattle.space_finding.specs.declared.interval.Interval.{Interval}
 use Rattle.space_finding.specs.Numbers.{FindsNumbers}
 
 -- what stands in the first map stands in the second
 abbrev pub IsPart : {K X : Type 0} {R : K → K → Ordering} → FinMap R X → FinMap R X → Type 0
 IsPart {K} {X} part all = (k : K) (x : X) → get part k ≡ Some x → get all k ≡ Some x
 
--- some of what groups of rows spell, and all of it whose rows have one of the numbers
-pub record HoldsNumbered {G K X : Type 0} {R : K → K → Ordering} (num : G → ℤ) (pair : G → K × X)
-    (numbers : List ℤ) (gs : List G) (all found : FinMap R X) : Type 0 where
-  pub part : IsPart found all
-  pub whole : (g : G) → Has gs g → Has numbers (num g) → get found (pair g).0 ≡ Some (pair g).1
+-- things that have rows and cells: each group of rows has a number, and spells one under its key
+pub record Spelt (G K X : Type 0) (R : K → K → Ordering) : Type 0 where
+  pub groups : List G
+  pub number : G → ℤ
+  pub pair : G → K × X
+  pub all : FinMap R X
 
--- the numbers that an index finds, and what is said of them
-pub record HoldsFound (table : CellTable) (ranges ancestors : List Interval) (db : Database)
-    (AreRead : List ℤ → Type 0) : Type 0 where
+abbrev pub spelt_entities : {db : Database} {a : Airspace} → Spells db a
+    → Spelt Group EntityKey Entity key_cmp
+spelt_entities {db} {a} s = record {
+  groups = s.groups;
+  number = λ g. g.row.num;
+  pair = pair_of;
+  all = a.entities;
+}
+
+abbrev pub spelt_subs : {db : Database} {a : Airspace} → Spells db a
+    → Spelt SubGroup ℕ Sub nat_cmp
+spelt_subs {db} {a} s = record {
+  groups = s.subs;
+  number = λ g. g.row.num;
+  pair = sub_pair_of;
+  all = a.subscriptions;
+}
+
+-- some of what is spelt, and all whose rows have one of the numbers
+pub record HoldsNumbered {G K X : Type 0} {R : K → K → Ordering} (of : Spelt G K X R)
+    (numbers : List ℤ) (found : FinMap R X) : Type 0 where
+  pub part : IsPart found of.all
+  pub whole : (g : G) → Has of.groups g → Has numbers (of.number g)
+      → get found (of.pair g).0 ≡ Some (of.pair g).1
+
+-- of the entities that the tables spell
+abbrev pub HoldsEntities : List ℤ → Database → List Entity → Type 0
+HoldsEntities numbers db found =
+    (a : Airspace) (s : Spells db a) → HoldsNumbered (spelt_entities s) numbers (entity_map found)
+
+-- of the subscriptions
+abbrev pub HoldsSubs : List ℤ → Database → List Sub → Type 0
+HoldsSubs numbers db found =
+    (a : Airspace) (s : Spells db a) → HoldsNumbered (spelt_subs s) numbers (subscription_map found)
+
+-- those of one number more
+abbrev pub AddsNumbered : {X : Type 0} → (List ℤ → Database → X → Type 0) → ℤ → Database → X → X
+    → Type 0
+AddsNumbered Holds num db before after =
+    (numbers : List ℤ) → Holds numbers db before → Holds (numbers ++ num ∷ []) db after
+
+-- those of the numbers that the index of a table finds
+pub record HoldsFound {X : Type 0} (table : CellTable) (asked : Asked)
+    (Holds : List ℤ → Database → X → Type 0) (db : Database) (found : X) : Type 0 where
   pub numbers : List ℤ
-  pub finds : FindsNumbers table ranges ancestors db numbers
-  pub reads : AreRead numbers
+  pub finds : FindsNumbers table asked db numbers
+  pub holds : Holds numbers db found
 
--- ---- entities
-
-abbrev pub HoldsEntities : List ℤ → List Group → Entities → Entities → Type 0
-HoldsEntities numbers gs all found =
-    HoldsNumbered (λ (g : Group). g.row.num) pair_of numbers gs all found
-
-abbrev pub ReadsNumbered : List ℤ → Database → Entities → Type 0
-ReadsNumbered numbers db found =
-    (a : Airspace) (s : Spells db a) → HoldsEntities numbers s.groups a.entities found
-
--- the entity of one number more
-abbrev pub AddsNumbered : ℤ → Database → Entities → Entities → Type 0
-AddsNumbered num db before found =
-    (a : Airspace) (s : Spells db a) (numbers : List ℤ)
-    → HoldsEntities numbers s.groups a.entities before
-    → HoldsEntities (numbers ++ num ∷ []) s.groups a.entities found
-
--- the entities of the numbers that the index finds
-abbrev pub HoldsCandidates : List Interval → List Interval → Database → Entities → Type 0
-HoldsCandidates ranges ancestors db found =
-    HoldsFound OfEntities ranges ancestors db (λ numbers. ReadsNumbered numbers db found)
-
--- ---- subscriptions
-
-abbrev pub HoldsSubs : List ℤ → List SubGroup → Subscriptions → Subscriptions → Type 0
-HoldsSubs numbers gs all found =
-    HoldsNumbered (λ (g : SubGroup). g.row.num) sub_pair_of numbers gs all found
-
-abbrev pub ReadsSubs : List ℤ → Database → Subscriptions → Type 0
-ReadsSubs numbers db found =
-    (a : Airspace) (s : Spells db a) → HoldsSubs numbers s.subs a.subscriptions found
-
--- the subscription of one number more
-abbrev pub AddsSub : ℤ → Database → Subscriptions → Subscriptions → Type 0
-AddsSub num db before found =
-    (a : Airspace) (s : Spells db a) (numbers : List ℤ)
-    → HoldsSubs numbers s.subs a.subscriptions before
-    → HoldsSubs (numbers ++ num ∷ []) s.subs a.subscriptions found
-
--- the subscriptions of the numbers that the index finds
-abbrev pub HoldsSubCandidates : List Interval → List Interval → Database → Subscriptions → Type 0
-HoldsSubCandidates ranges ancestors db found =
-    HoldsFound OfSubscriptions ranges ancestors db (λ numbers. ReadsSubs numbers db found)
+-- some of what is there, and all that passes a test
+pub record HoldsNear {K X : Type 0} {R : K → K → Ordering} (is_near : X → Bool)
+    (all found : FinMap R X) : Type 0 where
+  pub part : IsPart found all
+  pub whole : (k : K) (x : X) → get all k ≡ Some x → is_near x ≡ true → get found k ≡ Some x
 
 -- some of the subscriptions, and all of which the volume meets an area
-pub record HoldsNear (areas : List Region) (all found : Subscriptions) : Type 0 where
-  pub part : IsPart found all
-  pub whole : (id : ℕ) (s : Sub) → get all id ≡ Some s → meets_some s.volume areas ≡ true
-      → get found id ≡ Some s
+abbrev pub HoldsNearSubs : List Region → Subscriptions → List Sub → Type 0
+HoldsNearSubs areas all found =
+    HoldsNear (λ (s : Sub). meets_some s.volume areas) all (subscription_map found)

@@ -4,17 +4,16 @@ use Rattle.sqlite_value.specs.Order.{Row, column}
 use Rattle.sqlite_value.specs.declared.value.Value.TheVariants.{Int}
 use Rattle.space_finding.specs.declared.cell_table.CellTable.{CellTable}
 use Rattle.space_finding.specs.declared.cell_table.CellTable.TheVariants.{OfEntities, OfSubscriptions}
+use Rattle.space_finding.specs.declared.cell_table.Sought.{Sought}
+use Rattle.space_finding.specs.declared.cell_table.Sought.TheVariants.{Within, Exactly}
 
--- asks for the numbers of those with a cell whose interval begins between two places
-abbrev pub range_text : CellTable → List ℕ
-range_text OfEntities = codes "SELECT entity FROM cell WHERE lo BETWEEN ?1 AND ?2"
-range_text OfSubscriptions =
+-- asks for the numbers of those with a cell whose interval begins between two places, or has them
+abbrev pub text_of : CellTable → Sought → List ℕ
+text_of OfEntities Within = codes "SELECT entity FROM cell WHERE lo BETWEEN ?1 AND ?2"
+text_of OfEntities Exactly = codes "SELECT entity FROM cell WHERE lo = ?1 AND hi = ?2"
+text_of OfSubscriptions Within =
     codes "SELECT subscription FROM subscription_cell WHERE lo BETWEEN ?1 AND ?2"
-
--- asks for the numbers of those with a cell of an interval
-abbrev pub interval_text : CellTable → List ℕ
-interval_text OfEntities = codes "SELECT entity FROM cell WHERE lo = ?1 AND hi = ?2"
-interval_text OfSubscriptions =
+text_of OfSubscriptions Exactly =
     codes "SELECT subscription FROM subscription_cell WHERE lo = ?1 AND hi = ?2"
 
 -- ---- where `sqlite` keeps it

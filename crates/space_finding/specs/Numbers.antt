@@ -5,7 +5,10 @@ use Rattle.sqlite_value.specs.Order.{Row}
 use Rattle.sqlite_value.specs.declared.value.Value.TheVariants.{Int}
 use Rattle.sqlite_rules.specs.Lists.{Has}
 use Rattle.sqlite.specs.Effect.{Database}
+use Rattle.space_finding.specs.declared.asked.Asked.{Asked}
 use Rattle.space_finding.specs.declared.cell_table.CellTable.{CellTable}
+use Rattle.space_finding.specs.declared.cell_table.Sought.{Sought}
+use Rattle.space_finding.specs.declared.cell_table.Sought.TheVariants.{Within, Exactly}
 use Rattle.space_finding.specs.declared.interval.Interval.{Interval}
 use Rattle.space_finding.specs.CellTable.{StoredCell, stored_columns, stored_values, tree_of}
 
@@ -13,26 +16,23 @@ use Rattle.space_finding.specs.CellTable.{StoredCell, stored_columns, stored_val
 abbrev pub IsCellIn : CellTable → Database → StoredCell → Type 0
 IsCellIn table db c = Has (map (stored_columns table) (db.trees (tree_of table))) (stored_values c)
 
--- the interval of a cell begins in this one
-abbrev pub StartsIn : Interval → StoredCell → Type 0
-StartsIn i c = (i.lo ≤ℤ c.lo) × (c.lo ≤ℤ i.hi)
+-- the interval of a cell begins in this one, or is this one
+abbrev pub IsSought : Sought → Interval → StoredCell → Type 0
+IsSought Within i c = (i.lo ≤ℤ c.lo) × (c.lo ≤ℤ i.hi)
+IsSought Exactly i c = (c.lo ≡ i.lo) × (c.hi ≡ i.hi)
 
--- or is this one
-abbrev pub HasInterval : Interval → StoredCell → Type 0
-HasInterval i c = (c.lo ≡ i.lo) × (c.hi ≡ i.hi)
-
--- the rows show the numbers that stand by all cells of which P holds
-abbrev pub ShowsNumbers : CellTable → (StoredCell → Type 0) → Database → List Row → Type 0
-ShowsNumbers table P db rows =
-    (c : StoredCell) → IsCellIn table db c → P c → Has rows (Int c.num ∷ [])
+-- the rows show the numbers that stand by all cells that are sought
+abbrev pub ShowsNumbers : CellTable → Sought → Interval → Database → List Row → Type 0
+ShowsNumbers table sought i db rows =
+    (c : StoredCell) → IsCellIn table db c → IsSought sought i c → Has rows (Int c.num ∷ [])
 
 -- those numbers are among these
-abbrev pub HasNumbers : CellTable → (StoredCell → Type 0) → Database → List ℤ → Type 0
-HasNumbers table P db numbers =
-    (c : StoredCell) → IsCellIn table db c → P c → Has numbers c.num
+abbrev pub HasNumbers : CellTable → Sought → Database → List ℤ → Interval → Type 0
+HasNumbers table sought db numbers i =
+    (c : StoredCell) → IsCellIn table db c → IsSought sought i c → Has numbers c.num
 
 -- all that the index finds
-pub record FindsNumbers (table : CellTable) (ranges ancestors : List Interval) (db : Database)
-    (numbers : List ℤ) : Type 0 where
-  pub in_ranges : AllByRecursion (λ i. HasNumbers table (StartsIn i) db numbers) ranges
-  pub above : AllByRecursion (λ i. HasNumbers table (HasInterval i) db numbers) ancestors
+pub record FindsNumbers (table : CellTable) (asked : Asked) (db : Database) (numbers : List ℤ)
+    : Type 0 where
+  pub in_ranges : AllByRecursion (HasNumbers table Within db numbers) asked.ranges.items
+  pub above : AllByRecursion (HasNumbers table Exactly db numbers) asked.ancestors.items

@@ -1,22 +1,18 @@
 //! What the index is asked for: the intervals of the cells of areas and of those that hold them.
 ghost use Rattle.std.specs.Prelude.{IfOk, OnOk};
 ghost use Rattle.std.specs.List.{AllByRecursion};
-ghost use Rattle.space_finding.specs.Asked.{AreEachOnce, Keeps, HasRange, HasAncestors, HasRanges, HasAllAncestors};
+ghost use Rattle.space_finding.specs.Asked.{AreEachOnce, AsksFor, AsksForAll, HasAncestors, Keeps, KeepsAsked};
 
 use crate::interval::{Interval, interval_of};
 use grid_core::cell::CellId;
 use grid_core::volume::Area;
 use std::alloc::{AllocError, Global};
 
-fn add_ranges(out: &mut Vec<Interval>, cells: &[CellId]) -> Result<(), AllocError>
-    ensures keeps { OnOk result (Keeps out.old.items out.new.items) }
-    ensures each { OnOk result (AllByRecursion (HasRange out.new.items) cells.now) }
-{
-    for cell in cells {
-        let _number = cell.raw();
-        out.push(interval_of(*cell))?;
-    }
-    Ok(())
+/// Intervals of cells, and of the cells of levels below 13 that hold them.
+#[derive(Debug, Drop)]
+pub(crate) struct Asked {
+    pub ranges: Vec<Interval>,
+    pub ancestors: Vec<Interval>,
 }
 
 fn add_ancestors(out: &mut Vec<Interval>, cell: CellId) -> Result<(), AllocError>
@@ -30,12 +26,14 @@ fn add_ancestors(out: &mut Vec<Interval>, cell: CellId) -> Result<(), AllocError
     Ok(())
 }
 
-fn add_all_ancestors(out: &mut Vec<Interval>, cells: &[CellId]) -> Result<(), AllocError>
-    ensures keeps { OnOk result (Keeps out.old.items out.new.items) }
-    ensures each { OnOk result (AllByRecursion (HasAncestors out.new.items) cells.now) }
+fn add_cells(asked: &mut Asked, cells: &[CellId]) -> Result<(), AllocError>
+    ensures keeps { OnOk result (KeepsAsked asked.old asked.new) }
+    ensures each { OnOk result (AllByRecursion (AsksFor asked.new) cells.now) }
 {
     for cell in cells {
-        add_ancestors(out, *cell)?;
+        let _number = cell.raw();
+        asked.ranges.push(interval_of(*cell))?;
+        add_ancestors(&mut asked.ancestors, *cell)?;
     }
     Ok(())
 }
@@ -48,28 +46,20 @@ fn put_in_order(intervals: &mut Vec<Interval>)
     intervals.dedup();
 }
 
-/// The intervals of the cells of areas, each once.
-pub(crate) fn ranges_of(alloc: Global, areas: &[Area]) -> Result<Vec<Interval>, AllocError>
-    ensures each { IfOk result (λ out. HasRanges out.items areas.now) }
-    ensures once { IfOk result (λ out. AreEachOnce out.items) }
+/// The intervals of the cells of areas, and of those that hold these, each once.
+pub(crate) fn asked_of(alloc: Global, areas: &[Area]) -> Result<Asked, AllocError>
+    ensures each { IfOk result (λ asked. AsksForAll asked areas.now) }
+    ensures once { IfOk result (λ asked. AreEachOnce asked.ranges.items
+        × AreEachOnce asked.ancestors.items) }
 {
-    let mut out = Vec::new(alloc);
+    let mut asked = Asked {
+        ranges: Vec::new(alloc),
+        ancestors: Vec::new(alloc),
+    };
     for area in areas {
-        add_ranges(&mut out, area.cells())?;
+        add_cells(&mut asked, area.cells())?;
     }
-    put_in_order(&mut out);
-    Ok(out)
-}
-
-/// The intervals of the cells of levels below 13 that hold the cells of areas, each once.
-pub(crate) fn ancestors_of(alloc: Global, areas: &[Area]) -> Result<Vec<Interval>, AllocError>
-    ensures each { IfOk result (λ out. HasAllAncestors out.items areas.now) }
-    ensures once { IfOk result (λ out. AreEachOnce out.items) }
-{
-    let mut out = Vec::new(alloc);
-    for area in areas {
-        add_all_ancestors(&mut out, area.cells())?;
-    }
-    put_in_order(&mut out);
-    Ok(out)
+    put_in_order(&mut asked.ranges);
+    put_in_order(&mut asked.ancestors);
+    Ok(asked)
 }

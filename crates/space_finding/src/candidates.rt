@@ -1,64 +1,135 @@
-//! The entities with the numbers that the index finds.
-ghost use Rattle.std.specs.Prelude.{◌≡◌};
+//! The entities and the subscriptions with the numbers that the index finds.
+ghost use Rattle.std.specs.Prelude.{◌≡◌, ℤ, List, []};
+ghost use Rattle.sqlite.specs.Effect.{Database};
 ghost use Rattle.sqlite.specs.Held.{state};
-ghost use Rattle.entity_lists.specs.Entities.{entity_map};
 ghost use Rattle.space_select.specs.Reading.{Reads};
-ghost use Rattle.space_finding.specs.Candidates.{AddsNumbered, ReadsNumbered, HoldsCandidates};
+ghost use Rattle.space_finding.specs.declared.cell_table.CellTable.{CellTable};
+ghost use Rattle.space_finding.specs.Candidates.{AddsNumbered, HoldsFound};
 
+use crate::asked::Asked;
 use crate::cell_table::CellTable;
-use crate::interval::Interval;
 use crate::numbers::find_numbers;
 use entity_lists::entities::Entities;
+use entity_lists::subscriptions::Subscriptions;
 use space_single::entity::read_numbered;
+use space_single::subscription::read_sub_numbered;
 use sqlite::{Alter, Error, Transaction};
 use std::alloc::Global;
 
-fn read_candidate<S: Alter>(
-    alloc: Global,
-    tx: &mut Transaction<'_, S>,
-    num: i64,
-    found: &mut Entities,
-) -> Result<(), Error>
-    ensures same_reference { tx.new.conn.ghost_name ≡ tx.old.conn.ghost_name }
-    ensures adds { let old = state S.Store tx.old.conn.now in
-        Reads (λ db _. AddsNumbered num db (entity_map found.old) (entity_map found.new))
-        old (state S.Store tx.new.conn.now) result }
-{
-    match read_numbered(alloc, tx, num)? {
-        Some(entity) => Ok(found.put(entity)?),
-        None => Ok(()),
+/// Things that have rows and cells in the tables, each with a number: entities or subscriptions.
+pub(crate) trait Candidates: Drop {
+    /// The table of their cells.
+    ghost cells: { CellTable };
+
+    /// They are some of what the tables spell, and all with one of the numbers.
+    ghost holds: { List ℤ → Database → Self → Type 0 };
+
+    /// The table of their cells.
+    fn cell_table() -> CellTable
+        ensures { result ≡ cells };
+
+    /// None yet.
+    fn none(alloc: Global) -> Self
+        ensures { (db : Database) → holds [] db result };
+
+    /// Reads the one with a number, if there is one, and adds it.
+    fn add<S: Alter>(
+        &mut self,
+        alloc: Global,
+        tx: &mut Transaction<'_, S>,
+        num: i64,
+    ) -> Result<(), Error>
+        ensures same_reference { tx.new.conn.ghost_name ≡ tx.old.conn.ghost_name }
+        ensures adds { let old = state S.Store tx.old.conn.now in
+            Reads (λ db _. AddsNumbered holds num db self.old self.new)
+            old (state S.Store tx.new.conn.now) result };
+}
+
+impl Candidates for Entities {
+    ghost use Rattle.space_finding.specs.declared.cell_table.CellTable.TheVariants.{OfEntities};
+    ghost use Rattle.space_finding.specs.Candidates.{HoldsEntities};
+
+    ghost cells = { OfEntities };
+
+    ghost holds = { HoldsEntities };
+
+    fn cell_table() -> CellTable {
+        CellTable::OfEntities
+    }
+
+    fn none(alloc: Global) -> Entities {
+        Entities::new(alloc)
+    }
+
+    fn add<S: Alter>(
+        &mut self,
+        alloc: Global,
+        tx: &mut Transaction<'_, S>,
+        num: i64,
+    ) -> Result<(), Error> {
+        match read_numbered(alloc, tx, num)? {
+            Some(entity) => Ok(self.put(entity)?),
+            None => Ok(()),
+        }
     }
 }
 
-fn read_all<S: Alter>(
+impl Candidates for Subscriptions {
+    ghost use Rattle.space_finding.specs.declared.cell_table.CellTable.TheVariants.{OfSubscriptions};
+    ghost use Rattle.space_finding.specs.Candidates.{HoldsSubs};
+
+    ghost cells = { OfSubscriptions };
+
+    ghost holds = { HoldsSubs };
+
+    fn cell_table() -> CellTable {
+        CellTable::OfSubscriptions
+    }
+
+    fn none(alloc: Global) -> Subscriptions {
+        Subscriptions::new(alloc)
+    }
+
+    fn add<S: Alter>(
+        &mut self,
+        alloc: Global,
+        tx: &mut Transaction<'_, S>,
+        num: i64,
+    ) -> Result<(), Error> {
+        match read_sub_numbered(alloc, tx, num)? {
+            Some(sub) => Ok(self.put(sub)?),
+            None => Ok(()),
+        }
+    }
+}
+
+fn read_all<C: Candidates, S: Alter>(
     alloc: Global,
     tx: &mut Transaction<'_, S>,
     numbers: &[i64],
-) -> Result<Entities, Error>
+) -> Result<C, Error>
     ensures same_reference { tx.new.conn.ghost_name ≡ tx.old.conn.ghost_name }
     ensures reads { let old = state S.Store tx.old.conn.now in
-        Reads (λ db found. ReadsNumbered numbers.now db (entity_map found))
-        old (state S.Store tx.new.conn.now) result }
+        Reads (C.holds numbers.now) old (state S.Store tx.new.conn.now) result }
 {
-    let mut found = Entities::new(alloc);
+    let mut found = C::none(alloc);
     for num in numbers {
-        read_candidate(alloc, tx, *num, &mut found)?;
+        found.add(alloc, tx, *num)?;
     }
     Ok(found)
 }
 
-/// The entities that the index finds, each read once, by its number.
-pub(crate) fn read_candidates<S: Alter>(
+/// What the index finds, each read once, by its number.
+pub(crate) fn read_candidates<C: Candidates, S: Alter>(
     alloc: Global,
     tx: &mut Transaction<'_, S>,
-    ranges: &[Interval],
-    ancestors: &[Interval],
-) -> Result<Entities, Error>
+    asked: &Asked,
+) -> Result<C, Error>
     ensures same_reference { tx.new.conn.ghost_name ≡ tx.old.conn.ghost_name }
     ensures reads { let old = state S.Store tx.old.conn.now in
-        Reads (λ db found. HoldsCandidates ranges.now ancestors.now db (entity_map found))
+        Reads (HoldsFound C.cells asked.now C.holds)
         old (state S.Store tx.new.conn.now) result }
 {
-    let numbers = find_numbers(alloc, tx, CellTable::OfEntities, ranges, ancestors)?;
+    let numbers = find_numbers(alloc, tx, C::cell_table(), asked)?;
     read_all(alloc, tx, numbers.as_slice())
 }

@@ -1,6 +1,6 @@
 //! The tables of cells, each with an index on `lo` and `hi`.
 ghost use Rattle.std.specs.Prelude.{◌≡◌};
-ghost use Rattle.space_finding.specs.CellTable.{interval_text, range_text};
+ghost use Rattle.space_finding.specs.CellTable.{text_of};
 
 /// The table that keeps the cells of entities, or that of the cells of subscriptions.
 #[derive(Clone, Copy, Debug)]
@@ -9,26 +9,29 @@ pub(crate) enum CellTable {
     OfSubscriptions,
 }
 
+/// Of an interval, the cells whose intervals begin in it, or those that have it.
+#[derive(Clone, Copy, Debug)]
+pub(crate) enum Sought {
+    Within,
+    Exactly,
+}
+
 impl CellTable {
-    /// Asks for the numbers of those with a cell whose interval begins between two places.
-    pub fn range_text(self) -> &'static str
-        ensures { result.now ≡ range_text self }
+    /// Asks for the numbers of those with a cell that is sought.
+    pub fn text(self, sought: Sought) -> &'static str
+        ensures { result.now ≡ text_of self sought }
     {
-        match self {
-            CellTable::OfEntities => "SELECT entity FROM cell WHERE lo BETWEEN ?1 AND ?2",
-            CellTable::OfSubscriptions => {
+        match (self, sought) {
+            (CellTable::OfEntities, Sought::Within) => {
+                "SELECT entity FROM cell WHERE lo BETWEEN ?1 AND ?2"
+            }
+            (CellTable::OfEntities, Sought::Exactly) => {
+                "SELECT entity FROM cell WHERE lo = ?1 AND hi = ?2"
+            }
+            (CellTable::OfSubscriptions, Sought::Within) => {
                 "SELECT subscription FROM subscription_cell WHERE lo BETWEEN ?1 AND ?2"
             }
-        }
-    }
-
-    /// Asks for the numbers of those with a cell of an interval.
-    pub fn interval_text(self) -> &'static str
-        ensures { result.now ≡ interval_text self }
-    {
-        match self {
-            CellTable::OfEntities => "SELECT entity FROM cell WHERE lo = ?1 AND hi = ?2",
-            CellTable::OfSubscriptions => {
+            (CellTable::OfSubscriptions, Sought::Exactly) => {
                 "SELECT subscription FROM subscription_cell WHERE lo = ?1 AND hi = ?2"
             }
         }

@@ -9,5 +9,4 @@ mod interval;
 mod managers;
 pub mod meeting;
 mod numbers;
-mod sub_candidates;
 pub mod subscriptions;

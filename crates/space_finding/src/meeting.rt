@@ -3,15 +3,15 @@ ghost use Rattle.std.specs.Prelude.{◌≡◌, false};
 ghost use Rattle.sqlite.specs.Held.{state};
 ghost use Rattle.space_core.specs.Met.{met_in};
 ghost use Rattle.space_select.specs.Reading.{Reads, ReadsAlive, ReadsAlone, ReadsTables};
-ghost use Rattle.space_finding.specs.Asked.{HasAllAncestors, HasRanges};
+ghost use Rattle.space_finding.specs.Asked.{AsksForAll};
 ghost use Rattle.space_finding.specs.Met.{FindsMet};
 
-use crate::asked::{ancestors_of, ranges_of};
+use crate::asked::{Asked, asked_of};
 use crate::candidates::read_candidates;
-use crate::interval::Interval;
 use crate::managers::with_availabilities;
 use entity_core::entity_id::EntityId;
 use entity_core::nature::Kind;
+use entity_lists::entities::Entities;
 use grid_core::volume::Area;
 use space_core::met::Met;
 use space_select::reading::{alive, known};
@@ -21,20 +21,18 @@ use std::alloc::Global;
 fn find_meeting<S: Alter>(
     alloc: Global,
     tx: &mut Transaction<'_, S>,
-    ranges: &[Interval],
-    ancestors: &[Interval],
+    asked: &Asked,
     kind: Kind,
     areas: &[Area],
     except: Option<EntityId>,
 ) -> Result<Vec<Met>, Error>
-    requires ranges { HasRanges ranges.now areas.now }
-    requires ancestors { HasAllAncestors ancestors.now areas.now }
+    requires { AsksForAll asked.now areas.now }
     ensures same_reference { tx.new.conn.ghost_name ≡ tx.old.conn.ghost_name }
     ensures reads { let old = state S.Store tx.old.conn.now in
         Reads (λ db met. FindsMet kind areas.now except db met.items)
         old (state S.Store tx.new.conn.now) result }
 {
-    let found = read_candidates(alloc, tx, ranges, ancestors)?;
+    let found: Entities = read_candidates(alloc, tx, asked)?;
     let sought = found.meeting(alloc, kind, areas, except)?;
     with_availabilities(alloc, tx, sought)
 }
@@ -42,21 +40,19 @@ fn find_meeting<S: Alter>(
 fn read_alone<S: Alter>(
     alloc: Global,
     conn: &mut Connection<S>,
-    ranges: &[Interval],
-    ancestors: &[Interval],
+    asked: &Asked,
     kind: Kind,
     areas: &[Area],
     except: Option<EntityId>,
 ) -> Result<Vec<Met>, Error>
     requires outside { conn.old.in_transaction ≡ false }
-    requires ranges { HasRanges ranges.now areas.now }
-    requires ancestors { HasAllAncestors ancestors.now areas.now }
+    requires asked { AsksForAll asked.now areas.now }
     ensures ended { conn.new.in_transaction ≡ false }
     ensures reads { ReadsAlone (λ db met. FindsMet kind areas.now except db met.items)
         (state S.Store conn.old) (state S.Store conn.new) result }
 {
     let mut tx = conn.transaction();
-    let met = find_meeting(alloc, &mut tx, ranges, ancestors, kind, areas, except)?;
+    let met = find_meeting(alloc, &mut tx, asked, kind, areas, except)?;
     tx.rollback();
     Ok(met)
 }
@@ -65,21 +61,19 @@ fn read_alone<S: Alter>(
 fn read_alive<S: Alter>(
     alloc: Global,
     conn: &mut Connection<S>,
-    ranges: &[Interval],
-    ancestors: &[Interval],
+    asked: &Asked,
     kind: Kind,
     areas: &[Area],
     except: Option<EntityId>,
 ) -> Result<Vec<Met>, Error>
     requires outside { conn.old.in_transaction ≡ false }
-    requires ranges { HasRanges ranges.now areas.now }
-    requires ancestors { HasAllAncestors ancestors.now areas.now }
+    requires asked { AsksForAll asked.now areas.now }
     ensures outside { conn.new.in_transaction ≡ false }
     ensures reads { ReadsAlive (λ db met. FindsMet kind areas.now except db met.items)
         (state S.Store conn.old) (state S.Store conn.new) result }
 {
     known(conn);
-    let met = read_alone(alloc, conn, ranges, ancestors, kind, areas, except)?;
+    let met = read_alone(alloc, conn, asked, kind, areas, except)?;
     alive(conn)?;
     Ok(met)
 }
@@ -101,15 +95,6 @@ pub fn read_meeting<S: Alter>(
     ensures reads { ReadsTables (state S.Store conn.old) (state S.Store conn.new) result
         (λ a met. met.items ≡ met_in a kind areas.now except) }
 {
-    let ranges = ranges_of(alloc, areas)?;
-    let ancestors = ancestors_of(alloc, areas)?;
-    read_alive(
-        alloc,
-        conn,
-        ranges.as_slice(),
-        ancestors.as_slice(),
-        kind,
-        areas,
-        except,
-    )
+    let asked = asked_of(alloc, areas)?;
+    read_alive(alloc, conn, &asked, kind, areas, except)
 }

@@ -1,6 +1,7 @@
 //! The numbers of what has a cell in an interval, or one with an interval, which the index on `lo`
 //! and `hi` of a table of cells finds.
 ghost use Rattle.std.specs.Prelude.{◌≡◌, ℤ, [], ◌∷◌, OnOk, IfOk};
+ghost use Rattle.std.specs.List.{AllByRecursion};
 ghost use Rattle.std.specs.List.Sorted.{IsStrictlySortedBy};
 ghost use Rattle.std.specs.Ordering.{int_cmp};
 ghost use Rattle.sqlite_value.specs.declared.value.Value.TheVariants.{Int};
@@ -8,38 +9,27 @@ ghost use Rattle.sqlite_rules.specs.Lists.{Has};
 ghost use Rattle.sqlite.specs.Held.{state};
 ghost use Rattle.space_select.specs.Reading.{Reads};
 ghost use Rattle.space_finding.specs.Asked.{Keeps};
-ghost use Rattle.space_finding.specs.Numbers.{StartsIn, HasInterval, ShowsNumbers, HasNumbers, FindsNumbers};
+ghost use Rattle.space_finding.specs.Numbers.{ShowsNumbers, HasNumbers, FindsNumbers};
 
-use crate::cell_table::CellTable;
+use crate::asked::Asked;
+use crate::cell_table::{CellTable, Sought};
 use crate::interval::Interval;
 use space_select::select::query;
 use sqlite::{Alter, Error, Row, Transaction, params};
 use std::alloc::Global;
 
-fn query_range<S: Alter>(
+fn query_numbers<S: Alter>(
     tx: &mut Transaction<'_, S>,
     table: CellTable,
-    range: &Interval,
+    sought: Sought,
+    interval: &Interval,
 ) -> Result<Vec<Row>, Error>
     ensures same_reference { tx.new.conn.ghost_name ≡ tx.old.conn.ghost_name }
     ensures reads { let old = state S.Store tx.old.conn.now in
-        Reads (λ db rows. ShowsNumbers table (StartsIn range.now) db rows.items)
+        Reads (λ db rows. ShowsNumbers table sought interval.now db rows.items)
         old (state S.Store tx.new.conn.now) result }
 {
-    query(tx, table.range_text(), params![range.lo, range.hi])
-}
-
-fn query_ancestor<S: Alter>(
-    tx: &mut Transaction<'_, S>,
-    table: CellTable,
-    ancestor: &Interval,
-) -> Result<Vec<Row>, Error>
-    ensures same_reference { tx.new.conn.ghost_name ≡ tx.old.conn.ghost_name }
-    ensures reads { let old = state S.Store tx.old.conn.now in
-        Reads (λ db rows. ShowsNumbers table (HasInterval ancestor.now) db rows.items)
-        old (state S.Store tx.new.conn.now) result }
-{
-    query(tx, table.interval_text(), params![ancestor.lo, ancestor.hi])
+    query(tx, table.text(sought), params![interval.lo, interval.hi])
 }
 
 fn number_in(row: &Row) -> Result<i64, Error>
@@ -59,36 +49,40 @@ fn add_numbers(found: &mut Vec<i64>, rows: &[Row]) -> Result<(), Error>
     Ok(())
 }
 
-fn find_in_range<S: Alter>(
+fn find<S: Alter>(
     tx: &mut Transaction<'_, S>,
     table: CellTable,
-    range: &Interval,
+    sought: Sought,
+    interval: &Interval,
     found: &mut Vec<i64>,
 ) -> Result<(), Error>
     ensures same_reference { tx.new.conn.ghost_name ≡ tx.old.conn.ghost_name }
     ensures keeps { OnOk result (Keeps found.old.items found.new.items) }
     ensures finds { let old = state S.Store tx.old.conn.now in
-        Reads (λ db _. HasNumbers table (StartsIn range.now) db found.new.items)
+        Reads (λ db _. HasNumbers table sought db found.new.items interval.now)
         old (state S.Store tx.new.conn.now) result }
 {
-    let rows = query_range(tx, table, range)?;
+    let rows = query_numbers(tx, table, sought, interval)?;
     add_numbers(found, rows.as_slice())
 }
 
-fn find_ancestor<S: Alter>(
+fn find_each<S: Alter>(
     tx: &mut Transaction<'_, S>,
     table: CellTable,
-    ancestor: &Interval,
+    sought: Sought,
+    intervals: &[Interval],
     found: &mut Vec<i64>,
 ) -> Result<(), Error>
     ensures same_reference { tx.new.conn.ghost_name ≡ tx.old.conn.ghost_name }
     ensures keeps { OnOk result (Keeps found.old.items found.new.items) }
     ensures finds { let old = state S.Store tx.old.conn.now in
-        Reads (λ db _. HasNumbers table (HasInterval ancestor.now) db found.new.items)
+        Reads (λ db _. AllByRecursion (HasNumbers table sought db found.new.items) intervals.now)
         old (state S.Store tx.new.conn.now) result }
 {
-    let rows = query_ancestor(tx, table, ancestor)?;
-    add_numbers(found, rows.as_slice())
+    for interval in intervals {
+        find(tx, table, sought, interval, found)?;
+    }
+    Ok(())
 }
 
 fn put_in_order(numbers: &mut Vec<i64>)
@@ -105,22 +99,29 @@ pub(crate) fn find_numbers<S: Alter>(
     alloc: Global,
     tx: &mut Transaction<'_, S>,
     table: CellTable,
-    ranges: &[Interval],
-    ancestors: &[Interval],
+    asked: &Asked,
 ) -> Result<Vec<i64>, Error>
     ensures same_reference { tx.new.conn.ghost_name ≡ tx.old.conn.ghost_name }
     ensures once { IfOk result (λ found. IsStrictlySortedBy int_cmp found.items) }
     ensures finds { let old = state S.Store tx.old.conn.now in
-        Reads (λ db found. FindsNumbers table ranges.now ancestors.now db found.items)
+        Reads (λ db found. FindsNumbers table asked.now db found.items)
         old (state S.Store tx.new.conn.now) result }
 {
     let mut found = Vec::new(alloc);
-    for range in ranges {
-        find_in_range(tx, table, range, &mut found)?;
-    }
-    for ancestor in ancestors {
-        find_ancestor(tx, table, ancestor, &mut found)?;
-    }
+    find_each(
+        tx,
+        table,
+        Sought::Within,
+        asked.ranges.as_slice(),
+        &mut found,
+    )?;
+    find_each(
+        tx,
+        table,
+        Sought::Exactly,
+        asked.ancestors.as_slice(),
+        &mut found,
+    )?;
     put_in_order(&mut found);
     Ok(found)
 }

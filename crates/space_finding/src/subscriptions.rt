@@ -2,13 +2,12 @@
 ghost use Rattle.std.specs.Prelude.{◌≡◌, false};
 ghost use Rattle.sqlite.specs.Held.{state};
 ghost use Rattle.entity_core.specs.Search.{subscribers_in, subscriptions_in};
-ghost use Rattle.entity_lists.specs.Subscriptions.{subscription_map};
 ghost use Rattle.space_select.specs.Reading.{ReadsAlive, ReadsAlone, ReadsTables};
-ghost use Rattle.space_finding.specs.Candidates.{HoldsNear, HoldsSubCandidates};
+ghost use Rattle.space_finding.specs.declared.cell_table.CellTable.TheVariants.{OfSubscriptions};
+ghost use Rattle.space_finding.specs.Candidates.{HoldsFound, HoldsNearSubs, HoldsSubs};
 
-use crate::asked::{ancestors_of, ranges_of};
-use crate::interval::Interval;
-use crate::sub_candidates::read_sub_candidates;
+use crate::asked::{Asked, asked_of};
+use crate::candidates::read_candidates;
 use entity_core::nature::Kind;
 use entity_core::subscription::Sub;
 use entity_core::uss_id::UssId;
@@ -21,17 +20,15 @@ use std::alloc::Global;
 fn read_alone<S: Alter>(
     alloc: Global,
     conn: &mut Connection<S>,
-    ranges: &[Interval],
-    ancestors: &[Interval],
+    asked: &Asked,
 ) -> Result<Subscriptions, Error>
     requires { conn.old.in_transaction ≡ false }
     ensures ended { conn.new.in_transaction ≡ false }
-    ensures reads { ReadsAlone (λ db found.
-        HoldsSubCandidates ranges.now ancestors.now db (subscription_map found))
+    ensures reads { ReadsAlone (HoldsFound OfSubscriptions asked.now HoldsSubs)
         (state S.Store conn.old) (state S.Store conn.new) result }
 {
     let mut tx = conn.transaction();
-    let found = read_sub_candidates(alloc, &mut tx, ranges, ancestors)?;
+    let found = read_candidates(alloc, &mut tx, asked)?;
     tx.rollback();
     Ok(found)
 }
@@ -40,17 +37,15 @@ fn read_alone<S: Alter>(
 fn read_alive<S: Alter>(
     alloc: Global,
     conn: &mut Connection<S>,
-    ranges: &[Interval],
-    ancestors: &[Interval],
+    asked: &Asked,
 ) -> Result<Subscriptions, Error>
     requires { conn.old.in_transaction ≡ false }
     ensures outside { conn.new.in_transaction ≡ false }
-    ensures reads { ReadsAlive (λ db found.
-        HoldsSubCandidates ranges.now ancestors.now db (subscription_map found))
+    ensures reads { ReadsAlive (HoldsFound OfSubscriptions asked.now HoldsSubs)
         (state S.Store conn.old) (state S.Store conn.new) result }
 {
     known(conn);
-    let found = read_alone(alloc, conn, ranges, ancestors)?;
+    let found = read_alone(alloc, conn, asked)?;
     alive(conn)?;
     Ok(found)
 }
@@ -64,11 +59,10 @@ fn read_near<S: Alter>(
     requires { conn.old.in_transaction ≡ false }
     ensures outside { conn.new.in_transaction ≡ false }
     ensures reads { ReadsTables (state S.Store conn.old) (state S.Store conn.new) result
-        (λ a found. HoldsNear areas.now a.subscriptions (subscription_map found)) }
+        (λ a found. HoldsNearSubs areas.now a.subscriptions found) }
 {
-    let ranges = ranges_of(alloc, areas)?;
-    let ancestors = ancestors_of(alloc, areas)?;
-    read_alive(alloc, conn, ranges.as_slice(), ancestors.as_slice())
+    let asked = asked_of(alloc, areas)?;
+    read_alive(alloc, conn, &asked)
 }
 
 /// The subscriptions of a supplier of which the volume meets an area, by rising ids, as the tables
