@@ -13,7 +13,7 @@ use Rattle.space_bounds.specs.Bounded.{Applying, Bound, IsPut, bound, refusals_i
 more_inside : (n k : ℕ) → min (min (n + 1) greatest_count + k) greatest_count ≡ min (min (n + k) greatest_count + 1) greatest_count
 more_inside n k = omega arith
 
-more_over : (n k : ℕ) → min (n + min (k + 1) greatest_count) greatest_count ≡ min (min (n + k) greatest_count + 1) greatest_count
+pub more_over : (n k : ℕ) → min (n + min (k + 1) greatest_count) greatest_count ≡ min (min (n + k) greatest_count + 1) greatest_count
 more_over n k = omega arith
 
 module _ {S : Type 0} (g : Ghosts S) where

@@ -1,6 +1,8 @@
 -- A space that keeps no more of a supplier than it may.
 use Rattle.std.specs.Prelude.{◌≡◌, ℕ, ◌+◌, ◌*◌, ◌≤◌, Bool, true, false, List, Option, Some, None, Result, min, ◌⊎◌, refl}
 use Rattle.std.specs.Coded.{Coded, code_by, coded×, coded_ℕ, coded_bool}
+use Rattle.entity_sweep.specs.Gone.{less_all}
+use Rattle.entity_sweep.specs.declared.gone.Gone.{Gone}
 use Rattle.space_core.specs.declared.space.Change.{Change}
 use Rattle.space_core.specs.declared.space.Change.TheVariants.{Put, Remove, Avail, PutSub, RemoveSub}
 use Rattle.space_core.specs.declared.space.Space.{Ghosts}
@@ -68,3 +70,11 @@ pub record Applying {S T : Type 0} (g : Ghosts S) (old new : Bound S) (change : 
       (λ s. g.is_whole s.space) (g.is_broken old.space) old new result (changed change told)
   pub unbounded : old.is_bounded ≡ false → new.over ≡ old.over
   pub puts : ¬ IsPut change → new.over ≡ old.over
+
+-- what a call that lets go tells and leaves
+pub record LettingGo {S T : Type 0} (g : Ghosts S) (old new : Bound S) (gone : List Gone)
+    (result : Result T SpaceFault) : Type 0 where
+  pub tells : Tells (refusals_in g old) (refusals_in g new)
+      (g.is_broken old.space) (g.is_broken new.space) result
+  pub changes : Changes (λ s a. g.holds s.space a) (λ s. g.is_sound s.space)
+      (λ s. g.is_whole s.space) (g.is_broken old.space) old new result (less_all gone)

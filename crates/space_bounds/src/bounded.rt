@@ -8,8 +8,8 @@ ghost use Rattle.space_core.specs.Settle.{Settling};
 ghost use Rattle.space_core.specs.Space.{Changes, Fits, Reads, Tells, changed};
 ghost use Rattle.space_bounds.specs.Bounded.{IsPut, bound, is_some, refusals_in};
 
-use crate::changes;
 use crate::tally::Tally;
+use crate::{changes, sweeps};
 use entity_core::availability::Availability;
 use entity_core::entity::Entity;
 use entity_core::entity_id::EntityId;
@@ -17,11 +17,13 @@ use entity_core::nature::Kind;
 use entity_core::ovn::Ovn;
 use entity_core::subscription::Sub;
 use entity_core::uss_id::UssId;
+use entity_sweep::gone::Gone;
 use grid_core::volume::Area;
 use space_core::met::Met;
 use space_core::settle::Settles;
 use space_core::space::{Change, Space, SpaceFault};
 use space_shown::shown::{NoCopy, Shown, Shows};
+use space_sweeps::sweeps::Sweeps;
 use std::marker::Model;
 
 /// A space inside, and a tally of what it keeps of each supplier.
@@ -192,5 +194,17 @@ impl<S: Settles + Shows + Drop> Shows for Bounded<S> {
     /// What the space inside shows.
     fn shown(&self) -> Result<Shown<'_>, NoCopy> {
         self.space.shown()
+    }
+}
+
+impl<S: Sweeps + Shows + Drop> Sweeps for Bounded<S> {
+    fn ended(&mut self, until: u64, most: usize) -> Result<Vec<Gone>, SpaceFault> {
+        self.space.ended(until, most)
+    }
+
+    /// As the space inside, and what goes is no longer counted; it is looked up in what the space
+    /// inside shows. Where there is a tally and that shows nothing, nothing goes.
+    fn let_go(&mut self, gone: &[Gone]) -> Result<(), SpaceFault> {
+        sweeps::let_go(&mut self.space, &mut self.tally, &mut self.over, gone)
     }
 }

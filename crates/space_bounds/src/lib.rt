@@ -5,4 +5,5 @@ pub mod bounded;
 mod changes;
 mod kept;
 mod part;
+mod sweeps;
 pub mod tally;

@@ -9,7 +9,10 @@ use entity_core::entity_id::EntityId;
 use entity_core::nature::Kind;
 use entity_core::subscription::Sub;
 use entity_core::uss_id::UssId;
+use entity_lists::subscriptions::Subscriptions;
+use entity_sweep::gone::Gone;
 use space_core::space::{Change, Space, SpaceFault};
+use space_shown::shown::Shown;
 
 /// So much of a supplier.
 #[derive(Debug, Drop)]
@@ -74,5 +77,27 @@ pub(crate) fn added(change: &Change) -> Option<(&UssId, Kept)>
         Change::Put(entity) => Some((&entity.manager, Kept::of_entity(entity))),
         Change::PutSub(sub) => Some((&sub.manager, Kept::of_sub(sub))),
         Change::Remove(_, _) | Change::Avail(_, _, _) | Change::RemoveSub(_) => None,
+    }
+}
+
+fn subscription_in(subscriptions: &Subscriptions, id: EntityId) -> Option<&Sub> {
+    let items = subscriptions.items();
+    match items.binary_search_by(|sub| sub.id.number().cmp(&id.number())) {
+        Ok(at) => items.get(at),
+        Err(_) => None,
+    }
+}
+
+/// The supplier of what goes, and how much that is, where it is among what is shown.
+pub(crate) fn going<'a>(shown: &Shown<'a>, thing: Gone) -> Option<(&'a UssId, Kept)> {
+    match thing {
+        Gone::Entity(kind, id) => {
+            let entity = shown.entities.at(kind, id.number())?;
+            Some((&entity.manager, Kept::of_entity(entity)))
+        }
+        Gone::Subscription(id) => {
+            let sub = subscription_in(shown.subscriptions, id)?;
+            Some((&sub.manager, Kept::of_sub(sub)))
+        }
     }
 }

@@ -170,6 +170,13 @@ impl Tally {
         }
     }
 
+    /// So much of a supplier goes.
+    pub(crate) fn let_go(&mut self, uss: &UssId, size: Kept) {
+        if let Some(at) = self.find(uss) {
+            self.take(at, size);
+        }
+    }
+
     /// What is seen is kept: no change waits any more.
     pub(crate) fn settle(&mut self) {
         for supplier in self.suppliers.iter_mut() {

@@ -126,12 +126,12 @@ module _ {S : Type 0} (g : Ghosts S) where
     }),
   )
 
-  -- an answer of the space
-  pub store_reads : {T : Type 0} (s t : S) (k k' : ℕ) (r r' : Result T SpaceFault) (P : Airspace → T → Type 0)
-      → Tells (g.refusals s) (g.refusals t) (g.is_broken s) (g.is_broken t) r → Reads g.holds g.is_sound g.is_whole s t r P
+  -- an answer of the space, however it counts its own
+  pub store_answers_parts : {T : Type 0} (s t : S) (n n' k k' : ℕ) (r r' : Result T SpaceFault) (P : Airspace → T → Type 0)
+      → Tells n n' (g.is_broken s) (g.is_broken t) r → Reads g.holds g.is_sound g.is_whole s t r P
       → r' ≡ r → k' ≡ refusals_after k r → ReadsParts g s t None None k k' r' P
-  store_reads s t k k' r r' P tells reads same counted upkeep round none = (
-    (none.0, λ lost. one_read s t (g.refusals s) (g.refusals t) r P tells reads (none.1 lost)),
+  store_answers_parts s t n n' k k' r r' P tells reads same counted upkeep round none = (
+    (none.0, λ lost. one_read s t n n' r P tells reads (none.1 lost)),
     subst (λ q. Reading g (group s None k) (group t None k') q P) (sym same) (record {
       fixed = refl;
       tells = record { counted = counted; breaks = tells.breaks; stays_broken = tells.stays_broken };
@@ -144,3 +144,9 @@ module _ {S : Type 0} (g : Ghosts S) where
       };
     }),
   )
+
+  -- an answer of the space
+  pub store_reads : {T : Type 0} (s t : S) (k k' : ℕ) (r r' : Result T SpaceFault) (P : Airspace → T → Type 0)
+      → Tells (g.refusals s) (g.refusals t) (g.is_broken s) (g.is_broken t) r → Reads g.holds g.is_sound g.is_whole s t r P
+      → r' ≡ r → k' ≡ refusals_after k r → ReadsParts g s t None None k k' r' P
+  store_reads s t k k' r r' P tells reads same counted = store_answers_parts s t (g.refusals s) (g.refusals t) k k' r r' P tells reads same counted

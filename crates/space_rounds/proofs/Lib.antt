@@ -1,3 +1,4 @@
+pub mod Going
 pub mod Groups
 pub mod Settled
 pub mod Waits

@@ -77,7 +77,7 @@ module _ {S : Type 0} (g : Ghosts S) where
       let it = h.base (made.sound sound) in
       (it.0, record { held = (made.refused sound refl it.0).0 it.1.held; only = λ b now. it.1.only b ((made.refused sound refl b).1 now) })
 
-  agrees_none : (t : S) (n : Option ListSpace) (q : Upkeep) → n ≡ None → (is_lost q ≡ true → HoldsOne g t) → Agrees g t n q []
+  pub agrees_none : (t : S) (n : Option ListSpace) (q : Upkeep) → n ≡ None → (is_lost q ≡ true → HoldsOne g t) → Agrees g t n q []
   agrees_none t n q none lost = subst (λ x. Agrees g t x q []) (sym none) (refl, lost)
 
   agrees_for_good : (t : S) (n : Option ListSpace) (q : Upkeep) → n ≡ None → is_lost q ≡ false → Agrees g t n q []

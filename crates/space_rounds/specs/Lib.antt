@@ -1,3 +1,4 @@
 pub mod Grouped
 pub mod Laws
 pub mod Lists
+pub mod Sweeps

@@ -3,7 +3,7 @@ ghost use Rattle.std.specs.Prelude.{◌≡◌, [], Some, None};
 ghost use Rattle.space_rounds.specs.Grouped.{IsAhead, IsSoundIn, group};
 
 use crate::upkeep::Upkeep;
-use crate::{changes, reads, shows};
+use crate::{changes, reads, shows, sweeps};
 use entity_core::availability::Availability;
 use entity_core::entity::Entity;
 use entity_core::entity_id::EntityId;
@@ -11,6 +11,7 @@ use entity_core::nature::Kind;
 use entity_core::ovn::Ovn;
 use entity_core::subscription::Sub;
 use entity_core::uss_id::UssId;
+use entity_sweep::gone::Gone;
 use grid_core::volume::Area;
 use space_core::met::Met;
 use space_core::round::{RoundChange, Rounds};
@@ -19,6 +20,8 @@ use space_core::space::{Change, Space, SpaceFault};
 use space_list::list::ListSpace;
 use space_list::listing::Listing;
 use space_shown::shown::{NoCopy, Shown, Shows};
+use space_sweeps::lets_go::LetsGo;
+use space_sweeps::sweeps::Sweeps;
 use std::alloc::Global;
 use std::marker::Model;
 
@@ -257,5 +260,23 @@ impl<S: Rounds + Listing + Drop> Shows for Grouped<S> {
     /// The list, where there is one: with the changes that wait.
     fn shown(&self) -> Result<Shown<'_>, NoCopy> {
         shows::shown(&self.store, &self.list, self.upkeep, &self.round)
+    }
+}
+
+impl<S: Rounds + Listing + LetsGo + Drop> Sweeps for Grouped<S> {
+    /// What the list tells; without one, `Unchanged`.
+    fn ended(&mut self, until: u64, most: usize) -> Result<Vec<Gone>, SpaceFault> {
+        sweeps::ended(&mut self.store, &self.list, &mut self.refusals, until, most)
+    }
+
+    fn let_go(&mut self, gone: &[Gone]) -> Result<(), SpaceFault> {
+        sweeps::let_go(
+            &mut self.store,
+            &mut self.list,
+            &mut self.upkeep,
+            &self.round,
+            &mut self.refusals,
+            gone,
+        )
     }
 }

@@ -5,4 +5,5 @@ mod changes;
 pub mod grouped;
 mod reads;
 mod shows;
+mod sweeps;
 mod upkeep;

@@ -11,8 +11,6 @@ use Rattle.sqlite.specs.declared.error.Error.{Error}
 use Rattle.entity_core.specs.Airspace.{Airspace}
 use Rattle.space_core.specs.declared.space.SpaceFault.{SpaceFault}
 use Rattle.space_core.specs.declared.space.SpaceFault.TheVariants.{Unchanged}
-use Rattle.space_core.specs.declared.round.RoundChange.{RoundChange}
-use Rattle.space_core.specs.Round.{FitAll, changed_all}
 use Rattle.space_core.specs.Space.{Changes, IsContent}
 use Rattle.space_tables.specs.Making.{IsUndone}
 use Rattle.space_tables.specs.Spelling.{Spells}
@@ -112,15 +110,15 @@ changes_settled {S} g P {change} {old} {seen} {new} {mid} {told} {r} is kept wor
     let due = subst (λ (k : Kept S). is_sound_of g k → (a : Airspace) → holds_of g k a → P a) (sym is) fits in
     subst (λ (k : Kept S). Changes (holds_of g) (is_sound_of g) (is_whole_of g) k.broken k new r change) is (changes g P change old new mid works kept keeping due told r it to)
 
--- ---- a round of changes
+-- ---- changes that are made together
 
--- the same of all changes of a round
-pub round_settled : {S : Type 0} (g : Ghosts S) (round : List RoundChange) (first : RoundChange) (rest : List RoundChange) {old seen new : Kept S} {mid : Held S} {told : Result (Unit {0}) Error} {r : Result (Unit {0}) SpaceFault} → round ≡ first ∷ rest → old ≡ seen → IsKeeping (state g old.conn) old.broken → old.broken ≡ false
-    → (is_sound_of g seen → (a : Airspace) → holds_of g seen a → FitAll round a) → Commits (FitAll (first ∷ rest)) (changed_all (first ∷ rest)) (state g old.conn) (state g mid) told → Settles g mid new.conn told r → IsKeeping (state g new.conn) new.broken
-    → Changes (holds_of g) (is_sound_of g) (is_whole_of g) seen.broken seen new r (changed_all round)
-round_settled {S} g round first rest {old} {seen} {new} {mid} {told} {r} whole is kept works fits it to keeping =
-    let all = subst (λ cs. Commits (FitAll cs) (changed_all cs) (state g old.conn) (state g mid) told) (sym whole) it in
-    changes_settled g (FitAll round) is kept works fits all to keeping
+-- the same of a list of them, of which there is a first
+pub all_settled : {S X : Type 0} (g : Ghosts S) (P : List X → Airspace → Type 0) (change : List X → Airspace → Airspace) (all : List X) (first : X) (rest : List X) {old seen new : Kept S} {mid : Held S} {told : Result (Unit {0}) Error} {r : Result (Unit {0}) SpaceFault} → all ≡ first ∷ rest → old ≡ seen → IsKeeping (state g old.conn) old.broken → old.broken ≡ false
+    → (is_sound_of g seen → (a : Airspace) → holds_of g seen a → P all a) → Commits (P (first ∷ rest)) (change (first ∷ rest)) (state g old.conn) (state g mid) told → Settles g mid new.conn told r → IsKeeping (state g new.conn) new.broken
+    → Changes (holds_of g) (is_sound_of g) (is_whole_of g) seen.broken seen new r (change all)
+all_settled {S} g P change all first rest {old} {seen} {new} {mid} {told} {r} whole is kept works fits it to keeping =
+    let made = subst (λ xs. Commits (P xs) (change xs) (state g old.conn) (state g mid) told) (sym whole) it in
+    changes_settled g (P all) is kept works fits made to keeping
 
 -- no change
 nothing : {S : Type 0} (g : Ghosts S) (k : Kept S) → IsKeeping (state g k.conn) k.broken → k.broken ≡ false → Changes {T = Unit {0}} (holds_of g) (is_sound_of g) (is_whole_of g) k.broken k k (Ok tt) (λ a. a)
@@ -133,8 +131,9 @@ nothing g k kept works = record {
   frozen = λ s set b h. h;
 }
 
-pub none_settled : {S : Type 0} (g : Ghosts S) (round : List RoundChange) {old seen : Kept S} → length round ≡ 0 → old ≡ seen → IsKeeping (state g old.conn) old.broken → old.broken ≡ false
-    → Changes {T = Unit {0}} (holds_of g) (is_sound_of g) (is_whole_of g) seen.broken seen seen (Ok tt) (changed_all round)
-none_settled {S} g round {old} {seen} none is kept works =
-    let same = subst (λ cs. Changes {T = Unit {0}} (holds_of g) (is_sound_of g) (is_whole_of g) old.broken old old (Ok tt) (changed_all cs)) (sym (nil_from_length round none)) (nothing g old kept works) in
-    subst (λ (k : Kept S). Changes {T = Unit {0}} (holds_of g) (is_sound_of g) (is_whole_of g) k.broken k k (Ok tt) (changed_all round)) is same
+-- and of a list of none
+pub none_settled : {S X : Type 0} (g : Ghosts S) (change : List X → Airspace → Airspace) (all : List X) {old seen : Kept S} → change [] ≡ (λ a. a) → length all ≡ 0 → old ≡ seen → IsKeeping (state g old.conn) old.broken → old.broken ≡ false
+    → Changes {T = Unit {0}} (holds_of g) (is_sound_of g) (is_whole_of g) seen.broken seen seen (Ok tt) (change all)
+none_settled {S} g change all {old} {seen} stays none is kept works =
+    let same = subst (λ f. Changes {T = Unit {0}} (holds_of g) (is_sound_of g) (is_whole_of g) old.broken old old (Ok tt) f) (sym (ap change (nil_from_length all none) ∙ stays)) (nothing g old kept works) in
+    subst (λ (k : Kept S). Changes {T = Unit {0}} (holds_of g) (is_sound_of g) (is_whole_of g) k.broken k k (Ok tt) (change all)) is same

@@ -2,11 +2,13 @@
 #![tactic(auto)]
 
 pub mod laws;
+pub mod let_go;
 mod listed;
 pub mod listing;
 pub mod open;
 mod reading;
 pub mod remains;
 pub mod round;
+mod schema;
 pub mod space;
 mod told;

@@ -12,9 +12,9 @@ ghost use Rattle.space_tables.specs.Tables.{dss_schema};
 
 use crate::open::memory;
 use crate::reading::read_listed;
+use crate::schema::same_schema;
 use crate::space::SqlSpace;
 use crate::told::settled;
-use same_schema::schema::same_schema;
 use space_core::space::SpaceFault;
 use space_reading::judgement::Listed;
 use space_tables::make::make_tables;

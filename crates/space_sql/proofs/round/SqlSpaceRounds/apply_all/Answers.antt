@@ -1,10 +1,12 @@
-use Rattle.space_sql.proofs.Changing.{none_settled, round_settled}
+use Rattle.std.proofs.Common.{refl}
+use Rattle.space_core.specs.Round.{FitAll, changed_all}
+use Rattle.space_sql.proofs.Changing.{all_settled, none_settled}
 use Rattle.space_sql.proofs.round.SqlSpaceRounds.apply_all.Goals as goal
 
 pub returns-in-Some-clause-changes : goal.returns-in-Some-clause-changes
 returns-in-Some-clause-changes g c =
-    round_settled g.S.Store c.args.round.now c.in-Some.first.now c.in-Some.rest.now c.in-Some.ensures.cases.0 c.self.view_is c.self.invariant c.if-self.false c.requires.fits c.make_changes-made.ensures.commits c.settled.ensures.settles c.settled.ensures.keeping
+    all_settled g.S.Store FitAll changed_all c.args.round.now c.in-Some.first.now c.in-Some.rest.now c.in-Some.ensures.cases.0 c.self.view_is c.self.invariant c.if-self.false c.requires.fits c.make_changes-made.ensures.commits c.settled.ensures.settles c.settled.ensures.keeping
 
 pub returns-in-None-clause-changes : goal.returns-in-None-clause-changes
 returns-in-None-clause-changes g c =
-    none_settled g.S.Store c.args.round.now c.in-None.ensures.cases c.self.view_is c.self.invariant c.if-self.false
+    none_settled g.S.Store changed_all c.args.round.now refl c.in-None.ensures.cases c.self.view_is c.self.invariant c.if-self.false

@@ -1,8 +1,11 @@
 //! Whether two schemas are one.
 ghost use Rattle.std.specs.Prelude.{◌≡◌, IsTrue};
 
-use crate::code::{same_collation, same_value};
-use crate::lists::Same;
+mod code;
+mod lists;
+
+use crate::schema::code::{same_collation, same_value};
+use crate::schema::lists::Same;
 use sqlite_schema::schema::{Action, Column, Index, Kind, Reference, Schema, Stamps, Table};
 
 fn same_kind(a: Kind, b: Kind) -> bool
@@ -101,7 +104,7 @@ impl Same for Index {
 }
 
 /// Whether two schemas are one, with no view in either. It may say no of two that are.
-pub fn same_schema(a: &Schema, b: &Schema) -> bool
+pub(crate) fn same_schema(a: &Schema, b: &Schema) -> bool
     ensures { IsTrue result → a.now ≡ b.now }
 {
     a.tables.same(&b.tables)

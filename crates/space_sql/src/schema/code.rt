@@ -2,7 +2,7 @@
 //! comparisons, AND and OR.
 ghost use Rattle.std.specs.Prelude.{◌≡◌, IsTrue};
 
-use crate::lists::Same;
+use crate::schema::lists::Same;
 use sqlite_schema::code::{Op, Terms, lend_value};
 use sqlite_sql::ops::{BinaryOp, CompareOp};
 use sqlite_value::keys::Collation;
