@@ -103,13 +103,13 @@ pub record Lawful {S : Type 0} (g : spaces.Ghosts S) (k : settles.Ghosts S) : Ty
 
 module _ {S : Type 0} (g : spaces.Ghosts S) (k : settles.Ghosts S) (laws : Lawful g k) where
   -- what is held where nothing waits is kept, and the other way round
-  kept_quiet : (s : S) (a : Airspace) → k.waits s ≡ false → IsContent g.holds s a → IsContent k.keeps s a
+  pub kept_quiet : (s : S) (a : Airspace) → k.waits s ≡ false → IsContent g.holds s a → IsContent k.keeps s a
   kept_quiet s a calm content = record {
     held = (laws.quiet s a calm).0 content.held;
     only = λ b h. content.only b ((laws.quiet s b calm).1 h);
   }
 
-  held_quiet : (s : S) (a : Airspace) → k.waits s ≡ false → IsContent k.keeps s a → IsContent g.holds s a
+  pub held_quiet : (s : S) (a : Airspace) → k.waits s ≡ false → IsContent k.keeps s a → IsContent g.holds s a
   held_quiet s a calm content = record {
     held = (laws.quiet s a calm).1 content.held;
     only = λ b h. content.only b ((laws.quiet s b calm).0 h);
@@ -144,7 +144,7 @@ module _ {S : Type 0} (g : spaces.Ghosts S) (k : settles.Ghosts S) (laws : Lawfu
 
   -- ---- the calls of a round
 
-  calls : (old : Service S) (ms : List Made) (new : Service S) → MadeInOrder g k old ms new → Answered g old (map (λ m. m.timed) ms) (map (λ m. m.reply) ms) new
+  pub calls : (old : Service S) (ms : List Made) (new : Service S) → MadeInOrder g k old ms new → Answered g old (map (λ m. m.timed) ms) (map (λ m. m.reply) ms) new
   calls old ms new h = answered g old (map (λ m. m.timed) ms) (map (λ m. m.reply) ms) new (asked g k old ms new h)
 
   -- what is told is the policy's, and its airspace is kept
@@ -224,14 +224,15 @@ module _ {S : Type 0} (g : spaces.Ghosts S) (k : settles.Ghosts S) (laws : Lawfu
   -- ---- a round, and what follows
 
   -- What rounds are, from a service in which nothing waits: where it is not shut, and where it is.
-  record Follows (s : Service S) (rest : List Round) (new : Service S) : Type 0 where
-    live : (a : Airspace) → is_shut s ≡ false → IsContent g.holds (space_of s) a → RunsInRounds k (salt_of s) a rest new
-    shut : (a : Airspace) → is_shut s ≡ true → g.is_broken (space_of s) ≡ true → ((b : Airspace) → k.keeps (space_of s) b → b ≡ a) → RunsInRounds k (salt_of s) a rest new
-    others : is_shut s ≡ true → g.is_broken (space_of s) ≡ true → All (λ r. r ≡ Stopped) (all_told rest)
-    ends : is_shut s ≡ true → g.is_broken (space_of s) ≡ true → (is_shut new ≡ true) × ((b : Airspace) → k.keeps (space_of new) b → k.keeps (space_of s) b)
+  pub record Follows (s : Service S) (rest : List Round) (new : Service S) : Type 0 where
+    pub live : (a : Airspace) → is_shut s ≡ false → IsContent g.holds (space_of s) a → RunsInRounds k (salt_of s) a rest new
+    pub shut : (a : Airspace) → is_shut s ≡ true → g.is_broken (space_of s) ≡ true → ((b : Airspace) → k.keeps (space_of s) b → b ≡ a) → RunsInRounds k (salt_of s) a rest new
+    pub others : is_shut s ≡ true → g.is_broken (space_of s) ≡ true → All (λ r. r ≡ Stopped) (all_told rest)
+    pub same : is_shut s ≡ true → g.is_broken (space_of s) ≡ true → (salt : List ℕ) (a : Airspace) → MayHaveKept salt a rest a
+    pub ends : is_shut s ≡ true → g.is_broken (space_of s) ≡ true → (is_shut new ≡ true) × (g.is_broken (space_of new) ≡ true) × ((b : Airspace) → k.keeps (space_of new) b → k.keeps (space_of s) b)
 
   -- no round
-  follows_none : (s : Service S) → k.waits (space_of s) ≡ false → Follows s [] s
+  pub follows_none : (s : Service S) → k.waits (space_of s) ≡ false → Follows s [] s
   follows_none s calm = record {
     live = λ a n content. record {
       stopped = tt;
@@ -248,7 +249,8 @@ module _ {S : Type 0} (g : spaces.Ghosts S) (k : settles.Ghosts S) (laws : Lawfu
       kept = λ b held. only b held;
     };
     others = λ n broken. All-nil (λ r. r ≡ Stopped);
-    ends = λ n broken. (n, λ b held. held);
+    same = λ n broken salt a. refl;
+    ends = λ n broken. (n, broken, λ b held. held);
   }
 
   -- each call of a service that was shut is told `Stopped`
@@ -277,6 +279,16 @@ module _ {S : Type 0} (g : spaces.Ghosts S) (k : settles.Ghosts S) (laws : Lawfu
       (subst (λ (r : Reply). has_stopped (r ∷ map (told_of result) ms) ≡ true) (sym (is result)) refl)
       shut others
       (λ b held. inl (subst (λ (r : Reply). b ≡ airspace_after salt a (answered_calls (m.timed ∷ cs) (r ∷ map (told_of (Err Unchanged)) ms))) (sym (is (Err Unchanged))) (only b held)))
+
+  -- what may be kept of it, of any airspace
+  same_shut : (salt : List ℕ) (a : Airspace) (ms : List Made) (result : Result (Unit {0}) SpaceFault) (old mid : Service S) (rest : List Round) → MadeInOrder g k old ms mid → is_shut old ≡ true → k.waits (space_of old) ≡ false
+      → MayHaveKept salt a rest a → MayHaveKept salt a (record { calls = ms; settled = result } ∷ rest) a
+  same_shut salt a [] result old mid rest h n calm then = then
+  same_shut salt a (m ∷ ms) result old mid rest h n calm then =
+      let round : Round = record { calls = m ∷ ms; settled = result } in
+      let is : (r : Result (Unit {0}) SpaceFault) → told_of r m ≡ Stopped = λ r. told_shut r old m h.0 h.1 h.2 n calm in
+      subst (λ (r : Reply). IfStopped (has_stopped (r ∷ map (told_of result) ms)) (MayHaveLeft salt a round a) (MayHaveKept salt (airspace_of salt a round) rest a)) (sym (is result))
+      (inl (subst (λ (r : Reply). a ≡ airspace_after salt a (answered_calls (m.timed ∷ map (λ m. m.timed) ms) (r ∷ map (told_of (Err Unchanged)) ms))) (sym (is (Err Unchanged))) refl))
 
   -- what is known of the calls of a round of a service that was not shut
   module _ (old : Service S) (ms : List Made) (mid : Service S) (made : MadeInOrder g k old ms mid) (n : is_shut old ≡ false) (calm : k.waits (space_of old) ≡ false) (sound : g.is_sound (space_of mid)) (a : Airspace) (content : IsContent g.holds (space_of old) a) where
@@ -364,7 +376,7 @@ module _ {S : Type 0} (g : spaces.Ghosts S) (k : settles.Ghosts S) (laws : Lawfu
             | true ↦ λ x.
                 let ends = follows.ends settled.shuts settled.tells.breaks in
                 front_stopped k (salt_of old) a round rest new (told_keeping Broken).replies x ends.0 (follows.others settled.shuts settled.tells.breaks)
-                (λ b held. elim (before b (ends.1 b held)) [
+                (λ b held. elim (before b (ends.2 b held)) [
                   | inl kept ↦ kept_open b kept
                   | inr seen ↦ inr (made_runs.kept b seen)
                 ])
@@ -386,7 +398,7 @@ module _ {S : Type 0} (g : spaces.Ghosts S) (k : settles.Ghosts S) (laws : Lawfu
       front_live (Err Broken) = front_broken
 
   -- a round that is still open
-  follows_open : (mid : Service S) (ms : List Made) (new : Service S) → MadeInOrder g k mid ms new → k.waits (space_of mid) ≡ false → g.is_sound (space_of new) → Follows mid (unkept ms ∷ []) new
+  pub follows_open : (mid : Service S) (ms : List Made) (new : Service S) → MadeInOrder g k mid ms new → k.waits (space_of mid) ≡ false → g.is_sound (space_of new) → Follows mid (unkept ms ∷ []) new
   follows_open mid ms new made calm sound = record {
     live = λ a n content. open_live mid ms new made n calm sound a content;
     shut = λ a n broken only.
@@ -398,7 +410,8 @@ module _ {S : Type 0} (g : spaces.Ghosts S) (k : settles.Ghosts S) (laws : Lawfu
     others = λ n broken. all_shut (Err Unchanged) mid ms new [] made n calm (All-nil (λ r. r ≡ Stopped));
     ends = λ n broken.
         let same = (calls mid ms new made).stays.shut n in
-        (ap (λ (s : Service S). is_shut s) same ∙ n, λ b held. subst (λ (s : Service S). k.keeps (space_of s) b) same held);
+        (ap (λ (s : Service S). is_shut s) same ∙ n, ap (λ (s : Service S). g.is_broken (space_of s)) same ∙ broken, λ b held. subst (λ (s : Service S). k.keeps (space_of s) b) same held);
+    same = λ n broken salt a. same_shut salt a ms (Err Unchanged) mid new [] made n calm refl;
   }
 
   -- one round more
@@ -423,20 +436,23 @@ module _ {S : Type 0} (g : spaces.Ghosts S) (k : settles.Ghosts S) (laws : Lawfu
       shut = λ a n broken only.
           let more = ends_more n broken in
           let ends = follows.ends more.0 more.1 in
-          front_shut (salt_of old) a ms result old mid rest new made n calm ends.0 (λ b held. only b (more.2 b (ends.1 b held))) (follows.others more.0 more.1)
+          front_shut (salt_of old) a ms result old mid rest new made n calm ends.0 (λ b held. only b (more.2 b (ends.2 b held))) (follows.others more.0 more.1)
           (subst (λ (salt : List ℕ). RunsInRounds k salt a rest new) (settled.salt ∙ (calls old ms mid made).stays.salt) (follows.shut a more.0 more.1 (λ b held. only b (more.2 b held))));
       others = λ n broken.
           let more = ends_more n broken in
           all_shut result old ms mid (all_told rest) made n calm (follows.others more.0 more.1);
+      same = λ n broken salt a.
+          let more = ends_more n broken in
+          same_shut salt a ms result old mid rest made n calm (follows.same more.0 more.1 salt a);
       ends = λ n broken.
           let more = ends_more n broken in
           let ends = follows.ends more.0 more.1 in
-          (ends.0, λ b held. more.2 b (ends.1 b held));
+          (ends.0, ends.1, λ b held. more.2 b (ends.2 b held));
     }
 
   -- ---- all rounds
 
-  sound_rounds : (old : Service S) (rounds : List Round) (new : Service S) → MadeRounds g k old rounds new → g.is_sound (space_of new) → g.is_sound (space_of old)
+  pub sound_rounds : (old : Service S) (rounds : List Round) (new : Service S) → MadeRounds g k old rounds new → g.is_sound (space_of new) → g.is_sound (space_of old)
   sound_rounds old [] new h sound = subst (λ (s : Service S). g.is_sound (space_of s)) h sound
   sound_rounds old (round ∷ rounds) new h sound = (calls old round.calls h.0 h.2).stays.sound (h.3.settles.sound (sound_rounds h.1 rounds new h.4 sound))
 
@@ -444,10 +460,15 @@ module _ {S : Type 0} (g : spaces.Ghosts S) (k : settles.Ghosts S) (laws : Lawfu
   calm_rounds old [] new h calm = ap (λ (s : Service S). k.waits (space_of s)) h ∙ calm
   calm_rounds old (round ∷ rounds) new h calm = calm_rounds h.1 rounds new h.4 h.3.calm
 
-  follows_rounds : (old : Service S) (rounds : List Round) (mid : Service S) (more : List Round) (new : Service S) → MadeRounds g k old rounds mid → k.waits (space_of old) ≡ false → g.is_sound (space_of mid) → Follows mid more new → Follows old (rounds ++ more) new
+  pub follows_rounds : (old : Service S) (rounds : List Round) (mid : Service S) (more : List Round) (new : Service S) → MadeRounds g k old rounds mid → k.waits (space_of old) ≡ false → g.is_sound (space_of mid) → Follows mid more new → Follows old (rounds ++ more) new
   follows_rounds old [] mid more new h calm sound follows = subst (λ (s : Service S). Follows s more new) h follows
   follows_rounds old (round ∷ rounds) mid more new h calm sound follows =
       follows_more old round.calls h.0 round.settled h.1 (rounds ++ more) new h.2 h.3 calm (sound_rounds h.1 rounds mid h.4 sound) (follows_rounds h.1 rounds mid more new h.4 h.3.calm sound follows)
+
+  pub follows_these : (old : Service S) (rounds : List Round) (new : Service S) → MadeRounds g k old rounds new → k.waits (space_of old) ≡ false → g.is_sound (space_of new) → Follows old rounds new
+  follows_these old rounds new made calm sound =
+      subst (λ (all : List Round). Follows old all new) (append-nil rounds)
+      (follows_rounds old rounds new [] new made calm sound (follows_none new (calm_rounds old rounds new made calm)))
 
   -- a service goes on where the changes of each round were kept
   pub goes_rounds : (old : Service S) (rounds : List Round) (new : Service S) → MadeRounds g k old rounds new → AllByRecursion (λ round. round.settled ≡ Ok tt) rounds → is_shut old ≡ false → is_shut new ≡ false
@@ -464,9 +485,7 @@ module _ {S : Type 0} (g : spaces.Ghosts S) (k : settles.Ghosts S) (laws : Lawfu
   -- ---- the laws
 
   pub rounds_policy : (old new : Service S) (rounds : List Round) (a : Airspace) → AskedInRounds g k old rounds new a → RunsInRounds k (salt_of old) a rounds new
-  rounds_policy old new rounds a is =
-      subst (λ (all : List Round). RunsInRounds k (salt_of old) a all new) (append-nil rounds)
-      ((follows_rounds old rounds new [] new is.made is.calm is.sound (follows_none new (calm_rounds old rounds new is.made is.calm))).live a is.goes is.content)
+  rounds_policy old new rounds a is = (follows_these old rounds new is.made is.calm is.sound).live a is.goes is.content
 
   pub open_round : (old mid new : Service S) (rounds : List Round) (ms : List Made) (a : Airspace) → AskedInRounds g k old rounds mid a → MadeInOrder g k mid ms new → g.is_sound (space_of new) → RunsInRounds k (salt_of old) a (rounds ++ unkept ms ∷ []) new
   open_round old mid new rounds ms a is made sound =

@@ -11,3 +11,6 @@ pub mod Counts
 pub mod Joined
 pub mod InRounds
 pub mod RoundLaws
+pub mod Sweeping
+pub mod Segments
+pub mod SegmentLaws

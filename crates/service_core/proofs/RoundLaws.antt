@@ -16,7 +16,7 @@ use Rattle.service_core.proofs.InRounds.{even_in}
 use Rattle.service_core.proofs.Joined.{airspace_then, goes_first, stops_then}
 
 -- where nobody was told `Stopped`, the airspace after all that was answered is kept, and no other
-kept_all : (salt : List ℕ) (a : Airspace) (rounds : List Round) (b : Airspace) → has_stopped (all_told rounds) ≡ false → MayHaveKept salt a rounds b → b ≡ airspace_after salt a (answered_calls (all_timed rounds) (all_told rounds))
+pub kept_all : (salt : List ℕ) (a : Airspace) (rounds : List Round) (b : Airspace) → has_stopped (all_told rounds) ≡ false → MayHaveKept salt a rounds b → b ≡ airspace_after salt a (answered_calls (all_timed rounds) (all_told rounds))
 kept_all salt a [] b goes kept = kept
 kept_all salt a (round ∷ rounds) b goes kept =
     let first = goes_first (told_in round) (all_told rounds) goes in
@@ -26,7 +26,7 @@ kept_all salt a (round ∷ rounds) b goes kept =
     ∙ airspace_then salt a (timed_in round) (told_in round) (all_timed rounds) (all_told rounds) (even_in round) first
 
 -- whoever was told so
-kept_numbered : (salt : List ℕ) (rounds : List Round) (last : EntityKey → Option MadeCall) (a b : Airspace) → Kept salt last a → MayHaveKept salt a rounds b → AllNumbered salt b
+pub kept_numbered : (salt : List ℕ) (rounds : List Round) (last : EntityKey → Option MadeCall) (a b : Airspace) → Kept salt last a → MayHaveKept salt a rounds b → AllNumbered salt b
 kept_numbered salt [] last a b is kept = subst (AllNumbered salt) (sym kept) is.numbered
 kept_numbered salt (round ∷ rounds) last a b is kept =
     elim (has_stopped (told_in round)) as (λ x. IfStopped x (MayHaveLeft salt a round b) (MayHaveKept salt (airspace_of salt a round) rounds b) → AllNumbered salt b) [

@@ -7,3 +7,4 @@ pub mod Blind
 pub mod Aware
 pub mod Count
 pub mod Stale
+pub mod Swept

@@ -3,6 +3,7 @@ ghost use Rattle.service_core.specs.Aware.{MeetingIsMutual};
 ghost use Rattle.service_core.specs.Blind.{CallIsBlind, RunIsBlind};
 ghost use Rattle.service_core.specs.Rounds.{KeptRoundsRun, OpenRoundIsUnkept, RoundIsAsked, RoundsAreAware, RoundsAreCounted, RoundsAreNumbered, RoundsAreThePolicy};
 ghost use Rattle.service_core.specs.Stale.{StaleIsRefused};
+ghost use Rattle.service_core.specs.Swept.{OpenSegmentIsUnkept, SegmentsAreThePolicy, SweptIsNumbered};
 ghost use Rattle.service_step.specs.Step.{StepsAnswer, StepsKeep};
 
 use space_core::settle::Settles;
@@ -70,4 +71,22 @@ pub fn rounds_are_aware<S: Settles>()
     ensures numbered { RoundsAreNumbered S.Settles.own }
     ensures aware { RoundsAreAware S.Settles.own }
     ensures counted { RoundsAreCounted S.Settles.own }
+{}
+
+/// What callers are told, and what is kept, where some of what has ended goes between two rounds: it
+/// is what the rounds tell and leave over the airspace that was left of those before, swept in part.
+/// While the service is not shut, one airspace is kept.
+pub fn segments_are_the_policy<S: Settles>()
+    ensures { SegmentsAreThePolicy S.Space S.Settles.own }
+{}
+
+/// A crash in the midst of a round leaves, also then, what is kept where its changes are not.
+pub fn open_segment_is_unkept<S: Settles>()
+    ensures { OpenSegmentIsUnkept S.Space S.Settles.own }
+{}
+
+/// Of what is kept after segments and rounds from the empty airspace, each entity has the OVN of its
+/// own serial: none is given twice, since a sweep leaves the serial as it is.
+pub fn swept_is_numbered<S: Settles>()
+    ensures { SweptIsNumbered S.Settles.own }
 {}

@@ -2,6 +2,5 @@
 #![tactic(auto)]
 
 mod decide;
-pub mod first;
 pub mod laws;
 pub mod service;

@@ -1,10 +1,11 @@
 //! A service over a space.
-ghost use Rattle.std.specs.Prelude.{◌≡◌, ℕ, Some, IfOk, OnErr, true, false};
+ghost use Rattle.std.specs.Prelude.{◌≡◌, ◌<◌, ℕ, Some, IfOk, OnErr, true, false};
 ghost use Rattle.std.specs.Borrow.{Lends, sem};
 ghost use Rattle.entity_core.specs.Airspace.{Airspace, empty_at};
 ghost use Rattle.entity_core.specs.declared.entity.Entity.{Entity};
 ghost use Rattle.entity_core.specs.declared.nature.Kind.{Kind};
-ghost use Rattle.space_core.specs.Space.{IsContent};
+ghost use Rattle.entity_sweep.specs.Gone.{IsSweptAlready};
+ghost use Rattle.space_core.specs.Space.{IsContent, Tells};
 ghost use Rattle.service_core.specs.contracts.service.Service.{the_row};
 ghost use Rattle.service_step.specs.Admitted.{IsAdmitted};
 ghost use Rattle.service_step.specs.Looks.{IsReady};
@@ -15,6 +16,7 @@ ghost use Rattle.service_core.specs.Aware.{Aware};
 ghost use Rattle.service_core.specs.Count.{Counts};
 ghost use Rattle.service_core.specs.Stale.{AllNumbered, IsStale, FailsOrIsRefused};
 ghost use Rattle.service_core.specs.Held.{space_of, salt_of, is_shut, with_space};
+ghost use Rattle.service_core.specs.Swept.{HaveGone, LeavesPartly};
 
 use crate::decide::{Decision, decide};
 use entity_core::salt::Salt;
@@ -30,6 +32,7 @@ use service_step::made::Made;
 use service_step::reply::{Answer, Reply};
 use space_core::settle::Settles;
 use space_core::space::{Change, Space, SpaceFault};
+use space_sweeps::sweeps::Sweeps;
 use std::alloc::{AllocError, Global};
 
 // The reply where a call was given up.
@@ -96,6 +99,27 @@ fn changed<S: Space>(
         Ok(()) => Reply::Done(answer),
         Err(fault) => gave_up(Halt::Space(fault)),
     }
+}
+
+// Some of what has ended goes.
+fn swept<S: Sweeps>(space: &mut S, until: u64, most: usize) -> Result<usize, SpaceFault>
+    ensures tells { Tells (S.refusals space.old) (S.refusals space.new)
+        (S.is_broken space.old) (S.is_broken space.new) result }
+    ensures waits { S.waits space.new ≡ S.waits space.old }
+    ensures sound { S.is_sound space.new → S.is_sound space.old }
+    ensures whole { S.is_sound space.new → S.is_whole space.old → S.is_whole space.new }
+    ensures left { S.is_sound space.new → (a : Airspace) → IsContent S.holds space.old a
+        → LeavesPartly S.Space until a space.new result }
+    ensures gone { S.is_sound space.new → (a : Airspace) → IsContent S.holds space.old a
+        → IfOk result (λ n. HaveGone S.Space until most n a space.new) }
+    ensures last { S.is_sound space.new → IfOk result (λ n. n ≡ 0 → 0 < most
+        → (a : Airspace) → S.holds space.new a → IsSweptAlready until a) }
+{
+    let gone = space.ended(until, most)?;
+    if !gone.is_empty() {
+        space.let_go(gone.as_slice())?;
+    }
+    Ok(gone.len())
 }
 
 /// Answers calls by the policy, over a space.
@@ -244,5 +268,28 @@ impl<S: Settles + Drop> Service<S> {
             self.stopped = true;
         }
         settled
+    }
+}
+
+impl<S: Sweeps + Drop> Service<S> {
+    ghost use Rattle.service_core.specs.Swept.{IsSweep};
+
+    /// Lets go of some of what has ended by a moment (in seconds since 1970), at most so many
+    /// intents, constraints and subscriptions together, and tells how many: none only where nothing
+    /// is left that has ended. It is no call: the serial stays, and nobody is told. While changes
+    /// wait, nothing goes: where something has ended, it answers `Unchanged`, as where it cannot be
+    /// told what has, and all is as it was. After `Broken`, and where the service was shut, each
+    /// call is told `Stopped`.
+    pub fn sweep(&mut self, until: u64, most: usize) -> Result<usize, SpaceFault>
+        ensures { IsSweep S.Space S.Settles.own until most self.old self.new result }
+    {
+        if self.stopped {
+            return Err(SpaceFault::Broken);
+        }
+        let swept = swept(&mut self.space, until, most);
+        if let Err(SpaceFault::Broken) = swept {
+            self.stopped = true;
+        }
+        swept
     }
 }

@@ -16,11 +16,12 @@ use Rattle.service_step.specs.declared.reply.Reply.{Reply}
 use Rattle.service_step.specs.declared.reply.Reply.TheVariants.{Done, Denied, Fault, Stopped}
 use Rattle.service_step.specs.Step.{step}
 use Rattle.service_core.specs.Held.{is_shut, salt_of, space_of}
-use Rattle.service_core.specs.Rounds.{IsSettled, OpenRoundIsUnkept}
+use Rattle.service_core.specs.Rounds.{IsSettled}
 use Rattle.service_core.specs.Run.{IsReplyTo}
 use Rattle.service_core.specs.Service.{Leaves}
+use Rattle.service_core.specs.Swept.{OpenSegmentIsUnkept}
 use Rattle.service_core.specs.declared.service.Service.{Service}
-use Rattle.service_core.proofs.InRounds.{open_round}
+use Rattle.service_core.proofs.Segments.{open_segment}
 use Rattle.space_bounds.specs.Bounded.{Bound}
 use Rattle.space_rounds.specs.Grouped.{Group, IsSoundIn, fixed_in, holds_in, is_whole_in, pending, waits_in}
 use Rattle.space_rounds.specs.Laws.{content_of_its_store, kept_while_waiting, seen_is_kept, sound_as_its_store, works_while_waiting}
@@ -92,8 +93,8 @@ bounded_over g refusals fixed = record {
 }
 
 -- a crash in the midst of a round leaves what is kept where its changes are not
-pub open_round_in : {S : Type 0} (g : Ghosts S) (c : Coded S) (refusals : Bound (Group S) → ℕ) → OpenRoundIsUnkept (bound_words g refusals (λ k. fixed_in c k.space)) (bound_waiting_of g)
-open_round_in g c refusals = open_round (bound_words g refusals (λ k. fixed_in c k.space)) (bound_waiting_of g) (record {
+pub open_segment_in : {S : Type 0} (g : Ghosts S) (c : Coded S) (refusals : Bound (Group S) → ℕ) → OpenSegmentIsUnkept (bound_words g refusals (λ k. fixed_in c k.space)) (bound_waiting_of g)
+open_segment_in g c refusals = open_segment (bound_words g refusals (λ k. fixed_in c k.space)) (bound_waiting_of g) (record {
   quiet = λ s a calm. seen_is_kept g.holds s.space a calm;
   rests = λ s t a same waits. kept_while_waiting g.holds c s.space t.space a same waits;
   works = λ s t same waits. works_while_waiting g.is_broken c s.space t.space same waits;

@@ -16,7 +16,8 @@ use Rattle.space_core.specs.declared.settle.Settles as settles
 use Rattle.space_core.specs.declared.space.Space.{Ghosts}
 use Rattle.service_core.specs.declared.service.Service.{Service}
 use Rattle.service_core.specs.Held.{salt_of, space_of}
-use Rattle.service_core.specs.Rounds.{Made, MadeInOrder, MadeRounds, MayHaveKept, OpenRoundIsUnkept, Round, unkept}
+use Rattle.service_core.specs.Rounds.{Made, MadeInOrder, MadeRounds, Round, unkept}
+use Rattle.service_core.specs.Swept.{MadeSegments, MayHaveKeptSwept, OpenSegmentIsUnkept, Segment}
 use Rattle.space_bounds.specs.Bounded.{Bound}
 use Rattle.space_rounds.specs.Grouped.{Group}
 use Rattle.space_tables.specs.declared.format.Format.TheVariants.{Two}
@@ -24,7 +25,7 @@ use Rattle.space_sql.specs.Holding.{Kept, holds_of, is_sound_of, is_whole_of}
 use Rattle.space_sql.specs.Restart.{ClosesFiles, FilesHave, FilesLeft, LeavesFiles, without_log}
 use Rattle.service_tables.specs.Crash.{bound_waiting_of}
 use Rattle.service_tables.specs.InRounds.{IsSoundByStore, SomeIsHeld, StartsOver}
-use Rattle.service_tables.specs.Life.{Continues, StandFor, run_of}
+use Rattle.service_tables.specs.Life.{Continues, StandFor, run_swept}
 use Rattle.service_tables.proofs.Crashes.{words_of}
 use Rattle.service_tables.proofs.Grouping.{IsBoundOver}
 use Rattle.service_tables.proofs.Lives.{content_found}
@@ -49,16 +50,29 @@ module _ {S : Type 0} (g : Ghosts S) (k : settles.Ghosts S) where
       let end = rounds_sound made.1 new rs made.4 sound in
       rounds_whole made.1 new rs made.4 sound (made.3.settles.whole end (made_whole old made.0 r.calls made.2 (made.3.settles.sound end) whole))
 
-module _ {D : Type 0} {g : disk.Ghosts D} (space : Ghosts (Bound (Group (Kept (FileStore D g))))) (over : IsBoundOver (words_of over_files) space) (some : SomeIsHeld {S = Kept (FileStore D g)} (words_of over_files)) (law : OpenRoundIsUnkept space (bound_waiting_of (words_of over_files)))
-    (before : Image) (old mid new : Service (Bound (Group (Kept (FileStore D g))))) (rounds : List Round) (calls : List Made)
-    (starts : StartsOver (words_of over_files) space before old) (rounds_made : MadeRounds space (bound_waiting_of (words_of over_files)) old rounds mid) (calls_made : MadeInOrder space (bound_waiting_of (words_of over_files)) mid calls new) (by_store : IsSoundByStore (words_of over_files) space (space_of new)) where
+  segments_sound : (old new : Service S) (segments : List Segment) → MadeSegments g k old segments new → g.is_sound (space_of new) → g.is_sound (space_of old)
+  segments_sound old new [] same sound = subst (λ s. g.is_sound (space_of s)) same sound
+  segments_sound old new (s ∷ ss) made sound = rounds_sound old made.0 s.rounds made.2 (made.3.2.sound (segments_sound made.1 new ss made.4 sound))
+
+  segments_whole : (old new : Service S) (segments : List Segment) → MadeSegments g k old segments new → g.is_sound (space_of new) → g.is_whole (space_of old) → g.is_whole (space_of new)
+  segments_whole old new [] same sound whole = subst (λ s. g.is_whole (space_of s)) (sym same) whole
+  segments_whole old new (s ∷ ss) made sound whole =
+      let end = segments_sound made.1 new ss made.4 sound in
+      segments_whole made.1 new ss made.4 sound (made.3.2.whole end (rounds_whole old made.0 s.rounds made.2 (made.3.2.sound end) whole))
+
+module _ {D : Type 0} {g : disk.Ghosts D} (space : Ghosts (Bound (Group (Kept (FileStore D g))))) (over : IsBoundOver (words_of over_files) space) (some : SomeIsHeld {S = Kept (FileStore D g)} (words_of over_files)) (law : OpenSegmentIsUnkept space (bound_waiting_of (words_of over_files)))
+    (before : Image) (old swept mid new : Service (Bound (Group (Kept (FileStore D g))))) (segments : List Segment) (rounds : List Round) (calls : List Made)
+    (starts : StartsOver (words_of over_files) space before old) (segments_made : MadeSegments space (bound_waiting_of (words_of over_files)) old segments swept) (rounds_made : MadeRounds space (bound_waiting_of (words_of over_files)) swept rounds mid) (calls_made : MadeInOrder space (bound_waiting_of (words_of over_files)) mid calls new) (by_store : IsSoundByStore (words_of over_files) space (space_of new)) where
   -- what is known of the run as it ends, while its store is sound
   module _ (sound : is_sound_of over_files (space_of new).space.store) (a : Airspace) (stands : StandFor before a) where
     mid_sound : space.is_sound (space_of mid)
     mid_sound = made_sound space (bound_waiting_of (words_of over_files)) mid new calls calls_made (by_store sound)
 
+    swept_sound : space.is_sound (space_of swept)
+    swept_sound = rounds_sound space (bound_waiting_of (words_of over_files)) swept mid rounds rounds_made mid_sound
+
     first_sound : is_sound_of over_files (space_of old).space.store
-    first_sound = over.sound (space_of old) (rounds_sound space (bound_waiting_of (words_of over_files)) old mid rounds rounds_made mid_sound)
+    first_sound = over.sound (space_of old) (segments_sound space (bound_waiting_of (words_of over_files)) old swept segments segments_made swept_sound)
 
     opened : IsContent (holds_of over_files) starts.opened a
     opened = content_found before (words_of over_files) starts.opened starts.finds (starts.read.sound first_sound) a stands
@@ -77,26 +91,31 @@ module _ {D : Type 0} {g : disk.Ghosts D} (space : Ghosts (Bound (Group (Kept (F
     })
 
     last_whole : is_whole_of over_files (space_of new).space.store
-    last_whole = over.store_whole (space_of new) (made_whole space (bound_waiting_of (words_of over_files)) mid new calls calls_made (by_store sound) (rounds_whole space (bound_waiting_of (words_of over_files)) old mid rounds rounds_made mid_sound (over.whole (space_of old) first_whole)))
+    last_whole =
+        over.store_whole (space_of new) (made_whole space (bound_waiting_of (words_of over_files)) mid new calls calls_made (by_store sound)
+        (rounds_whole space (bound_waiting_of (words_of over_files)) swept mid rounds rounds_made mid_sound
+        (segments_whole space (bound_waiting_of (words_of over_files)) old swept segments segments_made swept_sound (over.whole (space_of old) first_whole))))
 
-    kept : IsContent (holds_of over_files) (space_of old).space.store a → (b : Airspace) → holds_of over_files (space_of new).space.store b → MayHaveKept (salt_of old) a (rounds ++ unkept calls ∷ []) b
+    kept : IsContent (holds_of over_files) (space_of old).space.store a → (b : Airspace) → holds_of over_files (space_of new).space.store b → MayHaveKeptSwept (salt_of old) a segments (rounds ++ unkept calls ∷ []) b
     kept content b held =
-        (law old mid new rounds calls a (record {
+        (law old mid new segments rounds calls a (record {
           goes = starts.goes;
           calm = starts.calm;
           content = over.calm_content (space_of old) a starts.calm content;
+          last = swept;
+          segments_made = segments_made;
           made = rounds_made;
           sound = mid_sound;
         }) calls_made (by_store sound)).kept b held
 
-  pub served : (after : Image) (last : FileStore D g) → LeavesFiles (space_of new).space.store last → IsClean (store.view last) → FilesLeft last after → Continues before (run_of old (rounds ++ unkept calls ∷ [])) after
+  pub served : (after : Image) (last : FileStore D g) → LeavesFiles (space_of new).space.store last → IsClean (store.view last) → FilesLeft last after → Continues before (run_swept old segments (rounds ++ unkept calls ∷ [])) after
   served after last left clean may a stands =
       let sound = left.sound clean in
       ∥∥₁_elim (first sound a stands) squash₁ (λ content.
       ∥∥₁_map (left.held clean (last_whole sound a stands) after may) (λ it. (it.0, kept sound a stands content it.0 it.1, inl (Two, it.2))))
 
   pub closed : (after : Image) (files : Files D) → ClosesFiles (space_of new).space.store files → AreClean g files.log files.db → FilesHave g files after
-      → Continues before (run_of old (rounds ++ unkept calls ∷ [])) after × Continues before (run_of old (rounds ++ unkept calls ∷ [])) (without_log after)
+      → Continues before (run_swept old segments (rounds ++ unkept calls ∷ [])) after × Continues before (run_swept old segments (rounds ++ unkept calls ∷ [])) (without_log after)
   closed after files closes clean have =
       let sound = closes.sound clean in
       let found = λ (a : Airspace) (stands : StandFor before a). closes.held clean (last_whole sound a stands) after have in (

@@ -12,13 +12,14 @@ use Rattle.space_core.specs.declared.space.Space as spaces
 use Rattle.service_core.specs.declared.service.Service.{Service}
 use Rattle.service_core.specs.Held.{is_shut, space_of}
 use Rattle.service_core.specs.Rounds.{Made, MadeInOrder, MadeRounds, Round, unkept}
+use Rattle.service_core.specs.Swept.{MadeSegments, Segment}
 use Rattle.space_bounds.specs.Bounded.{Bound}
 use Rattle.space_rounds.specs.Grouped.{Group, waits_in}
 use Rattle.space_sql.specs.Found.{FindsSpelt}
 use Rattle.space_sql.specs.Holding.{Kept}
 use Rattle.space_sql.specs.Restart.{ClosesFiles, FilesHave, FilesLeft, LeavesFiles, without_log}
 use Rattle.service_tables.specs.Crash.{bound_waiting_of}
-use Rattle.service_tables.specs.Life.{Continues, run_of}
+use Rattle.service_tables.specs.Life.{Continues, run_swept}
 
 -- a sound space that is whole holds some airspace
 abbrev pub SomeIsHeld : {S : Type 0} → spaces.Ghosts S → Type 0
@@ -48,26 +49,28 @@ module _ {D : Type 0} {g : disk.Ghosts D} (tables : spaces.Ghosts (Kept (FileSto
   abbrev pub IsSoundByStore : Bound (Group (Kept (FileStore D g))) → Type 0
   IsSoundByStore k = tables.is_sound k.space.store → space.is_sound k
 
-  -- A service started over files, and was asked rounds of calls, and calls that no round ended; its
-  -- space over tables was given up, and a crash left of the files what it may: nothing of the changes
-  -- that waited then.
+  -- A service started over files, and was asked rounds of calls, after some of which it let go of
+  -- some of what had ended, and calls that no round ended; its space over tables was given up, and a
+  -- crash left of the files what it may: nothing of the changes that waited then.
   abbrev pub ContinuesInRounds : Type 0
   ContinuesInRounds =
-      (before after : Image) (old mid new : Service (Bound (Group (Kept (FileStore D g)))))
-      (rounds : List Round) (calls : List Made) (last : FileStore D g)
-      → StartsOver before old → MadeRounds space (bound_waiting_of tables) old rounds mid
+      (before after : Image) (old swept mid new : Service (Bound (Group (Kept (FileStore D g)))))
+      (segments : List Segment) (rounds : List Round) (calls : List Made) (last : FileStore D g)
+      → StartsOver before old → MadeSegments space (bound_waiting_of tables) old segments swept
+      → MadeRounds space (bound_waiting_of tables) swept rounds mid
       → MadeInOrder space (bound_waiting_of tables) mid calls new → IsSoundByStore (space_of new)
       → LeavesFiles (space_of new).space.store last → IsClean (store.view last) → FilesLeft last after
-      → Continues before (run_of old (rounds ++ unkept calls ∷ [])) after
+      → Continues before (run_swept old segments (rounds ++ unkept calls ∷ [])) after
 
   -- The same where that space was closed, also where then the log is gone.
   abbrev pub ContinuesInRoundsClosed : Type 0
   ContinuesInRoundsClosed =
-      (before after : Image) (old mid new : Service (Bound (Group (Kept (FileStore D g)))))
-      (rounds : List Round) (calls : List Made) (files : Files D)
-      → StartsOver before old → MadeRounds space (bound_waiting_of tables) old rounds mid
+      (before after : Image) (old swept mid new : Service (Bound (Group (Kept (FileStore D g)))))
+      (segments : List Segment) (rounds : List Round) (calls : List Made) (files : Files D)
+      → StartsOver before old → MadeSegments space (bound_waiting_of tables) old segments swept
+      → MadeRounds space (bound_waiting_of tables) swept rounds mid
       → MadeInOrder space (bound_waiting_of tables) mid calls new → IsSoundByStore (space_of new)
       → ClosesFiles (space_of new).space.store files → AreClean g files.log files.db
       → FilesHave g files after
-      → Continues before (run_of old (rounds ++ unkept calls ∷ [])) after
-      × Continues before (run_of old (rounds ++ unkept calls ∷ [])) (without_log after)
+      → Continues before (run_swept old segments (rounds ++ unkept calls ∷ [])) after
+      × Continues before (run_swept old segments (rounds ++ unkept calls ∷ [])) (without_log after)

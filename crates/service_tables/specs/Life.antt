@@ -1,5 +1,6 @@
 -- What a service over files leaves in its whole life: run after run, each ended by a stop or a crash.
 use Rattle.std.specs.Prelude.{◌≡◌, ◌⊎◌, ◌↔◌, ℕ, List, [], ◌∷◌, ◌++◌, Ok, false}
+use Rattle.std.specs.List.{AllByRecursion}
 use Rattle.sqlite_disk.specs.declared.Disk as disk
 use Rattle.sqlite_disk.specs.declared.Files.{Files}
 use Rattle.sqlite_store.specs.declared.store.FileStore.{FileStore}
@@ -10,6 +11,7 @@ use Rattle.sqlite.specs.Held.{Held}
 use Rattle.sqlite.specs.Recovery.{Image}
 use Rattle.sqlite.specs.WalReads.{AreClean}
 use Rattle.entity_core.specs.Airspace.{Airspace, empty_at}
+use Rattle.entity_sweep.specs.Sweep.{IsPartlySwept}
 use Rattle.space_core.specs.Space.{IsContent}
 use Rattle.space_core.specs.declared.space.Space as spaces
 use Rattle.service_step.specs.declared.reply.Reply.{Reply}
@@ -17,6 +19,7 @@ use Rattle.service_core.specs.declared.service.Service.{Service}
 use Rattle.service_core.specs.Held.{is_shut, salt_of, space_of}
 use Rattle.service_core.specs.Rounds.{Made, MayHaveKept, Round, all_timed, all_told}
 use Rattle.service_core.specs.Run.{AskedInOrder, MayHaveStepped, Timed, airspace_after, answered_calls, has_stopped}
+use Rattle.service_core.specs.Swept.{MayHaveKeptSwept, Segment, airspace_after_rounds, all_told_in}
 use Rattle.space_tables.specs.declared.format.Format.{Format}
 use Rattle.space_opening.specs.declared.open_fault.OpenFault.{OpenFault}
 use Rattle.space_sql.specs.Found.{AreUnmade, FilesSpell, FindsSpelt, RefusesFound}
@@ -28,18 +31,26 @@ abbrev pub StandFor : Image → Airspace → Type 0
 StandFor image a =
     ((format : Format) × FilesSpell format image a) ⊎ (AreUnmade image × (a ≡ empty_at 0))
 
--- a run of a service over files: its salt, and what it was asked in rounds
+-- A run of a service over files: its salt, and what it was asked, in rounds after each of which some
+-- of what had ended was let go of, and in rounds after these. A sweep of files that no service serves
+-- is a run, too, in which nobody calls.
 pub record Run : Type 0 where
   pub salt : List ℕ
+  pub segments : List Segment
   pub rounds : List Round
 
--- the run of a service that was asked these rounds
+-- the run of a service that was asked this
+abbrev pub run_swept : {S : Type 0} → Service S → List Segment → List Round → Run
+run_swept old segments rounds =
+    record { salt = salt_of old; segments = segments; rounds = rounds }
+
+-- the same where nothing was let go of
 abbrev pub run_of : {S : Type 0} → Service S → List Round → Run
-run_of old rounds = record { salt = salt_of old; rounds = rounds }
+run_of old rounds = run_swept old [] rounds
 
 -- a run whose opening failed
 abbrev pub unasked : Run
-unasked = record { salt = []; rounds = [] }
+unasked = record { salt = []; segments = []; rounds = [] }
 
 -- calls with their replies, none of which waits
 abbrev pub made_at_once : List Timed → List Reply → List Made
@@ -61,9 +72,9 @@ AloneIsStepped =
 
 -- The airspace may have come of another one in this run: by the policy's steps for the calls that
 -- were answered; of the first round in which a caller was told `Stopped`, if there is one, by those up
--- to that call, or by all that were made in it.
+-- to that call, or by all that were made in it; and what was let go of between two rounds had ended.
 abbrev pub MayCome : Airspace → Run → Airspace → Type 0
-MayCome a run b = MayHaveKept run.salt a run.rounds b
+MayCome a run b = MayHaveKeptSwept run.salt a run.segments run.rounds b
 
 -- files that stood for an airspace before the run stand after it for one that may have come of that
 abbrev pub Continues : Image → Run → Image → Type 0
@@ -130,12 +141,42 @@ LifeIsFound {T} again =
     → FindsSpelt after again next → again.is_sound next
     → ∥ ((b : Airspace) × MayComeOfAll a runs b × IsContent again.holds next b) ∥₁
 
--- Where no caller of a run was told `Stopped`, one airspace alone may come of it: the policy's, after
--- all calls that were answered.
+-- Where no caller of a run was told `Stopped`, and nothing was let go of in it, one airspace alone may
+-- come of it: the policy's, after all calls that were answered.
 abbrev pub UnstoppedIsDue : Type 0
 UnstoppedIsDue =
-    (a b : Airspace) (run : Run) → has_stopped (all_told run.rounds) ≡ false → MayCome a run b
+    (a b : Airspace) (run : Run) → run.segments ≡ [] → has_stopped (all_told run.rounds) ≡ false
+    → MayCome a run b
     → b ≡ airspace_after run.salt a (answered_calls (all_timed run.rounds) (all_told run.rounds))
+
+-- what is due of segments and rounds: the policy's airspace after all calls that were answered, over
+-- one of which some of what had ended was let go of after each segment
+abbrev pub IsDue : List ℕ → Airspace → List Segment → List Round → Airspace → Type 0
+IsDue salt a [] rounds b = b ≡ airspace_after_rounds salt a rounds
+IsDue salt a (segment ∷ segments) rounds b =
+    (c : Airspace) × IsPartlySwept segment.until (airspace_after_rounds salt a segment.rounds) c
+    × IsDue salt c segments rounds b
+
+-- Where no caller of a run was told `Stopped`, such an airspace comes of it.
+abbrev pub UnstoppedIsDueSwept : Type 0
+UnstoppedIsDueSwept =
+    (a b : Airspace) (run : Run) → has_stopped (all_told_in run.segments run.rounds) ≡ false
+    → MayCome a run b → IsDue run.salt a run.segments run.rounds b
+
+-- rounds in which nobody called
+abbrev pub AreEmpty : List Round → Type 0
+AreEmpty rounds = AllByRecursion (λ round. round.calls ≡ []) rounds
+
+-- A run in which nobody called, and some of what had ended by a moment was let go of: of each
+-- airspace comes one that is swept in part.
+abbrev pub SweepsOnly : ℕ → Run → Type 0
+SweepsOnly until run = AllByRecursion (λ s. AreEmpty s.rounds × (s.until ≡ until)) run.segments
+    × AreEmpty run.rounds
+
+abbrev pub SweepRunIsPartly : Type 0
+SweepRunIsPartly =
+    (until : ℕ) (a b : Airspace) (run : Run) → SweepsOnly until run → MayCome a run b
+    → IsPartlySwept until a b
 
 -- What is asked over several connections, one after the other, is one list of calls.
 abbrev pub AskedOn : {S : Type 0} → spaces.Ghosts S → Type 0

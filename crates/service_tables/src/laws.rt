@@ -1,9 +1,9 @@
 //! The laws of a service over tables. No program calls these functions: what they say is in their
 //! contracts.
-ghost use Rattle.service_core.specs.Rounds.{OpenRoundIsUnkept};
+ghost use Rattle.service_core.specs.Swept.{OpenSegmentIsUnkept};
 ghost use Rattle.service_tables.specs.Crash.{CrashAfterCall, CrashAfterGroupedCall, CrashAfterRound, bound_waiting_of};
 ghost use Rattle.service_tables.specs.InRounds.{ContinuesInRounds, ContinuesInRoundsClosed, SomeIsHeld};
-ghost use Rattle.service_tables.specs.Life.{AloneIsStepped, AskedOn, ContinuesClosed, ContinuesRefused, ContinuesServed, LifeIsFound, LifeLeaves, UnstoppedIsDue};
+ghost use Rattle.service_tables.specs.Life.{AloneIsStepped, AskedOn, ContinuesClosed, ContinuesRefused, ContinuesServed, LifeIsFound, LifeLeaves, SweepRunIsPartly, UnstoppedIsDue, UnstoppedIsDueSwept};
 ghost use Rattle.service_tables.specs.Restart.{RestartAfterCall};
 
 use space_bounds::bounded::Bounded;
@@ -41,9 +41,9 @@ fn some_is_held<A: Alter>()
     ensures { SomeIsHeld ⟦<SqlSpace<A> as Space>⟧ }
 {}
 
-// The law of open rounds over tables in some store, generic in it.
-fn open_round_of_tables<A: Alter + Drop>()
-    ensures { OpenRoundIsUnkept ⟦<Bounded<Grouped<SqlSpace<A>>> as Space>⟧
+// The law of open segments over tables in some store, generic in it.
+fn open_segment_of_tables<A: Alter + Drop>()
+    ensures { OpenSegmentIsUnkept ⟦<Bounded<Grouped<SqlSpace<A>>> as Space>⟧
         (bound_waiting_of ⟦<SqlSpace<A> as Space>⟧) }
 {}
 
@@ -66,14 +66,15 @@ pub fn run_continues<S: Start>()
 {}
 
 /// The same of a service whose changes may wait, with a bound of what is kept of each supplier, or
-/// none. It is said of what `Service::call` and `Service::settle` answer, of what `Bounded::release`
-/// and `Grouped::release` give back, and then `space_sql::laws::files_left`.
+/// none, and which between two rounds lets go of some of what has ended, or does not. It is said of
+/// what `Service::call`, `Service::settle` and `Service::sweep` answer, of what `Bounded::release` and
+/// `Grouped::release` give back, and then `space_sql::laws::files_left`.
 pub fn run_in_rounds_continues<S: Start>()
     ensures { ContinuesInRounds ⟦<SqlSpace<FileStore<FileFrom<S>>> as Space>⟧
         ⟦<Bounded<Grouped<SqlSpace<FileStore<FileFrom<S>>>>> as Space>⟧ }
 {
     some_is_held::<FileStore<FileFrom<S>>>();
-    open_round_of_tables::<FileStore<FileFrom<S>>>();
+    open_segment_of_tables::<FileStore<FileFrom<S>>>();
 }
 
 /// The same where the run ends with `SqlSpace::close_files`, also where the log is then removed.
@@ -87,7 +88,7 @@ pub fn closed_run_in_rounds_continues<S: Start>()
         ⟦<Bounded<Grouped<SqlSpace<FileStore<FileFrom<S>>>>> as Space>⟧ }
 {
     some_is_held::<FileStore<FileFrom<S>>>();
-    open_round_of_tables::<FileStore<FileFrom<S>>>();
+    open_segment_of_tables::<FileStore<FileFrom<S>>>();
 }
 
 /// Of an opening that was refused with a connection that came back: the airspace is the same. It is said
@@ -113,9 +114,16 @@ pub fn alone_is_stepped()
 {}
 
 /// Where no caller of a run was told `Stopped`, what comes of it is the policy's airspace after all
-/// calls that were answered.
+/// calls that were answered; where it let go of some of what had ended, over what the sweeps left.
 pub fn unstopped_is_due()
-    ensures { UnstoppedIsDue }
+    ensures due { UnstoppedIsDue }
+    ensures swept { UnstoppedIsDueSwept }
+{}
+
+/// What comes of a run in which nobody called, and some of what had ended was let go of, as of a sweep
+/// of files that no service serves, is the airspace swept in part, and nothing else.
+pub fn sweep_run_is_partly()
+    ensures { SweepRunIsPartly }
 {}
 
 /// What is asked over several connections, one after the other, is one list of calls.

@@ -2,4 +2,5 @@
 #![tactic(auto)]
 
 pub mod first;
+pub mod first_in_memory;
 pub mod laws;

@@ -5,9 +5,9 @@ ghost use Rattle.service_core.specs.Held.{space_of};
 ghost use Rattle.service_step.specs.Reply.{is_stopped};
 ghost use Rattle.service_core.specs.Service.{Leaves, MayFail};
 
-use crate::service::Service;
 use entity_core::salt::Salt;
 use policy_core::call::Call;
+use service_core::service::Service;
 use service_step::reply::Reply;
 use space_core::space::Space;
 use space_list::list::ListSpace;
