@@ -8,6 +8,7 @@ use crate::connections::{Cause, Connections};
 use crate::faults::Faults;
 use crate::kept::Kept;
 use crate::requests::Requests;
+use crate::swept::Swept;
 use crate::tokens::Tokens;
 
 /// The number, for any width of an address.
@@ -30,6 +31,8 @@ pub struct Figures {
     pub faults: Faults,
     /// How much is kept.
     pub kept: Kept,
+    /// What had ended and was let go of.
+    pub swept: Swept,
     /// The token file.
     pub tokens: Tokens,
     pub(crate) health: Health,
@@ -45,6 +48,7 @@ impl Figures {
             requests: Requests::new(),
             faults: Faults::new(),
             kept: Kept::unknown(),
+            swept: Swept::new(),
             tokens: Tokens::new(),
             health: Health::Serving,
         }

@@ -17,4 +17,5 @@ pub mod operation;
 pub mod query;
 pub mod request;
 pub mod requests;
+pub mod swept;
 pub mod tokens;

@@ -16,6 +16,7 @@ pub(crate) fn metrics(
     figures.requests.put(&mut text, alloc)?;
     figures.faults.put(&mut text)?;
     figures.kept.put(&mut text)?;
+    figures.swept.put(&mut text)?;
     figures.tokens.put(&mut text, build.started)?;
     build.put(&mut text)?;
     Ok(text.into_text())

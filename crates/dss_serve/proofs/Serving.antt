@@ -1,6 +1,6 @@
 -- How what was asked goes on, call by call and round by round.
 use Rattle.std.proofs.Common.{◌≡◌, ℕ, List, [], ◌∷◌, ◌++◌, map, refl, sym, ap, subst, ◌∙◌, ◌⊎◌, inl, inr, append_assoc, Option, Some, None, Result, Ok, Err}
-use Rattle.std.specs.Prelude.{◌||◌, All, IfErr, IfOk, IfSome, unwrap_or}
+use Rattle.std.specs.Prelude.{◌-◌, ◌||◌, All, IfErr, IfOk, IfSome, unwrap_or}
 use Rattle.std.specs.Option.{option_or}
 use Rattle.std.specs.List.{flat_map}
 use Rattle.std.proofs.lemmas.List.{append-nil, map-append}
@@ -13,6 +13,7 @@ use Rattle.service_core.specs.declared.service.Service.{Service}
 use Rattle.service_core.specs.Held.{space_of}
 use Rattle.service_core.specs.Rounds.{IsSettled, Made, MadeInOrder, MadeRounds, Round, all_timed, timed_in}
 use Rattle.service_core.specs.Run.{IsReplyTo, Timed}
+use Rattle.service_core.specs.Swept.{MadeSegments, Segment, SweepsOnce}
 use Rattle.service_step.specs.declared.reply.Reply.{Reply}
 use Rattle.token_conf.specs.TokenFile.{Callers, TokenFile, callers_of}
 use Rattle.wire_http.specs.Count.{one_more}
@@ -24,7 +25,7 @@ use Rattle.wire_http.specs.declared.fault.StreamFault.TheVariants as faults
 use Rattle.wire_http.specs.declared.moments.Moments as moments
 use Rattle.wire_http.specs.Connection.{IsStep, IsStepPart}
 use Rattle.wire_http.specs.Wire.{Asked, ClockAfter, timed}
-use Rattle.dss_serve.specs.Serve.{AreAmong, AskedUnder, GoesOn, IsAskedBy, ServesAll, ServesBy, ServesSoFar, Told, moments_of}
+use Rattle.dss_serve.specs.Serve.{AllAreDue, AreAmong, AskedUnder, GoesOn, IsAskedBy, MaySweep, ServesAll, ServesBy, ServesSoFar, SweepsNothing, SweepsPiece, Told, moments_of}
 use Rattle.dss_serve.specs.Tokens.{IsTakenAfter}
 
 -- ---- the clock
@@ -48,6 +49,11 @@ among_then (moment ∷ ms) ns told more h k = (
   among_then ms ns h.1 more h.3 k,
 )
 
+among_before : (ms : List ℕ) (told more : List (Option ℕ)) → AreAmong ms told → AreAmong ms (told ++ more)
+among_before [] told more h = tt
+among_before (moment ∷ ms) told more h =
+    (h.0, h.1 ++ more, ap (λ (x : List (Option ℕ)). x ++ more) h.2 ∙ append_assoc h.0 (Some moment ∷ h.1) more, among_before ms h.1 more h.3)
+
 -- ---- calls and rounds
 
 module _ {S : Type 0} (g : spaces.Ghosts S) (k : settles.Ghosts S) where
@@ -58,6 +64,17 @@ module _ {S : Type 0} (g : spaces.Ghosts S) (k : settles.Ghosts S) where
   rounds_then : (xs ys : List Round) (old mid new : Service S) → MadeRounds g k old xs mid → MadeRounds g k mid ys new → MadeRounds g k old (xs ++ ys) new
   rounds_then [] ys old mid new p q = subst (λ (s : Service S). MadeRounds g k s ys new) p q
   rounds_then (x ∷ xs) ys old mid new p q = (p.0, p.1, p.2, p.3, rounds_then xs ys p.1 mid new p.4 q)
+
+  -- rounds, and then one piece of a sweep more
+  segments_more : (segments : List Segment) (rounds : List Round) (until : ℕ) (old last mid new : Service S) → MadeSegments g k old segments last → MadeRounds g k last rounds mid
+      → SweepsOnce g k until mid new → MadeSegments g k old (segments ++ record { rounds = rounds; until = until } ∷ []) new
+  segments_more [] rounds until old last mid new p made swept = (mid, new, subst (λ (s : Service S). MadeRounds g k s rounds mid) p made, swept, refl)
+  segments_more (segment ∷ segments) rounds until old last mid new p made swept =
+      (p.0, p.1, p.2, p.3, segments_more segments rounds until p.1 last mid new p.4 made swept)
+
+-- the calls of a segment
+abbrev timed_of : Segment → List Timed
+timed_of segment = all_timed segment.rounds
 
 -- ---- what was asked
 
@@ -167,6 +184,19 @@ module _ {S M : Type 0} (g : spaces.Ghosts S) (k : settles.Ghosts S) (m : moment
         | inr settled ↦ (new, clock', so_far_settled old next new clock clock' settled.0 far settled.1, goes_still new clock')
       ]
 
+  -- nothing went, whatever the clock told
+  pub serves_nothing : (old new : Service S) (clock clock' : M) → SweepsNothing g k m old new clock clock' → ServesBy g k m callers old new clock clock'
+  serves_nothing old new clock clock' h = record {
+    all = [];
+    rounds = [];
+    told = h.1;
+    requests = All-nil (IsAskedBy callers);
+    calls = refl;
+    made = h.0;
+    clock_told = h.2;
+    moments = tt;
+  }
+
 -- ---- what a connection asks
 
 module _ {S M : Type 0} (g : spaces.Ghosts S) (k : settles.Ghosts S) (m : moments.Ghosts M) (callers : Callers) (old new : Service S) (clock clock' : M) where
@@ -247,24 +277,49 @@ asked_by_first table all p =
     let same : all ≡ p.0 = p.2 ∙ ap (λ (v : List Asked). p.0 ++ v) p.4 ∙ append-nil p.0 in
     subst (λ (v : List Asked). All (IsAskedBy (callers_of table)) v) (sym same) p.3
 
-module _ {S M : Type 0} (g : spaces.Ghosts S) (k : settles.Ghosts S) (m : moments.Ghosts M) (gives : List ℕ → Type 0) (tokens : TokenFile) where
+-- ---- until when it was swept
+
+due_none : (keep : Option ℕ) → AllAreDue keep [] []
+due_none None = refl
+due_none (Some keep) = ([], tt, refl)
+
+due_told : (keep : Option ℕ) (told more : List (Option ℕ)) (segments : List Segment) → AllAreDue keep told segments → AllAreDue keep (told ++ more) segments
+due_told None told more segments h = h
+due_told (Some keep) told more segments h = (h.0, among_before h.0 told more h.1, h.2)
+
+due_more : (keep moment : ℕ) (told : List (Option ℕ)) (segments : List Segment) (rounds : List Round) → AllAreDue (Some keep) told segments
+    → AllAreDue (Some keep) (told ++ Some moment ∷ []) (segments ++ record { rounds = rounds; until = moment - keep } ∷ [])
+due_more keep moment told segments rounds h = (
+  h.0 ++ moment ∷ [],
+  among_then h.0 (moment ∷ []) told (Some moment ∷ []) h.1 ([], [], refl, tt),
+  map-append (λ (x : Segment). x.until) segments (record { rounds = rounds; until = moment - keep } ∷ []) ∙ ap (λ (v : List ℕ). v ++ (moment - keep) ∷ []) h.2
+      ∙ sym (map-append (λ (x : ℕ). x - keep) h.0 (moment ∷ [])),
+)
+
+-- ---- all that was asked
+
+module _ {S M : Type 0} (g : spaces.Ghosts S) (k : settles.Ghosts S) (m : moments.Ghosts M) (gives : List ℕ → Type 0) (keep : Option ℕ) (tokens : TokenFile) where
   -- what was served until now, when a table is in force
   pub record ServesUpTo (current : TokenFile) (old new : Service S) (clock clock' : M) : Type 0 where
-    pub serves : ServesAll g k m gives tokens old new clock clock'
+    pub serves : ServesAll g k m gives keep tokens old new clock clock'
     pub in_force : last_of tokens serves.later ≡ current
 
-  pub all_none : (s : Service S) (clock : M) → ServesAll g k m gives tokens s s clock clock
+  pub all_none : (s : Service S) (clock : M) → ServesAll g k m gives keep tokens s s clock clock
   all_none s clock = record {
     all = [];
+    segments = [];
     rounds = [];
     told = [];
     later = [];
     taken = All-nil (IsTakenAfter gives tokens);
     requests = ([], [], refl, All-nil (IsAskedBy (callers_of tokens)), refl);
     calls = refl;
+    last = s;
+    segments_made = refl;
     made = refl;
     clock_told = refl;
     moments = tt;
+    sweeps = due_none keep;
   }
 
   pub up_to_none : (s : Service S) (clock : M) → ServesUpTo tokens s s clock clock
@@ -272,21 +327,26 @@ module _ {S M : Type 0} (g : spaces.Ghosts S) (k : settles.Ghosts S) (m : moment
   up_to_none s clock = record { serves = all_none s clock; in_force = refl }
 
   -- calls under the table that is in force
-  all_then : (old mid new : Service S) (clock between clock' : M) (p : ServesAll g k m gives tokens old mid clock between)
-      → ServesBy g k m (callers_of (last_of tokens p.later)) mid new between clock' → ServesAll g k m gives tokens old new clock clock'
+  all_then : (old mid new : Service S) (clock between clock' : M) (p : ServesAll g k m gives keep tokens old mid clock between)
+      → ServesBy g k m (callers_of (last_of tokens p.later)) mid new between clock' → ServesAll g k m gives keep tokens old new clock clock'
   all_then old mid new clock between clock' p q = record {
     all = p.all ++ q.all;
+    segments = p.segments;
     rounds = p.rounds ++ q.rounds;
     told = p.told ++ q.told;
     later = p.later;
     taken = p.taken;
     requests = asked_more tokens p.later p.all q.all p.requests q.requests;
-    calls = flat_map-append timed_in p.rounds q.rounds ∙ ap (λ (v : List Timed). v ++ all_timed q.rounds) p.calls
-        ∙ ap (λ (v : List Timed). map timed p.all ++ v) q.calls ∙ sym (map-append timed p.all q.all);
-    made = rounds_then g k p.rounds q.rounds old mid new p.made q.made;
+    calls = ap (λ (v : List Timed). flat_map timed_of p.segments ++ v) (flat_map-append timed_in p.rounds q.rounds)
+        ∙ sym (append_assoc (flat_map timed_of p.segments) (all_timed p.rounds) (all_timed q.rounds))
+        ∙ ap (λ (v : List Timed). v ++ all_timed q.rounds) p.calls ∙ ap (λ (v : List Timed). map timed p.all ++ v) q.calls ∙ sym (map-append timed p.all q.all);
+    last = p.last;
+    segments_made = p.segments_made;
+    made = rounds_then g k p.rounds q.rounds p.last mid new p.made q.made;
     clock_told = told_then m p.told q.told clock between clock' p.clock_told q.clock_told;
     moments = subst (λ (v : List ℕ). AreAmong v (p.told ++ q.told)) (sym (map-append (λ (x : Asked). x.moment) p.all q.all))
         (among_then (moments_of p.all) (moments_of q.all) p.told q.told p.moments q.moments);
+    sweeps = due_told keep p.told q.told p.segments p.sweeps;
   }
 
   up_to_then : (current used : TokenFile) (old mid new : Service S) (clock between clock' : M) → ServesUpTo current old mid clock between → used ≡ current
@@ -297,20 +357,24 @@ module _ {S M : Type 0} (g : spaces.Ghosts S) (k : settles.Ghosts S) (m : moment
       record { serves = all_then old mid new clock between clock' p.serves by_last; in_force = p.in_force }
 
   -- another table is taken
-  all_taken : (table : TokenFile) (old new : Service S) (clock clock' : M) → IsTakenAfter gives tokens table → ServesAll g k m gives tokens old new clock clock'
+  all_taken : (table : TokenFile) (old new : Service S) (clock clock' : M) → IsTakenAfter gives tokens table → ServesAll g k m gives keep tokens old new clock clock'
       → ServesUpTo table old new clock clock'
   all_taken table old new clock clock' is p = record {
     serves = record {
       all = p.all;
+      segments = p.segments;
       rounds = p.rounds;
       told = p.told;
       later = p.later ++ table ∷ [];
       taken = All-append (IsTakenAfter gives tokens) p.later (table ∷ []) p.taken (All-cons (IsTakenAfter gives tokens) table [] is (All-nil (IsTakenAfter gives tokens)));
       requests = asked_taken (tokens ∷ p.later) table p.all p.requests;
       calls = p.calls;
+      last = p.last;
+      segments_made = p.segments_made;
       made = p.made;
       clock_told = p.clock_told;
       moments = p.moments;
+      sweeps = p.sweeps;
     };
     in_force = last_taken tokens p.later table;
   }
@@ -320,13 +384,52 @@ module _ {S M : Type 0} (g : spaces.Ghosts S) (k : settles.Ghosts S) (m : moment
   up_to_taken newer None old new clock clock' p is = p
   up_to_taken newer (Some table) old new clock clock' p is = all_taken table old new clock clock' is p.serves
 
+module _ {S M : Type 0} (g : spaces.Ghosts S) (k : settles.Ghosts S) (m : moments.Ghosts M) (gives : List ℕ → Type 0) (tokens : TokenFile) where
+  -- a piece of a sweep after the last round
+  up_to_piece : (keep : Option ℕ) (current : TokenFile) (old mid new : Service S) (clock between clock' : M) → ServesUpTo g k m gives keep tokens current old mid clock between
+      → SweepsPiece g k m keep mid new between clock' → ServesUpTo g k m gives keep tokens current old new clock clock'
+  up_to_piece None current old mid new clock between clock' p h = absurd h
+  up_to_piece (Some keep) current old mid new clock between clock' p h =
+      let q = p.serves in
+      let piece : Segment = record { rounds = q.rounds; until = h.0 - keep } in
+      record {
+        serves = record {
+          all = q.all;
+          segments = q.segments ++ piece ∷ [];
+          rounds = [];
+          told = q.told ++ Some h.0 ∷ [];
+          later = q.later;
+          taken = q.taken;
+          requests = q.requests;
+          calls = append-nil (flat_map timed_of (q.segments ++ piece ∷ [])) ∙ flat_map-append timed_of q.segments (piece ∷ [])
+              ∙ ap (λ (v : List Timed). flat_map timed_of q.segments ++ v) (append-nil (all_timed q.rounds)) ∙ q.calls;
+          last = new;
+          segments_made = segments_more g k q.segments q.rounds (h.0 - keep) old q.last mid new q.segments_made q.made h.2;
+          made = refl;
+          clock_told = told_then m q.told (Some h.0 ∷ []) clock between clock' q.clock_told (clock', h.1, refl);
+          moments = among_before (moments_of q.all) q.told (Some h.0 ∷ []) q.moments;
+          sweeps = due_more keep h.0 q.told q.segments q.rounds q.sweeps;
+        };
+        in_force = p.in_force;
+      }
+
+  up_to_swept : (keep : Option ℕ) (current : TokenFile) (old mid new : Service S) (clock between clock' : M) → ServesUpTo g k m gives keep tokens current old mid clock between
+      → MaySweep g k m keep mid new between clock' → ServesUpTo g k m gives keep tokens current old new clock clock'
+  up_to_swept keep current old mid new clock between clock' p h =
+      elim h [
+        | inl nothing ↦ up_to_then g k m gives keep tokens current current old mid new clock between clock' p refl (serves_nothing g k m (callers_of current) mid new between clock' nothing)
+        | inr piece ↦ up_to_piece keep current old mid new clock between clock' p piece
+      ]
+
   -- it was looked at the token file, which changes nothing or takes its table, then calls were made under the table in force, and
-  -- then the service was shown, which changes nothing
-  pub up_to_looked : (newer taken newer' : Option TokenFile) (used : TokenFile) (old mid new shown : Service S) (clock between clock' : M)
-      → ServesUpTo (unwrap_or newer tokens) old mid clock between → IfSome taken (IsTakenAfter gives tokens) → newer' ≡ option_or taken newer
-      → used ≡ unwrap_or newer' tokens → ServesBy g k m (callers_of used) mid new between clock' → shown ≡ new
-      → ServesUpTo (unwrap_or newer' tokens) old shown clock clock'
-  up_to_looked newer taken newer' used old mid new shown clock between clock' p is same is_used q same_shown =
-      let looked = subst (λ (n : Option TokenFile). ServesUpTo (unwrap_or n tokens) old mid clock between) (sym same) (up_to_taken newer taken old mid clock between p is) in
-      let asked = up_to_then (unwrap_or newer' tokens) used old mid new clock between clock' looked is_used q in
-      subst (λ (s : Service S). ServesUpTo (unwrap_or newer' tokens) old s clock clock') (sym same_shown) asked
+  -- then a piece may have gone, and the service was shown, which changes nothing
+  pub up_to_looked : (keep : Option ℕ) (newer taken newer' : Option TokenFile) (used : TokenFile) (old mid asked new shown : Service S) (clock between after clock' : M)
+      → ServesUpTo g k m gives keep tokens (unwrap_or newer tokens) old mid clock between → IfSome taken (IsTakenAfter gives tokens) → newer' ≡ option_or taken newer
+      → used ≡ unwrap_or newer' tokens → ServesBy g k m (callers_of used) mid asked between after → MaySweep g k m keep asked new after clock' → shown ≡ new
+      → ServesUpTo g k m gives keep tokens (unwrap_or newer' tokens) old shown clock clock'
+  up_to_looked keep newer taken newer' used old mid asked new shown clock between after clock' p is same is_used q swept same_shown =
+      let looked = subst (λ (n : Option TokenFile). ServesUpTo g k m gives keep tokens (unwrap_or n tokens) old mid clock between) (sym same)
+      (up_to_taken g k m gives keep tokens newer taken old mid clock between p is) in
+      let served = up_to_then g k m gives keep tokens (unwrap_or newer' tokens) used old mid asked clock between after looked is_used q in
+      let all = up_to_swept keep (unwrap_or newer' tokens) old asked new clock after clock' served swept in
+      subst (λ (s : Service S). ServesUpTo g k m gives keep tokens (unwrap_or newer' tokens) old s clock clock') (sym same_shown) all

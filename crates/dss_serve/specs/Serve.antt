@@ -1,9 +1,12 @@
 -- What is known of all that many clients asked.
-use Rattle.std.specs.Prelude.{◌≡◌, ℕ, List, [], ◌∷◌, ◌++◌, All, map, Option, Some, None}
+use Rattle.std.specs.Prelude.{◌≡◌, ◌-◌, ◌⊎◌, ℕ, List, [], ◌∷◌, ◌++◌, All, map, Option, Some, None}
+use Rattle.std.specs.List.{flat_map}
 use Rattle.space_core.specs.declared.settle.Settles as settles
 use Rattle.space_core.specs.declared.space.Space as spaces
 use Rattle.service_core.specs.declared.service.Service.{Service}
 use Rattle.service_core.specs.Rounds.{Made, MadeInOrder, MadeRounds, Round, all_timed}
+use Rattle.service_core.specs.Run.{Timed}
+use Rattle.service_core.specs.Swept.{MadeSegments, Segment, SweepsOnce}
 use Rattle.token_conf.specs.TokenFile.{Callers, TokenFile, callers_of}
 use Rattle.wire_http.specs.Asked.{IsCallOf}
 use Rattle.wire_http.specs.Count.{one_more}
@@ -71,22 +74,56 @@ module _ {S M : Type 0} (g : spaces.Ghosts S) (k : settles.Ghosts S) (m : moment
   ServesSoFar old new clock clock' = (mid : Service S) × (between : M)
       × ServesBy old mid clock between × GoesOn mid new between clock'
 
+module _ {S M : Type 0} (g : spaces.Ghosts S) (k : settles.Ghosts S) (m : moments.Ghosts M) where
+  -- nothing went, whatever the clock told
+  abbrev pub SweepsNothing : Service S → Service S → M → M → Type 0
+  SweepsNothing old new clock clock' =
+      (new ≡ old) × (told : List (Option ℕ)) × Told m told clock clock'
+
+  -- A piece of a sweep was made until a moment that the clock told, less the seconds that what has
+  -- ended is kept. Where it is kept for good none was.
+  abbrev pub SweepsPiece : (keep : Option ℕ) → Service S → Service S → M → M → Type 0
+  SweepsPiece None old new clock clock' = ⊥
+  SweepsPiece (Some keep) old new clock clock' =
+      (moment : ℕ) × m.gives clock moment clock' × SweepsOnce g k (moment - keep) old new
+
+  abbrev pub MaySweep : (keep : Option ℕ) → Service S → Service S → M → M → Type 0
+  MaySweep keep old new clock clock' =
+      SweepsNothing old new clock clock' ⊎ SweepsPiece keep old new clock clock'
+
+-- the calls of rounds between which it was swept, and of those after
+abbrev pub all_timed_in : List Segment → List Round → List Timed
+all_timed_in segments rounds =
+    flat_map (λ segment. all_timed segment.rounds) segments ++ all_timed rounds
+
+-- Each piece was swept until a moment that the clock told, in that order, less the seconds that what
+-- has ended is kept. Where it is kept for good there is none.
+abbrev pub AllAreDue : (keep : Option ℕ) → List (Option ℕ) → List Segment → Type 0
+AllAreDue None told segments = segments ≡ []
+AllAreDue (Some keep) told segments = (moments : List ℕ) × AreAmong moments told
+    × (map (λ segment. segment.until) segments ≡ map (λ moment. moment - keep) moments)
+
 module _ {S M : Type 0} (g : spaces.Ghosts S) (k : settles.Ghosts S) (m : moments.Ghosts M)
-    (gives : List ℕ → Type 0) (tokens : TokenFile) where
+    (gives : List ℕ → Type 0) (keep : Option ℕ) (tokens : TokenFile) where
   -- The service was asked calls of requests, one after the other, and no other: one list of calls,
   -- whoever made them. Each was judged by one table of tokens: the first is that of the start, and each
   -- later one was read whole of the token file as it then was, with the same salt. They were made in
   -- rounds, each of which was settled at its end: a client whose reply waited for that was told it as it
-  -- was made only where the changes were kept. Each call was made at a moment of the clock, which told
-  -- no more than that.
+  -- was made only where the changes were kept. Between rounds went pieces of what had ended so long before
+  -- a moment of the clock as it is kept, and nothing where it is kept for good. Each call was made at a
+  -- moment of the clock, which told no more than these.
   pub record ServesAll (old new : Service S) (clock clock' : M) : Type 0 where
     pub all : List Asked
+    pub segments : List Segment
     pub rounds : List Round
     pub told : List (Option ℕ)
     pub later : List TokenFile
     pub taken : All (IsTakenAfter gives tokens) later
     pub requests : AskedUnder (tokens ∷ later) all
-    pub calls : all_timed rounds ≡ map timed all
-    pub made : MadeRounds g k old rounds new
+    pub calls : all_timed_in segments rounds ≡ map timed all
+    pub last : Service S
+    pub segments_made : MadeSegments g k old segments last
+    pub made : MadeRounds g k last rounds new
     pub clock_told : Told m told clock clock'
     pub moments : AreAmong (moments_of all) told
+    pub sweeps : AllAreDue keep told segments

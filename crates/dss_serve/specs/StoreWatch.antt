@@ -1,11 +1,13 @@
 -- When it is told that the store fails, and that it works again.
-use Rattle.std.specs.Prelude.{◌==◌, ◌+◌, ◌-◌, ◌^◌, ℕ, Bool, true, false, if◌then◌else◌, Option, Some, None, Result, Ok, Err, min}
+use Rattle.std.specs.Prelude.{◌==◌, ◌+◌, ◌-◌, ◌^◌, ℕ, zero, suc, Bool, true, false, if◌then◌else◌, Option, Some, None, Result, Ok, Err, min}
 use Rattle.std.specs.Duration.{as_nanos}
 use Rattle.dss_serve.specs.declared.journal.StoreNews.{StoreNews}
 use Rattle.dss_serve.specs.declared.journal.StoreNews.TheVariants as news
 use Rattle.dss_serve.specs.declared.store_watch.Fate.{Fate}
 use Rattle.dss_serve.specs.declared.store_watch.Fate.TheVariants as fate
 use Rattle.dss_serve.specs.declared.store_watch.StoreWatch.{StoreWatch}
+use Rattle.dss_serve.specs.declared.sweeper.SweepFault.{SweepFault}
+use Rattle.dss_serve.specs.declared.sweeper.SweepFault.TheVariants as sweep
 use Rattle.space_core.specs.declared.space.SpaceFault.{SpaceFault}
 use Rattle.space_core.specs.declared.space.SpaceFault.TheVariants as space
 
@@ -15,6 +17,14 @@ fate_of_round true (Ok done) = Some fate.Kept
 fate_of_round false (Ok done) = None
 fate_of_round waited (Err space.Unchanged) = Some fate.NotKept
 fate_of_round waited (Err space.Broken) = Some fate.Unknown
+
+-- what became of a piece of a sweep, by how much went, or why nothing did
+abbrev pub fate_of_sweep : Result ℕ SweepFault → Option Fate
+fate_of_sweep (Ok zero) = None
+fate_of_sweep (Ok (suc n)) = Some fate.Kept
+fate_of_sweep (Err sweep.Clock) = None
+fate_of_sweep (Err (sweep.Space space.Unchanged)) = None
+fate_of_sweep (Err (sweep.Space space.Broken)) = Some fate.Unknown
 
 -- how often it failed since it last kept a change, and how many of these failures are not told yet
 abbrev pub failures_of : StoreWatch → ℕ

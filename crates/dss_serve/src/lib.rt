@@ -16,4 +16,5 @@ mod port;
 pub mod serve;
 pub mod sockets;
 mod store_watch;
+mod sweeper;
 pub mod token_watch;

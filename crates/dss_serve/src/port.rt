@@ -3,7 +3,7 @@ ghost use Rattle.std.specs.Prelude.{◌≡◌, ◌⊎◌, IsSome, IsTrue, Result
 ghost use Rattle.token_conf.specs.TokenFile.{callers_of};
 ghost use Rattle.service_core.specs.Rounds.{IsSettled};
 ghost use Rattle.space_core.specs.declared.space.SpaceFault.{SpaceFault};
-ghost use Rattle.dss_serve.specs.Serve.{GoesOn, ServesBy};
+ghost use Rattle.dss_serve.specs.Serve.{GoesOn, MaySweep, ServesBy};
 
 use crate::desk::Desk;
 use crate::held_back::HeldBack;
@@ -13,7 +13,8 @@ use crate::operator::Board;
 use crate::operators::Operators;
 use crate::peer::{Peer, Turned};
 use crate::sockets::{NotTaken, Sockets, Told, Watched};
-use crate::store_watch::{Fate, StoreWatch, fate_of_change, fate_of_round};
+use crate::store_watch::{Fate, StoreWatch, fate_of_change, fate_of_round, fate_of_sweep};
+use crate::sweeper::Sweeper;
 use dss_admin::build::Build;
 use dss_admin::connections::Cause;
 use dss_admin::figures::Figures;
@@ -25,6 +26,7 @@ use slab::Slab;
 use space_core::settle::Settles;
 use space_core::space::SpaceFault;
 use space_shown::shown::{NoCopy, Shown, Shows};
+use space_sweeps::sweeps::Sweeps;
 use std::alloc::{AllocError, Global};
 use std::collections::VecDeque;
 use std::time::Duration;
@@ -69,6 +71,7 @@ pub(crate) struct Port<N: Sockets> {
     // what operators are told, and until when clients are waited for, where one told the service to end
     figures: Figures,
     store: StoreWatch,
+    sweeper: Sweeper,
     operators: Operators<N>,
     stopping: Option<Duration>,
 }
@@ -107,6 +110,7 @@ impl<N: Sockets + Drop> Port<N> {
             looked: Duration::from_millis(0),
             figures: Figures::new(),
             store: StoreWatch::new(),
+            sweeper: Sweeper::new(),
             operators,
             stopping: None,
         })
@@ -130,8 +134,12 @@ impl<N: Sockets + Drop> Port<N> {
             && self.peers.len() < self.clients
     }
 
-    // How long the system may wait for something to tell: at most until the token file is looked at.
+    // How long the system may wait for something to tell: at most until the token file is looked at,
+    // and not at all while there may be more that has ended.
     fn patience(&self, now: Duration) -> Duration {
+        if self.sweeper.goes_on() {
+            return Duration::from_millis(0);
+        }
         let clients = self.patience_for_clients(now);
         match self.operators.patience(now) {
             Some(operators) => clients.min(operators),
@@ -524,6 +532,32 @@ impl<N: Sockets + Drop> Port<N> {
     /// Has what was told of a round's requests written.
     pub(crate) fn end_round<J: Journal>(&mut self, journal: &mut J) {
         self.figures.faults.lost_lines = journal.end_round();
+    }
+
+    /// Lets go of a piece of what had ended so many seconds ago, where that is due. Without a number
+    /// nothing goes.
+    pub(crate) fn sweep<S: Sweeps + Drop, M: Moments, J: Journal>(
+        &mut self,
+        keep: Option<u64>,
+        service: &mut Service<S>,
+        moments: &mut M,
+        now: Duration,
+        journal: &mut J,
+    )
+        ensures { MaySweep S.Space S.Settles.own M.Moments keep
+            service.old service.new moments.old moments.new }
+    {
+        let Some(keep) = keep else {
+            return;
+        };
+        let Some(swept) = self.sweeper.sweep(keep, service, moments, now) else {
+            return;
+        };
+        match swept {
+            Ok(count) => self.figures.swept.note_gone(count),
+            Err(_) => self.figures.swept.note_fault(),
+        }
+        self.note_fate(fate_of_sweep(swept), now, journal);
     }
 
     // Ends a client that was waited for long enough.

@@ -10,8 +10,8 @@ use crate::sockets::Sockets;
 use crate::token_watch::{TokenSource, TokenWatch};
 use dss_admin::build::Build;
 use service_core::service::Service;
-use space_core::settle::Settles;
 use space_shown::shown::Shows;
+use space_sweeps::sweeps::Sweeps;
 use std::alloc::Global;
 use std::io;
 use std::io::ErrorKind;
@@ -48,6 +48,10 @@ fn in_force<'a>(first: &'a TokenTable, newer: &'a Option<TokenTable>) -> &'a Tok
 /// rounds: where it has changed and reads whole, with the same salt, its table is in force from then
 /// on, and else it is told to the journal why not.
 ///
+/// What had ended so many seconds before a moment that the clock told may go, where a number of them is
+/// given to keep: of intents, constraints and subscriptions a piece at a time, between two rounds.
+/// Without such a number nothing goes.
+///
 /// With a build there is an operator's port, whose connections are answered in the same rounds; nothing
 /// that is asked there is a call of the service. What it keeps is shown there by `&`, so that it is the
 /// same before and after. Backups that are asked for there are made between rounds, piece by piece.
@@ -56,7 +60,7 @@ fn in_force<'a>(first: &'a TokenTable, newer: &'a Option<TokenTable>) -> &'a Tok
 /// error is one of the system that ends the service; the calls before it stand. A fault of a client
 /// is told to the journal, and ends that client's connection alone.
 pub fn serve_clients<
-    S: Settles + Shows + Drop,
+    S: Sweeps + Shows + Drop,
     M: Moments,
     N: Sockets + Drop,
     T: TokenSource + Drop,
@@ -70,10 +74,11 @@ pub fn serve_clients<
     moments: &mut M,
     sockets: N,
     limits: Limits,
+    keep: Option<u64>,
     operated: Option<Build<'_>>,
     journal: &mut J,
 ) -> io::Result<()>
-    ensures serves { ServesAll S.Space S.Settles.own M.Moments T.gives tokens.now
+    ensures serves { ServesAll S.Space S.Settles.own M.Moments T.gives keep tokens.now
         service.old service.new moments.old moments.new }
     ensures counted { OnOk result (IsSome limits.count ⊎ IsSome operated.entry) }
 {
@@ -97,6 +102,7 @@ pub fn serve_clients<
         };
         port.round(desk, service, moments, now, journal);
         port.end_round(journal);
+        port.sweep(keep, service, moments, now, journal);
         port.look(now, journal);
         if port.serve_operators(operated, service, now) {
             return Ok(());

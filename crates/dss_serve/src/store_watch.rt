@@ -1,11 +1,12 @@
 //! Whether the store keeps what it is given, and when that is to be told.
 ghost use Rattle.std.specs.Prelude.{◌≡◌, ◌<◌, ◌↔◌, Some, IfSome, IfNone, IsNone, IsTrue, true};
 ghost use Rattle.std.specs.Duration.{as_nanos};
-ghost use Rattle.dss_serve.specs.StoreWatch.{failures_of, fate_of_round, is_broken, news_of_breaking, news_of_keeping, one_more, silent_until, untold_of};
+ghost use Rattle.dss_serve.specs.StoreWatch.{failures_of, fate_of_round, fate_of_sweep, is_broken, news_of_breaking, news_of_keeping, one_more, silent_until, untold_of};
 ghost use Rattle.dss_serve.specs.declared.journal.StoreNews.TheVariants as news;
 
 use crate::journal::StoreNews;
 use crate::link::Answer;
+use crate::sweeper::SweepFault;
 use space_core::space::SpaceFault;
 use std::time::Duration;
 use wire_http::Outcome;
@@ -41,6 +42,19 @@ pub(crate) fn fate_of_change(answer: Answer, is_failing: bool) -> Option<Fate> {
         Outcome::Done if answer.is_to_change() => Some(Fate::Kept),
         Outcome::Fault if answer.is_to_change() && is_failing => Some(Fate::NotKept),
         _ => None,
+    }
+}
+
+/// What became of a piece of a sweep. Where nothing went, and the service goes on, that tells nothing
+/// of the store: memory may have lacked, or a copy in it of what is kept. The next change tells.
+pub(crate) fn fate_of_sweep(swept: Result<usize, SweepFault>) -> Option<Fate>
+    ensures { result ≡ fate_of_sweep swept }
+{
+    match swept {
+        Ok(0) => None,
+        Ok(_) => Some(Fate::Kept),
+        Err(SweepFault::Space(SpaceFault::Broken)) => Some(Fate::Unknown),
+        Err(SweepFault::Clock | SweepFault::Space(SpaceFault::Unchanged)) => None,
     }
 }
 

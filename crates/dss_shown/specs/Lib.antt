@@ -1,2 +1,4 @@
 pub mod Key
 pub mod Reference
+pub mod Page
+pub mod Query

@@ -1,6 +1,7 @@
 //! Which entities and subscriptions a page has.
-ghost use Rattle.std.specs.Prelude.{◌≡◌};
-ghost use Rattle.dss_shown.specs.Key.{is_past};
+ghost use Rattle.std.specs.Prelude.{◌≡◌, IfOk, map};
+ghost use Rattle.dss_shown.specs.Key.{entities_past, is_past, subs_past};
+ghost use Rattle.dss_shown.specs.Page.{AreFirst};
 
 use crate::key::Key;
 use crate::query::Query;
@@ -62,7 +63,10 @@ pub(crate) fn first_entities<'a>(
     entities: &'a Entities,
     after: Option<Key>,
     room: &mut Room,
-) -> Result<First<'a, Entity>, AllocError> {
+) -> Result<First<'a, Entity>, AllocError>
+    ensures { IfOk result (λ first. AreFirst (entities_past after entities.now)
+        (map (λ e. e.now) first.found.items) first.are_all) }
+{
     let mut found = Vec::new(alloc);
     for entity in entities.iter() {
         if is_past(after, Key::of_entity(entity)) {
@@ -88,7 +92,10 @@ pub(crate) fn first_subs<'a>(
     subs: &'a [Sub],
     after: Option<Key>,
     room: &mut Room,
-) -> Result<First<'a, Sub>, AllocError> {
+) -> Result<First<'a, Sub>, AllocError>
+    ensures { IfOk result (λ first. AreFirst (subs_past after subs.now)
+        (map (λ s. s.now) first.found.items) first.are_all) }
+{
     let mut found = Vec::new(alloc);
     for sub in subs {
         if is_past(after, Key::of_sub(sub)) {

@@ -1,4 +1,9 @@
 //! A subscription with its extent, as operators are shown it.
+ghost use Rattle.std.specs.Prelude.{◌≡◌, IfOk};
+ghost use Rattle.serde_json.specs.Data.{Data, object};
+ghost use Rattle.serde_json.specs.View.{view};
+ghost use Rattle.dss_shown.specs.Page.{sub_members};
+
 use crate::members::{put_flag, put_id, put_number, put_text};
 use crate::volume::volume_json;
 use entity_core::availability::Availability;
@@ -8,14 +13,16 @@ use serde_json::{Map, Value, put};
 use std::alloc::{AllocError, Global};
 use wire_body::availability::name_of;
 
-/// A subscription: its extent, its manager, and what its manager is shown of it, but for its version
-/// and the intents that name it.
-pub(crate) fn sub_json(
+// The members of a subscription, with that extent.
+fn members_json(
     alloc: Global,
     sub: &Sub,
     availability: Availability,
-) -> Result<Value, AllocError> {
-    let extents = volume_json(alloc, &sub.volume)?;
+    extents: Value,
+) -> Result<Value, AllocError>
+    ensures { IfOk result (λ v.
+        view v ≡ object (sub_members sub.now availability (view extents))) }
+{
     let (time_start, time_end) = sub.volume.time();
     let mut members = Map::new(alloc);
     put(&mut members, alloc, "extents", extents)?;
@@ -46,4 +53,18 @@ pub(crate) fn sub_json(
     )?;
     put_text(&mut members, alloc, "uss_base_url", sub.url.text())?;
     Ok(Value::from(members))
+}
+
+/// A subscription: its extent, its manager, and what its manager is shown of it, but for its version
+/// and the intents that name it.
+pub(crate) fn sub_json(
+    alloc: Global,
+    sub: &Sub,
+    availability: Availability,
+) -> Result<Value, AllocError>
+    ensures { IfOk result (λ v. (extents : Data)
+        × (view v ≡ object (sub_members sub.now availability extents))) }
+{
+    let extents = volume_json(alloc, &sub.volume)?;
+    members_json(alloc, sub, availability, extents)
 }

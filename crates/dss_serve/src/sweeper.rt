@@ -1,0 +1,93 @@
+//! When what has ended is let go of, and how much of it at once.
+ghost use Rattle.std.specs.Prelude.{Some};
+ghost use Rattle.dss_serve.specs.Serve.{MaySweep};
+
+use service_core::service::Service;
+use space_core::space::SpaceFault;
+use space_sweeps::sweeps::Sweeps;
+use std::time::Duration;
+use wire_http::Moments;
+
+// How many intents, constraints and subscriptions go between two rounds, at most: so few that no
+// client waits much longer for that than for a round of others.
+const PIECE: usize = 64;
+
+// How often it is looked for what has ended, in seconds.
+const GAP: u64 = 60;
+
+/// Why nothing went.
+#[derive(Clone, Copy, Debug, PartialEq, Eq)]
+pub(crate) enum SweepFault {
+    /// The clock told no moment.
+    Clock,
+    /// The service could not let go of it.
+    Space(SpaceFault),
+}
+
+// Lets go of a piece of what had ended so many seconds before the moment that the clock tells.
+fn piece<S: Sweeps + Drop, M: Moments>(
+    keep: u64,
+    service: &mut Service<S>,
+    moments: &mut M,
+) -> Result<usize, SweepFault>
+    ensures { MaySweep S.Space S.Settles.own M.Moments (Some keep)
+        service.old service.new moments.old moments.new }
+{
+    let moment = match moments.next() {
+        Ok(moment) => moment,
+        Err(_) => return Err(SweepFault::Clock),
+    };
+    match service.sweep(moment.saturating_sub(keep), PIECE) {
+        Ok(count) => Ok(count),
+        Err(fault) => Err(SweepFault::Space(fault)),
+    }
+}
+
+/// When what has ended is let go of: once a minute a piece, and, while there was some, one more after
+/// the next round.
+#[derive(Clone, Copy, Debug)]
+pub(crate) struct Sweeper {
+    due: Duration,
+    goes_on: bool,
+}
+
+impl Sweeper {
+    /// It is due at once.
+    pub(crate) fn new() -> Sweeper {
+        Sweeper {
+            due: Duration::from_secs(0),
+            goes_on: false,
+        }
+    }
+
+    /// Whether there may be more that has ended than went last.
+    pub(crate) fn goes_on(&self) -> bool {
+        self.goes_on
+    }
+
+    /// Lets go of a piece of what had ended so many seconds ago, where that is due, and tells how
+    /// many intents, constraints and subscriptions went.
+    pub(crate) fn sweep<S: Sweeps + Drop, M: Moments>(
+        &mut self,
+        keep: u64,
+        service: &mut Service<S>,
+        moments: &mut M,
+        now: Duration,
+    ) -> Option<Result<usize, SweepFault>>
+        ensures { MaySweep S.Space S.Settles.own M.Moments (Some keep)
+            service.old service.new moments.old moments.new }
+    {
+        if now < self.due {
+            return None;
+        }
+        let swept = piece(keep, service, moments);
+        self.goes_on = match swept {
+            Ok(count) => count > 0,
+            Err(_) => false,
+        };
+        if !self.goes_on {
+            self.due = now.saturating_add(Duration::from_secs(GAP));
+        }
+        Some(swept)
+    }
+}
