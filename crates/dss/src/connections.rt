@@ -169,6 +169,7 @@ pub(crate) fn serve<F: Start, E: Write>(
         address: given.listen,
         port: given.port,
         limits: limits_of(given),
+        keep: given.keep,
         operated: operated(rt, given),
         verbose: given.verbose,
     };

@@ -12,6 +12,7 @@ mod loopback;
 mod program;
 mod run;
 mod sockets;
+mod sweep;
 mod tokens;
 mod tokens_command;
 

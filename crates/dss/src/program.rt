@@ -1,7 +1,7 @@
 //! The commands, as this system does them.
 use crate::loopback::{self, LoopbackLine};
 use crate::run::{self, RunLine};
-use crate::{backup, connections, tokens_command};
+use crate::{backup, connections, sweep, tokens_command};
 use dss_command::fault::Fault;
 use dss_command::line::Commands;
 use dss_files::files;
@@ -79,6 +79,17 @@ impl<'a, F: Start> Commands for Program<'a, F> {
         let Program { rt, start } = self;
         let _files = files::upgrade(rt, database, start, output)?;
         Ok(())
+    }
+
+    fn sweep<W: Write>(
+        self,
+        database: &str,
+        until: u64,
+        now: Option<u64>,
+        output: &mut W,
+    ) -> Result<(), Fault> {
+        let Program { rt, start } = self;
+        sweep::sweep(rt, database, until, now, start, output)
     }
 
     fn check_tokens<W: Write>(self, file: &str, output: &mut W) -> Result<(), Fault> {

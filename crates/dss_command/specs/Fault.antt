@@ -54,6 +54,8 @@ line_of fault.DatabaseFailed = codes "dss: db: fault"
 line_of (fault.Copy why) =
     codes "dss: copy: fault " ++ numbered (copies.number_of why) (copies.name_of why)
 line_of fault.RequestsUnread = codes "dss: requests: cannot read"
+line_of fault.UntilInFuture = codes "dss: until: in the future"
+line_of fault.Clock = codes "dss: clock"
 line_of fault.RequestTooLong = codes "dss: self: request too long"
 line_of fault.AnswerTooLong = codes "dss: self: answer too long"
 line_of fault.Socket = codes "dss: socket"

@@ -18,6 +18,7 @@ use Rattle.dss_line.specs.declared.line.Line.TheVariants.{
   Report,
   Run,
   Serve,
+  Sweep,
   Upgrade,
 }
 use Rattle.dss_report.specs.Cell.{IsLineOfToken}
@@ -60,6 +61,8 @@ module _ (does : Doing) where
       does (Backup database to) None None None done × (output' ≡ output) × (error' ≡ error)
   Does (Upgrade database) remaining output output' error error' done =
       does (Upgrade database) None output output' done × (error' ≡ error)
+  Does (Sweep database until now) remaining output output' error error' done =
+      does (Sweep database until now) None output output' done × (error' ≡ error)
   Does (CheckTokens file) remaining output output' error error' done =
       does (CheckTokens file) None output output' done × (error' ≡ error)
   Does (NewToken uss scopes) remaining output output' error error' done =

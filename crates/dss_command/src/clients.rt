@@ -21,8 +21,8 @@ use dss_serve::sockets::Sockets;
 use dss_serve::token_watch::{TokenSource, TokenWatch, TokensFault};
 use entity_core::salt::Salt;
 use service_core::service::Service;
-use space_core::settle::Settles;
 use space_shown::shown::Shows;
+use space_sweeps::sweeps::Sweeps;
 use std::alloc::Global;
 use std::io;
 use std::io::Write;
@@ -126,6 +126,8 @@ pub struct Answering<'a> {
     pub port: u16,
     /// How many connections, and how many at once.
     pub limits: Limits,
+    /// For how many seconds what has ended is kept, if it is not for good.
+    pub keep: Option<u64>,
     /// The operator's port, if there is one.
     pub operated: Option<Operated>,
     /// Whether it is told, too, that changes are not kept and that they are again.
@@ -174,7 +176,7 @@ fn operators_port(operated: Option<Operated>) -> Option<u16> {
 
 // Answers the clients of the sockets by a service over a space.
 fn serve_sockets<
-    S: Settles + Shows + Drop,
+    S: Sweeps + Shows + Drop,
     M: Moments,
     N: Sockets + Drop,
     T: TokenSource + Drop,
@@ -192,7 +194,7 @@ fn serve_sockets<
 ) -> (Result<(), Fault>, S)
     requires { salt ≡ salt_of given.tokens.now }
     ensures served { ServesClients S.Space S.Settles.own M.Moments T.gives
-        given.entry.tokens.now space result.1 moments.old moments.new }
+        given.entry.keep given.entry.tokens.now space result.1 moments.old moments.new }
     ensures counted { OnOk result.0 (IsSome given.entry.limits.count
         ⊎ IsSome given.entry.operated) }
 {
@@ -206,6 +208,7 @@ fn serve_sockets<
         moments,
         sockets,
         given.limits,
+        given.keep,
         build_of(given.operated),
         journal,
     );
@@ -213,13 +216,14 @@ fn serve_sockets<
 }
 
 /// Answers the clients of a port by a service that it makes over a space, which is given back as it is
-/// then, after the last round of calls was settled. The token file is watched meanwhile. It tells that
-/// the port is listened on, and later the fault of each client that is given up, and why a token file
-/// that changed was not taken; each request that is answered is logged.
+/// then, after the last round of calls was settled. The token file is watched meanwhile, and what has
+/// ended so long before as it is kept goes between rounds. It tells that the port is listened on, and
+/// later the fault of each client that is given up, and why a token file that changed was not taken;
+/// each request that is answered is logged.
 ///
 /// It is done only where a number of connections is given, or an operator's port.
 pub fn serve_port<
-    S: Settles + Shows + Drop,
+    S: Sweeps + Shows + Drop,
     M: Moments,
     L: Listen + Drop,
     T: TokenSource + Drop,
@@ -236,10 +240,10 @@ pub fn serve_port<
 ) -> (Result<(), Fault>, S)
     requires { salt ≡ salt_of given.tokens.now }
     ensures served { OnOk result.0 (ServesClients S.Space S.Settles.own M.Moments T.gives
-        given.entry.tokens.now space result.1 moments.old moments.new) }
+        given.entry.keep given.entry.tokens.now space result.1 moments.old moments.new) }
     ensures part { OnErr result.0 ((result.1 ≡ space) × (moments.new ≡ moments.old)
         ⊎ ServesClients S.Space S.Settles.own M.Moments T.gives
-        given.entry.tokens.now space result.1 moments.old moments.new) }
+        given.entry.keep given.entry.tokens.now space result.1 moments.old moments.new) }
     ensures counted { OnOk result.0 (IsSome given.entry.limits.count
         ⊎ IsSome given.entry.operated) }
 {

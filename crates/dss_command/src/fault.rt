@@ -29,6 +29,10 @@ pub enum Fault {
     Copy(CopyFault),
     /// The file of requests does not open, or the request of `self` fails to be read.
     RequestsUnread,
+    /// The moment until which was to be swept is in the future.
+    UntilInFuture,
+    /// The system tells no time.
+    Clock,
     /// The request of `self` has over 16,384 bytes.
     RequestTooLong,
     /// The answers to it have over 16,384 bytes.
@@ -71,6 +75,8 @@ impl fmt::Display for Fault {
                 write!(f, "dss: copy: fault {number} {name}")
             }
             Fault::RequestsUnread => write!(f, "dss: requests: cannot read"),
+            Fault::UntilInFuture => write!(f, "dss: until: in the future"),
+            Fault::Clock => write!(f, "dss: clock"),
             Fault::RequestTooLong => write!(f, "dss: self: request too long"),
             Fault::AnswerTooLong => write!(f, "dss: self: answer too long"),
             Fault::Socket => write!(f, "dss: socket"),

@@ -74,6 +74,17 @@ pub trait Commands {
         ensures { does (Line.Upgrade database.entry) None
             (W.contents output.old) (W.contents output.new) result };
 
+    /// The command `sweep`.
+    fn sweep<W: Write>(
+        self,
+        database: &str,
+        until: u64,
+        now: Option<u64>,
+        output: &mut W,
+    ) -> Result<(), Fault>
+        ensures { does (Line.Sweep database.entry until now) None
+            (W.contents output.old) (W.contents output.new) result };
+
     /// The command `tokens --check`.
     fn check_tokens<W: Write>(self, file: &str, output: &mut W) -> Result<(), Fault>
         ensures { does (Line.CheckTokens file.entry) None
@@ -162,6 +173,11 @@ fn perform<C: Commands + Drop, R: Read, O: Write, E: Write>(
         Line::Report { database, places } => commands.report(database, places, output),
         Line::Backup { database, to } => commands.backup(database, to),
         Line::Upgrade { database } => commands.upgrade(database, output),
+        Line::Sweep {
+            database,
+            until,
+            now,
+        } => commands.sweep(database, until, now, output),
         Line::CheckTokens { file } => commands.check_tokens(file, output),
         Line::NewToken { uss, scopes } => commands.new_token(uss, scopes, output, error),
         Line::NewSalt => commands.new_salt(output),

@@ -1,7 +1,9 @@
-//! The moment of a reading of the clock.
-ghost use Rattle.std.specs.Prelude.{◌≡◌, ◌≤◌, ◌<◌, ◌*◌, ◌+◌, ◌↔◌, IfSome, IsSome};
+//! The moment of a reading of the clock, and of a sweep.
+ghost use Rattle.std.specs.Prelude.{◌≡◌, ◌≤◌, ◌<◌, ◌*◌, ◌+◌, ◌↔◌, IfErr, IfSome, IsSome, OnOk};
 ghost use Rattle.std.specs.Time.{system_time_nanos};
+ghost use Rattle.dss_command.specs.declared.fault.Fault.TheVariants.{UntilInFuture};
 
+use crate::fault::Fault;
 use std::time::{SystemTime, UNIX_EPOCH};
 
 /// The whole seconds since 1970 of a time of the system, which has none before 1970.
@@ -14,4 +16,15 @@ pub fn seconds_of(time: SystemTime) -> Option<u64>
         Ok(since) => Some(since.as_secs()),
         Err(_) => None,
     }
+}
+
+/// Refuses a sweep until a moment that is in the future now, both in seconds since 1970.
+pub fn is_past(until: u64, now: u64) -> Result<(), Fault>
+    ensures past { OnOk result (until ≤ now) }
+    ensures refused { IfErr result (λ fault. (fault ≡ UntilInFuture) × (now < until)) }
+{
+    if until > now {
+        return Err(Fault::UntilInFuture);
+    }
+    Ok(())
 }

@@ -6,12 +6,13 @@ ghost use Rattle.dss_report.specs.Cell.{IsLineOfToken};
 ghost use Rattle.dss_report.specs.Report.{report_of};
 ghost use Rattle.entity_core.specs.Airspace.{Airspace};
 ghost use Rattle.dss_command.specs.Fault.{IsOfCell};
-ghost use Rattle.dss_command.specs.Print.{WritesPlaces, WritesReport};
+ghost use Rattle.dss_command.specs.Print.{WritesPlaces, WritesReport, swept_line};
 
 use crate::fault::Fault;
 use dss_report::cell::token_line;
 use dss_report::places::places_text;
 use dss_report::report::report_text;
+use dss_sweep::swept::Swept;
 use space_core::space::Space;
 use std::alloc::Global;
 use std::io::Write;
@@ -48,6 +49,27 @@ pub fn put_format<W: Write>(upgraded: bool, output: &mut W) -> Result<(), Fault>
         "format 2\n"
     };
     put(line.as_bytes(), output)
+}
+
+/// What the command `sweep` prints of what it let go of.
+pub fn put_swept<W: Write>(swept: Swept, output: &mut W) -> Result<(), Fault>
+    ensures whole { OnOk result (Appends (W.contents output.old) (W.contents output.new)
+        (swept_line swept)) }
+    ensures output { IfErr result (λ fault. fault ≡ Output) }
+{
+    let Swept {
+        intents,
+        constraints,
+        subscriptions,
+    } = swept;
+    let written = writeln!(
+        output,
+        "swept {intents} intents, {constraints} constraints, {subscriptions} subscriptions"
+    );
+    let Ok(()) = written else {
+        return Err(Fault::Output);
+    };
+    Ok(())
 }
 
 /// The report of each airspace that a space held, which is only read.

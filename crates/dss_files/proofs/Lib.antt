@@ -1,2 +1,4 @@
 mod Telling
 mod Serving
+mod Copies
+mod Sweeping

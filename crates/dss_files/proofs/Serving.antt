@@ -1,5 +1,5 @@
 -- From a start of `serve` to the next.
-use Rattle.std.specs.Prelude.{◌≡◌, ◌∷◌, ℕ, List, [], ◌++◌, Result, Ok, Err, OnOk, refl}
+use Rattle.std.specs.Prelude.{◌≡◌, ◌∷◌, ℕ, List, [], ◌++◌, Option, Result, Ok, Err, OnOk, refl}
 use Rattle.std.proofs.Common.{sym, ap, subst, ◌∙◌}
 use Rattle.std.proofs.Math.Logic.{∥∥₁_map}
 use Rattle.sqlite_disk.specs.declared.Disk as disk
@@ -11,11 +11,12 @@ use Rattle.sqlite.specs.WalReads.{AreClean}
 use Rattle.service_core.specs.declared.service.Service.{Service}
 use Rattle.service_core.specs.Held.{salt_of, space_of}
 use Rattle.service_core.specs.Rounds.{Round, unkept}
+use Rattle.service_core.specs.Swept.{Segment}
 use Rattle.service_tables.specs.Crash.{bound_waiting_of}
 use Rattle.service_tables.specs.InRounds.{ContinuesInRoundsClosed, IsOnlyRead, IsSoundByStore, StartsOver}
-use Rattle.service_tables.specs.Life.{Continues, run_of}
+use Rattle.service_tables.specs.Life.{Continues, run_swept}
 use Rattle.service_tables.proofs.Crashes.{words_of}
-use Rattle.service_tables.proofs.Keeping.{without_empty}
+use Rattle.service_tables.proofs.Keeping.{without_empty_swept}
 use Rattle.service_tables.proofs.Lives.{content_found}
 use Rattle.space_core.specs.declared.space.Space.{Ghosts}
 use Rattle.space_bounds.specs.Bounded.{Bound}
@@ -30,9 +31,9 @@ use Rattle.dss_command.specs.declared.fault.Fault.{Fault}
 use Rattle.dss_files.specs.Files.{ClosesServed, EndsClosing, ServesCopied}
 use Rattle.dss_files.specs.Served.{FindsAgain, ServedIsFound}
 
-finds_again : {S T : Type 0} (again : Ghosts (Kept T)) (before after : Image) (old : Service S) (rounds : List Round) → Continues before (run_of old (rounds ++ unkept [] ∷ [])) after → FindsAgain again before (run_of old rounds) after
-finds_again again before after old rounds continues a stands next finds sound = ∥∥₁_map (continues a stands) (λ it.
-    (it.0, without_empty (salt_of old) a it.0 rounds it.1, content_found after again next finds sound it.0 it.2))
+finds_again : {S T : Type 0} (again : Ghosts (Kept T)) (before after : Image) (old : Service S) (segments : List Segment) (rounds : List Round) → Continues before (run_swept old segments (rounds ++ unkept [] ∷ [])) after → FindsAgain again before (run_swept old segments rounds) after
+finds_again again before after old segments rounds continues a stands next finds sound = ∥∥₁_map (continues a stands) (λ it.
+    (it.0, without_empty_swept (salt_of old) a it.0 segments rounds it.1, content_found after again next finds sound it.0 it.2))
 
 -- files are closed only after work that was done
 work_done : {D : Type 0} {g : disk.Ghosts D} (P : Type 0) (k : Kept (FileStore D g)) (done : Result (Unit {0}) Fault) (files : Files D) → OnOk done P → EndsClosing done k (Ok files) → P × ClosesFiles k files
@@ -40,8 +41,8 @@ work_done P k (Ok x) files p closes = (p, closes)
 work_done P k (Err why) files p ends = absurd (let wrong = ends in cc)
 
 module _ {D T M : Type 0} {g : disk.Ghosts D} (space : Ghosts (Bound (Group (Kept (FileStore D g))))) (clocks : moments.Ghosts M) (again : Ghosts (Kept T)) (law : ContinuesInRoundsClosed (words_of over_files) space)
-    (before after : Image) (gives : List ℕ → Type 0) (tokens : TokenFile) (opened new : Kept (FileStore D g)) (clock clock' : M) (done : Result (Unit {0}) Fault) (files : Files D) (finds : FindsSpelt before (words_of over_files) opened)
-    (copied : ServesCopied (words_of over_files) space clocks gives tokens opened new clock clock' done) (clients : ServesClients space (bound_waiting_of (words_of over_files)) clocks gives tokens copied.first copied.last clock clock') (closes : ClosesFiles new files) (clean : AreClean g files.log files.db) (have : FilesHave g files after) where
+    (before after : Image) (gives : List ℕ → Type 0) (keep : Option ℕ) (tokens : TokenFile) (opened new : Kept (FileStore D g)) (clock clock' : M) (done : Result (Unit {0}) Fault) (files : Files D) (finds : FindsSpelt before (words_of over_files) opened)
+    (copied : ServesCopied (words_of over_files) space clocks gives keep tokens opened new clock clock' done) (clients : ServesClients space (bound_waiting_of (words_of over_files)) clocks gives keep tokens copied.first copied.last clock clock') (closes : ClosesFiles new files) (clean : AreClean g files.log files.db) (have : FilesHave g files after) where
   read : IsOnlyRead (words_of over_files) opened copied.first.space.store
   read = record { sound = copied.reads.sound; whole = copied.reads.whole; no_other = copied.reads.no_other }
 
@@ -60,20 +61,20 @@ module _ {D T M : Type 0} {g : disk.Ghosts D} (space : Ghosts (Bound (Group (Kep
   closed : ClosesFiles (space_of clients.last).space.store files
   closed = subst (λ (k : Kept (FileStore D g)). ClosesFiles k files) (copied.released ∙ ap (λ (k : Bound (Group (Kept (FileStore D g)))). k.space.store) clients.ends) closes
 
-  served_found : ServedIsFound space (bound_waiting_of (words_of over_files)) clocks again gives tokens clock clock' before after
+  served_found : ServedIsFound space (bound_waiting_of (words_of over_files)) clocks again gives keep tokens clock clock' before after
   served_found =
-      let both = law before after clients.first clients.last clients.last clients.serves.rounds [] files starts clients.serves.made refl by_store closed clean have in
+      let both = law before after clients.first clients.serves.last clients.last clients.last clients.serves.segments clients.serves.rounds [] files starts clients.serves.segments_made clients.serves.made refl by_store closed clean have in
       record {
         first = copied.first;
         last = copied.last;
         clients = clients;
-        found = finds_again again before after clients.first clients.serves.rounds both.0;
-        without_log = finds_again again before _ clients.first clients.serves.rounds both.1;
+        found = finds_again again before after clients.first clients.serves.segments clients.serves.rounds both.0;
+        without_log = finds_again again before _ clients.first clients.serves.segments clients.serves.rounds both.1;
       }
 
 pub next_start_finds : {D T M : Type 0} {g : disk.Ghosts D} (space : Ghosts (Bound (Group (Kept (FileStore D g))))) (clocks : moments.Ghosts M) (again : Ghosts (Kept T))
-    → ContinuesInRoundsClosed (words_of over_files) space → (before after : Image) (gives : List ℕ → Type 0) (tokens : TokenFile) (opened : Kept (FileStore D g)) (clock clock' : M) (files : Files D) → FindsSpelt before (words_of over_files) opened
-    → ClosesServed (words_of over_files) space clocks gives tokens opened clock clock' (Ok files) → AreClean g files.log files.db → FilesHave g files after → ServedIsFound space (bound_waiting_of (words_of over_files)) clocks again gives tokens clock clock' before after
-next_start_finds space clocks again law before after gives tokens opened clock clock' files finds it clean have =
-    let both = work_done (ServesClients space (bound_waiting_of (words_of over_files)) clocks gives tokens it.served.first it.served.last clock clock') it.new it.done files it.served.served it.closed in
-    served_found space clocks again law before after gives tokens opened it.new clock clock' it.done files finds it.served both.0 both.1 clean have
+    → ContinuesInRoundsClosed (words_of over_files) space → (before after : Image) (gives : List ℕ → Type 0) (keep : Option ℕ) (tokens : TokenFile) (opened : Kept (FileStore D g)) (clock clock' : M) (files : Files D) → FindsSpelt before (words_of over_files) opened
+    → ClosesServed (words_of over_files) space clocks gives keep tokens opened clock clock' (Ok files) → AreClean g files.log files.db → FilesHave g files after → ServedIsFound space (bound_waiting_of (words_of over_files)) clocks again gives keep tokens clock clock' before after
+next_start_finds space clocks again law before after gives keep tokens opened clock clock' files finds it clean have =
+    let both = work_done (ServesClients space (bound_waiting_of (words_of over_files)) clocks gives keep tokens it.served.first it.served.last clock clock') it.new it.done files it.served.served it.closed in
+    served_found space clocks again law before after gives keep tokens opened it.new clock clock' it.done files finds it.served both.0 both.1 clean have

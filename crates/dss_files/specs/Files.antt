@@ -4,9 +4,12 @@ use Rattle.std.specs.Io.KnownBytes.{Appends}
 use Rattle.sqlite_disk.specs.declared.Disk as disk
 use Rattle.sqlite_disk.specs.declared.Files.{Files}
 use Rattle.sqlite_store.specs.declared.store.FileStore.{FileStore}
+use Rattle.sqlite_store.specs.FileStore as store
+use Rattle.sqlite_trees.specs.View.{IsClean}
 use Rattle.sqlite.specs.Recovery.{Image}
 use Rattle.sqlite.specs.WalReads.{AreClean}
 use Rattle.entity_core.specs.Airspace.{Airspace}
+use Rattle.entity_sweep.specs.Sweep.{IsPartlySwept, swept}
 use Rattle.service_tables.specs.Crash.{bound_waiting_of}
 use Rattle.service_tables.specs.Life.{StandFor}
 use Rattle.space_core.specs.declared.space.Space as spaces
@@ -19,13 +22,16 @@ use Rattle.space_bounds.specs.Bounded.{Bound}
 use Rattle.space_rounds.specs.Grouped.{Group, waits_in}
 use Rattle.space_sql.specs.Found.{FilesSpell, FindsSpelt}
 use Rattle.space_sql.specs.Holding.{Kept}
-use Rattle.space_sql.specs.Restart.{ClosesFiles, FilesHave, without_log}
+use Rattle.space_sql.specs.Restart.{ClosesFiles, FilesHave, FilesLeft, LeavesFiles, without_log}
 use Rattle.space_tables.specs.declared.format.Format.{Format}
 use Rattle.space_tables.specs.declared.format.Format.TheVariants.{One, Two}
 use Rattle.token_conf.specs.TokenFile.{TokenFile}
 use Rattle.wire_http.specs.declared.moments.Moments as moments
-use Rattle.dss_command.specs.Print.{WritesReport}
+use Rattle.dss_command.specs.Print.{WritesReport, swept_line}
 use Rattle.dss_command.specs.Service.{ServesClients}
+use Rattle.dss_sweep.specs.Swept.{IsLess}
+use Rattle.dss_sweep.specs.Sweeping.{SweepsSpace}
+use Rattle.dss_sweep.specs.declared.swept.Swept.{Swept}
 use Rattle.dss_command.specs.Stream.{ServesOver, ServesPartOver}
 use Rattle.dss_command.specs.declared.fault.Fault.{Fault}
 use Rattle.dss_command.specs.declared.fault.Fault.TheVariants.{Database, DatabaseFailed, Memory, Output}
@@ -87,6 +93,36 @@ module _ {D : Type 0} (g : disk.Ghosts D) (image : Image) where
         → Appends before after (format_line format)
     pub kept : KeepsAirspace files
 
+  -- What was written is the line of what the airspace for which the files stood has less once it is
+  -- swept; and as long as the disk returned what was written, whatever is found of the files, also
+  -- without their log, spells in format 2 that airspace as it is then.
+  pub record SweepsFiles (until : ℕ) (before after : Option (List ℕ)) (files : Files D)
+      : Type 0 where
+    pub told : AreClean g files.log files.db → (a : Airspace) → StandFor image a
+        → (told : Swept) × IsLess a (swept until a) told × Appends before after (swept_line told)
+    pub left : AreClean g files.log files.db → (a : Airspace) → StandFor image a
+        → (left : Image) → FilesHave g files left
+        → ∥ (FilesSpell Two left (swept until a)
+        × FilesSpell Two (without_log left) (swept until a)) ∥₁
+
+-- A space was taken over files and swept, or in part; then it was closed, or that failed. Whatever is
+-- found of the files, after a closing or where a crash leaves what it may, spells in format 2 an airspace
+-- that is, of the one for which they stood, swept in part.
+pub record SweepsPartly {D : Type 0} {g : disk.Ghosts D}
+    (tables : spaces.Ghosts (Kept (FileStore D g))) (image : Image) (until : ℕ) : Type 0 where
+  pub opened : Kept (FileStore D g)
+  pub finds : FindsSpelt image tables opened
+  pub new : Kept (FileStore D g)
+  pub done : Result Swept SpaceFault
+  pub swept : SweepsSpace tables until opened new done
+  pub closed : (files : Files D) → ClosesFiles new files → AreClean g files.log files.db
+      → (a : Airspace) → StandFor image a → (left : Image) → FilesHave g files left
+      → ∥ ((b : Airspace) × IsPartlySwept until a b
+      × FilesSpell Two left b × FilesSpell Two (without_log left) b) ∥₁
+  pub crashed : (last : FileStore D g) → LeavesFiles new last → IsClean (store.view last)
+      → (a : Airspace) → StandFor image a → (left : Image) → FilesLeft last left
+      → ∥ ((b : Airspace) × IsPartlySwept until a b × FilesSpell Two left b) ∥₁
+
 -- How a command ends that served a stream over a space, or the first requests of it, and closed the
 -- space last.
 pub record ServesClosing {D : Type 0} {g : disk.Ghosts D}
@@ -100,12 +136,12 @@ pub record ServesClosing {D : Type 0} {g : disk.Ghosts D}
   pub closed : EndsClosing done new result
 
 -- The clients of a port were answered over a space over tables with a copy of it in memory, after it
--- was read once at most for the copy, in rounds that were all settled; after a fault some were, or
--- none. Then it is given back, without the copy.
+-- was read once at most for the copy, in rounds that were all settled, between which some of what had
+-- ended went; after a fault some were, or none. Then it is given back, without the copy.
 pub record ServesCopied {S M : Type 0} (tables : spaces.Ghosts (Kept S))
     (space : spaces.Ghosts (Bound (Group (Kept S))))
-    (m : moments.Ghosts M) (gives : List ℕ → Type 0) (tokens : TokenFile) (old new : Kept S)
-    (clock clock' : M) (done : Result (Unit {0}) Fault) : Type 0 where
+    (m : moments.Ghosts M) (gives : List ℕ → Type 0) (keep : Option ℕ) (tokens : TokenFile)
+    (old new : Kept S) (clock clock' : M) (done : Result (Unit {0}) Fault) : Type 0 where
   pub first : Bound (Group (Kept S))
   pub last : Bound (Group (Kept S))
   pub answer : Result Listed SpaceFault
@@ -113,9 +149,9 @@ pub record ServesCopied {S M : Type 0} (tables : spaces.Ghosts (Kept S))
       (λ a found. listed_airspace found ≡ a)
   pub calm : waits_in first.space ≡ false
   pub served : OnOk done
-      (ServesClients space (bound_waiting_of tables) m gives tokens first last clock clock')
+      (ServesClients space (bound_waiting_of tables) m gives keep tokens first last clock clock')
   pub part : OnErr done ((last ≡ first) × (clock' ≡ clock)
-      ⊎ ServesClients space (bound_waiting_of tables) m gives tokens first last clock clock')
+      ⊎ ServesClients space (bound_waiting_of tables) m gives keep tokens first last clock clock')
   pub sound : tables.is_sound last.space.store → space.is_sound last
   pub released : new ≡ last.space.store
 
@@ -123,9 +159,9 @@ pub record ServesCopied {S M : Type 0} (tables : spaces.Ghosts (Kept S))
 pub record ClosesServed {D M : Type 0} {g : disk.Ghosts D}
     (tables : spaces.Ghosts (Kept (FileStore D g)))
     (space : spaces.Ghosts (Bound (Group (Kept (FileStore D g)))))
-    (m : moments.Ghosts M) (gives : List ℕ → Type 0) (tokens : TokenFile)
+    (m : moments.Ghosts M) (gives : List ℕ → Type 0) (keep : Option ℕ) (tokens : TokenFile)
     (old : Kept (FileStore D g)) (clock clock' : M) (result : Result (Files D) Fault) : Type 0 where
   pub new : Kept (FileStore D g)
   pub done : Result (Unit {0}) Fault
-  pub served : ServesCopied tables space m gives tokens old new clock clock' done
+  pub served : ServesCopied tables space m gives keep tokens old new clock clock' done
   pub closed : EndsClosing done new result

@@ -1,5 +1,5 @@
 -- What `serve` leaves in the files of a database, and what the next start finds there.
-use Rattle.std.specs.Prelude.{ℕ, List, Ok}
+use Rattle.std.specs.Prelude.{ℕ, List, Option, Ok}
 use Rattle.sqlite_disk.specs.declared.Disk as disk
 use Rattle.sqlite_disk.specs.declared.Files.{Files}
 use Rattle.sqlite_store.specs.declared.store.FileStore.{FileStore}
@@ -7,7 +7,7 @@ use Rattle.sqlite.specs.Recovery.{Image}
 use Rattle.sqlite.specs.WalReads.{AreClean}
 use Rattle.entity_core.specs.Airspace.{Airspace}
 use Rattle.service_tables.specs.Crash.{bound_waiting_of}
-use Rattle.service_tables.specs.Life.{MayCome, Run, StandFor, run_of}
+use Rattle.service_tables.specs.Life.{MayCome, Run, StandFor, run_swept}
 use Rattle.space_core.specs.Space.{IsContent}
 use Rattle.space_core.specs.declared.settle.Settles as settles
 use Rattle.space_core.specs.declared.space.Space as spaces
@@ -31,16 +31,18 @@ FindsAgain {T} again before run after =
     → ∥ ((b : Airspace) × MayCome a run b × IsContent again.holds next b) ∥₁
 
 -- What is known of files in which a database was served and closed: clients were answered in rounds,
--- and the next start finds what may have come of the run of these, also where the log is gone.
+-- between which some of what had ended was let go of, and the next start finds what may have come of the
+-- run of these, also where the log is gone.
 pub record ServedIsFound {S T M : Type 0} (space : spaces.Ghosts S) (waiting : settles.Ghosts S)
     (m : moments.Ghosts M) (again : spaces.Ghosts (Kept T)) (gives : List ℕ → Type 0)
-    (tokens : TokenFile) (clock clock' : M) (before after : Image) : Type 0 where
+    (keep : Option ℕ) (tokens : TokenFile) (clock clock' : M) (before after : Image) : Type 0 where
   pub first : S
   pub last : S
-  pub clients : ServesClients space waiting m gives tokens first last clock clock'
-  pub found : FindsAgain again before (run_of clients.first clients.serves.rounds) after
-  pub without_log : FindsAgain again before (run_of clients.first clients.serves.rounds)
-      (without_log after)
+  pub clients : ServesClients space waiting m gives keep tokens first last clock clock'
+  pub found : FindsAgain again before
+      (run_swept clients.first clients.serves.segments clients.serves.rounds) after
+  pub without_log : FindsAgain again before
+      (run_swept clients.first clients.serves.segments clients.serves.rounds) (without_log after)
 
 -- It is so of what `opened` takes and `serve` then closes, over files whose disk returned what was
 -- written.
@@ -48,9 +50,10 @@ abbrev pub NextStartFinds : {D T M : Type 0} {g : disk.Ghosts D}
     → spaces.Ghosts (Kept (FileStore D g)) → spaces.Ghosts (Bound (Group (Kept (FileStore D g))))
     → moments.Ghosts M → spaces.Ghosts (Kept T) → (List ℕ → Type 0) → Type 0
 NextStartFinds {D} {T} {M} {g} tables space m again gives =
-    (before after : Image) (tokens : TokenFile) (opened : Kept (FileStore D g)) (clock clock' : M)
-    (files : Files D)
+    (before after : Image) (keep : Option ℕ) (tokens : TokenFile) (opened : Kept (FileStore D g))
+    (clock clock' : M) (files : Files D)
     → FindsSpelt before tables opened
-    → ClosesServed tables space m gives tokens opened clock clock' (Ok files)
+    → ClosesServed tables space m gives keep tokens opened clock clock' (Ok files)
     → AreClean g files.log files.db → FilesHave g files after
-    → ServedIsFound space (bound_waiting_of tables) m again gives tokens clock clock' before after
+    → ServedIsFound space (bound_waiting_of tables) m again gives keep tokens clock clock' before
+    after

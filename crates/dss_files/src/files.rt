@@ -12,19 +12,22 @@ ghost use Rattle.dss_command.specs.declared.fault.Fault.TheVariants.{DatabaseFai
 ghost use Rattle.dss_files.specs.Files.{ClosesServed, EndsClosing, IsOfDatabase, IsRefusal};
 ghost use Rattle.dss_files.specs.Files.{KeepsAirspace};
 ghost use Rattle.dss_files.specs.Files.{ReportsFiles, ReportsSpace, ServesClosing, ServesCopied};
-ghost use Rattle.dss_files.specs.Files.{UpgradesFiles};
+ghost use Rattle.dss_files.specs.Files.{SweepsFiles, SweepsPartly, UpgradesFiles};
+ghost use Rattle.dss_sweep.specs.Sweeping.{SweepsSpace};
 
+use crate::mirrored::mirrored;
 use dss_command::clients::{Answering, Listen, serve_port};
 use dss_command::fault::Fault;
 use dss_command::print;
-use dss_command::print::put_format;
+use dss_command::print::{put_format, put_swept};
 use dss_command::stream::serve_stream_over;
 use dss_serve::token_watch::{TokenSource, TokenWatch};
+use dss_sweep::sweep::sweep_space;
+use dss_sweep::swept::Swept;
 use entity_core::salt::Salt;
-use mirror_tables::mirrored::mirrored;
 use space_bounds::bounded::Bounded;
 use space_bounds::tally::Tally;
-use space_core::space::Space;
+use space_core::space::{Space, SpaceFault};
 use space_reading::judgement::Listed;
 use space_rounds::grouped::Grouped;
 use space_sql::space::SqlSpace;
@@ -140,6 +143,50 @@ pub fn settled<F: Start>(
     Ok(files)
 }
 
+// Sweeps tables in some store, by a copy of them in memory.
+fn swept_by_copy<A: Alter + Drop>(
+    alloc: Global,
+    space: SqlSpace<A>,
+    listed: Option<Listed>,
+    until: u64,
+) -> (Result<Swept, SpaceFault>, SqlSpace<A>)
+    requires { IfSome listed (IsAllOf A.Store space) }
+    ensures { SweepsSpace ⟦<SqlSpace<A> as Space>⟧ until space result.1 result.0 }
+{
+    let mut grouped = mirrored(alloc, space, listed, &mut None);
+    let done = sweep_space(&mut grouped, until);
+    (done, grouped.release())
+}
+
+/// The command `sweep`: of the airspace in the file of that name goes what a sweep until a moment takes,
+/// in seconds since 1970, and it is closed; then it is printed how much that was. After a fault some of
+/// it may be gone.
+pub fn sweep<F: Start, W: Write>(
+    rt: &HostRuntime,
+    name: &str,
+    start: F,
+    until: u64,
+    output: &mut W,
+) -> Result<Files<FileFrom<F>>, Fault>
+    ensures swept { IfOk result (SweepsFiles ⟦<FileFrom<F> as Disk>⟧ (image_at F.Start) until
+        (W.contents output.old) (W.contents output.new)) }
+    ensures partly { IfErr result (λ fault. IsRefusal fault
+        ⊎ SweepsPartly ⟦<SqlSpace<FileStore<FileFrom<F>>> as Space>⟧ (image_at F.Start) until) }
+    ensures told { IfErr result (λ fault.
+        (IsOfDatabase fault × (output.new ≡ output.old)) ⊎ (fault ≡ Output)) }
+{
+    let (space, listed) = opened(rt, name, start)?;
+    let (done, space) = swept_by_copy(rt.alloc(), space, listed, until);
+    match done {
+        Ok(swept) => {
+            let files = closed(Ok(()), space)?;
+            put_swept(swept, output)?;
+            Ok(files)
+        }
+        Err(_) => closed(Err(Fault::DatabaseFailed), space),
+    }
+}
+
 // Serves one stream over tables in some store.
 fn served<A: Alter + Drop, R: Read, W: Write>(
     alloc: Global,
@@ -205,7 +252,7 @@ fn served_by_copy<A: Alter + Drop, M: Moments, L: Listen + Drop, T: TokenSource 
     requires listed { IfSome listed (IsAllOf A.Store space) }
     ensures served { ServesCopied ⟦<SqlSpace<A> as Space>⟧
         ⟦<Bounded<Grouped<SqlSpace<A>>> as Space>⟧ M.Moments T.gives
-        given.entry.tokens.now space result.1 moments.old moments.new result.0 }
+        given.entry.keep given.entry.tokens.now space result.1 moments.old moments.new result.0 }
     ensures counted { OnOk result.0 (IsSome given.entry.limits.count
         ⊎ IsSome given.entry.operated) }
 {
@@ -218,9 +265,10 @@ fn served_by_copy<A: Alter + Drop, M: Moments, L: Listen + Drop, T: TokenSource 
 }
 
 /// The command `serve` over a database that was opened, which is closed last, with a copy of it in
-/// memory as long as there is memory for it, while the token file is watched. Changes that wait for the end of a round are kept then,
-/// or none of them. With a number no more than so many entities and subscriptions are kept of each
-/// supplier.
+/// memory as long as there is memory for it, while the token file is watched. Changes that wait for the
+/// end of a round are kept then, or none of them. What has ended so long before as it is kept goes, a
+/// piece at a time, as long as there is the copy. With a number no more than so many entities and
+/// subscriptions are kept of each supplier.
 pub fn serve<F: Start, M: Moments, L: Listen + Drop, T: TokenSource + Drop, E: Write>(
     alloc: Global,
     space: SqlSpace<FileStore<FileFrom<F>>>,
@@ -237,7 +285,7 @@ pub fn serve<F: Start, M: Moments, L: Listen + Drop, T: TokenSource + Drop, E: W
     requires listed { IfSome listed (IsAllOf over_files space) }
     ensures served { ClosesServed ⟦<SqlSpace<FileStore<FileFrom<F>>> as Space>⟧
         ⟦<Bounded<Grouped<SqlSpace<FileStore<FileFrom<F>>>>> as Space>⟧ M.Moments T.gives
-        given.entry.tokens.now space moments.old moments.new result }
+        given.entry.keep given.entry.tokens.now space moments.old moments.new result }
     ensures counted { OnOk result (IsSome given.entry.limits.count
         ⊎ IsSome given.entry.operated) }
 {

@@ -20,7 +20,7 @@ use Rattle.dss_line.specs.declared.serving.Serving.{Serving}
 use Rattle.dss_line.specs.LineFault.{IsFaultOf}
 use Rattle.dss_line.specs.declared.fault.LineFault.{LineFault}
 use Rattle.dss_line.specs.declared.fault.LineFault.TheVariants as fault
-use Rattle.dss_line.specs.declared.line.Line.TheVariants.{Backup, Cell, CheckTokens, Loopback, NewSalt, NewToken, Report, Run, Serve, Upgrade}
+use Rattle.dss_line.specs.declared.line.Line.TheVariants.{Backup, Cell, CheckTokens, Loopback, NewSalt, NewToken, Report, Run, Serve, Sweep, Upgrade}
 
 -- a number that was read is that of the argument's text
 pub number_from_text : (f : Found) (id : Text) (n : ℕ) → (one_text f id ≡ None → Some n ≡ None) → ((t : List ℕ) → one_text f id ≡ Some t → (IsNumeral 10 (without_leading_plus t) × (digits_value 10 (without_leading_plus t) < 2 ^ 64)) × (n ≡ digits_value 10 (without_leading_plus t))) → HasNumber id (rows_of f) n
@@ -56,6 +56,7 @@ nothing_of_run rows none (Cell token) asks = other _ _ refl asks.0
 nothing_of_run rows none (Report database places) asks = other _ _ refl asks.0
 nothing_of_run rows none (Backup database to) asks = other _ _ refl asks.0
 nothing_of_run rows none (Upgrade database) asks = other _ _ refl asks.0
+nothing_of_run rows none (Sweep database until now) asks = other _ _ refl asks.0
 nothing_of_run rows none (CheckTokens file) asks = other _ _ refl asks.0
 nothing_of_run rows none (NewToken uss scopes) asks = other _ _ refl asks.0
 nothing_of_run rows none NewSalt asks = other _ _ refl asks.0
@@ -69,6 +70,7 @@ nothing_of_serve rows none (Cell token) asks = other _ _ refl asks.0
 nothing_of_serve rows none (Report database places) asks = other _ _ refl asks.0
 nothing_of_serve rows none (Backup database to) asks = other _ _ refl asks.0
 nothing_of_serve rows none (Upgrade database) asks = other _ _ refl asks.0
+nothing_of_serve rows none (Sweep database until now) asks = other _ _ refl asks.0
 nothing_of_serve rows none (CheckTokens file) asks = other _ _ refl asks.0
 nothing_of_serve rows none (NewToken uss scopes) asks = other _ _ refl asks.0
 nothing_of_serve rows none NewSalt asks = other _ _ refl asks.0
@@ -82,6 +84,7 @@ nothing_of_self rows none (Cell token) asks = other _ _ refl asks.0
 nothing_of_self rows none (Report database places) asks = other _ _ refl asks.0
 nothing_of_self rows none (Backup database to) asks = other _ _ refl asks.0
 nothing_of_self rows none (Upgrade database) asks = other _ _ refl asks.0
+nothing_of_self rows none (Sweep database until now) asks = other _ _ refl asks.0
 nothing_of_self rows none (CheckTokens file) asks = other _ _ refl asks.0
 nothing_of_self rows none (NewToken uss scopes) asks = other _ _ refl asks.0
 nothing_of_self rows none NewSalt asks = other _ _ refl asks.0
@@ -95,6 +98,7 @@ nothing_of_cell rows none (Cell token) asks = none token asks.1
 nothing_of_cell rows none (Report database places) asks = other _ _ refl asks.0
 nothing_of_cell rows none (Backup database to) asks = other _ _ refl asks.0
 nothing_of_cell rows none (Upgrade database) asks = other _ _ refl asks.0
+nothing_of_cell rows none (Sweep database until now) asks = other _ _ refl asks.0
 nothing_of_cell rows none (CheckTokens file) asks = other _ _ refl asks.0
 nothing_of_cell rows none (NewToken uss scopes) asks = other _ _ refl asks.0
 nothing_of_cell rows none NewSalt asks = other _ _ refl asks.0
@@ -108,6 +112,7 @@ nothing_of_report rows none (Cell token) asks = other _ _ refl asks.0
 nothing_of_report rows none (Report database places) asks = none database places asks.1
 nothing_of_report rows none (Backup database to) asks = other _ _ refl asks.0
 nothing_of_report rows none (Upgrade database) asks = other _ _ refl asks.0
+nothing_of_report rows none (Sweep database until now) asks = other _ _ refl asks.0
 nothing_of_report rows none (CheckTokens file) asks = other _ _ refl asks.0
 nothing_of_report rows none (NewToken uss scopes) asks = other _ _ refl asks.0
 nothing_of_report rows none NewSalt asks = other _ _ refl asks.0
@@ -121,6 +126,7 @@ nothing_of_backup rows none (Cell token) asks = other _ _ refl asks.0
 nothing_of_backup rows none (Report database places) asks = other _ _ refl asks.0
 nothing_of_backup rows none (Backup database to) asks = none database to asks.1
 nothing_of_backup rows none (Upgrade database) asks = other _ _ refl asks.0
+nothing_of_backup rows none (Sweep database until now) asks = other _ _ refl asks.0
 nothing_of_backup rows none (CheckTokens file) asks = other _ _ refl asks.0
 nothing_of_backup rows none (NewToken uss scopes) asks = other _ _ refl asks.0
 nothing_of_backup rows none NewSalt asks = other _ _ refl asks.0
@@ -134,9 +140,24 @@ nothing_of_upgrade rows none (Cell token) asks = other _ _ refl asks.0
 nothing_of_upgrade rows none (Report database places) asks = other _ _ refl asks.0
 nothing_of_upgrade rows none (Backup database to) asks = other _ _ refl asks.0
 nothing_of_upgrade rows none (Upgrade database) asks = none database asks.1
+nothing_of_upgrade rows none (Sweep database until now) asks = other _ _ refl asks.0
 nothing_of_upgrade rows none (CheckTokens file) asks = other _ _ refl asks.0
 nothing_of_upgrade rows none (NewToken uss scopes) asks = other _ _ refl asks.0
 nothing_of_upgrade rows none NewSalt asks = other _ _ refl asks.0
+
+-- the command `sweep` asks for nothing where no line of it has the values
+pub nothing_of_sweep : (rows : List Row) → ((database : Bor (List ℕ)) (until : ℕ) (now : Option ℕ) → HasValues rows (Sweep database until now) → ⊥) → AsksNothing (Some (codes "sweep", rows))
+nothing_of_sweep rows none (Run tokens now database requests) asks = other _ _ refl asks.0
+nothing_of_sweep rows none (Serve given) asks = other _ _ refl asks.0
+nothing_of_sweep rows none (Loopback tokens now request) asks = other _ _ refl asks.0
+nothing_of_sweep rows none (Cell token) asks = other _ _ refl asks.0
+nothing_of_sweep rows none (Report database places) asks = other _ _ refl asks.0
+nothing_of_sweep rows none (Backup database to) asks = other _ _ refl asks.0
+nothing_of_sweep rows none (Upgrade database) asks = other _ _ refl asks.0
+nothing_of_sweep rows none (Sweep database until now) asks = none database until now asks.1
+nothing_of_sweep rows none (CheckTokens file) asks = other _ _ refl asks.0
+nothing_of_sweep rows none (NewToken uss scopes) asks = other _ _ refl asks.0
+nothing_of_sweep rows none NewSalt asks = other _ _ refl asks.0
 
 -- the text of a word, if there is one
 abbrev text_of : Option (Bor (List ℕ)) → Option Text
@@ -173,6 +194,7 @@ nothing_of_tokens rows check new scopes flag a b c d none (Cell token) asks = ot
 nothing_of_tokens rows check new scopes flag a b c d none (Report database places) asks = other _ _ refl asks.0
 nothing_of_tokens rows check new scopes flag a b c d none (Backup database to) asks = other _ _ refl asks.0
 nothing_of_tokens rows check new scopes flag a b c d none (Upgrade database) asks = other _ _ refl asks.0
+nothing_of_tokens rows check new scopes flag a b c d none (Sweep database until now) asks = other _ _ refl asks.0
 nothing_of_tokens rows check new scopes flag a b c d none (CheckTokens file) (named, has) =
     no_check check new scopes flag file.now (a ∙ has.0) (b ∙ has.1) (c ∙ has.2) (d ∙ has.3) none
 nothing_of_tokens rows check new scopes flag a b c d none (NewToken uss names) (named, has) =

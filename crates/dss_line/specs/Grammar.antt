@@ -43,6 +43,13 @@ now_rule = record (option_rule (codes "now")) {
   parser = Some (Unsigned 0 LAST_MOMENT);
 }
 
+-- the moment until which is swept, a number from 0 to the last moment
+abbrev pub until_rule : Rule
+until_rule = record (option_rule (codes "until")) {
+  value_names = 1;
+  parser = Some (Unsigned 0 LAST_MOMENT);
+}
+
 -- the database, which need not be named
 abbrev pub database_rule : Rule
 database_rule = record (new_rule (codes "db")) { long = Some (codes "db"); value_names = 1 }
@@ -108,9 +115,11 @@ abbrev pub serve_bounds : App
 serve_bounds =
     with_rule
     (with_rule
+    (with_rule
     (with_rule serve_needs (number_rule (codes "count") 1 MOST_CONNECTIONS))
     (number_rule (codes "clients") 1 MOST_CLIENTS))
-    (number_rule (codes "most-kept") 1 GREATEST_BOUND)
+    (number_rule (codes "most-kept") 1 GREATEST_BOUND))
+    (number_rule (codes "keep") 1 LAST_MOMENT)
 
 -- those for who runs it
 abbrev pub serve_watch : App
@@ -144,6 +153,12 @@ backup_app = with_rule (with_rule (new_app (codes "backup")) store_rule) to_rule
 abbrev pub upgrade_app : App
 upgrade_app = with_rule (new_app (codes "upgrade")) store_rule
 
+abbrev pub sweep_app : App
+sweep_app =
+    with_rule
+    (with_rule (with_rule (new_app (codes "sweep")) store_rule) until_rule)
+    (number_rule (codes "now") 0 LAST_MOMENT)
+
 abbrev pub tokens_app : App
 tokens_app =
     with_rule
@@ -169,6 +184,7 @@ dss_app =
     (with_subcommand
     (with_subcommand
     (with_subcommand
+    (with_subcommand
     (with_subcommand own_app run_app.top)
     serve_app.top)
     self_app.top)
@@ -176,4 +192,5 @@ dss_app =
     report_app.top)
     backup_app.top)
     upgrade_app.top)
+    sweep_app.top)
     tokens_app.top

@@ -52,6 +52,7 @@ use Rattle.dss_line.specs.declared.line.Line.TheVariants.{
   Report,
   Run,
   Serve,
+  Sweep,
   Upgrade,
 }
 use Rattle.dss_line.specs.declared.serving.Serving.{Serving}
@@ -118,6 +119,7 @@ pub record HasServing (rows : List Row) (given : Serving) : Type 0 where
   pub count : HasChoice (codes "count") 1 MOST_CONNECTIONS rows given.count
   pub clients : HasClients rows given.clients
   pub most_kept : HasChoice (codes "most-kept") 1 GREATEST_BOUND rows given.most_kept
+  pub keep : HasChoice (codes "keep") 1 LAST_MOMENT rows given.keep
   pub admin : HasChoice (codes "admin") 1 LAST_PORT rows given.admin
   pub backups : HasText (codes "backups") rows given.backups
   pub log : HasText (codes "log") rows given.log
@@ -134,6 +136,7 @@ name_of (Cell token) = codes "cell"
 name_of (Report database places) = codes "report"
 name_of (Backup database to) = codes "backup"
 name_of (Upgrade database) = codes "upgrade"
+name_of (Sweep database until now) = codes "sweep"
 name_of (CheckTokens file) = codes "tokens"
 name_of (NewToken uss scopes) = codes "tokens"
 name_of NewSalt = codes "tokens"
@@ -156,6 +159,10 @@ HasValues rows (Report database places) =
 HasValues rows (Backup database to) =
     (first_of (codes "db") rows ≡ Some database.now) × (first_of (codes "to") rows ≡ Some to.now)
 HasValues rows (Upgrade database) = first_of (codes "db") rows ≡ Some database.now
+HasValues rows (Sweep database until now) =
+    (first_of (codes "db") rows ≡ Some database.now)
+    × HasNumberIn (codes "until") 0 LAST_MOMENT rows until
+    × HasChoice (codes "now") 0 LAST_MOMENT rows now
 HasValues rows (CheckTokens file) = HasOptions rows (Some file.now) None None false
 HasValues rows (NewToken uss scopes) = HasOptions rows None (Some uss.now) (Some scopes.now) false
 HasValues rows NewSalt = HasOptions rows None None None true

@@ -20,10 +20,12 @@ ghost use Rattle.dss_line.specs.Grammar.{
   self_app,
   serve_app,
   store_rule,
+  sweep_app,
   to_rule,
   token_rule,
   tokens_app,
   tokens_rule,
+  until_rule,
   upgrade_app,
   word_rule,
 };
@@ -49,6 +51,17 @@ fn tokens_option<'a>(alloc: Global) -> Arg<'a>
     option(alloc, "tokens")
         .value_name("FILE")
         .help("The token file")
+}
+
+// The moment until which is swept.
+fn until_option<'a>(alloc: Global) -> Arg<'a>
+    ensures rule { rule_of result ≡ until_rule }
+    ensures local { result.global ≡ false }
+{
+    option(alloc, "until")
+        .value_name("SECONDS")
+        .help("What ended at or before this moment goes, in seconds since 1970; it must be past")
+        .value_parser(ValueParser::unsigned(0, LAST_MOMENT))
 }
 
 fn now_option<'a>(alloc: Global) -> Arg<'a>
@@ -81,6 +94,16 @@ fn store_option<'a>(alloc: Global) -> Arg<'a>
         .help("The database, made where there is none")
 }
 
+// The database of a command that makes none.
+fn source_option<'a>(alloc: Global) -> Arg<'a>
+    ensures rule { rule_of result ≡ store_rule }
+    ensures local { result.global ≡ false }
+{
+    option(alloc, "db")
+        .value_name("FILE")
+        .help("The database, which must be there")
+}
+
 fn port_option<'a>(alloc: Global) -> Arg<'a>
     ensures rule { rule_of result ≡ port_rule }
     ensures local { result.global ≡ false }
@@ -100,6 +123,29 @@ fn number_option<'a>(alloc: Global, name: &'a str, value: &'a str, greatest: u64
         .long(name)
         .value_name(value)
         .value_parser(ValueParser::unsigned(1, greatest))
+}
+
+// The moment that counts as now, which need not be there.
+fn moment_option<'a>(alloc: Global) -> Arg<'a>
+    ensures rule { rule_of result ≡ number_rule (codes "now") 0 LAST_MOMENT }
+    ensures local { result.global ≡ false }
+{
+    Arg::new(alloc, "now")
+        .long("now")
+        .value_name("SECONDS")
+        .help("The moment that counts as now, in seconds since 1970; without it that of the clock")
+        .value_parser(ValueParser::unsigned(0, LAST_MOMENT))
+}
+
+// How long what has ended is kept.
+fn keep_option<'a>(alloc: Global) -> Arg<'a>
+    ensures rule { rule_of result ≡ number_rule (codes "keep") 1 LAST_MOMENT }
+    ensures local { result.global ≡ false }
+{
+    number_option(alloc, "keep", "SECONDS", LAST_MOMENT).help(
+        "How long what has ended is kept, at least 1 second: what ended so long ago or longer \
+         goes; without it nothing goes",
+    )
 }
 
 fn count_option<'a>(alloc: Global) -> Arg<'a>
@@ -321,6 +367,7 @@ fn serve_command<'a>(alloc: Global) -> Result<Command<'a>, AllocError>
         .arg(count_option(alloc))?
         .arg(clients_option(alloc))?
         .arg(most_kept_option(alloc))?
+        .arg(keep_option(alloc))?
         .arg(admin_option(alloc))?
         .arg(backups_option(alloc))?
         .arg(listen_option(alloc))?
@@ -361,7 +408,7 @@ fn backup_command<'a>(alloc: Global) -> Result<Command<'a>, AllocError>
 {
     Command::new(alloc, "backup")
         .about("Copies a database that nothing has open: the copy is whole, or there is none")
-        .arg(store_option(alloc))?
+        .arg(source_option(alloc))?
         .arg(to_word(alloc))
 }
 
@@ -371,6 +418,19 @@ fn upgrade_command<'a>(alloc: Global) -> Result<Command<'a>, AllocError>
     Command::new(alloc, "upgrade")
         .about("Brings a database to format 2, and prints which format it had")
         .arg(store_option(alloc))
+}
+
+fn sweep_command<'a>(alloc: Global) -> Result<Command<'a>, AllocError>
+    ensures { IfOk result (HasGrammar sweep_app) }
+{
+    Command::new(alloc, "sweep")
+        .about(
+            "Lets go of each intent and constraint that has ended, and of each subscription that \
+             has and that no intent names, and prints how many they were",
+        )
+        .arg(store_option(alloc))?
+        .arg(until_option(alloc))?
+        .arg(moment_option(alloc))
 }
 
 fn tokens_command<'a>(alloc: Global) -> Result<Command<'a>, AllocError>
@@ -402,5 +462,6 @@ pub(crate) fn command<'a>(alloc: Global) -> Result<Command<'a>, AllocError>
         .subcommand(report_command(alloc)?)?
         .subcommand(backup_command(alloc)?)?
         .subcommand(upgrade_command(alloc)?)?
+        .subcommand(sweep_command(alloc)?)?
         .subcommand(tokens_command(alloc)?)
 }

@@ -108,6 +108,15 @@ pub enum Line<'a> {
         /// The name of the database's file.
         database: &'a str,
     },
+    /// Let go of what has ended in a database, and say how much it was.
+    Sweep {
+        /// The name of the database's file.
+        database: &'a str,
+        /// The moment by which it has ended, in seconds since 1970.
+        until: u64,
+        /// The moment that counts as now, in seconds since 1970, if it is not that of the clock.
+        now: Option<u64>,
+    },
     /// Say what is wrong with a token file, and what it surely does not mean.
     CheckTokens {
         /// The name of the token file.
@@ -274,6 +283,7 @@ fn serve_line<'a>(matches: &ArgMatches<'a>) -> Option<Line<'a>>
         count: choice_in(matches, "count", 1, MOST_CONNECTIONS)?,
         clients: clients_in(matches)?,
         most_kept: most_kept_in(matches)?,
+        keep: choice_in(matches, "keep", 1, LAST_MOMENT)?,
         admin: admin_in(matches)?,
         backups: matches.get_str("backups"),
         log: matches.get_str("log"),
@@ -341,6 +351,20 @@ fn upgrade_line<'a>(matches: &ArgMatches<'a>) -> Option<Line<'a>>
     })
 }
 
+// What the matches of the subcommand `sweep` ask for; `None` where a value is not there or out of
+// its range.
+fn sweep_line<'a>(matches: &ArgMatches<'a>) -> Option<Line<'a>>
+    ensures some { IfSome result (Asks (Some (codes "sweep", rows_of (found_of matches.now)))) }
+    ensures none { IfNone result (AsksNothing
+        (Some (codes "sweep", rows_of (found_of matches.now)))) }
+{
+    Some(Line::Sweep {
+        database: matches.get_str("db")?,
+        until: number_in(matches, "until", 0, LAST_MOMENT)?,
+        now: choice_in(matches, "now", 0, LAST_MOMENT)?,
+    })
+}
+
 // Whether a flag is set.
 fn is_set(matches: &ArgMatches<'_>, name: &str) -> bool
     ensures { result ≡ is_set name.now (rows_of (found_of matches.now)) }
@@ -393,6 +417,7 @@ fn line_of<'a>(name: &str, matches: &ArgMatches<'a>) -> Option<Line<'a>>
         "report" => report_line(matches),
         "backup" => backup_line(matches),
         "upgrade" => upgrade_line(matches),
+        "sweep" => sweep_line(matches),
         "tokens" => tokens_line(matches),
         _ => None,
     }

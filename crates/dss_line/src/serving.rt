@@ -19,6 +19,8 @@ pub struct Serving<'a> {
     /// How many entities and subscriptions are kept of each supplier at most, at least 1, if there
     /// is a bound.
     pub most_kept: Option<u32>,
+    /// How many seconds what has ended is kept, at least 1; without a number nothing goes.
+    pub keep: Option<u64>,
     /// The operator's port, at least 1, if there is one.
     pub admin: Option<u16>,
     /// The name of the folder for copies that are asked for at the operator's port, if there is

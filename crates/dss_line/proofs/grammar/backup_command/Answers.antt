@@ -14,7 +14,7 @@ returns c =
       ap app_of_fields c.about.ensures ∙ c.new.ensures.app,
       ap (λ (f : Command-F Command). f.has_globals) c.about.ensures ∙ c.new.ensures.local,
     ) in
-    let with_1 = arg_more with_0 c.store_option.ensures.rule c.store_option.ensures.local c.in_ok-arg.ensures in
+    let with_1 = arg_more with_0 c.source_option.ensures.rule c.source_option.ensures.local c.in_ok-arg.ensures in
     IfOk-weaker c.arg-2.result _ _
     (λ command adds. arg_more with_1 c.to_word.ensures.rule c.to_word.ensures.local adds)
     c.arg-2.ensures

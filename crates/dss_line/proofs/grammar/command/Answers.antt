@@ -24,4 +24,5 @@ returns c =
     let with_5 = command_more with_4 c.in_ok-report_command.ensures c.in_ok-subcommand-5.ensures in
     let with_6 = command_more with_5 c.in_ok-backup_command.ensures c.in_ok-subcommand-6.ensures in
     let with_7 = command_more with_6 c.in_ok-upgrade_command.ensures c.in_ok-subcommand-7.ensures in
-    IfOk-weaker c.subcommand-8.result _ _ (λ command adds. command_more with_7 c.in_ok-tokens_command.ensures adds) c.subcommand-8.ensures
+    let with_8 = command_more with_7 c.in_ok-sweep_command.ensures c.in_ok-subcommand-8.ensures in
+    IfOk-weaker c.subcommand-9.result _ _ (λ command adds. command_more with_8 c.in_ok-tokens_command.ensures adds) c.subcommand-9.ensures

@@ -16,6 +16,7 @@ returns-clause-some c =
         count = c.in_ok-choice_in.ensures.some;
         clients = c.in_ok-clients_in.ensures.some;
         most_kept = c.in_ok-most_kept_in.ensures.some;
+        keep = c.in_ok-choice_in-2.ensures.some;
         admin = c.in_ok-admin_in.ensures.some;
         backups = sym (c.get_str-3.ensures ∙ first_value-rows f (codes "backups"));
         log = sym (c.get_str-4.ensures ∙ first_value-rows f (codes "log"));
@@ -50,6 +51,11 @@ pub returns-in_err-choice_in-clause-none : goal.returns-in_err-choice_in-clause-
 returns-in_err-choice_in-clause-none c =
     let f = found_of c.args.matches.now in
     anyway _ _ (nothing_of_serve (rows_of f) (λ given has. c.in_err-choice_in.ensures.none given.count has.count))
+
+pub returns-in_err-choice_in-2-clause-none : goal.returns-in_err-choice_in-2-clause-none
+returns-in_err-choice_in-2-clause-none c =
+    let f = found_of c.args.matches.now in
+    anyway _ _ (nothing_of_serve (rows_of f) (λ given has. c.in_err-choice_in-2.ensures.none given.keep has.keep))
 
 pub returns-in_err-clients_in-clause-none : goal.returns-in_err-clients_in-clause-none
 returns-in_err-clients_in-clause-none c =

@@ -1,5 +1,5 @@
 use Rattle.space_reading.specs.Judging.{listed_airspace}
-use Rattle.mirror_tables.proofs.mirrored.with_lists.Goals as goal
+use Rattle.dss_files.proofs.mirrored.with_lists.Goals as goal
 
 pub new-requires : goal.new-requires
 new-requires g c = record {

@@ -82,7 +82,7 @@ fn read_whole<S: Alter + Drop>(
 /// The space with a copy in memory of all that it holds, which is read once where it is not given.
 /// There is no copy where that reading failed or memory lacks. Nothing waits, and it has refused
 /// nothing. What it holds is counted where there is a tally.
-pub fn mirrored<S: Alter + Drop>(
+pub(crate) fn mirrored<S: Alter + Drop>(
     alloc: Global,
     space: SqlSpace<S>,
     listed: Option<Listed>,
