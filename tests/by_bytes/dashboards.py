@@ -49,6 +49,7 @@ ALERTS = {
     "DssTokensNotTaken": ({"dss_tokens_reload_failures_total": "0x35 1x5"}, {"dss_tokens_reload_failures_total": "1x40"}),
     "DssLogLinesLost": ({"dss_log_lines_lost_total": "0x35 9x5"}, {"dss_log_lines_lost_total": "9x40"}),
     "DssNearItsClients": ({"dss_connections_open": "901x40"}, {"dss_connections_open": "900x40"}),
+    "DssSweepFaults": ({"dss_sweep_faults_total": "0x34 1+1x5"}, {"dss_sweep_faults_total": "0x34 1x5"}),
     "DssStartsAgain": ({"dss_start_time_seconds": "1x28 2x3 3x3 4x6"}, {"dss_start_time_seconds": "1x30 2x10"}),
 }
 

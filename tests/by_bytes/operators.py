@@ -32,6 +32,7 @@ NAMES = {
     "dss_store_faults_total": "counter", "dss_memory_faults_total": "counter", "dss_clock_faults_total": "counter",
     "dss_log_lines_lost_total": "counter",
     "dss_copy": "gauge", "dss_entities": "gauge", "dss_subscriptions": "gauge", "dss_serial": "gauge",
+    "dss_swept_total": "counter", "dss_sweep_faults_total": "counter",
     "dss_tokens_read_time_seconds": "gauge", "dss_tokens_reload_failures_total": "counter",
 }
 

@@ -92,6 +92,7 @@ def airspace_in(file):
             "entities": list(entities_in(database, availability)),
             "serial": serial,
             "subscriptions": list(subscriptions_in(database, availability)),
+            "suppliers": availability,
         }
 
 
@@ -139,9 +140,10 @@ def filled(seed):
 
 
 def whole(pages):
-    """What pages have together."""
+    """What pages have together; the suppliers are on the first alone."""
     all_ = {name: [it for page, _ in pages for it in page[name]] for name in ("entities", "subscriptions")}
-    return {**all_, "serial": pages[-1][0]["serial"]}
+    suppliers = [page["suppliers"] for page, _ in pages if "suppliers" in page]
+    return {**all_, "serial": pages[-1][0]["serial"], "suppliers": suppliers[0] if len(suppliers) == 1 else suppliers}
 
 
 def compact(value):

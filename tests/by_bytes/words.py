@@ -50,6 +50,8 @@ TOKEN_FILES = (
 # examples, and standard input is empty.
 RUN = ["run", "--tokens", "examples/tokens.toml", "--now"]
 TOKENS_AND_DB = ["--tokens", "t", "--db", "d"]
+# what is said of a sweep until a moment that is not past
+SWEEP_IN_FUTURE = "dss: until: in the future"
 
 
 def serving(port, count):
@@ -91,6 +93,9 @@ COMMAND_LINES = (
     *(([*serving("1", "1"), *it], 2, "") for it in (["--wary", "--wary"], ["--wary=true"], ["--verbose=true"], ["--verbose", "yes"])),
     *(([*serving("1", "1"), "--log", file], 1, "dss: tokens: cannot read") for file in ("-", "l")),
     *(([*serving("1", "1"), *it], 2, "") for it in (["--log"], ["--log", "l", "--log", "m"])),
+    *(([*serving("1", "1"), "--keep", keep], 2, "") for keep in ("0", "253402300800", "-1", "", "1.5", "30d")),
+    *(([*serving("1", "1"), "--keep", keep], 1, "dss: tokens: cannot read") for keep in ("1", "253402300799")),
+    *(([*serving("1", "1"), *it], 2, "") for it in (["--keep"], ["--keep", "1", "--keep", "2"])),
     ([*serving("1", "1"), "--backups", "f", "--admin", "2"], 1, "dss: tokens: cannot read"),
     # copies are asked for at the operator's port
     ([*serving("1", "1"), "--backups", "f"], 2, "--backups without --admin"),
@@ -106,6 +111,21 @@ COMMAND_LINES = (
     (["report"], 2, "--db <FILE>"),
     (["report", "--db", "d", "e"], 2, ""),
     *((["report", "--db", "d", *it], 2, "") for it in (["--places", "--places"], ["--places=true"], ["--places", "e"])),
+    (["sweep"], 2, "--db <FILE>"),
+    (["sweep", "--db", "d"], 2, "--until <SECONDS>"),
+    (["sweep", "--until", "1"], 2, "--db <FILE>"),
+    *(
+        (["sweep", "--db", "d", *it], 2, "")
+        for it in (
+            *(["--until", until] for until in ("", "-1", "1.5", "253402300800", "18446744073709551616", "today")),
+            *(["--until", "1", "--now", now] for now in ("", "-1", "1.5", "253402300800", "today")),
+            ["--until"], ["--until", "1", "--now"], ["--until", "1", "--until", "1"], ["--until", "1", "--now", "1", "--now", "1"],
+            ["--until", "1", "e"], ["--until", "1", "--tokens", "t"], ["--until", "1", "--keep", "1"], ["1"],
+        )
+    ),
+    # these words are taken, and then the moment is not past, which is told before a folder that is not there
+    *((["sweep", "--db", "no/d", "--until", until, *now], 1, SWEEP_IN_FUTURE) for until, *now in (("253402300799",), ("1", "--now=0"))),
+    *((["sweep", "--db=no/d", f"--until={it}", f"--now={it}"], 1, "dss: db: fault 3 Store") for it in ("0", "253402300799")),
     (["backup"], 2, "--db <FILE>"),
     (["backup", "t"], 2, "--db <FILE>"),
     (["backup", "--db", "d"], 2, "<TO>"),
@@ -134,6 +154,7 @@ COMMAND_LINES = (
     (["serve", "--help"], 0, "--count <NUMBER>"),
     (["serve", "--help"], 0, "--clients <NUMBER>"),
     (["serve", "--help"], 0, "--most-kept <NUMBER>"),
+    (["serve", "--help"], 0, "--keep <SECONDS>"),
     (["serve", "--help"], 0, "--wary"),
     (["serve", "--help"], 0, "--verbose"),
     (["self", "--help"], 0, "REQUEST"),
@@ -141,6 +162,9 @@ COMMAND_LINES = (
     (["serve", "--help"], 0, "--backups <FOLDER>"),
     (["report", "--help"], 0, "dss report [OPTIONS] --db <FILE>"),
     (["report", "--help"], 0, "--places"),
+    (["--help"], 0, "  sweep "),
+    (["sweep", "--help"], 0, "dss sweep [OPTIONS] --db <FILE> --until <SECONDS>"),
+    (["sweep", "--help"], 0, "--now <SECONDS>"),
     (["backup", "--help"], 0, "dss backup --db <FILE> <TO>"),
     (["upgrade", "--help"], 0, "dss upgrade --db <FILE>"),
     (["run", "--help"], 0, "--now <SECONDS>"),

@@ -279,6 +279,11 @@ class Subscription:
     put: SubPut
 
 
+def has_ended(kept, until):
+    """Whether none of its volumes ends after a moment."""
+    return not any(it.times[1] > until for it in kept.put.extents)
+
+
 # ---- what is asked
 
 
@@ -550,6 +555,17 @@ class Airspace:
 
     def setting(self, uss):
         return self.settings.get(uss, ("Unknown", ""))
+
+    def sweep(self, until):
+        """Lets go of what has ended by a moment: intents and constraints, and subscriptions that no intent which stays names. It
+        tells how many of each went."""
+        entities = {key: it for key, it in self.entities.items() if not has_ended(it, until)}
+        named = {it.put.subscription for it in entities.values() if it.kind == INTENT}
+        subscriptions = {id_: it for id_, it in self.subscriptions.items() if id_ in named or not has_ended(it, until)}
+        gone = collections.Counter(kind for kind, _ in self.entities.keys() - entities.keys())
+        gone[SUBSCRIPTION] = len(self.subscriptions) - len(subscriptions)
+        self.entities, self.subscriptions = entities, subscriptions
+        return gone[INTENT], gone[CONSTRAINT], gone[SUBSCRIPTION]
 
     def all_meeting(self, kind, extents):
         return [
