@@ -47,10 +47,12 @@ void Whole::take(const json& page, Read& read) {
     thing.shown.erase("extents");
     thing.volumes.push_back(volume_of(it.at("extents")));
   }
+  if (auto it = page.find("suppliers"); it != page.end())
+    for (const auto& [uss, availability] : it->items()) read.suppliers[uss] = availability;
 }
 
 Whole::Read Whole::read_once() const {
-  Read read{{}, {}, long(std::time(nullptr)), -1, true, false};
+  Read read{{}, {}, {}, long(std::time(nullptr)), -1, true, false};
   std::string next;
   do {
     json page = read_operators(port_, "/airspace" + (next.empty() ? "" : "?after=" + next));
@@ -115,6 +117,7 @@ Sight::Picture Whole::picture(const Moment& moment) {
   if (!read) return made;
   made.asked = read->asked;
   made.subscriptions.emplace();
+  made.suppliers = read->suppliers;
   long now = std::time(nullptr);
   auto show = [&](const std::map<std::string, Thing>& things, std::map<std::string, Placed>& placed) {
     for (const auto& [id, it] : things) {

@@ -37,6 +37,7 @@ class Whole : public Sight {
   struct Read {
     std::array<std::map<std::string, Thing>, 2> things;
     std::map<std::string, Thing> subscriptions;
+    std::map<std::string, std::string> suppliers;
     long asked, serial;
     bool is_one, has_more;
   };

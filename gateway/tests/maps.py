@@ -256,7 +256,8 @@ def later(place, holds):
 
 
 def the_whole_airspace(files, program):
-    """All references with just the cells that they have at a moment, wherever they are, subscriptions, and all suppliers; without an OVN."""
+    """All references with just the cells that they have at a moment, wherever they are, subscriptions, and all suppliers, also such as
+    manage nothing; without an OVN."""
     now = int(time.time())
     elsewhere = circle(-33.9, 18.4, 10)
     with over_whole(files, program) as place:
@@ -267,8 +268,9 @@ def the_whole_airspace(files, program):
         watch = new_id()
         body = {"extents": extent(elsewhere, 0, 400), "uss_base_url": "https://b.example", "notify_for_operational_intents": True}
         expect(place.b("PUT", f"{SUBSCRIPTIONS}/{watch}", body), 200)
-        expect(place.ask("uss-v", ARBITRATION, "PUT", f"{FRONT}uss_availability/uss-b", {"availability": "Down"}), 200)
-        whole = later(place, lambda it: it["suppliers"] == {"uss-a": "Unknown", "uss-b": "Down", "uss-c": "Unknown"})
+        for uss, availability in (("uss-b", "Down"), ("uss-d", "Normal")):
+            expect(place.ask("uss-v", ARBITRATION, "PUT", f"{FRONT}uss_availability/{uss}", {"availability": availability}), 200)
+        whole = later(place, lambda it: it["suppliers"] == {"uss-a": "Unknown", "uss-b": "Down", "uss-c": "Unknown", "uss-d": "Normal"})
         found = {it["id"]: it for it in whole["references"]}
         assert set(found) == {first, other} and not any(it["perhaps"] for it in found.values()), found
         there = [it for it in found[first]["in"] if it not in INSIDE]
