@@ -26,7 +26,7 @@ NEAR = ("00000004", 0, 0)
 # growths of memory after those of a start that are refused, some of them
 GROWTHS = 240
 # calls on files after the first of a start, from which on the disk is full
-ROOM = 150
+ROOM = 40
 SWEPT, FAULTS = "dss_swept_total", "dss_sweep_faults_total"
 
 
@@ -310,6 +310,8 @@ def without_memory():
         started.environment |= page.environment(library("refuse_memory", started.folder))
         started.kill()
         page.set()
+        # a start that takes the same words, and lets nothing go
+        started.options = ("--keep", f"{10**11}")
         started.start()
         opening, reading = page.get("calls"), wire.request("GET", f"{wire.AVAILABILITY}/uss-a", "Bearer tok-a")
         count, after = due(started)
