@@ -322,7 +322,8 @@ def without_memory():
             started.database.with_name("dss.db-wal").unlink(missing_ok=True)
             page.set(at=at, row=1)
             started.start()
-            time.sleep(1)
+            # a piece takes milliseconds, and after a fault none is made for a minute
+            time.sleep(2)
             page.set()
             counted = started.counted()
             went = int(counted[SWEPT])
