@@ -5,12 +5,13 @@ ghost use Rattle.dss_serve.specs.Serve.{MaySweep};
 use service_core::service::Service;
 use space_core::space::SpaceFault;
 use space_sweeps::sweeps::Sweeps;
+use std::mem;
 use std::time::Duration;
 use wire_http::Moments;
 
 // How many intents, constraints and subscriptions go between two rounds, at most: so few that no
 // client waits much longer for that than for a round of others.
-const PIECE: usize = 64;
+const PIECE: usize = 16;
 
 // How often it is looked for what has ended, in seconds.
 const GAP: u64 = 60;
@@ -44,11 +45,14 @@ fn piece<S: Sweeps + Drop, M: Moments>(
 }
 
 /// When what has ended is let go of: once a minute a piece, and, while there was some, one more after
-/// the next round.
+/// each second round. An answer to a change is written in the round after the one that kept it, so
+/// nobody waits for two pieces.
 #[derive(Clone, Copy, Debug)]
 pub(crate) struct Sweeper {
     due: Duration,
     goes_on: bool,
+    // whether the next round goes by without a piece
+    rests: bool,
 }
 
 impl Sweeper {
@@ -57,6 +61,7 @@ impl Sweeper {
         Sweeper {
             due: Duration::from_secs(0),
             goes_on: false,
+            rests: false,
         }
     }
 
@@ -77,7 +82,7 @@ impl Sweeper {
         ensures { MaySweep S.Space S.Settles.own M.Moments (Some keep)
             service.old service.new moments.old moments.new }
     {
-        if now < self.due {
+        if mem::replace(&mut self.rests, false) || now < self.due {
             return None;
         }
         let swept = piece(keep, service, moments);
@@ -85,6 +90,7 @@ impl Sweeper {
             Ok(count) => count > 0,
             Err(_) => false,
         };
+        self.rests = self.goes_on;
         if !self.goes_on {
             self.due = now.saturating_add(Duration::from_secs(GAP));
         }

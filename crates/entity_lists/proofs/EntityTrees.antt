@@ -17,7 +17,7 @@ use Rattle.std.specs.Map.{keys_of, values_of, lookup, remove_entry}
 use Rattle.std.specs.Ordering.{eq_by_cmp, is_le, is_lt, match_ordering, nat_cmp, ordering_then}
 use Rattle.std.specs.declared.cmp.Ordering.{Ordering}
 use Rattle.std.specs.declared.cmp.Ordering.TheVariants.{Less, Equal, Greater}
-use Rattle.std.specs.declared.ops.Bound.TheVariants.{Included, Excluded}
+use Rattle.std.specs.declared.ops.Bound.TheVariants.{Included, Excluded, Unbounded}
 use Rattle.grid_core.specs.Extent.{Region}
 use Rattle.entity_core.specs.Airspace.{EntityKey, key_cmp, key_of}
 use Rattle.entity_core.specs.Entity.{kind_index}
@@ -26,7 +26,7 @@ use Rattle.entity_core.specs.declared.entity.Entity.{Entity}
 use Rattle.entity_core.specs.declared.nature.Kind.{Kind}
 use Rattle.entity_core.specs.declared.nature.Kind.TheVariants.{Intent, Constraint}
 use Rattle.entity_core.proofs.Keys.{key_exact, key_total}
-use Rattle.entity_lists.specs.Entities.{AreKeyed, InOrder, entity_map, numbers_of, pair_of}
+use Rattle.entity_lists.specs.Entities.{AreKeyed, InOrder, comes_from, entity_map, numbers_of, pair_of}
 use Rattle.entity_lists.specs.Sorted.{keyed}
 use Rattle.entity_lists.proofs.EntityLists.{all_answer, dependents_answer, meeting_answer}
 use Rattle.entity_lists.proofs.Maps.{get_of}
@@ -106,6 +106,19 @@ in_order (e ∷ es) a s =
     let head = sorted_head number_cmp e.0 (keys_of es) s in
     both _ _ (all_above (key_of e.1) es a.1 (subst (λ (k : ℕ × ℕ). AllByRecursion (λ q. number_cmp k q ≡ Less) (keys_of es)) a.0 head)) (in_order es a.1 (sorted_tail number_cmp e.0 (keys_of es) s))
 
+-- ---- the entities whose keys pass a test
+
+kept_values : (test : ℕ × ℕ → Bool) (p : Entity → Bool) → ((x : Entity) → test (numbers_of (key_of x)) ≡ p x) → (es : Entries) → AreKeyed es → values_of (filter (λ e. test e.0) es) ≡ filter p (values_of es)
+kept_values test p same [] a = refl
+kept_values test p same (e ∷ es) a =
+    let rest : Entries = filter (λ x. test x.0) es in
+    let kept : List Entity = filter p (values_of es) in
+    ap (λ b. values_of (cond b (e ∷ rest) rest)) (ap test a.0 ∙ same e.1)
+    ∙ elim (p e.1) as (λ b. values_of (cond b (e ∷ rest) rest) ≡ cond b (e.1 ∷ kept) kept) [
+      | true ↦ ap (λ (xs : List Entity). e.1 ∷ xs) (kept_values test p same es a.1)
+      | false ↦ kept_values test p same es a.1
+    ]
+
 -- ---- the entities of a kind
 
 zero_first : (n : ℕ) → is_le (nat_cmp 0 n) ≡ true
@@ -118,15 +131,20 @@ in_kind Constraint Intent n = refl
 in_kind Constraint Constraint n = ap (λ b. b && true) (zero_first n)
 
 of_kind : (kind : Kind) (es : Entries) → AreKeyed es → values_of (entries_between number_cmp (Included (kind_index kind, 0)) (Excluded (kind_index kind + 1, 0)) es) ≡ filter (λ x. has_kind kind (key_of x)) (values_of es)
-of_kind kind [] a = refl
-of_kind kind (e ∷ es) a =
-    let rest : Entries = entries_between number_cmp (Included (kind_index kind, 0)) (Excluded (kind_index kind + 1, 0)) es in
-    let kept : List Entity = filter (λ x. has_kind kind (key_of x)) (values_of es) in
-    ap (λ b. values_of (cond b (e ∷ rest) rest)) (ap (range_contains number_cmp (Included (kind_index kind, 0)) (Excluded (kind_index kind + 1, 0))) a.0 ∙ in_kind kind (key_of e.1).0 e.1.id)
-    ∙ elim (has_kind kind (key_of e.1)) as (λ b. values_of (cond b (e ∷ rest) rest) ≡ cond b (e.1 ∷ kept) kept) [
-      | true ↦ ap (λ (xs : List Entity). e.1 ∷ xs) (of_kind kind es a.1)
-      | false ↦ of_kind kind es a.1
-    ]
+of_kind kind es a = kept_values (range_contains number_cmp (Included (kind_index kind, 0)) (Excluded (kind_index kind + 1, 0))) (λ x. has_kind kind (key_of x)) (λ x. in_kind kind (key_of x).0 x.id) es a
+
+-- ---- the entities from a key on
+
+and_true : (b : Bool) → b && true ≡ b
+and_true true = refl
+and_true false = refl
+
+from_key : (k : EntityKey) (es : Entries) → AreKeyed es → values_of (entries_between number_cmp (Included (numbers_of k)) Unbounded es) ≡ filter (comes_from k) (values_of es)
+from_key k es a = kept_values (range_contains number_cmp (Included (numbers_of k)) Unbounded) (comes_from k) (λ x. and_true (is_le (number_cmp (numbers_of k) (numbers_of (key_of x))))) es a
+
+all_entries : (es : Entries) → entries_between number_cmp Unbounded Unbounded es ≡ es
+all_entries [] = refl
+all_entries (e ∷ es) = ap (λ (xs : Entries). e ∷ xs) (all_entries es)
 
 module _ (m : BTreeMap (ℕ × ℕ) Entity) (es : List Entity) (e : tree.values m ≡ es) (a : AreKeyed m.entries) (s : tree.IsOrdered number_cmp m) where
   pub order_kept : InOrder es
@@ -134,6 +152,12 @@ module _ (m : BTreeMap (ℕ × ℕ) Entity) (es : List Entity) (e : tree.values 
 
   pub all_found : (kind : Kind) (xs : List Entity) → xs ≡ values_of (entries_between number_cmp (Included (kind_index kind, 0)) (Excluded (kind_index kind + 1, 0)) m.entries) → xs ≡ all_in (entity_map es) kind
   all_found kind xs h = all_answer xs (tree.values m) es kind e order_kept (h ∙ of_kind kind m.entries a)
+
+  pub found_from : (k : EntityKey) (xs : Entries) → xs ≡ entries_between number_cmp (Included (numbers_of k)) Unbounded m.entries → values_of xs ≡ filter (comes_from k) es
+  found_from k xs h = ap values_of h ∙ (from_key k m.entries a ∙ ap (filter (comes_from k)) e)
+
+  pub found_whole : (xs : Entries) → xs ≡ entries_between number_cmp Unbounded Unbounded m.entries → values_of xs ≡ es
+  found_whole xs h = ap values_of (h ∙ all_entries m.entries) ∙ e
 
   pub dependents_found : (id : ℕ) (ids : List ℕ) → ids ≡ map (λ x. x.id) (filter (λ x. is_naming id (pair_of x)) (tree.values m)) → ids ≡ dependents_in (entity_map es) id
   dependents_found id ids h = dependents_answer ids (tree.values m) es id e order_kept h

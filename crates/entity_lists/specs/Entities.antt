@@ -1,5 +1,6 @@
 -- Entities in the order of their kinds and ids.
 use Rattle.std.specs.Prelude.{◌≡◌, ℕ, nat_eq, Bool, false, List, Option, Some, None}
+use Rattle.std.specs.Ordering.{is_le}
 use Rattle.std.specs.List.{AllByRecursion}
 use Rattle.entity_core.specs.declared.entity.Entity.{Entity}
 use Rattle.entity_core.specs.Airspace.{Entities, EntityKey, key_cmp, key_of}
@@ -29,3 +30,7 @@ entity_map es = map_of key_cmp pair_of es
 abbrev pub was_put_at : ℕ → Option Entity → Bool
 was_put_at serial None = false
 was_put_at serial (Some e) = nat_eq e.serial serial
+
+-- whether an entity is the one of a key or comes behind it
+abbrev pub comes_from : EntityKey → Entity → Bool
+comes_from k e = is_le (key_cmp k (key_of e))

@@ -1,11 +1,12 @@
 //! Entities in the order of their kinds and ids.
-ghost use Rattle.std.specs.Prelude.{◌≡◌, [], OnOk, OnErr, IfOk, IfErr, IsOk, IsNone};
+ghost use Rattle.std.specs.Prelude.{◌≡◌, [], filter, OnOk, OnErr, IfOk, IfErr, IsOk, IsNone};
+ghost use Rattle.std.specs.Map.{values_of};
 ghost use Rattle.std.specs.Option.{option_copied};
 ghost use Rattle.std.specs.FinMap.{get, insert, remove};
 ghost use Rattle.entity_core.specs.Airspace.{key_of};
 ghost use Rattle.entity_core.specs.Entity.{kind_index};
 ghost use Rattle.entity_core.specs.Search.{is_naming, is_not, is_sought, meeting_in, all_in, dependents_in};
-ghost use Rattle.entity_lists.specs.Entities.{numbers_of, pair_of, entity_map, was_put_at, InOrder};
+ghost use Rattle.entity_lists.specs.Entities.{comes_from, numbers_of, pair_of, entity_map, was_put_at, InOrder};
 
 use entity_core::entity::Entity;
 use entity_core::entity_id::EntityId;
@@ -14,7 +15,7 @@ use grid_core::sorted_area::{SortedArea, sorted};
 use grid_core::volume::Area;
 use std::alloc::{AllocError, AllocFailed, Global};
 use std::collections::BTreeMap;
-use std::collections::btree_map::Values;
+use std::collections::btree_map::{Range, Values};
 use std::marker::Model;
 
 /// The place of a kind in the order of kinds, and the number of an id.
@@ -100,17 +101,26 @@ impl Entities {
 
     /// The entities, in their order.
     pub fn iter(&self) -> Values<'_, Key, Entity>
-        ensures { result ≡ self.now }
-    {
-        self.tree.values()
-    }
-
-    /// The same, and contracts see their order.
-    pub fn in_order(&self) -> Values<'_, Key, Entity>
         ensures items { result ≡ self.now }
         ensures order { InOrder self.now }
     {
         self.tree.values()
+    }
+
+    /// The same, each under its key.
+    pub fn entries(&self) -> Range<'_, Key, Entity>
+        ensures items { values_of result ≡ self.now }
+        ensures order { InOrder self.now }
+    {
+        self.tree.range(..)
+    }
+
+    /// The entity of a kind and an id and those behind it, in their order, each under its key.
+    pub fn from(&self, kind: Kind, id: EntityId) -> Range<'_, Key, Entity>
+        ensures items { values_of result ≡ filter (comes_from (kind, id)) self.now }
+        ensures order { InOrder self.now }
+    {
+        self.tree.range(key(kind, id.number())..)
     }
 
     /// The entity of a kind and the number of an id, which is all that an index has of it.

@@ -12,8 +12,8 @@ use Rattle.std.specs.Ordering.{eq_by_cmp, is_eq, nat_cmp}
 use Rattle.std.specs.declared.cmp.Ordering.{Ordering}
 use Rattle.std.specs.FinMap as maps
 use Rattle.std.specs.FinMap.{FinMap, get, remove, get-from_entries, get-remove}
-use Rattle.std.specs.FinMap.Entries.{below_all}
-use Rattle.entity_core.proofs.Entries.{first, second}
+use Rattle.std.specs.FinMap.Entries.{below_all, is_sorted}
+use Rattle.entity_core.proofs.Entries.{first, second, sorted_kept}
 use Rattle.entity_core.proofs.Keys.{key_total}
 use Rattle.entity_core.specs.Airspace.{Airspace, Entities, EntityKey, key_cmp, key_of}
 use Rattle.entity_core.specs.Entity.{kind_of}
@@ -34,7 +34,7 @@ use Rattle.entity_sweep.specs.Sweep.{has_ended, is_named_in, less_entity, less_s
 use Rattle.entity_sweep.proofs.Maps.{apart, below_found, both_hold, turned_true, turned_false}
 use Rattle.entity_sweep.proofs.Pieces.{pieces_make}
 use Rattle.space_list.specs.Proper.{own_id}
-use Rattle.space_list.specs.Swept.{AreFirst, TellNamed, ended_in, free_in, is_free}
+use Rattle.space_list.specs.Swept.{AreFirst, AreSome, TellNamed, ended_in, free_in, is_free}
 
 -- ---- the first ones of some
 
@@ -94,6 +94,43 @@ ends until (e ∷ es) a rises there =
       )
       | false ↦ λ t. ends until es a rest (λ k x h. there k x (found_later key_cmp key_total (pair_of e) k x (keyed pair_of es) below h))
     ] refl
+
+-- some of the entities, in their order
+module _ (among : Entity → Bool) where
+  keyed_some : (es : List Entity) → filter (λ x. among x.1) (keyed pair_of es) ≡ keyed pair_of (filter among es)
+  keyed_some [] = refl
+  keyed_some (e ∷ es) = elim (among e) as (λ b. cond b (pair_of e ∷ filter (λ x. among x.1) (keyed pair_of es)) (filter (λ x. among x.1) (keyed pair_of es)) ≡ keyed pair_of (cond b (e ∷ filter among es) (filter among es))) [
+    | true ↦ ap (λ l. pair_of e ∷ l) (keyed_some es)
+    | false ↦ keyed_some es
+  ]
+
+  some_rise : (es : List Entity) → InOrder es → InOrder (filter among es)
+  some_rise es rises = subst (λ l. T (is_sorted key_cmp l)) (keyed_some es) (sorted_kept key_cmp (λ x. among x.1) (keyed pair_of es) rises)
+
+  some_found : (es : List Entity) (k : EntityKey) (x : Entity) → InOrder es → maps.find key_cmp k (keyed pair_of (filter among es)) ≡ Some x → maps.find key_cmp k (keyed pair_of es) ≡ Some x
+  some_found [] k x rises h = h
+  some_found (e ∷ es) k x rises h =
+      let below = first _ _ rises in
+      let rest = second (below_all key_cmp (key_of e) (keyed pair_of es)) _ rises in
+      elim (among e) as (λ b. maps.find key_cmp k (keyed pair_of (cond b (e ∷ filter among es) (filter among es))) ≡ Some x → maps.find key_cmp k (keyed pair_of (e ∷ es)) ≡ Some x) [
+        | true ↦ λ f. elim (eq_by_cmp key_cmp k (key_of e)) as (λ b. cond b (Some e) (maps.find key_cmp k (keyed pair_of (filter among es))) ≡ Some x → cond b (Some e) (maps.find key_cmp k (keyed pair_of es)) ≡ Some x) [
+          | true ↦ λ g. g
+          | false ↦ λ g. some_found es k x rest g
+        ] f
+        | false ↦ λ f. found_later key_cmp key_total (pair_of e) k x (keyed pair_of es) below (some_found es k x rest f)
+      ] h
+
+-- of none there are none
+none_among : (es : List Entity) → filter (λ (x : Entity). false) es ≡ []
+none_among [] = refl
+none_among (e ∷ es) = none_among es
+
+pub none_of : (until most : ℕ) (found : List Gone) (es : List Entity) → found ≡ [] → AreSome until most found es
+none_of until most found es none = record {
+  among = λ x. false;
+  first = subst (λ (gs : List Gone). AreFirst most gs (ended_in until (filter (λ (x : Entity). false) es))) (sym none)
+      (subst (λ (xs : List Entity). AreFirst most [] (ended_in until xs)) (sym (none_among es)) (record { few = omega arith; rest = []; split = refl; last = λ a b. refl }));
+}
 
 -- where none has ended, none that is found has
 none_ended : (until : ℕ) (es : List Entity) (k : EntityKey) (e : Entity) → ended_in until es ≡ [] → maps.find key_cmp k (keyed pair_of es) ≡ Some e → has_ended until e ≡ false
@@ -172,6 +209,15 @@ module _ (until most : ℕ) (es : List Entity) (ss : List Sub) (settings : List 
 
   found_sub : (id : ℕ) → get (subscription_map ss) id ≡ maps.find nat_cmp id (keyed subs.pair_of ss)
   found_sub id = get-from_entries nat_cmp_total (keyed subs.pair_of ss) id
+
+  pub some_go : (found : List Gone) → InOrder es → AreSome until most found es → (found ≡ [] → ⊥) → IsPiece until most found (airspace_of es ss settings serial)
+  some_go found rises one some = record {
+    few = one.first.few;
+    go = go_first until found one.first.rest (airspace_of es ss settings serial)
+        (subst (λ (gs : List Gone). AllGo until gs (airspace_of es ss settings serial)) (sym one.first.split)
+        (ends until (filter one.among es) (airspace_of es ss settings serial) (some_rise one.among es rises) (λ k e h. found_entity k ∙ some_found one.among es k e rises h)));
+    last = λ none room. absurd (some none);
+  }
 
   pub entities_go : (found : List Gone) → InOrder es → AreFirst most found (ended_in until es) → (found ≡ [] → ⊥) → IsPiece until most found (airspace_of es ss settings serial)
   entities_go found rises one some = record {

@@ -31,6 +31,11 @@ pub record AreFirst (most : ℕ) (first all : List Gone) : Type 0 where
   pub split : first ++ rest ≡ all
   pub last : first ≡ [] → 0 < most → all ≡ []
 
+-- Some of the entities that have ended, at most so many, in their order.
+pub record AreSome (until most : ℕ) (gone : List Gone) (es : List Entity) : Type 0 where
+  pub among : Entity → Bool
+  pub first : AreFirst most gone (ended_in until (filter among es))
+
 -- whether there is a subscription, and it has ended
 abbrev pub is_ended_there : ℕ → Option Sub → Bool
 is_ended_there until None = false

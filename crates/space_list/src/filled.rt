@@ -37,6 +37,7 @@ impl ListSpace {
             availabilities,
             serial,
             refusals: 0,
+            last_gone: None,
         })
     }
 }

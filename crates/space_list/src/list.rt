@@ -35,6 +35,8 @@ pub struct ListSpace {
     pub(crate) availabilities: Availabilities,
     pub(crate) serial: u64,
     pub(crate) refusals: u64,
+    // the entity that was let go of last: where the next that has ended is looked for
+    pub(crate) last_gone: Option<(Kind, EntityId)>,
     ghost told: { AllTold subscriptions serial },
 }
 
@@ -63,6 +65,7 @@ impl ListSpace {
             availabilities: Availabilities::new(alloc),
             serial,
             refusals: 0,
+            last_gone: None,
         }
     }
 

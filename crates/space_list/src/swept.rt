@@ -3,6 +3,7 @@ ghost use Rattle.std.specs.Prelude.{◌≡◌, ℕ, ◌<◌, ◌||◌, IfOk, IsF
 ghost use Rattle.std.specs.BTreeSet.{contains};
 ghost use Rattle.std.specs.FinMap.{get};
 ghost use Rattle.std.specs.List.{list_any};
+ghost use Rattle.std.specs.Map.{values_of};
 ghost use Rattle.std.specs.Ordering.{nat_cmp};
 ghost use Rattle.entity_core.specs.Search.{is_naming};
 ghost use Rattle.entity_core.specs.declared.subscription.Sub.{Sub};
@@ -13,7 +14,7 @@ ghost use Rattle.entity_lists.specs.Subscriptions.{InOrder as SubsInOrder, subsc
 ghost use Rattle.entity_sweep.specs.Gone.{IsPiece, less_all, less_one};
 ghost use Rattle.entity_sweep.specs.Sweep.{has_ended, sub_has_ended};
 ghost use Rattle.space_list.specs.List.{content_of, refusals_of};
-ghost use Rattle.space_list.specs.Swept.{AreFirst, TellNamed, ended_in, free_in, is_ended_there, is_free};
+ghost use Rattle.space_list.specs.Swept.{AreFirst, AreSome, TellNamed, ended_in, free_in, is_ended_there, is_free};
 
 use crate::found::add_at;
 use crate::indexed::IndexedEntities;
@@ -21,12 +22,14 @@ use crate::indexed_subscriptions::{IndexedSubscriptions, at};
 use crate::list::ListSpace;
 use entity_core::entity::Entity;
 use entity_core::entity_id::EntityId;
+use entity_core::nature::Kind;
 use entity_core::subscription::Sub;
-use entity_lists::entities::Entities;
+use entity_lists::entities::{Entities, Key};
 use entity_lists::subscriptions::Subscriptions;
 use entity_sweep::gone::Gone;
 use std::alloc::{AllocError, Global};
 use std::collections::BTreeSet;
+use std::collections::btree_map::Range;
 
 /// A piece ends once what it lets go of has more cells than these together. Each cell is a row to
 /// be deleted, and no client should wait long for it.
@@ -74,21 +77,20 @@ fn is_full(gone: &Vec<Gone>, cells: usize, most: usize) -> bool
 
 // ---- what a piece has
 
-// Of the entities that have ended the first ones.
-fn ended_entities(
+// Of some entities those that have ended, the first ones.
+fn first_ended(
     alloc: Global,
-    entities: &Entities,
+    entities: Range<'_, Key, Entity>,
     until: u64,
     most: usize,
 ) -> Result<Vec<Gone>, AllocError>
     requires { 0 < most }
-    ensures first { IfOk result (λ gone.
-        AreFirst most gone.items (ended_in until entities.now)) }
-    ensures order { InOrder entities.now }
+    ensures { IfOk result (λ gone.
+        AreFirst most gone.items (ended_in until (values_of entities.entry))) }
 {
     let mut gone = Vec::new(alloc);
     let mut cells = 0usize;
-    for entity in entities.in_order() {
+    for (_, entity) in entities {
         if has_ended(entity, until) {
             gone.push(Gone::Entity(entity.nature.kind(), entity.id))?;
             cells = cells.saturating_add(cells_of(entity));
@@ -98,6 +100,24 @@ fn ended_entities(
         }
     }
     Ok(gone)
+}
+
+// Of the entities that have ended the first ones from where the last one went on; none only where
+// none has ended there.
+fn ended_from(
+    alloc: Global,
+    entities: &Entities,
+    last: Option<(Kind, EntityId)>,
+    until: u64,
+    most: usize,
+) -> Result<Vec<Gone>, AllocError>
+    requires { 0 < most }
+    ensures { IfOk result (λ gone. AreSome until most gone.items entities.now) }
+{
+    match last {
+        Some((kind, id)) => first_ended(alloc, entities.from(kind, id), until, most),
+        None => Ok(Vec::new(alloc)),
+    }
 }
 
 // Adds the id of the subscription that an entity names, if it names one that has ended.
@@ -143,7 +163,7 @@ fn named_ended(
     if !some_ended(subscriptions.items(), until) {
         return Ok(named);
     }
-    for entity in entities.in_order() {
+    for entity in entities.iter() {
         note_named(&mut named, entity, subscriptions, until)?;
     }
     Ok(named)
@@ -181,11 +201,13 @@ fn free_subscriptions(
     Ok(gone)
 }
 
-// A subscription goes only once no entity does: what names it may go, too.
+// It is looked first where the last one went, since each look from the start on passes all that
+// stays. A subscription goes only once no entity does: what names it may go, too.
 fn piece_of(
     alloc: Global,
     entities: &Entities,
     subscriptions: &Subscriptions,
+    last: Option<(Kind, EntityId)>,
     until: u64,
     most: usize,
 ) -> Result<Vec<Gone>, AllocError>
@@ -194,7 +216,12 @@ fn piece_of(
         → IsPiece until most gone.items
         (airspace_of entities.now subscriptions.now settings serial)) }
 {
-    let gone = ended_entities(alloc, entities, until, most)?;
+    let all = entities.entries();
+    let next = ended_from(alloc, entities, last, until, most)?;
+    if !next.is_empty() {
+        return Ok(next);
+    }
+    let gone = first_ended(alloc, all, until, most)?;
     if !gone.is_empty() {
         return Ok(gone);
     }
@@ -229,6 +256,14 @@ fn let_all_go(
     }
 }
 
+// The entity that goes last.
+fn last_entity(gone: &[Gone]) -> Option<(Kind, EntityId)> {
+    match gone.last() {
+        Some(Gone::Entity(kind, id)) => Some((*kind, *id)),
+        _ => None,
+    }
+}
+
 impl ListSpace {
     /// Some of what a sweep until a moment takes, at most so many; none only where nothing is left
     /// that goes. A piece has entities alone while some have ended, and else subscriptions, which
@@ -244,6 +279,7 @@ impl ListSpace {
             self.alloc,
             self.entities.entities(),
             self.subscriptions.subscriptions(),
+            self.last_gone,
             until,
             most,
         )
@@ -255,6 +291,7 @@ impl ListSpace {
         ensures content { content_of self.new ≡ less_all gone.now (content_of self.old) }
         ensures refusals { refusals_of self.new ≡ refusals_of self.old }
     {
+        self.last_gone = last_entity(gone).or(self.last_gone);
         let_all_go(&mut self.entities, &mut self.subscriptions, gone);
     }
 }

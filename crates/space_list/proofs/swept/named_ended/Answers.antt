@@ -25,4 +25,4 @@ loop-entity-preserved c id s there ended =
 pub returns : goal.returns
 returns c id s there ended =
     named_walked id (contains nat_cmp c.loop-entity.named id) c.loop-entity.entity-iterator c.into_iter-entity-iterator.result c.args.entities.now c.in-None.ensures.steps.0
-    (c.into_iter-entity-iterator.ensures.into_iter_gives ∙ c.in_order-entity-items.ensures.items) c.in_order-entity-items.ensures.order (c.loop-entity.invariant id s there ended)
+    (c.into_iter-entity-iterator.ensures.into_iter_gives ∙ c.iter-entity-items.ensures.items) c.iter-entity-items.ensures.order (c.loop-entity.invariant id s there ended)

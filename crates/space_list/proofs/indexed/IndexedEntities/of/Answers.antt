@@ -19,4 +19,4 @@ pub invariant_of-result : goal.invariant_of-result
 invariant_of-result c =
     let P = AllMarked c.loop-entity.marks in
     let all = seen_all P c.into_iter-entity-iterator.result c.loop-entity.entity-iterator (rest_all deref _ _ _ c.in-None.is c.next.ensures.steps) c.loop-entity.invariant in
-    all_indexed c.args.entities c.loop-entity.marks (subst (λ (es : List Entity). All P es) (c.into_iter-entity-iterator.ensures.into_iter_gives ∙ c.iter-entity-items.ensures) all)
+    all_indexed c.args.entities c.loop-entity.marks (subst (λ (es : List Entity). All P es) (c.into_iter-entity-iterator.ensures.into_iter_gives ∙ c.iter-entity-items.ensures.items) all)
