@@ -8,8 +8,8 @@ use crate::fault::StreamFault;
 use crate::held::HEAD_LIMIT;
 use std::io::Read;
 
-/// The most bytes that one read asks for.
-const PIECE: usize = 1024;
+// The most bytes that one read asks for: those of a whole head, and more of a body.
+const PIECE: usize = 16_384;
 
 /// The input of a stream.
 #[derive(Drop)]
@@ -24,9 +24,9 @@ pub(crate) struct Source<'s, R> {
 }
 
 impl<R: Read> Source<'_, R> {
-    /// Reads at most `room` bytes more to the end of the buffer, in one turn. `false` is the end of
-    /// the input.
-    pub(crate) fn read_more(&mut self, room: usize) -> Result<bool, StreamFault>
+    // Reads at most `room` bytes more to the end of the buffer, by way of the piece, in one turn.
+    // `false` is the end of the input.
+    fn read_more(&mut self, piece: &mut [u8; PIECE], room: usize) -> Result<bool, StreamFault>
         requires { 0 < room }
         ensures reads { Reads R.remaining self.old self.new result }
         ensures short { OnOk result (length (bytes_of self.new) ≤ length (bytes_of self.old) + room) }
@@ -38,7 +38,6 @@ impl<R: Read> Source<'_, R> {
             return Err(StreamFault::Turns);
         }
         self.turns -= 1;
-        let mut piece = [0u8; PIECE];
         let most = room.min(PIECE);
         match self.reader.read(&mut piece[..most]) {
             Ok(0) => Ok(false),
@@ -62,9 +61,10 @@ impl<R: Read> Source<'_, R> {
         ensures fewer { IfOk result (λ whole. whole ≡ true → length (bytes_of self.old) < count
             → self.new.turns < self.old.turns) }
     {
+        let mut piece = [0u8; PIECE];
         'filling: while self.buffer.len() < count {
             let room = count.max(HEAD_LIMIT) - self.buffer.len();
-            if !self.read_more(room)? {
+            if !self.read_more(&mut piece, room)? {
                 return Ok(false);
             }
         }
