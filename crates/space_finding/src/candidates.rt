@@ -1,7 +1,7 @@
 //! The entities and the subscriptions with the numbers that the index finds.
 ghost use Rattle.std.specs.Prelude.{◌≡◌, ℤ, List, []};
 ghost use Rattle.sqlite.specs.Effect.{Database};
-ghost use Rattle.sqlite.specs.Held.{state};
+ghost use Rattle.space_tables.specs.Within.{KeepsConnection, Within};
 ghost use Rattle.space_select.specs.Reading.{Reads};
 ghost use Rattle.space_finding.specs.declared.cell_table.CellTable.{CellTable};
 ghost use Rattle.space_finding.specs.Candidates.{AddsNumbered, HoldsFound};
@@ -39,10 +39,9 @@ pub(crate) trait Candidates: Drop {
         tx: &mut Transaction<'_, S>,
         num: i64,
     ) -> Result<(), Error>
-        ensures same_reference { tx.new.conn.ghost_name ≡ tx.old.conn.ghost_name }
-        ensures adds { let old = state S.Store tx.old.conn.now in
-            Reads (λ db _. AddsNumbered holds num db self.old self.new)
-            old (state S.Store tx.new.conn.now) result };
+        ensures same_reference { KeepsConnection tx.old tx.new }
+        ensures adds { Within S.Store tx.old tx.new
+            (Reads (λ db _. AddsNumbered holds num db self.old self.new)) result };
 }
 
 impl Candidates for Entities {
@@ -108,9 +107,8 @@ fn read_all<C: Candidates, S: Alter>(
     tx: &mut Transaction<'_, S>,
     numbers: &[i64],
 ) -> Result<C, Error>
-    ensures same_reference { tx.new.conn.ghost_name ≡ tx.old.conn.ghost_name }
-    ensures reads { let old = state S.Store tx.old.conn.now in
-        Reads (C.holds numbers.now) old (state S.Store tx.new.conn.now) result }
+    ensures same_reference { KeepsConnection tx.old tx.new }
+    ensures reads { Within S.Store tx.old tx.new (Reads (C.holds numbers.now)) result }
 {
     let mut found = C::none(alloc);
     for num in numbers {
@@ -125,10 +123,9 @@ pub(crate) fn read_candidates<C: Candidates, S: Alter>(
     tx: &mut Transaction<'_, S>,
     asked: &Asked,
 ) -> Result<C, Error>
-    ensures same_reference { tx.new.conn.ghost_name ≡ tx.old.conn.ghost_name }
-    ensures reads { let old = state S.Store tx.old.conn.now in
-        Reads (HoldsFound C.cells asked.now C.holds)
-        old (state S.Store tx.new.conn.now) result }
+    ensures same_reference { KeepsConnection tx.old tx.new }
+    ensures reads { Within S.Store tx.old tx.new
+        (Reads (HoldsFound C.cells asked.now C.holds)) result }
 {
     let numbers = find_numbers(alloc, tx, C::cell_table(), asked)?;
     read_all(alloc, tx, numbers.as_slice())

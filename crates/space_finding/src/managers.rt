@@ -1,6 +1,6 @@
 //! Entities with the availabilities of their managers, which are read in the same transaction.
 ghost use Rattle.std.specs.Prelude.{◌≡◌, [], unwrap_or};
-ghost use Rattle.sqlite.specs.Held.{state};
+ghost use Rattle.space_tables.specs.Within.{KeepsConnection, Within};
 ghost use Rattle.space_select.specs.Reading.{Reads};
 ghost use Rattle.space_finding.specs.Met.{AreWithAvailabilities, IsWithAvailability};
 
@@ -26,9 +26,8 @@ fn with_availability<S: Alter>(
     tx: &mut Transaction<'_, S>,
     entity: Entity,
 ) -> Result<Met, Error>
-    ensures same_reference { tx.new.conn.ghost_name ≡ tx.old.conn.ghost_name }
-    ensures reads { let old = state S.Store tx.old.conn.now in
-        Reads (IsWithAvailability entity) old (state S.Store tx.new.conn.now) result }
+    ensures same_reference { KeepsConnection tx.old tx.new }
+    ensures reads { Within S.Store tx.old tx.new (Reads (IsWithAvailability entity)) result }
 {
     let stated = read_stated(alloc, tx, &entity.manager)?;
     Ok(Met {
@@ -43,10 +42,9 @@ pub(crate) fn with_availabilities<S: Alter>(
     tx: &mut Transaction<'_, S>,
     entities: Vec<Entity>,
 ) -> Result<Vec<Met>, Error>
-    ensures same_reference { tx.new.conn.ghost_name ≡ tx.old.conn.ghost_name }
-    ensures reads { let old = state S.Store tx.old.conn.now in
-        Reads (λ db met. AreWithAvailabilities entities.items db met.items)
-        old (state S.Store tx.new.conn.now) result }
+    ensures same_reference { KeepsConnection tx.old tx.new }
+    ensures reads { Within S.Store tx.old tx.new
+        (Reads (λ db met. AreWithAvailabilities entities.items db met.items)) result }
 {
     let mut met = Vec::with_capacity(alloc, entities.len())?;
     for entity in entities {

@@ -2,6 +2,7 @@
 ghost use Rattle.std.specs.Prelude.{◌≡◌, false};
 ghost use Rattle.sqlite.specs.Held.{state};
 ghost use Rattle.space_core.specs.Met.{met_in};
+ghost use Rattle.space_tables.specs.Within.{KeepsConnection, Within};
 ghost use Rattle.space_select.specs.Reading.{Reads, ReadsAlive, ReadsAlone, ReadsTables};
 ghost use Rattle.space_finding.specs.Asked.{AsksForAll};
 ghost use Rattle.space_finding.specs.Met.{FindsMet};
@@ -27,10 +28,9 @@ fn find_meeting<S: Alter>(
     except: Option<EntityId>,
 ) -> Result<Vec<Met>, Error>
     requires { AsksForAll asked.now areas.now }
-    ensures same_reference { tx.new.conn.ghost_name ≡ tx.old.conn.ghost_name }
-    ensures reads { let old = state S.Store tx.old.conn.now in
-        Reads (λ db met. FindsMet kind areas.now except db met.items)
-        old (state S.Store tx.new.conn.now) result }
+    ensures same_reference { KeepsConnection tx.old tx.new }
+    ensures reads { Within S.Store tx.old tx.new
+        (Reads (λ db met. FindsMet kind areas.now except db met.items)) result }
 {
     let found: Entities = read_candidates(alloc, tx, asked)?;
     let sought = found.meeting(alloc, kind, areas, except)?;

@@ -6,7 +6,7 @@ ghost use Rattle.std.specs.List.Sorted.{IsStrictlySortedBy};
 ghost use Rattle.std.specs.Ordering.{int_cmp};
 ghost use Rattle.sqlite_value.specs.declared.value.Value.TheVariants.{Int};
 ghost use Rattle.sqlite_rules.specs.Lists.{Has};
-ghost use Rattle.sqlite.specs.Held.{state};
+ghost use Rattle.space_tables.specs.Within.{KeepsConnection, Within};
 ghost use Rattle.space_select.specs.Reading.{Reads};
 ghost use Rattle.space_finding.specs.Asked.{Keeps};
 ghost use Rattle.space_finding.specs.Numbers.{ShowsNumbers, HasNumbers, FindsNumbers};
@@ -24,10 +24,9 @@ fn query_numbers<S: Alter>(
     sought: Sought,
     interval: &Interval,
 ) -> Result<Vec<Row>, Error>
-    ensures same_reference { tx.new.conn.ghost_name ≡ tx.old.conn.ghost_name }
-    ensures reads { let old = state S.Store tx.old.conn.now in
-        Reads (λ db rows. ShowsNumbers table sought interval.now db rows.items)
-        old (state S.Store tx.new.conn.now) result }
+    ensures same_reference { KeepsConnection tx.old tx.new }
+    ensures reads { Within S.Store tx.old tx.new
+        (Reads (λ db rows. ShowsNumbers table sought interval.now db rows.items)) result }
 {
     query(tx, table.text(sought), params![interval.lo, interval.hi])
 }
@@ -56,11 +55,10 @@ fn find<S: Alter>(
     interval: &Interval,
     found: &mut Vec<i64>,
 ) -> Result<(), Error>
-    ensures same_reference { tx.new.conn.ghost_name ≡ tx.old.conn.ghost_name }
+    ensures same_reference { KeepsConnection tx.old tx.new }
     ensures keeps { OnOk result (Keeps found.old.items found.new.items) }
-    ensures finds { let old = state S.Store tx.old.conn.now in
-        Reads (λ db _. HasNumbers table sought db found.new.items interval.now)
-        old (state S.Store tx.new.conn.now) result }
+    ensures finds { Within S.Store tx.old tx.new
+        (Reads (λ db _. HasNumbers table sought db found.new.items interval.now)) result }
 {
     let rows = query_numbers(tx, table, sought, interval)?;
     add_numbers(found, rows.as_slice())
@@ -73,11 +71,11 @@ fn find_each<S: Alter>(
     intervals: &[Interval],
     found: &mut Vec<i64>,
 ) -> Result<(), Error>
-    ensures same_reference { tx.new.conn.ghost_name ≡ tx.old.conn.ghost_name }
+    ensures same_reference { KeepsConnection tx.old tx.new }
     ensures keeps { OnOk result (Keeps found.old.items found.new.items) }
-    ensures finds { let old = state S.Store tx.old.conn.now in
-        Reads (λ db _. AllByRecursion (HasNumbers table sought db found.new.items) intervals.now)
-        old (state S.Store tx.new.conn.now) result }
+    ensures finds { Within S.Store tx.old tx.new
+        (Reads (λ db _. AllByRecursion (HasNumbers table sought db found.new.items) intervals.now))
+        result }
 {
     for interval in intervals {
         find(tx, table, sought, interval, found)?;
@@ -101,11 +99,10 @@ pub(crate) fn find_numbers<S: Alter>(
     table: CellTable,
     asked: &Asked,
 ) -> Result<Vec<i64>, Error>
-    ensures same_reference { tx.new.conn.ghost_name ≡ tx.old.conn.ghost_name }
+    ensures same_reference { KeepsConnection tx.old tx.new }
     ensures once { IfOk result (λ found. IsStrictlySortedBy int_cmp found.items) }
-    ensures finds { let old = state S.Store tx.old.conn.now in
-        Reads (λ db found. FindsNumbers table asked.now db found.items)
-        old (state S.Store tx.new.conn.now) result }
+    ensures finds { Within S.Store tx.old tx.new
+        (Reads (λ db found. FindsNumbers table asked.now db found.items)) result }
 {
     let mut found = Vec::new(alloc);
     find_each(

@@ -3,8 +3,8 @@ ghost use Rattle.std.specs.Prelude.{◌≡◌, ◌≢◌, false, Err, IfErr, IfO
 ghost use Rattle.sqlite.specs.Effect.{Database};
 ghost use Rattle.sqlite.specs.Held.{state};
 ghost use Rattle.sqlite.specs.State.{HasCleanDisk, Survives};
-ghost use Rattle.space_tables.specs.Making.{IsSettled};
 ghost use Rattle.space_tables.specs.Tables.{dss_schema};
+ghost use Rattle.space_select.specs.Reading.{IsAsFound};
 ghost use Rattle.space_reading.specs.Judging.{JudgesDatabase};
 ghost use Rattle.space_opening.specs.Opening.{Examines};
 ghost use Rattle.space_opening.specs.declared.open_fault.OpenFault.TheVariants.{Store};
@@ -50,8 +50,7 @@ pub fn examined<S: Alter>(alloc: Global, conn: &mut Connection<S>) -> Result<Lis
         → OnOk result (IsTrue (state S.Store conn.new).is_open) }
     ensures at_rest { HasCleanDisk (state S.Store conn.new)
         → (state S.Store conn.old).now.schema ≡ dss_schema → result ≢ Err Store
-        → IsSettled (state S.Store conn.new)
-        × ((state S.Store conn.new).now ≡ (state S.Store conn.old).now) }
+        → IsAsFound (state S.Store conn.old) (state S.Store conn.new) }
     ensures survives { Survives (state S.Store conn.old) (state S.Store conn.new) (λ _. ⊥) }
 {
     let read = read_airspace(alloc, conn);

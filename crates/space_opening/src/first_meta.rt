@@ -2,8 +2,8 @@
 ghost use Rattle.std.specs.Prelude.{◌≡◌, ◌↔◌, pos, IsTrue};
 ghost use Rattle.sqlite_value.specs.Order.{column};
 ghost use Rattle.sqlite_value.specs.declared.value.Value.TheVariants.{Int};
-ghost use Rattle.sqlite.specs.Held.{state};
 ghost use Rattle.space_tables.specs.Tables.{first_schema};
+ghost use Rattle.space_tables.specs.Within.{KeepsConnection, Within};
 ghost use Rattle.space_opening.specs.FirstMeta.{IsFirstRow, AreFirst, SaysRows, ReadsMeta, SaysMeta};
 ghost use Rattle.space_opening.specs.Inside.{Inside};
 
@@ -66,18 +66,16 @@ fn said(rows: &[Row]) -> Result<(), OpenFault>
 }
 
 fn read_meta<S: Alter>(tx: &mut Transaction<'_, S>) -> Result<Vec<Row>, Error>
-    ensures same_reference { tx.new.conn.ghost_name ≡ tx.old.conn.ghost_name }
-    ensures reads { let old = state S.Store tx.old.conn.now in
-        Inside first_schema ReadsMeta old (state S.Store tx.new.conn.now) result }
+    ensures same_reference { KeepsConnection tx.old tx.new }
+    ensures reads { Within S.Store tx.old tx.new (Inside first_schema ReadsMeta) result }
 {
     tx.query_all("SELECT one, format, serial FROM meta", &[])
 }
 
 /// Whether the tables say that they are of format 1, in a transaction that goes on.
 pub(crate) fn first_meta<S: Alter>(tx: &mut Transaction<'_, S>) -> Result<(), OpenFault>
-    ensures same_reference { tx.new.conn.ghost_name ≡ tx.old.conn.ghost_name }
-    ensures says { let old = state S.Store tx.old.conn.now in
-        Inside first_schema SaysMeta old (state S.Store tx.new.conn.now) result }
+    ensures same_reference { KeepsConnection tx.old tx.new }
+    ensures says { Within S.Store tx.old tx.new (Inside first_schema SaysMeta) result }
 {
     match read_meta(tx) {
         Ok(rows) => said(rows.as_slice()),

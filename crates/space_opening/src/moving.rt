@@ -4,7 +4,8 @@ ghost use Rattle.sqlite.specs.Held.{state};
 ghost use Rattle.sqlite.specs.State.{HasCleanDisk, IsUnchanged, Survives};
 ghost use Rattle.space_tables.specs.Making.{IsSettled};
 ghost use Rattle.space_tables.specs.Tables.{dss_schema, first_schema};
-ghost use Rattle.space_select.specs.Reading.{GoesBack};
+ghost use Rattle.space_tables.specs.Within.{KeepsConnection, Within};
+ghost use Rattle.space_select.specs.Reading.{GoesBack, IsAsFound};
 ghost use Rattle.space_opening.specs.Inside.{Inside};
 ghost use Rattle.space_opening.specs.Moving.{Judges, Rewrites};
 ghost use Rattle.space_opening.specs.Opening.{MayBeMoved, Moves};
@@ -21,9 +22,8 @@ use std::alloc::Global;
 
 // Makes tables of format 2 of them, whatever they spell.
 fn rewrite<S: Alter>(tx: &mut Transaction<'_, S>) -> Result<(), OpenFault>
-    ensures same_reference { tx.new.conn.ghost_name ≡ tx.old.conn.ghost_name }
-    ensures rewrites { let old = state S.Store tx.old.conn.now in
-        Inside first_schema Rewrites old (state S.Store tx.new.conn.now) result }
+    ensures same_reference { KeepsConnection tx.old tx.new }
+    ensures rewrites { Within S.Store tx.old tx.new (Inside first_schema Rewrites) result }
 {
     match upgrade(tx) {
         Ok(()) => Ok(()),
@@ -33,9 +33,8 @@ fn rewrite<S: Alter>(tx: &mut Transaction<'_, S>) -> Result<(), OpenFault>
 
 // Whether the tables of format 2 spell an airspace.
 fn judge<S: Alter>(alloc: Global, tx: &mut Transaction<'_, S>) -> Result<(), OpenFault>
-    ensures same_reference { tx.new.conn.ghost_name ≡ tx.old.conn.ghost_name }
-    ensures judges { let old = state S.Store tx.old.conn.now in
-        Inside dss_schema Judges old (state S.Store tx.new.conn.now) result }
+    ensures same_reference { KeepsConnection tx.old tx.new }
+    ensures judges { Within S.Store tx.old tx.new (Inside dss_schema Judges) result }
 {
     let read = read_airspace_in(alloc, tx);
     match told(read) {
@@ -45,9 +44,8 @@ fn judge<S: Alter>(alloc: Global, tx: &mut Transaction<'_, S>) -> Result<(), Ope
 }
 
 fn move_inside<S: Alter>(alloc: Global, tx: &mut Transaction<'_, S>) -> Result<(), OpenFault>
-    ensures same_reference { tx.new.conn.ghost_name ≡ tx.old.conn.ghost_name }
-    ensures moves { let old = state S.Store tx.old.conn.now in
-        Inside first_schema Moves old (state S.Store tx.new.conn.now) result }
+    ensures same_reference { KeepsConnection tx.old tx.new }
+    ensures moves { Within S.Store tx.old tx.new (Inside first_schema Moves) result }
 {
     match first_meta(tx) {
         Ok(()) => {}
@@ -116,8 +114,8 @@ pub fn moved<S: Alter>(alloc: Global, conn: &mut Connection<S>) -> Result<(), Op
     ensures clean { HasCleanDisk (state S.Store conn.new) → HasCleanDisk (state S.Store conn.old) }
     ensures at_rest { let old = state S.Store conn.old in
         let new = state S.Store conn.new in
-        HasCleanDisk new → old.now.schema ≡ first_schema → IfErr result (λ fault. fault ≢ Store
-        → IsSettled new × (new.now ≡ old.now)) }
+        HasCleanDisk new → old.now.schema ≡ first_schema
+        → IfErr result (λ fault. fault ≢ Store → IsAsFound old new) }
     ensures left { let old = state S.Store conn.old in
         IfErr result (λ fault. Survives old (state S.Store conn.new)
         (λ trees. (fault ≡ Store) × MayBeMoved old trees)) }

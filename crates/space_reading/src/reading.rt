@@ -1,6 +1,7 @@
 //! The airspace is read of a connection.
 ghost use Rattle.std.specs.Prelude.{◌≡◌, false};
 ghost use Rattle.sqlite.specs.Held.{state};
+ghost use Rattle.space_tables.specs.Within.{KeepsConnection, Within};
 ghost use Rattle.space_reading.specs.Judging.{JudgesDatabase};
 ghost use Rattle.space_select.specs.Reading.{Reads, ReadsAlive};
 ghost use Rattle.space_reading.specs.Showing.{ShowsTables};
@@ -43,9 +44,8 @@ pub fn read_airspace_in<S: Alter>(
     alloc: Global,
     tx: &mut Transaction<'_, S>,
 ) -> Result<Judgement, Error>
-    ensures same_reference { tx.new.conn.ghost_name ≡ tx.old.conn.ghost_name }
-    ensures reads { let old = state S.Store tx.old.conn.now in
-        Reads JudgesDatabase old (state S.Store tx.new.conn.now) result }
+    ensures same_reference { KeepsConnection tx.old tx.new }
+    ensures reads { Within S.Store tx.old tx.new (Reads JudgesDatabase) result }
 {
     let tables = read_all(tx)?;
     judge(alloc, &tables)

@@ -1,6 +1,7 @@
 //! All rows of all tables, read in one transaction that changes nothing.
 ghost use Rattle.std.specs.Prelude.{◌≡◌, false};
 ghost use Rattle.sqlite.specs.Held.{state};
+ghost use Rattle.space_tables.specs.Within.{KeepsConnection, Within};
 ghost use Rattle.space_select.specs.Reading.{Reads, ReadsAlone};
 ghost use Rattle.space_select.specs.Meta.{ShowsMeta};
 ghost use Rattle.space_reading.specs.Showing.{ShowsSubs, ShowsSubCells, ShowsEntities, ShowsVolumes, ShowsCells, ShowsNamings, ShowsSettings, ShowsVolumeIds, ShowsCellIds, ShowsSettingIds, ShowsSubCellIds, ShowsSubTables, ShowsEntityTables, ShowsRowids, ShowsTables};
@@ -45,17 +46,17 @@ pub(crate) struct Tables {
 }
 
 fn read_metas<S: Alter>(tx: &mut Transaction<'_, S>) -> Result<Vec<Row>, Error>
-    ensures same_reference { tx.new.conn.ghost_name ≡ tx.old.conn.ghost_name }
-    ensures reads { let old = state S.Store tx.old.conn.now in
-        Reads (λ db rows. ShowsMeta db rows.items) old (state S.Store tx.new.conn.now) result }
+    ensures same_reference { KeepsConnection tx.old tx.new }
+    ensures reads { Within S.Store tx.old tx.new
+        (Reads (λ db rows. ShowsMeta db rows.items)) result }
 {
     tx.query_all("SELECT one, format, serial FROM meta", &[])
 }
 
 fn read_entities<S: Alter>(tx: &mut Transaction<'_, S>) -> Result<Vec<Row>, Error>
-    ensures same_reference { tx.new.conn.ghost_name ≡ tx.old.conn.ghost_name }
-    ensures reads { let old = state S.Store tx.old.conn.now in
-        Reads (λ db rows. ShowsEntities db rows.items) old (state S.Store tx.new.conn.now) result }
+    ensures same_reference { KeepsConnection tx.old tx.new }
+    ensures reads { Within S.Store tx.old tx.new
+        (Reads (λ db rows. ShowsEntities db rows.items)) result }
 {
     tx.query_all(
         "SELECT num, kind, id, manager, state, version, serial, ovn, url \
@@ -65,9 +66,9 @@ fn read_entities<S: Alter>(tx: &mut Transaction<'_, S>) -> Result<Vec<Row>, Erro
 }
 
 fn read_volumes<S: Alter>(tx: &mut Transaction<'_, S>) -> Result<Vec<Row>, Error>
-    ensures same_reference { tx.new.conn.ghost_name ≡ tx.old.conn.ghost_name }
-    ensures reads { let old = state S.Store tx.old.conn.now in
-        Reads (λ db rows. ShowsVolumes db rows.items) old (state S.Store tx.new.conn.now) result }
+    ensures same_reference { KeepsConnection tx.old tx.new }
+    ensures reads { Within S.Store tx.old tx.new
+        (Reads (λ db rows. ShowsVolumes db rows.items)) result }
 {
     tx.query_all(
         "SELECT entity, place, alt_lower, alt_upper, time_start, time_end \
@@ -77,9 +78,9 @@ fn read_volumes<S: Alter>(tx: &mut Transaction<'_, S>) -> Result<Vec<Row>, Error
 }
 
 fn read_cells<S: Alter>(tx: &mut Transaction<'_, S>) -> Result<Vec<Row>, Error>
-    ensures same_reference { tx.new.conn.ghost_name ≡ tx.old.conn.ghost_name }
-    ensures reads { let old = state S.Store tx.old.conn.now in
-        Reads (λ db rows. ShowsCells db rows.items) old (state S.Store tx.new.conn.now) result }
+    ensures same_reference { KeepsConnection tx.old tx.new }
+    ensures reads { Within S.Store tx.old tx.new
+        (Reads (λ db rows. ShowsCells db rows.items)) result }
 {
     tx.query_all(
         "SELECT entity, volume, place, token, lo, hi \
@@ -89,17 +90,17 @@ fn read_cells<S: Alter>(tx: &mut Transaction<'_, S>) -> Result<Vec<Row>, Error>
 }
 
 fn read_settings<S: Alter>(tx: &mut Transaction<'_, S>) -> Result<Vec<Row>, Error>
-    ensures same_reference { tx.new.conn.ghost_name ≡ tx.old.conn.ghost_name }
-    ensures reads { let old = state S.Store tx.old.conn.now in
-        Reads (λ db rows. ShowsSettings db rows.items) old (state S.Store tx.new.conn.now) result }
+    ensures same_reference { KeepsConnection tx.old tx.new }
+    ensures reads { Within S.Store tx.old tx.new
+        (Reads (λ db rows. ShowsSettings db rows.items)) result }
 {
     tx.query_all("SELECT uss, state, version FROM availability", &[])
 }
 
 fn read_subscriptions<S: Alter>(tx: &mut Transaction<'_, S>) -> Result<Vec<Row>, Error>
-    ensures same_reference { tx.new.conn.ghost_name ≡ tx.old.conn.ghost_name }
-    ensures reads { let old = state S.Store tx.old.conn.now in
-        Reads (λ db rows. ShowsSubs db rows.items) old (state S.Store tx.new.conn.now) result }
+    ensures same_reference { KeepsConnection tx.old tx.new }
+    ensures reads { Within S.Store tx.old tx.new
+        (Reads (λ db rows. ShowsSubs db rows.items)) result }
 {
     tx.query_all(
         "SELECT num, id, manager, serial, version, notes, url, \
@@ -110,9 +111,9 @@ fn read_subscriptions<S: Alter>(tx: &mut Transaction<'_, S>) -> Result<Vec<Row>,
 }
 
 fn read_sub_cells<S: Alter>(tx: &mut Transaction<'_, S>) -> Result<Vec<Row>, Error>
-    ensures same_reference { tx.new.conn.ghost_name ≡ tx.old.conn.ghost_name }
-    ensures reads { let old = state S.Store tx.old.conn.now in
-        Reads (λ db rows. ShowsSubCells db rows.items) old (state S.Store tx.new.conn.now) result }
+    ensures same_reference { KeepsConnection tx.old tx.new }
+    ensures reads { Within S.Store tx.old tx.new
+        (Reads (λ db rows. ShowsSubCells db rows.items)) result }
 {
     tx.query_all(
         "SELECT subscription, place, token, lo, hi \
@@ -122,9 +123,9 @@ fn read_sub_cells<S: Alter>(tx: &mut Transaction<'_, S>) -> Result<Vec<Row>, Err
 }
 
 fn read_namings<S: Alter>(tx: &mut Transaction<'_, S>) -> Result<Vec<Row>, Error>
-    ensures same_reference { tx.new.conn.ghost_name ≡ tx.old.conn.ghost_name }
-    ensures reads { let old = state S.Store tx.old.conn.now in
-        Reads (λ db rows. ShowsNamings db rows.items) old (state S.Store tx.new.conn.now) result }
+    ensures same_reference { KeepsConnection tx.old tx.new }
+    ensures reads { Within S.Store tx.old tx.new
+        (Reads (λ db rows. ShowsNamings db rows.items)) result }
 {
     tx.query_all(
         "SELECT entity, subscription FROM naming ORDER BY entity",
@@ -133,42 +134,40 @@ fn read_namings<S: Alter>(tx: &mut Transaction<'_, S>) -> Result<Vec<Row>, Error
 }
 
 fn read_volume_ids<S: Alter>(tx: &mut Transaction<'_, S>) -> Result<Vec<Row>, Error>
-    ensures same_reference { tx.new.conn.ghost_name ≡ tx.old.conn.ghost_name }
-    ensures reads { let old = state S.Store tx.old.conn.now in
-        Reads (λ db rows. ShowsVolumeIds db rows.items) old (state S.Store tx.new.conn.now) result }
+    ensures same_reference { KeepsConnection tx.old tx.new }
+    ensures reads { Within S.Store tx.old tx.new
+        (Reads (λ db rows. ShowsVolumeIds db rows.items)) result }
 {
     tx.query_all("SELECT rowid FROM volume ORDER BY rowid", &[])
 }
 
 fn read_cell_ids<S: Alter>(tx: &mut Transaction<'_, S>) -> Result<Vec<Row>, Error>
-    ensures same_reference { tx.new.conn.ghost_name ≡ tx.old.conn.ghost_name }
-    ensures reads { let old = state S.Store tx.old.conn.now in
-        Reads (λ db rows. ShowsCellIds db rows.items) old (state S.Store tx.new.conn.now) result }
+    ensures same_reference { KeepsConnection tx.old tx.new }
+    ensures reads { Within S.Store tx.old tx.new
+        (Reads (λ db rows. ShowsCellIds db rows.items)) result }
 {
     tx.query_all("SELECT rowid FROM cell ORDER BY rowid", &[])
 }
 
 fn read_setting_ids<S: Alter>(tx: &mut Transaction<'_, S>) -> Result<Vec<Row>, Error>
-    ensures same_reference { tx.new.conn.ghost_name ≡ tx.old.conn.ghost_name }
-    ensures reads { let old = state S.Store tx.old.conn.now in
-        Reads (λ db rows. ShowsSettingIds db rows.items)
-        old (state S.Store tx.new.conn.now) result }
+    ensures same_reference { KeepsConnection tx.old tx.new }
+    ensures reads { Within S.Store tx.old tx.new
+        (Reads (λ db rows. ShowsSettingIds db rows.items)) result }
 {
     tx.query_all("SELECT rowid FROM availability ORDER BY rowid", &[])
 }
 
 fn read_sub_cell_ids<S: Alter>(tx: &mut Transaction<'_, S>) -> Result<Vec<Row>, Error>
-    ensures same_reference { tx.new.conn.ghost_name ≡ tx.old.conn.ghost_name }
-    ensures reads { let old = state S.Store tx.old.conn.now in
-        Reads (λ db rows. ShowsSubCellIds db rows.items) old (state S.Store tx.new.conn.now) result }
+    ensures same_reference { KeepsConnection tx.old tx.new }
+    ensures reads { Within S.Store tx.old tx.new
+        (Reads (λ db rows. ShowsSubCellIds db rows.items)) result }
 {
     tx.query_all("SELECT rowid FROM subscription_cell ORDER BY rowid", &[])
 }
 
 fn read_sub_tables<S: Alter>(tx: &mut Transaction<'_, S>) -> Result<SubTables, Error>
-    ensures same_reference { tx.new.conn.ghost_name ≡ tx.old.conn.ghost_name }
-    ensures reads { let old = state S.Store tx.old.conn.now in
-        Reads ShowsSubTables old (state S.Store tx.new.conn.now) result }
+    ensures same_reference { KeepsConnection tx.old tx.new }
+    ensures reads { Within S.Store tx.old tx.new (Reads ShowsSubTables) result }
 {
     Ok(SubTables {
         subscriptions: read_subscriptions(tx)?,
@@ -177,9 +176,8 @@ fn read_sub_tables<S: Alter>(tx: &mut Transaction<'_, S>) -> Result<SubTables, E
 }
 
 fn read_entity_tables<S: Alter>(tx: &mut Transaction<'_, S>) -> Result<EntityTables, Error>
-    ensures same_reference { tx.new.conn.ghost_name ≡ tx.old.conn.ghost_name }
-    ensures reads { let old = state S.Store tx.old.conn.now in
-        Reads ShowsEntityTables old (state S.Store tx.new.conn.now) result }
+    ensures same_reference { KeepsConnection tx.old tx.new }
+    ensures reads { Within S.Store tx.old tx.new (Reads ShowsEntityTables) result }
 {
     Ok(EntityTables {
         entities: read_entities(tx)?,
@@ -190,9 +188,8 @@ fn read_entity_tables<S: Alter>(tx: &mut Transaction<'_, S>) -> Result<EntityTab
 }
 
 fn read_rowids<S: Alter>(tx: &mut Transaction<'_, S>) -> Result<Rowids, Error>
-    ensures same_reference { tx.new.conn.ghost_name ≡ tx.old.conn.ghost_name }
-    ensures reads { let old = state S.Store tx.old.conn.now in
-        Reads ShowsRowids old (state S.Store tx.new.conn.now) result }
+    ensures same_reference { KeepsConnection tx.old tx.new }
+    ensures reads { Within S.Store tx.old tx.new (Reads ShowsRowids) result }
 {
     Ok(Rowids {
         volumes: read_volume_ids(tx)?,
@@ -204,9 +201,8 @@ fn read_rowids<S: Alter>(tx: &mut Transaction<'_, S>) -> Result<Rowids, Error>
 
 /// Reads all tables in a transaction that goes on.
 pub(crate) fn read_all<S: Alter>(tx: &mut Transaction<'_, S>) -> Result<Tables, Error>
-    ensures same_reference { tx.new.conn.ghost_name ≡ tx.old.conn.ghost_name }
-    ensures reads { let old = state S.Store tx.old.conn.now in
-        Reads ShowsTables old (state S.Store tx.new.conn.now) result }
+    ensures same_reference { KeepsConnection tx.old tx.new }
+    ensures reads { Within S.Store tx.old tx.new (Reads ShowsTables) result }
 {
     Ok(Tables {
         metas: read_metas(tx)?,

@@ -43,9 +43,13 @@ pub record GoesBack (old new : State) : Type 0 where
   pub committed_is : new.committed ≡ old.committed
   pub was_open : IsTrue old.is_open
 
--- where the tables are those of format 2, what was seen is seen and committed
+-- what was seen is seen and committed
+abbrev pub IsAsFound : State → State → Type 0
+IsAsFound old new = IsSettled new × (new.now ≡ old.now)
+
+-- so where the tables are those of format 2
 abbrev pub RestsAs : State → State → Type 0
-RestsAs old new = old.now.schema ≡ dss_schema → IsSettled new × (new.now ≡ old.now)
+RestsAs old new = old.now.schema ≡ dss_schema → IsAsFound old new
 
 -- A reading in a transaction of its own, which is rolled back: where the tables are those of format
 -- 2, its answer has P of what was seen, and what was committed is seen again. Nothing is committed.

@@ -3,6 +3,7 @@ ghost use Rattle.std.specs.Prelude.{◌≡◌, false, Option, IfOk};
 ghost use Rattle.std.specs.FinMap.{get};
 ghost use Rattle.sqlite.specs.Held.{state};
 ghost use Rattle.entity_core.specs.Airspace.{Stated};
+ghost use Rattle.space_tables.specs.Within.{KeepsConnection, Within};
 ghost use Rattle.space_select.specs.Reading.{Reads, ReadsAlone, ReadsTables};
 ghost use Rattle.space_single.specs.Availability.{AnswersStated, FindsStated, rows_of_setting};
 
@@ -34,10 +35,9 @@ fn availability_of(
 }
 
 fn query_stated<S: Alter>(tx: &mut Transaction<'_, S>, uss: &UssId) -> Result<Vec<Row>, Error>
-    ensures same_reference { tx.new.conn.ghost_name ≡ tx.old.conn.ghost_name }
-    ensures reads { let old = state S.Store tx.old.conn.now in
-        Reads (λ db rows. AnswersStated uss.now db rows.items)
-        old (state S.Store tx.new.conn.now) result }
+    ensures same_reference { KeepsConnection tx.old tx.new }
+    ensures reads { Within S.Store tx.old tx.new
+        (Reads (λ db rows. AnswersStated uss.now db rows.items)) result }
 {
     query(
         tx,
@@ -53,9 +53,8 @@ pub fn read_stated<S: Alter>(
     tx: &mut Transaction<'_, S>,
     uss: &UssId,
 ) -> Result<Option<(Availability, Ovn)>, Error>
-    ensures same_reference { tx.new.conn.ghost_name ≡ tx.old.conn.ghost_name }
-    ensures reads { let old = state S.Store tx.old.conn.now in
-        Reads (FindsStated uss.now) old (state S.Store tx.new.conn.now) result }
+    ensures same_reference { KeepsConnection tx.old tx.new }
+    ensures reads { Within S.Store tx.old tx.new (Reads (FindsStated uss.now)) result }
 {
     let rows = query_stated(tx, uss)?;
     availability_of(alloc, uss, rows.as_slice())

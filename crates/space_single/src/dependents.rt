@@ -2,6 +2,7 @@
 ghost use Rattle.std.specs.Prelude.{◌≡◌, false};
 ghost use Rattle.sqlite.specs.Held.{state};
 ghost use Rattle.entity_core.specs.Search.{dependents_in};
+ghost use Rattle.space_tables.specs.Within.{KeepsConnection, Within};
 ghost use Rattle.space_select.specs.Reading.{Reads, ReadsAlone, ReadsTables};
 ghost use Rattle.space_single.specs.Dependents.{AnswersSubNum, AnswersNamers, AnswersId, FindsId, FindsIds, FindsDependents};
 
@@ -17,10 +18,9 @@ fn query_num<S: Alter>(
     tx: &mut Transaction<'_, S>,
     id: EntityId,
 ) -> Result<Vec<Row>, Error>
-    ensures same_reference { tx.new.conn.ghost_name ≡ tx.old.conn.ghost_name }
-    ensures reads { let old = state S.Store tx.old.conn.now in
-        Reads (λ db rows. AnswersSubNum id db rows.items)
-        old (state S.Store tx.new.conn.now) result }
+    ensures same_reference { KeepsConnection tx.old tx.new }
+    ensures reads { Within S.Store tx.old tx.new
+        (Reads (λ db rows. AnswersSubNum id db rows.items)) result }
 {
     let text = id.text(alloc)?;
     query(
@@ -31,10 +31,9 @@ fn query_num<S: Alter>(
 }
 
 fn query_namers<S: Alter>(tx: &mut Transaction<'_, S>, num: i64) -> Result<Vec<Row>, Error>
-    ensures same_reference { tx.new.conn.ghost_name ≡ tx.old.conn.ghost_name }
-    ensures reads { let old = state S.Store tx.old.conn.now in
-        Reads (λ db rows. AnswersNamers num db rows.items)
-        old (state S.Store tx.new.conn.now) result }
+    ensures same_reference { KeepsConnection tx.old tx.new }
+    ensures reads { Within S.Store tx.old tx.new
+        (Reads (λ db rows. AnswersNamers num db rows.items)) result }
 {
     query(
         tx,
@@ -44,18 +43,16 @@ fn query_namers<S: Alter>(tx: &mut Transaction<'_, S>, num: i64) -> Result<Vec<R
 }
 
 fn query_id<S: Alter>(tx: &mut Transaction<'_, S>, num: i64) -> Result<Vec<Row>, Error>
-    ensures same_reference { tx.new.conn.ghost_name ≡ tx.old.conn.ghost_name }
-    ensures reads { let old = state S.Store tx.old.conn.now in
-        Reads (λ db rows. AnswersId num db rows.items)
-        old (state S.Store tx.new.conn.now) result }
+    ensures same_reference { KeepsConnection tx.old tx.new }
+    ensures reads { Within S.Store tx.old tx.new
+        (Reads (λ db rows. AnswersId num db rows.items)) result }
 {
     query(tx, "SELECT id FROM entity WHERE num = ?1", params![num])
 }
 
 fn read_id<S: Alter>(tx: &mut Transaction<'_, S>, num: i64) -> Result<EntityId, Error>
-    ensures same_reference { tx.new.conn.ghost_name ≡ tx.old.conn.ghost_name }
-    ensures reads { let old = state S.Store tx.old.conn.now in
-        Reads (FindsId num) old (state S.Store tx.new.conn.now) result }
+    ensures same_reference { KeepsConnection tx.old tx.new }
+    ensures reads { Within S.Store tx.old tx.new (Reads (FindsId num)) result }
 {
     let rows = query_id(tx, num)?;
     id_among(rows.as_slice())
@@ -66,10 +63,9 @@ fn read_ids<S: Alter>(
     tx: &mut Transaction<'_, S>,
     numbers: &[i64],
 ) -> Result<Vec<EntityId>, Error>
-    ensures same_reference { tx.new.conn.ghost_name ≡ tx.old.conn.ghost_name }
-    ensures reads { let old = state S.Store tx.old.conn.now in
-        Reads (λ db ids. FindsIds numbers.now db ids.items)
-        old (state S.Store tx.new.conn.now) result }
+    ensures same_reference { KeepsConnection tx.old tx.new }
+    ensures reads { Within S.Store tx.old tx.new
+        (Reads (λ db ids. FindsIds numbers.now db ids.items)) result }
 {
     let mut ids = Vec::new(alloc);
     for num in numbers {
@@ -84,10 +80,9 @@ fn find_dependents<S: Alter>(
     tx: &mut Transaction<'_, S>,
     id: EntityId,
 ) -> Result<Vec<EntityId>, Error>
-    ensures same_reference { tx.new.conn.ghost_name ≡ tx.old.conn.ghost_name }
-    ensures reads { let old = state S.Store tx.old.conn.now in
-        Reads (λ db ids. FindsDependents id db ids.items)
-        old (state S.Store tx.new.conn.now) result }
+    ensures same_reference { KeepsConnection tx.old tx.new }
+    ensures reads { Within S.Store tx.old tx.new
+        (Reads (λ db ids. FindsDependents id db ids.items)) result }
 {
     let _number = id.number();
     let nums = query_num(alloc, tx, id)?;

@@ -2,6 +2,7 @@
 ghost use Rattle.std.specs.Prelude.{◌≡◌, false};
 ghost use Rattle.std.specs.FinMap.{get};
 ghost use Rattle.sqlite.specs.Held.{state};
+ghost use Rattle.space_tables.specs.Within.{KeepsConnection, Within};
 ghost use Rattle.space_select.specs.Reading.{Reads, ReadsAlone, ReadsTables};
 ghost use Rattle.space_single.specs.Entity.{AnswersNamed, AnswersNumber, FindsNamed, FindsNumbered};
 
@@ -23,10 +24,9 @@ fn query_named<S: Alter>(
     kind: Kind,
     id: EntityId,
 ) -> Result<Vec<Row>, Error>
-    ensures same_reference { tx.new.conn.ghost_name ≡ tx.old.conn.ghost_name }
-    ensures reads { let old = state S.Store tx.old.conn.now in
-        Reads (λ db rows. AnswersNamed (kind, id) db rows.items)
-        old (state S.Store tx.new.conn.now) result }
+    ensures same_reference { KeepsConnection tx.old tx.new }
+    ensures reads { Within S.Store tx.old tx.new
+        (Reads (λ db rows. AnswersNamed (kind, id) db rows.items)) result }
 {
     let text = id.text(alloc)?;
     query(
@@ -43,9 +43,8 @@ fn find_named<S: Alter>(
     kind: Kind,
     id: EntityId,
 ) -> Result<Option<Entity>, Error>
-    ensures same_reference { tx.new.conn.ghost_name ≡ tx.old.conn.ghost_name }
-    ensures reads { let old = state S.Store tx.old.conn.now in
-        Reads (FindsNamed (kind, id)) old (state S.Store tx.new.conn.now) result }
+    ensures same_reference { KeepsConnection tx.old tx.new }
+    ensures reads { Within S.Store tx.old tx.new (Reads (FindsNamed (kind, id))) result }
 {
     let _number = id.number();
     let rows = query_named(alloc, tx, kind, id)?;
@@ -92,10 +91,9 @@ pub fn read_entity<S: Alter>(
 // ---- by its number
 
 fn query_numbered<S: Alter>(tx: &mut Transaction<'_, S>, num: i64) -> Result<Vec<Row>, Error>
-    ensures same_reference { tx.new.conn.ghost_name ≡ tx.old.conn.ghost_name }
-    ensures reads { let old = state S.Store tx.old.conn.now in
-        Reads (λ db rows. AnswersNumber num db rows.items)
-        old (state S.Store tx.new.conn.now) result }
+    ensures same_reference { KeepsConnection tx.old tx.new }
+    ensures reads { Within S.Store tx.old tx.new
+        (Reads (λ db rows. AnswersNumber num db rows.items)) result }
 {
     query(
         tx,
@@ -112,9 +110,8 @@ pub fn read_numbered<S: Alter>(
     tx: &mut Transaction<'_, S>,
     num: i64,
 ) -> Result<Option<Entity>, Error>
-    ensures same_reference { tx.new.conn.ghost_name ≡ tx.old.conn.ghost_name }
-    ensures reads { let old = state S.Store tx.old.conn.now in
-        Reads (FindsNumbered num) old (state S.Store tx.new.conn.now) result }
+    ensures same_reference { KeepsConnection tx.old tx.new }
+    ensures reads { Within S.Store tx.old tx.new (Reads (FindsNumbered num)) result }
 {
     let rows = query_numbered(tx, num)?;
     entity_of_head(alloc, tx, rows.as_slice())

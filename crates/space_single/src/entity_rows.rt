@@ -1,9 +1,9 @@
 //! The rows of one entity, read in a transaction.
 ghost use Rattle.std.specs.Prelude.{◌≡◌, List, [], ◌∷◌, map, Some, None, IfOk};
-ghost use Rattle.sqlite.specs.Held.{state};
 ghost use Rattle.space_rows.specs.Rows.{SpellsEntity};
 ghost use Rattle.entity_core.specs.declared.entity.Entity.{Entity as AnEntity};
 ghost use Rattle.space_tables.specs.Spelling.{entity_values, volume_values, cell_values};
+ghost use Rattle.space_tables.specs.Within.{KeepsConnection, Within};
 ghost use Rattle.space_rows.specs.declared.rows.EntityRow.{EntityRow as AnEntityRow};
 ghost use Rattle.space_rows.specs.declared.rows.VolumeRow.{VolumeRow};
 ghost use Rattle.space_rows.specs.declared.rows.CellRow.{CellRow};
@@ -30,10 +30,9 @@ pub(crate) struct OwnRows {
 }
 
 fn query_volumes<S: Alter>(tx: &mut Transaction<'_, S>, num: i64) -> Result<Vec<Row>, Error>
-    ensures same_reference { tx.new.conn.ghost_name ≡ tx.old.conn.ghost_name }
-    ensures reads { let old = state S.Store tx.old.conn.now in
-        Reads (λ db rows. AnswersVolumes num db rows.items)
-        old (state S.Store tx.new.conn.now) result }
+    ensures same_reference { KeepsConnection tx.old tx.new }
+    ensures reads { Within S.Store tx.old tx.new
+        (Reads (λ db rows. AnswersVolumes num db rows.items)) result }
 {
     query(
         tx,
@@ -44,10 +43,9 @@ fn query_volumes<S: Alter>(tx: &mut Transaction<'_, S>, num: i64) -> Result<Vec<
 }
 
 fn query_cells<S: Alter>(tx: &mut Transaction<'_, S>, num: i64) -> Result<Vec<Row>, Error>
-    ensures same_reference { tx.new.conn.ghost_name ≡ tx.old.conn.ghost_name }
-    ensures reads { let old = state S.Store tx.old.conn.now in
-        Reads (λ db rows. AnswersCells num db rows.items)
-        old (state S.Store tx.new.conn.now) result }
+    ensures same_reference { KeepsConnection tx.old tx.new }
+    ensures reads { Within S.Store tx.old tx.new
+        (Reads (λ db rows. AnswersCells num db rows.items)) result }
 {
     query(
         tx,
@@ -58,9 +56,8 @@ fn query_cells<S: Alter>(tx: &mut Transaction<'_, S>, num: i64) -> Result<Vec<Ro
 }
 
 fn query_own<S: Alter>(tx: &mut Transaction<'_, S>, num: i64) -> Result<OwnRows, Error>
-    ensures same_reference { tx.new.conn.ghost_name ≡ tx.old.conn.ghost_name }
-    ensures reads { let old = state S.Store tx.old.conn.now in
-        Reads (AnswersOwn num) old (state S.Store tx.new.conn.now) result }
+    ensures same_reference { KeepsConnection tx.old tx.new }
+    ensures reads { Within S.Store tx.old tx.new (Reads (AnswersOwn num)) result }
 {
     Ok(OwnRows {
         volumes: query_volumes(tx, num)?,
@@ -109,9 +106,8 @@ pub(crate) fn entity_of_head<S: Alter>(
     tx: &mut Transaction<'_, S>,
     heads: &[Row],
 ) -> Result<Option<Entity>, Error>
-    ensures same_reference { tx.new.conn.ghost_name ≡ tx.old.conn.ghost_name }
-    ensures reads { let old = state S.Store tx.old.conn.now in
-        Reads (FindsOfHead heads.now) old (state S.Store tx.new.conn.now) result }
+    ensures same_reference { KeepsConnection tx.old tx.new }
+    ensures reads { Within S.Store tx.old tx.new (Reads (FindsOfHead heads.now)) result }
 {
     let Some(head) = head_of(heads)? else {
         return Ok(None);

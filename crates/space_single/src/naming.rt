@@ -1,6 +1,5 @@
 //! The subscription that an entity names, read in a transaction.
-ghost use Rattle.std.specs.Prelude.{◌≡◌};
-ghost use Rattle.sqlite.specs.Held.{state};
+ghost use Rattle.space_tables.specs.Within.{KeepsConnection, Within};
 ghost use Rattle.space_select.specs.Reading.{Reads};
 ghost use Rattle.space_single.specs.Naming.{AnswersNaming, AnswersSubId, FindsNaming};
 
@@ -10,10 +9,9 @@ use space_select::select::query;
 use sqlite::{Alter, Error, Row, Transaction, params};
 
 fn query_naming<S: Alter>(tx: &mut Transaction<'_, S>, num: i64) -> Result<Vec<Row>, Error>
-    ensures same_reference { tx.new.conn.ghost_name ≡ tx.old.conn.ghost_name }
-    ensures reads { let old = state S.Store tx.old.conn.now in
-        Reads (λ db rows. AnswersNaming num db rows.items)
-        old (state S.Store tx.new.conn.now) result }
+    ensures same_reference { KeepsConnection tx.old tx.new }
+    ensures reads { Within S.Store tx.old tx.new
+        (Reads (λ db rows. AnswersNaming num db rows.items)) result }
 {
     query(
         tx,
@@ -23,10 +21,9 @@ fn query_naming<S: Alter>(tx: &mut Transaction<'_, S>, num: i64) -> Result<Vec<R
 }
 
 fn query_sub_id<S: Alter>(tx: &mut Transaction<'_, S>, num: i64) -> Result<Vec<Row>, Error>
-    ensures same_reference { tx.new.conn.ghost_name ≡ tx.old.conn.ghost_name }
-    ensures reads { let old = state S.Store tx.old.conn.now in
-        Reads (λ db rows. AnswersSubId num db rows.items)
-        old (state S.Store tx.new.conn.now) result }
+    ensures same_reference { KeepsConnection tx.old tx.new }
+    ensures reads { Within S.Store tx.old tx.new
+        (Reads (λ db rows. AnswersSubId num db rows.items)) result }
 {
     query(
         tx,
@@ -41,9 +38,8 @@ pub(crate) fn read_naming<S: Alter>(
     tx: &mut Transaction<'_, S>,
     num: i64,
 ) -> Result<Option<EntityId>, Error>
-    ensures same_reference { tx.new.conn.ghost_name ≡ tx.old.conn.ghost_name }
-    ensures reads { let old = state S.Store tx.old.conn.now in
-        Reads (FindsNaming num) old (state S.Store tx.new.conn.now) result }
+    ensures same_reference { KeepsConnection tx.old tx.new }
+    ensures reads { Within S.Store tx.old tx.new (Reads (FindsNaming num)) result }
 {
     let rows = query_naming(tx, num)?;
     let Some(sub) = number_among(rows.as_slice())? else {

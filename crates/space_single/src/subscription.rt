@@ -2,6 +2,7 @@
 ghost use Rattle.std.specs.Prelude.{◌≡◌, false};
 ghost use Rattle.std.specs.FinMap.{get};
 ghost use Rattle.sqlite.specs.Held.{state};
+ghost use Rattle.space_tables.specs.Within.{KeepsConnection, Within};
 ghost use Rattle.space_select.specs.Reading.{Reads, ReadsAlone, ReadsTables};
 ghost use Rattle.space_single.specs.Subscription.{AnswersSub, AnswersSubNumber, FindsSub, FindsSubNumbered};
 
@@ -20,10 +21,9 @@ fn query_named<S: Alter>(
     tx: &mut Transaction<'_, S>,
     id: EntityId,
 ) -> Result<Vec<Row>, Error>
-    ensures same_reference { tx.new.conn.ghost_name ≡ tx.old.conn.ghost_name }
-    ensures reads { let old = state S.Store tx.old.conn.now in
-        Reads (λ db rows. AnswersSub id db rows.items)
-        old (state S.Store tx.new.conn.now) result }
+    ensures same_reference { KeepsConnection tx.old tx.new }
+    ensures reads { Within S.Store tx.old tx.new
+        (Reads (λ db rows. AnswersSub id db rows.items)) result }
 {
     let text = id.text(alloc)?;
     query(
@@ -39,9 +39,8 @@ fn find_sub<S: Alter>(
     tx: &mut Transaction<'_, S>,
     id: EntityId,
 ) -> Result<Option<Sub>, Error>
-    ensures same_reference { tx.new.conn.ghost_name ≡ tx.old.conn.ghost_name }
-    ensures reads { let old = state S.Store tx.old.conn.now in
-        Reads (FindsSub id) old (state S.Store tx.new.conn.now) result }
+    ensures same_reference { KeepsConnection tx.old tx.new }
+    ensures reads { Within S.Store tx.old tx.new (Reads (FindsSub id)) result }
 {
     let _number = id.number();
     let rows = query_named(alloc, tx, id)?;
@@ -86,10 +85,9 @@ pub fn read_subscription<S: Alter>(
 // ---- by its number
 
 fn query_numbered<S: Alter>(tx: &mut Transaction<'_, S>, num: i64) -> Result<Vec<Row>, Error>
-    ensures same_reference { tx.new.conn.ghost_name ≡ tx.old.conn.ghost_name }
-    ensures reads { let old = state S.Store tx.old.conn.now in
-        Reads (λ db rows. AnswersSubNumber num db rows.items)
-        old (state S.Store tx.new.conn.now) result }
+    ensures same_reference { KeepsConnection tx.old tx.new }
+    ensures reads { Within S.Store tx.old tx.new
+        (Reads (λ db rows. AnswersSubNumber num db rows.items)) result }
 {
     query(
         tx,
@@ -106,9 +104,8 @@ pub fn read_sub_numbered<S: Alter>(
     tx: &mut Transaction<'_, S>,
     num: i64,
 ) -> Result<Option<Sub>, Error>
-    ensures same_reference { tx.new.conn.ghost_name ≡ tx.old.conn.ghost_name }
-    ensures reads { let old = state S.Store tx.old.conn.now in
-        Reads (FindsSubNumbered num) old (state S.Store tx.new.conn.now) result }
+    ensures same_reference { KeepsConnection tx.old tx.new }
+    ensures reads { Within S.Store tx.old tx.new (Reads (FindsSubNumbered num)) result }
 {
     let rows = query_numbered(tx, num)?;
     sub_of_head(alloc, tx, rows.as_slice())

@@ -1,11 +1,11 @@
 //! The rows of one subscription, read in a transaction.
 ghost use Rattle.std.specs.Prelude.{◌≡◌, List, [], ◌∷◌, map, Some, None, IfOk};
-ghost use Rattle.sqlite.specs.Held.{state};
 ghost use Rattle.entity_core.specs.declared.subscription.Sub.{Sub as ASub};
 ghost use Rattle.space_rows.specs.Subs.{SpellsSub};
 ghost use Rattle.space_rows.specs.declared.rows.SubRow.{SubRow as ASubRow};
 ghost use Rattle.space_rows.specs.declared.rows.SubCellRow.{SubCellRow};
 ghost use Rattle.space_tables.specs.Spelling.{sub_values, sub_cell_values};
+ghost use Rattle.space_tables.specs.Within.{KeepsConnection, Within};
 ghost use Rattle.space_select.specs.Reading.{Reads};
 ghost use Rattle.space_single.specs.SubscriptionRows.{AnswersSubCells, FindsSubOfHead};
 
@@ -18,10 +18,9 @@ use sqlite::{Alter, Error, Row, Transaction, params};
 use std::alloc::Global;
 
 fn query_cells<S: Alter>(tx: &mut Transaction<'_, S>, num: i64) -> Result<Vec<Row>, Error>
-    ensures same_reference { tx.new.conn.ghost_name ≡ tx.old.conn.ghost_name }
-    ensures reads { let old = state S.Store tx.old.conn.now in
-        Reads (λ db rows. AnswersSubCells num db rows.items)
-        old (state S.Store tx.new.conn.now) result }
+    ensures same_reference { KeepsConnection tx.old tx.new }
+    ensures reads { Within S.Store tx.old tx.new
+        (Reads (λ db rows. AnswersSubCells num db rows.items)) result }
 {
     query(
         tx,
@@ -66,9 +65,8 @@ pub(crate) fn sub_of_head<S: Alter>(
     tx: &mut Transaction<'_, S>,
     heads: &[Row],
 ) -> Result<Option<Sub>, Error>
-    ensures same_reference { tx.new.conn.ghost_name ≡ tx.old.conn.ghost_name }
-    ensures reads { let old = state S.Store tx.old.conn.now in
-        Reads (FindsSubOfHead heads.now) old (state S.Store tx.new.conn.now) result }
+    ensures same_reference { KeepsConnection tx.old tx.new }
+    ensures reads { Within S.Store tx.old tx.new (Reads (FindsSubOfHead heads.now)) result }
 {
     let Some(head) = head_of(heads)? else {
         return Ok(None);

@@ -5,14 +5,15 @@ ghost use Rattle.sqlite.specs.State.{HasCleanDisk, Survives};
 ghost use Rattle.space_tables.specs.declared.format.Format.TheVariants.{One};
 ghost use Rattle.space_tables.specs.Making.{AreMade, AreMadeFirst, IsBare, IsMade, IsUndone, Leads, MayBeMade, SpellsEmptyAs};
 ghost use Rattle.space_tables.specs.Tables.{no_schema, first_schema, dss_schema, schema_1, schema_2, schema_3, schema_4, schema_5};
+ghost use Rattle.space_tables.specs.Within.{KeepsConnection, Within};
 
 use crate::upgrade::make_later;
 use sqlite::{Alter, Connection, Error, Transaction};
 
 fn make_meta<S: Alter>(tx: &mut Transaction<'_, S>) -> Result<usize, Error>
-    ensures same_reference { tx.new.conn.ghost_name ≡ tx.old.conn.ghost_name }
-    ensures leads { let old = state S.Store tx.old.conn.now in
-        Leads (IsBare no_schema) (IsBare schema_1) old (state S.Store tx.new.conn.now) result }
+    ensures same_reference { KeepsConnection tx.old tx.new }
+    ensures leads { Within S.Store tx.old tx.new
+        (Leads (IsBare no_schema) (IsBare schema_1)) result }
 {
     tx.execute(
         "CREATE TABLE meta (one INTEGER PRIMARY KEY NOT NULL CHECK (one = 1), \
@@ -22,9 +23,9 @@ fn make_meta<S: Alter>(tx: &mut Transaction<'_, S>) -> Result<usize, Error>
 }
 
 fn make_entity<S: Alter>(tx: &mut Transaction<'_, S>) -> Result<usize, Error>
-    ensures same_reference { tx.new.conn.ghost_name ≡ tx.old.conn.ghost_name }
-    ensures leads { let old = state S.Store tx.old.conn.now in
-        Leads (IsBare schema_1) (IsBare schema_2) old (state S.Store tx.new.conn.now) result }
+    ensures same_reference { KeepsConnection tx.old tx.new }
+    ensures leads { Within S.Store tx.old tx.new
+        (Leads (IsBare schema_1) (IsBare schema_2)) result }
 {
     tx.execute(
         "CREATE TABLE entity (num INTEGER PRIMARY KEY NOT NULL, \
@@ -38,9 +39,9 @@ fn make_entity<S: Alter>(tx: &mut Transaction<'_, S>) -> Result<usize, Error>
 }
 
 fn make_volume<S: Alter>(tx: &mut Transaction<'_, S>) -> Result<usize, Error>
-    ensures same_reference { tx.new.conn.ghost_name ≡ tx.old.conn.ghost_name }
-    ensures leads { let old = state S.Store tx.old.conn.now in
-        Leads (IsBare schema_2) (IsBare schema_3) old (state S.Store tx.new.conn.now) result }
+    ensures same_reference { KeepsConnection tx.old tx.new }
+    ensures leads { Within S.Store tx.old tx.new
+        (Leads (IsBare schema_2) (IsBare schema_3)) result }
 {
     tx.execute(
         "CREATE TABLE volume (entity INTEGER NOT NULL REFERENCES entity (num) ON DELETE CASCADE, \
@@ -52,9 +53,9 @@ fn make_volume<S: Alter>(tx: &mut Transaction<'_, S>) -> Result<usize, Error>
 }
 
 fn make_cell<S: Alter>(tx: &mut Transaction<'_, S>) -> Result<usize, Error>
-    ensures same_reference { tx.new.conn.ghost_name ≡ tx.old.conn.ghost_name }
-    ensures leads { let old = state S.Store tx.old.conn.now in
-        Leads (IsBare schema_3) (IsBare schema_4) old (state S.Store tx.new.conn.now) result }
+    ensures same_reference { KeepsConnection tx.old tx.new }
+    ensures leads { Within S.Store tx.old tx.new
+        (Leads (IsBare schema_3) (IsBare schema_4)) result }
 {
     tx.execute(
         "CREATE TABLE cell (entity INTEGER NOT NULL, volume INTEGER NOT NULL, \
@@ -67,17 +68,17 @@ fn make_cell<S: Alter>(tx: &mut Transaction<'_, S>) -> Result<usize, Error>
 }
 
 fn make_range<S: Alter>(tx: &mut Transaction<'_, S>) -> Result<usize, Error>
-    ensures same_reference { tx.new.conn.ghost_name ≡ tx.old.conn.ghost_name }
-    ensures leads { let old = state S.Store tx.old.conn.now in
-        Leads (IsBare schema_4) (IsBare schema_5) old (state S.Store tx.new.conn.now) result }
+    ensures same_reference { KeepsConnection tx.old tx.new }
+    ensures leads { Within S.Store tx.old tx.new
+        (Leads (IsBare schema_4) (IsBare schema_5)) result }
 {
     tx.execute("CREATE INDEX cell_range ON cell (lo, hi)", &[])
 }
 
 fn make_availability<S: Alter>(tx: &mut Transaction<'_, S>) -> Result<usize, Error>
-    ensures same_reference { tx.new.conn.ghost_name ≡ tx.old.conn.ghost_name }
-    ensures leads { let old = state S.Store tx.old.conn.now in
-        Leads (IsBare schema_5) (IsBare first_schema) old (state S.Store tx.new.conn.now) result }
+    ensures same_reference { KeepsConnection tx.old tx.new }
+    ensures leads { Within S.Store tx.old tx.new
+        (Leads (IsBare schema_5) (IsBare first_schema)) result }
 {
     tx.execute(
         "CREATE TABLE availability (uss TEXT NOT NULL PRIMARY KEY, \
@@ -87,9 +88,8 @@ fn make_availability<S: Alter>(tx: &mut Transaction<'_, S>) -> Result<usize, Err
 }
 
 fn add_first_row<S: Alter>(tx: &mut Transaction<'_, S>) -> Result<usize, Error>
-    ensures same_reference { tx.new.conn.ghost_name ≡ tx.old.conn.ghost_name }
-    ensures leads { let old = state S.Store tx.old.conn.now in
-        Leads (IsBare dss_schema) IsMade old (state S.Store tx.new.conn.now) result }
+    ensures same_reference { KeepsConnection tx.old tx.new }
+    ensures leads { Within S.Store tx.old tx.new (Leads (IsBare dss_schema) IsMade) result }
 {
     tx.execute(
         "INSERT INTO meta (one, format, serial) VALUES (1, 2, 0)",
@@ -99,9 +99,9 @@ fn add_first_row<S: Alter>(tx: &mut Transaction<'_, S>) -> Result<usize, Error>
 
 // The first row of meta in tables of format 1.
 fn add_old_row<S: Alter>(tx: &mut Transaction<'_, S>) -> Result<usize, Error>
-    ensures same_reference { tx.new.conn.ghost_name ≡ tx.old.conn.ghost_name }
-    ensures leads { let old = state S.Store tx.old.conn.now in
-        Leads (IsBare first_schema) (SpellsEmptyAs One) old (state S.Store tx.new.conn.now) result }
+    ensures same_reference { KeepsConnection tx.old tx.new }
+    ensures leads { Within S.Store tx.old tx.new
+        (Leads (IsBare first_schema) (SpellsEmptyAs One)) result }
 {
     tx.execute(
         "INSERT INTO meta (one, format, serial) VALUES (1, 1, 0)",
@@ -111,9 +111,9 @@ fn add_old_row<S: Alter>(tx: &mut Transaction<'_, S>) -> Result<usize, Error>
 
 // The tables `meta` and `entity`.
 fn make_heads<S: Alter>(tx: &mut Transaction<'_, S>) -> Result<(), Error>
-    ensures same_reference { tx.new.conn.ghost_name ≡ tx.old.conn.ghost_name }
-    ensures leads { let old = state S.Store tx.old.conn.now in
-        Leads (IsBare no_schema) (IsBare schema_2) old (state S.Store tx.new.conn.now) result }
+    ensures same_reference { KeepsConnection tx.old tx.new }
+    ensures leads { Within S.Store tx.old tx.new
+        (Leads (IsBare no_schema) (IsBare schema_2)) result }
 {
     make_meta(tx)?;
     make_entity(tx)?;
@@ -122,9 +122,9 @@ fn make_heads<S: Alter>(tx: &mut Transaction<'_, S>) -> Result<(), Error>
 
 // The tables `volume` and `cell`.
 fn make_extents<S: Alter>(tx: &mut Transaction<'_, S>) -> Result<(), Error>
-    ensures same_reference { tx.new.conn.ghost_name ≡ tx.old.conn.ghost_name }
-    ensures leads { let old = state S.Store tx.old.conn.now in
-        Leads (IsBare schema_2) (IsBare schema_4) old (state S.Store tx.new.conn.now) result }
+    ensures same_reference { KeepsConnection tx.old tx.new }
+    ensures leads { Within S.Store tx.old tx.new
+        (Leads (IsBare schema_2) (IsBare schema_4)) result }
 {
     make_volume(tx)?;
     make_cell(tx)?;
@@ -133,9 +133,9 @@ fn make_extents<S: Alter>(tx: &mut Transaction<'_, S>) -> Result<(), Error>
 
 // The index on the ranges of cells, and the table `availability`.
 fn make_rest<S: Alter>(tx: &mut Transaction<'_, S>) -> Result<(), Error>
-    ensures same_reference { tx.new.conn.ghost_name ≡ tx.old.conn.ghost_name }
-    ensures leads { let old = state S.Store tx.old.conn.now in
-        Leads (IsBare schema_4) (IsBare first_schema) old (state S.Store tx.new.conn.now) result }
+    ensures same_reference { KeepsConnection tx.old tx.new }
+    ensures leads { Within S.Store tx.old tx.new
+        (Leads (IsBare schema_4) (IsBare first_schema)) result }
 {
     make_range(tx)?;
     make_availability(tx)?;
@@ -143,9 +143,9 @@ fn make_rest<S: Alter>(tx: &mut Transaction<'_, S>) -> Result<(), Error>
 }
 
 fn make_four<S: Alter>(tx: &mut Transaction<'_, S>) -> Result<(), Error>
-    ensures same_reference { tx.new.conn.ghost_name ≡ tx.old.conn.ghost_name }
-    ensures leads { let old = state S.Store tx.old.conn.now in
-        Leads (IsBare no_schema) (IsBare schema_4) old (state S.Store tx.new.conn.now) result }
+    ensures same_reference { KeepsConnection tx.old tx.new }
+    ensures leads { Within S.Store tx.old tx.new
+        (Leads (IsBare no_schema) (IsBare schema_4)) result }
 {
     make_heads(tx)?;
     make_extents(tx)?;
@@ -154,9 +154,9 @@ fn make_four<S: Alter>(tx: &mut Transaction<'_, S>) -> Result<(), Error>
 
 // The tables of format 1.
 fn make_first<S: Alter>(tx: &mut Transaction<'_, S>) -> Result<(), Error>
-    ensures same_reference { tx.new.conn.ghost_name ≡ tx.old.conn.ghost_name }
-    ensures leads { let old = state S.Store tx.old.conn.now in
-        Leads (IsBare no_schema) (IsBare first_schema) old (state S.Store tx.new.conn.now) result }
+    ensures same_reference { KeepsConnection tx.old tx.new }
+    ensures leads { Within S.Store tx.old tx.new
+        (Leads (IsBare no_schema) (IsBare first_schema)) result }
 {
     make_four(tx)?;
     make_rest(tx)?;
@@ -165,9 +165,9 @@ fn make_first<S: Alter>(tx: &mut Transaction<'_, S>) -> Result<(), Error>
 
 // Those of format 1 first, so that tables that were brought to format 2 are the same.
 fn make_both<S: Alter>(tx: &mut Transaction<'_, S>) -> Result<(), Error>
-    ensures same_reference { tx.new.conn.ghost_name ≡ tx.old.conn.ghost_name }
-    ensures leads { let old = state S.Store tx.old.conn.now in
-        Leads (IsBare no_schema) (IsBare dss_schema) old (state S.Store tx.new.conn.now) result }
+    ensures same_reference { KeepsConnection tx.old tx.new }
+    ensures leads { Within S.Store tx.old tx.new
+        (Leads (IsBare no_schema) (IsBare dss_schema)) result }
 {
     make_first(tx)?;
     make_later(tx)?;
@@ -176,9 +176,8 @@ fn make_both<S: Alter>(tx: &mut Transaction<'_, S>) -> Result<(), Error>
 
 // All tables, and the first row of meta.
 fn make_all<S: Alter>(tx: &mut Transaction<'_, S>) -> Result<(), Error>
-    ensures same_reference { tx.new.conn.ghost_name ≡ tx.old.conn.ghost_name }
-    ensures leads { let old = state S.Store tx.old.conn.now in
-        Leads (IsBare no_schema) IsMade old (state S.Store tx.new.conn.now) result }
+    ensures same_reference { KeepsConnection tx.old tx.new }
+    ensures leads { Within S.Store tx.old tx.new (Leads (IsBare no_schema) IsMade) result }
 {
     make_both(tx)?;
     add_first_row(tx)?;
@@ -187,9 +186,9 @@ fn make_all<S: Alter>(tx: &mut Transaction<'_, S>) -> Result<(), Error>
 
 // All tables of format 1, and the first row of meta.
 fn make_all_first<S: Alter>(tx: &mut Transaction<'_, S>) -> Result<(), Error>
-    ensures same_reference { tx.new.conn.ghost_name ≡ tx.old.conn.ghost_name }
-    ensures leads { let old = state S.Store tx.old.conn.now in
-        Leads (IsBare no_schema) (SpellsEmptyAs One) old (state S.Store tx.new.conn.now) result }
+    ensures same_reference { KeepsConnection tx.old tx.new }
+    ensures leads { Within S.Store tx.old tx.new
+        (Leads (IsBare no_schema) (SpellsEmptyAs One)) result }
 {
     make_first(tx)?;
     add_old_row(tx)?;

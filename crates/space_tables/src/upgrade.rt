@@ -4,13 +4,13 @@ ghost use Rattle.sqlite.specs.Held.{state};
 ghost use Rattle.sqlite.specs.State.{HasCleanDisk, Survives};
 ghost use Rattle.space_tables.specs.Making.{AddsTables, AreUpgraded, IsUndone, MayBeUpgraded, SetsFormat, Steps, Upgrades};
 ghost use Rattle.space_tables.specs.Tables.{first_schema, schema_7, schema_8, schema_9, second_schema};
+ghost use Rattle.space_tables.specs.Within.{KeepsConnection, Within};
 
 use sqlite::{Alter, Connection, Error, Transaction};
 
 fn make_subscription<S: Alter>(tx: &mut Transaction<'_, S>) -> Result<usize, Error>
-    ensures same_reference { tx.new.conn.ghost_name ≡ tx.old.conn.ghost_name }
-    ensures adds { let old = state S.Store tx.old.conn.now in
-        Steps (AddsTables first_schema schema_7) old (state S.Store tx.new.conn.now) result }
+    ensures same_reference { KeepsConnection tx.old tx.new }
+    ensures adds { Within S.Store tx.old tx.new (Steps (AddsTables first_schema schema_7)) result }
 {
     tx.execute(
         "CREATE TABLE subscription (num INTEGER PRIMARY KEY NOT NULL, id TEXT NOT NULL UNIQUE, \
@@ -27,9 +27,8 @@ fn make_subscription<S: Alter>(tx: &mut Transaction<'_, S>) -> Result<usize, Err
 }
 
 fn make_subscription_cell<S: Alter>(tx: &mut Transaction<'_, S>) -> Result<usize, Error>
-    ensures same_reference { tx.new.conn.ghost_name ≡ tx.old.conn.ghost_name }
-    ensures adds { let old = state S.Store tx.old.conn.now in
-        Steps (AddsTables schema_7 schema_8) old (state S.Store tx.new.conn.now) result }
+    ensures same_reference { KeepsConnection tx.old tx.new }
+    ensures adds { Within S.Store tx.old tx.new (Steps (AddsTables schema_7 schema_8)) result }
 {
     tx.execute(
         "CREATE TABLE subscription_cell (\
@@ -41,9 +40,8 @@ fn make_subscription_cell<S: Alter>(tx: &mut Transaction<'_, S>) -> Result<usize
 }
 
 fn make_subscription_range<S: Alter>(tx: &mut Transaction<'_, S>) -> Result<usize, Error>
-    ensures same_reference { tx.new.conn.ghost_name ≡ tx.old.conn.ghost_name }
-    ensures adds { let old = state S.Store tx.old.conn.now in
-        Steps (AddsTables schema_8 schema_9) old (state S.Store tx.new.conn.now) result }
+    ensures same_reference { KeepsConnection tx.old tx.new }
+    ensures adds { Within S.Store tx.old tx.new (Steps (AddsTables schema_8 schema_9)) result }
 {
     tx.execute(
         "CREATE INDEX subscription_cell_range ON subscription_cell (lo, hi)",
@@ -52,9 +50,9 @@ fn make_subscription_range<S: Alter>(tx: &mut Transaction<'_, S>) -> Result<usiz
 }
 
 fn make_naming<S: Alter>(tx: &mut Transaction<'_, S>) -> Result<usize, Error>
-    ensures same_reference { tx.new.conn.ghost_name ≡ tx.old.conn.ghost_name }
-    ensures adds { let old = state S.Store tx.old.conn.now in
-        Steps (AddsTables schema_9 second_schema) old (state S.Store tx.new.conn.now) result }
+    ensures same_reference { KeepsConnection tx.old tx.new }
+    ensures adds { Within S.Store tx.old tx.new
+        (Steps (AddsTables schema_9 second_schema)) result }
 {
     tx.execute(
         "CREATE TABLE naming (\
@@ -65,18 +63,16 @@ fn make_naming<S: Alter>(tx: &mut Transaction<'_, S>) -> Result<usize, Error>
 }
 
 fn set_format<S: Alter>(tx: &mut Transaction<'_, S>) -> Result<usize, Error>
-    ensures same_reference { tx.new.conn.ghost_name ≡ tx.old.conn.ghost_name }
-    ensures sets { let old = state S.Store tx.old.conn.now in
-        Steps SetsFormat old (state S.Store tx.new.conn.now) result }
+    ensures same_reference { KeepsConnection tx.old tx.new }
+    ensures sets { Within S.Store tx.old tx.new (Steps SetsFormat) result }
 {
     tx.execute("UPDATE meta SET format = 2 WHERE one = 1", &[])
 }
 
 // The tables `subscription` and `subscription_cell`.
 fn make_subscriptions<S: Alter>(tx: &mut Transaction<'_, S>) -> Result<(), Error>
-    ensures same_reference { tx.new.conn.ghost_name ≡ tx.old.conn.ghost_name }
-    ensures adds { let old = state S.Store tx.old.conn.now in
-        Steps (AddsTables first_schema schema_8) old (state S.Store tx.new.conn.now) result }
+    ensures same_reference { KeepsConnection tx.old tx.new }
+    ensures adds { Within S.Store tx.old tx.new (Steps (AddsTables first_schema schema_8)) result }
 {
     make_subscription(tx)?;
     make_subscription_cell(tx)?;
@@ -85,9 +81,9 @@ fn make_subscriptions<S: Alter>(tx: &mut Transaction<'_, S>) -> Result<(), Error
 
 // The index on the ranges of their cells, and the table `naming`.
 fn make_others<S: Alter>(tx: &mut Transaction<'_, S>) -> Result<(), Error>
-    ensures same_reference { tx.new.conn.ghost_name ≡ tx.old.conn.ghost_name }
-    ensures adds { let old = state S.Store tx.old.conn.now in
-        Steps (AddsTables schema_8 second_schema) old (state S.Store tx.new.conn.now) result }
+    ensures same_reference { KeepsConnection tx.old tx.new }
+    ensures adds { Within S.Store tx.old tx.new
+        (Steps (AddsTables schema_8 second_schema)) result }
 {
     make_subscription_range(tx)?;
     make_naming(tx)?;
@@ -96,9 +92,9 @@ fn make_others<S: Alter>(tx: &mut Transaction<'_, S>) -> Result<(), Error>
 
 /// Makes the tables of format 2 that format 1 has not.
 pub(crate) fn make_later<S: Alter>(tx: &mut Transaction<'_, S>) -> Result<(), Error>
-    ensures same_reference { tx.new.conn.ghost_name ≡ tx.old.conn.ghost_name }
-    ensures adds { let old = state S.Store tx.old.conn.now in
-        Steps (AddsTables first_schema second_schema) old (state S.Store tx.new.conn.now) result }
+    ensures same_reference { KeepsConnection tx.old tx.new }
+    ensures adds { Within S.Store tx.old tx.new
+        (Steps (AddsTables first_schema second_schema)) result }
 {
     make_subscriptions(tx)?;
     make_others(tx)?;
@@ -107,9 +103,8 @@ pub(crate) fn make_later<S: Alter>(tx: &mut Transaction<'_, S>) -> Result<(), Er
 
 /// Brings tables of format 1 to format 2, in a transaction that goes on. The rows stay.
 pub fn upgrade<S: Alter>(tx: &mut Transaction<'_, S>) -> Result<(), Error>
-    ensures same_reference { tx.new.conn.ghost_name ≡ tx.old.conn.ghost_name }
-    ensures upgrades { let old = state S.Store tx.old.conn.now in
-        Steps Upgrades old (state S.Store tx.new.conn.now) result }
+    ensures same_reference { KeepsConnection tx.old tx.new }
+    ensures upgrades { Within S.Store tx.old tx.new (Steps Upgrades) result }
 {
     make_later(tx)?;
     set_format(tx)?;
