@@ -19,7 +19,6 @@ pub mod Removing
 pub mod Serials
 pub mod Spelt
 pub mod Numbers
-pub mod SubNumbers
 pub mod Entries
 pub mod Numbered
 pub mod Removed

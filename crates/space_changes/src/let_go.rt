@@ -7,9 +7,8 @@ ghost use Rattle.space_changes.specs.Committing.{Commits, Keeping};
 ghost use Rattle.space_changes.specs.Numbering.{KeepsNumbers};
 ghost use Rattle.space_changes.specs.Statements.{Runs, MakesLess, MakesLessAll, MakesLessRest};
 
-use crate::number::number_of;
+use crate::number::{number_of, sub_number_of};
 use crate::remove::clear_entity;
-use crate::sub_number::sub_number_of;
 use crate::sub_remove::clear_sub;
 use entity_core::entity_id::EntityId;
 use entity_core::nature::Kind;

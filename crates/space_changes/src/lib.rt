@@ -11,7 +11,6 @@ mod remove;
 pub mod round;
 mod serial;
 mod sub_insert;
-mod sub_number;
 mod sub_put;
 mod sub_remove;
 mod tell;

@@ -1,7 +1,7 @@
-//! The number under which the tables have an entity.
-ghost use Rattle.std.specs.Prelude.{◌≡◌};
+//! The numbers under which the tables have entities and subscriptions.
+ghost use Rattle.std.specs.Prelude.{◌≡◌, IfOk};
 ghost use Rattle.sqlite.specs.Held.{state};
-ghost use Rattle.space_changes.specs.Statements.{Runs, FindsNumber, ShowsNumbers};
+ghost use Rattle.space_changes.specs.Statements.{FindsNumber, FindsSubNumber, IsShown, Runs, ShowsEntities, ShowsSubs};
 
 use entity_core::entity_id::EntityId;
 use entity_core::nature::Kind;
@@ -14,12 +14,32 @@ fn numbers<S: Alter>(tx: &mut Transaction<'_, S>, kind: i64, id: &str) -> Result
     ensures same_reference { tx.new.conn.ghost_name ≡ tx.old.conn.ghost_name }
     ensures shows { let old = state S.Store tx.old.conn.now in
         let new = state S.Store tx.new.conn.now in
-        Runs (λ rows. ShowsNumbers kind id.now rows.items) old new result }
+        Runs (λ rows. ShowsEntities kind id.now rows.items) old new result }
 {
     tx.query_all(
         "SELECT num FROM entity WHERE kind = ?1 AND id = ?2",
         params![kind, id],
     )
+}
+
+// The numbers of the subscriptions of an id.
+fn sub_numbers<S: Alter>(tx: &mut Transaction<'_, S>, id: &str) -> Result<Vec<Row>, Error>
+    ensures same_reference { tx.new.conn.ghost_name ≡ tx.old.conn.ghost_name }
+    ensures shows { let old = state S.Store tx.old.conn.now in
+        let new = state S.Store tx.new.conn.now in
+        Runs (λ rows. ShowsSubs id.now rows.items) old new result }
+{
+    tx.query_all("SELECT num FROM subscription WHERE id = ?1", params![id])
+}
+
+// The first of the numbers that are shown, if there is one.
+fn first_number(rows: &[Row]) -> Result<Option<i64>, Error>
+    ensures { IfOk result (λ found. IsShown rows.now found) }
+{
+    match rows.first() {
+        Some(row) => Ok(Some(row.get(0)?)),
+        None => Ok(None),
+    }
 }
 
 /// The number of an entity, if the tables have it.
@@ -37,8 +57,22 @@ pub(crate) fn number_of<S: Alter>(
     let _number = id.number();
     let text = id.text(alloc)?;
     let rows = numbers(tx, kind_number(kind), text.as_str())?;
-    match rows.first() {
-        Some(row) => Ok(Some(row.get(0)?)),
-        None => Ok(None),
-    }
+    first_number(rows.as_slice())
+}
+
+/// The number of a subscription, if the tables have it.
+pub(crate) fn sub_number_of<S: Alter>(
+    alloc: Global,
+    tx: &mut Transaction<'_, S>,
+    id: EntityId,
+) -> Result<Option<i64>, Error>
+    ensures same_reference { tx.new.conn.ghost_name ≡ tx.old.conn.ghost_name }
+    ensures finds { let old = state S.Store tx.old.conn.now in
+        let new = state S.Store tx.new.conn.now in
+        Runs (FindsSubNumber id) old new result }
+{
+    let _number = id.number();
+    let text = id.text(alloc)?;
+    let rows = sub_numbers(tx, text.as_str())?;
+    first_number(rows.as_slice())
 }

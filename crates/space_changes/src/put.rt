@@ -6,10 +6,9 @@ ghost use Rattle.space_changes.specs.Statements.{Runs, MakesChange};
 ghost use Rattle.space_changes.specs.Putting.{FindsNaming, InsertsEntity, MakesRoom};
 
 use crate::insert::insert_rows;
-use crate::number::number_of;
+use crate::number::{number_of, sub_number_of};
 use crate::remove::clear_entity;
 use crate::serial::raise_serial;
-use crate::sub_number::sub_number_of;
 use entity_core::entity::Entity;
 use space_rows::entity::rows_of;
 use sqlite::{Alter, Error, Transaction};

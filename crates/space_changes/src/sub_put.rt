@@ -5,9 +5,9 @@ ghost use Rattle.space_core.specs.declared.space.Change.TheVariants.{PutSub};
 ghost use Rattle.space_changes.specs.Statements.{MakesChange, Runs};
 ghost use Rattle.space_changes.specs.SubPutting.{InsertsSub, ReplacesSub, StoresSub};
 
+use crate::number::sub_number_of;
 use crate::serial::raise_serial;
 use crate::sub_insert::{insert_sub_cells, insert_sub_row, update_sub_row};
-use crate::sub_number::sub_number_of;
 use crate::sub_remove::clear_sub_cells;
 use entity_core::subscription::Sub;
 use space_rows::sub::rows_of_sub;

@@ -5,8 +5,8 @@ ghost use Rattle.space_core.specs.declared.space.Change.TheVariants.{RemoveSub};
 ghost use Rattle.space_changes.specs.Layout.{Always, IsFree, IsUnnamed, Relays, without_sub_cells, without_sub_row, without_sub_rows};
 ghost use Rattle.space_changes.specs.Statements.{MakesChange, RelaysSound, Runs};
 
+use crate::number::sub_number_of;
 use crate::serial::raise_serial;
-use crate::sub_number::sub_number_of;
 use entity_core::entity_id::EntityId;
 use sqlite::{Alter, Error, Transaction, params};
 use std::alloc::Global;
