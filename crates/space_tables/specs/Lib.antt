@@ -1,5 +1,6 @@
 pub mod Tables
 pub mod Spelling
+pub mod Within
 pub mod Making
 pub mod Presence
 pub mod Laws
