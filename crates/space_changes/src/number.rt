@@ -1,6 +1,6 @@
 //! The numbers under which the tables have entities and subscriptions.
-ghost use Rattle.std.specs.Prelude.{◌≡◌, IfOk};
-ghost use Rattle.sqlite.specs.Held.{state};
+ghost use Rattle.std.specs.Prelude.{IfOk};
+ghost use Rattle.space_tables.specs.Within.{KeepsConnection, Within};
 ghost use Rattle.space_changes.specs.Statements.{FindsNumber, FindsSubNumber, IsShown, Runs, ShowsEntities, ShowsSubs};
 
 use entity_core::entity_id::EntityId;
@@ -11,10 +11,9 @@ use std::alloc::Global;
 
 // The numbers of the rows of a kind and an id.
 fn numbers<S: Alter>(tx: &mut Transaction<'_, S>, kind: i64, id: &str) -> Result<Vec<Row>, Error>
-    ensures same_reference { tx.new.conn.ghost_name ≡ tx.old.conn.ghost_name }
-    ensures shows { let old = state S.Store tx.old.conn.now in
-        let new = state S.Store tx.new.conn.now in
-        Runs (λ rows. ShowsEntities kind id.now rows.items) old new result }
+    ensures same_reference { KeepsConnection tx.old tx.new }
+    ensures shows { Within S.Store tx.old tx.new
+        (Runs (λ rows. ShowsEntities kind id.now rows.items)) result }
 {
     tx.query_all(
         "SELECT num FROM entity WHERE kind = ?1 AND id = ?2",
@@ -24,10 +23,9 @@ fn numbers<S: Alter>(tx: &mut Transaction<'_, S>, kind: i64, id: &str) -> Result
 
 // The numbers of the subscriptions of an id.
 fn sub_numbers<S: Alter>(tx: &mut Transaction<'_, S>, id: &str) -> Result<Vec<Row>, Error>
-    ensures same_reference { tx.new.conn.ghost_name ≡ tx.old.conn.ghost_name }
-    ensures shows { let old = state S.Store tx.old.conn.now in
-        let new = state S.Store tx.new.conn.now in
-        Runs (λ rows. ShowsSubs id.now rows.items) old new result }
+    ensures same_reference { KeepsConnection tx.old tx.new }
+    ensures shows { Within S.Store tx.old tx.new
+        (Runs (λ rows. ShowsSubs id.now rows.items)) result }
 {
     tx.query_all("SELECT num FROM subscription WHERE id = ?1", params![id])
 }
@@ -49,10 +47,8 @@ pub(crate) fn number_of<S: Alter>(
     kind: Kind,
     id: EntityId,
 ) -> Result<Option<i64>, Error>
-    ensures same_reference { tx.new.conn.ghost_name ≡ tx.old.conn.ghost_name }
-    ensures finds { let old = state S.Store tx.old.conn.now in
-        let new = state S.Store tx.new.conn.now in
-        Runs (FindsNumber (kind, id)) old new result }
+    ensures same_reference { KeepsConnection tx.old tx.new }
+    ensures finds { Within S.Store tx.old tx.new (Runs (FindsNumber (kind, id))) result }
 {
     let _number = id.number();
     let text = id.text(alloc)?;
@@ -66,10 +62,8 @@ pub(crate) fn sub_number_of<S: Alter>(
     tx: &mut Transaction<'_, S>,
     id: EntityId,
 ) -> Result<Option<i64>, Error>
-    ensures same_reference { tx.new.conn.ghost_name ≡ tx.old.conn.ghost_name }
-    ensures finds { let old = state S.Store tx.old.conn.now in
-        let new = state S.Store tx.new.conn.now in
-        Runs (FindsSubNumber id) old new result }
+    ensures same_reference { KeepsConnection tx.old tx.new }
+    ensures finds { Within S.Store tx.old tx.new (Runs (FindsSubNumber id)) result }
 {
     let _number = id.number();
     let text = id.text(alloc)?;
