@@ -5,7 +5,6 @@ pub mod Running
 pub mod Relaying
 pub mod Joining
 pub mod Inserting
-pub mod Inserted
 pub mod Updating
 pub mod Groups
 pub mod Telling

@@ -4,6 +4,7 @@
 mod availability;
 pub mod change;
 mod insert;
+mod inserted;
 pub mod let_go;
 mod number;
 mod put;

@@ -5,6 +5,7 @@ ghost use Rattle.space_tables.specs.Within.{KeepsConnection, Within};
 ghost use Rattle.space_changes.specs.Layout.{Always, HasSub, Relays, with_sub_cells, with_sub_row, without_sub_row};
 ghost use Rattle.space_changes.specs.Statements.{Runs};
 
+use crate::inserted::Inserted;
 use space_rows::rows::{SubCellRow, SubRow};
 use sqlite::{Alter, Error, Transaction, params};
 
@@ -71,35 +72,27 @@ pub(crate) fn update_sub_row<S: Alter>(
     )
 }
 
-fn insert_sub_cell<S: Alter>(tx: &mut Transaction<'_, S>, row: &SubCellRow) -> Result<usize, Error>
-    ensures same_reference { KeepsConnection tx.old tx.new }
-    ensures inserts { Within S.Store tx.old tx.new
-        (Runs (λ _. Relays Always (with_sub_cells (row.now ∷ [])))) result }
-{
-    tx.execute(
-        "INSERT INTO subscription_cell (subscription, place, token, lo, hi) \
-         VALUES (?1, ?2, ?3, ?4, ?5)",
-        params![
-            row.subscription,
-            row.place,
-            row.token.text(),
-            row.lo,
-            row.hi
-        ],
-    )
-}
+impl Inserted for SubCellRow {
+    ghost use Rattle.std.proofs.Common.{append-nil, append_assoc};
 
-/// Inserts the rows of a subscription's cells.
-pub(crate) fn insert_sub_cells<S: Alter>(
-    tx: &mut Transaction<'_, S>,
-    cells: &[SubCellRow],
-) -> Result<(), Error>
-    ensures same_reference { KeepsConnection tx.old tx.new }
-    ensures inserts { Within S.Store tx.old tx.new
-        (Runs (λ _. Relays Always (with_sub_cells cells.now))) result }
-{
-    for cell in cells {
-        insert_sub_cell(tx, cell)?;
+    ghost join = { with_sub_cells };
+
+    ghost none = { λ l i. record l { sub_cells = append-nil l.sub_cells i } };
+
+    ghost more = { λ rows row l i.
+        record l { sub_cells = append_assoc l.sub_cells rows (row ∷ []) i } };
+
+    fn insert<S: Alter>(&self, tx: &mut Transaction<'_, S>) -> Result<usize, Error> {
+        tx.execute(
+            "INSERT INTO subscription_cell (subscription, place, token, lo, hi) \
+             VALUES (?1, ?2, ?3, ?4, ?5)",
+            params![
+                self.subscription,
+                self.place,
+                self.token.text(),
+                self.lo,
+                self.hi
+            ],
+        )
     }
-    Ok(())
 }

@@ -5,9 +5,10 @@ ghost use Rattle.space_tables.specs.Within.{KeepsConnection, Within};
 ghost use Rattle.space_changes.specs.Statements.{MakesChange, Runs};
 ghost use Rattle.space_changes.specs.SubPutting.{InsertsSub, ReplacesSub, StoresSub};
 
+use crate::inserted::insert_all;
 use crate::number::sub_number_of;
 use crate::serial::raise_serial;
-use crate::sub_insert::{insert_sub_cells, insert_sub_row, update_sub_row};
+use crate::sub_insert::{insert_sub_row, update_sub_row};
 use crate::sub_remove::clear_sub_cells;
 use entity_core::subscription::Sub;
 use space_rows::sub::rows_of_sub;
@@ -30,7 +31,7 @@ fn replace_sub<S: Alter>(
     let (row, cells) = rows_of_sub(alloc, sub, num)?;
     clear_sub_cells(tx, num)?;
     update_sub_row(tx, &row)?;
-    insert_sub_cells(tx, &cells)
+    insert_all(tx, &cells)
 }
 
 fn insert_sub<S: Alter>(
@@ -46,7 +47,7 @@ fn insert_sub<S: Alter>(
 {
     let (row, cells) = rows_of_sub(alloc, sub, num)?;
     insert_sub_row(tx, &row)?;
-    insert_sub_cells(tx, &cells)
+    insert_all(tx, &cells)
 }
 
 // Stores the rows of a subscription, under the number of the one that has its id, or under its
