@@ -5,7 +5,6 @@ pub mod Running
 pub mod Relaying
 pub mod Joining
 pub mod Inserting
-pub mod Inserted
 pub mod Updating
 pub mod Groups
 pub mod Telling
@@ -19,7 +18,6 @@ pub mod Removing
 pub mod Serials
 pub mod Spelt
 pub mod Numbers
-pub mod SubNumbers
 pub mod Entries
 pub mod Numbered
 pub mod Removed

@@ -38,6 +38,15 @@ module _ {X : Type 0} where
       go true more = inr more
       go false more = more
 
+  pub filtered_from : (p : X → Bool) (xs : List X) (x : X) → Has (filter p xs) x → Has xs x × (p x ≡ true)
+  filtered_from p [] x h = absurd h
+  filtered_from p (y ∷ xs) x h = go (p y) refl h (filtered_from p xs x)
+    where
+      go : (b : Bool) → p y ≡ b → Has (cond b (y ∷ filter p xs) (filter p xs)) x → (Has (filter p xs) x → Has xs x × (p x ≡ true)) → Has (y ∷ xs) x × (p x ≡ true)
+      go true e (inl same) more = (inl same, ap p same ∙ e)
+      go true e (inr k) more = let it = more k in (inr it.0, it.1)
+      go false e k more = let it = more k in (inr it.0, it.1)
+
   -- tests that agree on the elements
   pub filter_on : (p q : X → Bool) (xs : List X) → ((x : X) → Has xs x → p x ≡ q x) → filter p xs ≡ filter q xs
   filter_on p q [] h = refl

@@ -24,9 +24,8 @@ use Rattle.space_changes.specs.Statements.{is_of}
 use Rattle.space_changes.proofs.Entries.{some_of}
 use Rattle.space_changes.proofs.Groups.{IsAt, group_there}
 use Rattle.space_changes.proofs.Lists.{all_there, mapped_from, mapped_there, moved}
-use Rattle.space_changes.proofs.Numbers.{key_from}
+use Rattle.space_changes.proofs.Numbers.{id_from, key_from}
 use Rattle.space_changes.proofs.Spelt.{AreRowsOf, spell_out}
-use Rattle.space_changes.proofs.SubNumbers.{id_from}
 use Rattle.space_changes.proofs.Telling.{none_told}
 
 -- ---- groups by their numbers

@@ -119,6 +119,11 @@ module _ {X Z : Type 0} (R : X → Database → Database → Type 0) (T : Z → 
   pub runs_ok_err : (x : X) (f : Error) → Runs R a b (Ok x) → Runs T a b (Err f)
   runs_ok_err x f p = record { done = λ clean on. tt; kept = p.kept; survives = p.survives }
 
+  -- what is made of an answer
+  pub runs_made : (Q : Z → Type 0) (x : X) (r : Result Z Error) → IfOk r Q → ((z : Z) → Q z → R x a.now b.now → T z a.now b.now) → Runs R a b (Ok x) → Runs T a b r
+  runs_made Q x (Ok z) made turns p = runs_as_well x z (turns z made) p
+  runs_made Q x (Err e) made turns p = runs_ok_err x e p
+
 -- less is told, whatever comes of it
 pub runs_weaker : {X : Type 0} (R T : X → Database → Database → Type 0) (a b : State) (r : Result X Error) → ((x : X) → R x a.now b.now → T x a.now b.now) → Runs R a b r → Runs T a b r
 runs_weaker R T a b (Ok x) turns p = runs_as_well R T a b x x (turns x) p

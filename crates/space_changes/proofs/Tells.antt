@@ -27,7 +27,7 @@ use Rattle.space_changes.specs.SubPutting.{TellsOne}
 use Rattle.space_changes.proofs.Groups.{few, group_there, hits_key}
 use Rattle.space_changes.proofs.Lists.{all_from, all_there, alone, alone_is, filter_on, has_filtered, map_on}
 use Rattle.space_changes.proofs.Spelt.{AreSubs, lay_out, own_entities, own_stated}
-use Rattle.space_changes.proofs.SubNumbers.{id_from, passes_own}
+use Rattle.space_changes.proofs.Numbers.{id_from, sub_passes}
 use Rattle.space_changes.proofs.Numbered.{made, sub_number}
 use Rattle.space_changes.proofs.SubRemoved.{entities_turned}
 use Rattle.space_changes.proofs.SubStored.{names_by}
@@ -101,7 +101,7 @@ module _ (old : Database) (a : Airspace) (p : Spells old a) (id : ℕ) (s : Sub)
 
   by_text : (h : SubGroup) → Has p.subs h → has_id (printed id) h.row ≡ nat_eq id h.sub.id
   by_text h there = elim (eqb_tells id h.sub.id) [
-    | inl same ↦ passes_own a.serial id h (is_group h there) (sym same.1) ∙ sym same.0
+    | inl same ↦ sub_passes a.serial id h (is_group h there) (sym same.1) ∙ sym same.0
     | inr other ↦ elim (cases_Bool (has_id (printed id) h.row)) [
       | inl hit ↦ absurd (other.1 (sym (id_from a.serial id h fits_id (is_group h there) hit)))
       | inr miss ↦ miss ∙ sym other.0

@@ -1,8 +1,9 @@
 -- What statements in a transaction do.
-use Rattle.std.specs.Prelude.{◌≡◌, ℕ, ℤ, Bool, true, ◌&&◌, IsTrue, List, [], ◌∷◌, map, filter, Option, Result, IfOk, IsPermutation}
+use Rattle.std.specs.Prelude.{◌≡◌, ℕ, ℤ, Bool, true, ◌&&◌, IsTrue, List, [], ◌∷◌, map, filter, Option, Result, IfOk, MatchOption, IsPermutation}
 use Rattle.std.specs.Ordering.{int_eq, eq_by_cmp}
 use Rattle.sqlite_value.specs.declared.value.Value.TheVariants.{Int}
-use Rattle.sqlite_value.specs.Order.{Row}
+use Rattle.sqlite_value.specs.Order.{Row, column}
+use Rattle.sqlite_rules.specs.Lists.{Has}
 use Rattle.sqlite.specs.Effect.{Database, IsDatabase}
 use Rattle.sqlite.specs.State.{State, HasCleanDisk, KeepsCommit, Survives}
 use Rattle.sqlite.specs.declared.error.Error.{Error}
@@ -14,7 +15,6 @@ use Rattle.space_core.specs.declared.space.Change.{Change}
 use Rattle.space_core.specs.Round.{FitAll}
 use Rattle.space_core.specs.Space.{Fits, changed}
 use Rattle.space_rows.specs.declared.rows.EntityRow.{EntityRow}
-use Rattle.space_rows.specs.declared.rows.SubRow.{SubRow}
 use Rattle.space_rows.specs.Finds.{Finds}
 use Rattle.space_tables.specs.Spelling.{Spells, IsSubNumber}
 use Rattle.space_changes.specs.Numbering.{Makes, MakesAll}
@@ -39,15 +39,29 @@ pub record Runs {X : Type 0} (R : X → Database → Database → Type 0) (old n
 abbrev pub is_of : ℤ → List ℕ → EntityRow → Bool
 is_of kind id row = int_eq row.kind kind && eq_by_cmp text_cmp row.id id
 
--- the numbers of the rows of a kind and an id
-abbrev pub numbers_of : ℤ → List ℕ → List EntityRow → List Row
-numbers_of kind id rows = map (λ (row : EntityRow). Int row.num ∷ []) (filter (is_of kind id) rows)
+-- the numbers of the rows that pass a test, as a query shows them
+abbrev pub numbers_of : {R : Type 0} → (R → ℤ) → (R → Bool) → List R → List Row
+numbers_of number passes rows = map (λ r. Int (number r) ∷ []) (filter passes rows)
 
--- these numbers are shown, in any order, and the tables stay as they are
-abbrev pub ShowsNumbers : ℤ → List ℕ → List Row → Database → Database → Type 0
-ShowsNumbers kind id shown old new =
+-- these numbers of the rows of a table are shown, in any order, and the tables stay as they are
+abbrev pub ShowsNumbers : {R : Type 0} → (Layout → List R) → (R → ℤ) → (R → Bool) → List Row
+    → Database → Database → Type 0
+ShowsNumbers rows number passes shown old new =
     (l : Layout) → LaysOut old l
-    → (new ≡ old) × IsPermutation (numbers_of kind id l.entities) shown
+    → (new ≡ old) × IsPermutation (numbers_of number passes (rows l)) shown
+
+-- of the entities of a kind and an id
+abbrev pub ShowsEntities : ℤ → List ℕ → List Row → Database → Database → Type 0
+ShowsEntities kind id = ShowsNumbers (λ l. l.entities) (λ e. e.num) (is_of kind id)
+
+-- of the subscriptions of an id
+abbrev pub ShowsSubs : List ℕ → List Row → Database → Database → Type 0
+ShowsSubs id = ShowsNumbers (λ l. l.subs) (λ s. s.num) (has_id id)
+
+-- one of the numbers that are shown, or none where none is
+abbrev pub IsShown : List Row → Option ℤ → Type 0
+IsShown shown found =
+    MatchOption found (shown ≡ []) (λ num. (row : Row) × Has shown row × (column row 0 ≡ Int num))
 
 -- the number under which the tables have an entity is found, if they have it, and they stay as they
 -- are
@@ -55,15 +69,6 @@ abbrev pub FindsNumber : EntityKey → Option ℤ → Database → Database → 
 FindsNumber k found old new =
     (a : Airspace) (p : Spells old a)
     → (new ≡ old) × Finds (λ num. IsNumberOf num k p.groups) found
-
--- the numbers of the subscriptions of an id
-abbrev pub sub_numbers_of : List ℕ → List SubRow → List Row
-sub_numbers_of id rows = map (λ (row : SubRow). Int row.num ∷ []) (filter (has_id id) rows)
-
--- the same of subscriptions
-abbrev pub ShowsSubNumbers : List ℕ → List Row → Database → Database → Type 0
-ShowsSubNumbers id shown old new =
-    (l : Layout) → LaysOut old l → (new ≡ old) × IsPermutation (sub_numbers_of id l.subs) shown
 
 -- the number under which the tables have a subscription is found, if they have it, and they stay as
 -- they are

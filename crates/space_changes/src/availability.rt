@@ -1,8 +1,8 @@
 //! What a USS has set is replaced.
 ghost use Rattle.std.specs.Prelude.{◌≡◌, []};
-ghost use Rattle.sqlite.specs.Held.{state};
 ghost use Rattle.space_core.specs.declared.space.Change.TheVariants.{Avail};
 ghost use Rattle.space_tables.specs.Spelling.{IsStated, availability_number};
+ghost use Rattle.space_tables.specs.Within.{KeepsConnection, Within};
 ghost use Rattle.space_changes.specs.Layout.{Always, Relays, ReplacesAvailability, with_availability_row, without_availability_row};
 ghost use Rattle.space_changes.specs.Statements.{Runs, MakesChange};
 
@@ -23,10 +23,9 @@ fn availability_number(availability: Availability) -> i64
 }
 
 fn clear_availability<S: Alter>(tx: &mut Transaction<'_, S>, uss: &UssId) -> Result<usize, Error>
-    ensures same_reference { tx.new.conn.ghost_name ≡ tx.old.conn.ghost_name }
-    ensures clears { let old = state S.Store tx.old.conn.now in
-        let new = state S.Store tx.new.conn.now in
-        Runs (λ _. Relays Always (without_availability_row uss.now)) old new result }
+    ensures same_reference { KeepsConnection tx.old tx.new }
+    ensures clears { Within S.Store tx.old tx.new
+        (Runs (λ _. Relays Always (without_availability_row uss.now))) result }
 {
     tx.execute(
         "DELETE FROM availability WHERE uss = ?1",
@@ -40,12 +39,11 @@ fn insert_availability<S: Alter>(
     availability: Availability,
     version: &Ovn,
 ) -> Result<usize, Error>
-    ensures same_reference { tx.new.conn.ghost_name ≡ tx.old.conn.ghost_name }
+    ensures same_reference { KeepsConnection tx.old tx.new }
     ensures stated { IsStated (uss.now, (availability, version.now)) }
-    ensures inserts { let old = state S.Store tx.old.conn.now in
-        let new = state S.Store tx.new.conn.now in
-        Runs (λ _. Relays Always (with_availability_row uss.now (availability, version.now)))
-        old new result }
+    ensures inserts { Within S.Store tx.old tx.new
+        (Runs (λ _. Relays Always (with_availability_row uss.now (availability, version.now))))
+        result }
 {
     tx.execute(
         "INSERT INTO availability (uss, state, version) VALUES (?1, ?2, ?3)",
@@ -63,10 +61,9 @@ fn replace_availability<S: Alter>(
     availability: Availability,
     version: &Ovn,
 ) -> Result<(), Error>
-    ensures same_reference { tx.new.conn.ghost_name ≡ tx.old.conn.ghost_name }
-    ensures replaces { let old = state S.Store tx.old.conn.now in
-        let new = state S.Store tx.new.conn.now in
-        Runs (λ _. ReplacesAvailability uss.now (availability, version.now)) old new result }
+    ensures same_reference { KeepsConnection tx.old tx.new }
+    ensures replaces { Within S.Store tx.old tx.new
+        (Runs (λ _. ReplacesAvailability uss.now (availability, version.now))) result }
 {
     clear_availability(tx, uss)?;
     insert_availability(tx, uss, availability, version)?;
@@ -80,11 +77,9 @@ pub(crate) fn set_availability<S: Alter>(
     availability: Availability,
     version: &Ovn,
 ) -> Result<(), Error>
-    ensures same_reference { tx.new.conn.ghost_name ≡ tx.old.conn.ghost_name }
-    ensures changes { let old = state S.Store tx.old.conn.now in
-        let new = state S.Store tx.new.conn.now in
-        let change = Avail uss.now availability version.now in
-        Runs (λ _. MakesChange change []) old new result }
+    ensures same_reference { KeepsConnection tx.old tx.new }
+    ensures changes { Within S.Store tx.old tx.new
+        (Runs (λ _. MakesChange (Avail uss.now availability version.now) [])) result }
 {
     replace_availability(tx, uss, availability, version)?;
     raise_serial(tx)?;

@@ -2,6 +2,7 @@
 ghost use Rattle.std.specs.Prelude.{◌≡◌, [], false};
 ghost use Rattle.sqlite.specs.Held.{state};
 ghost use Rattle.space_core.specs.Space.{Fits, changed};
+ghost use Rattle.space_tables.specs.Within.{KeepsConnection, Within};
 ghost use Rattle.space_changes.specs.Committing.{Commits, Keeping};
 ghost use Rattle.space_changes.specs.Numbering.{KeepsNumbers};
 ghost use Rattle.space_changes.specs.Statements.{Runs, MakesChange};
@@ -22,10 +23,8 @@ fn write_one<S: Alter>(
     tx: &mut Transaction<'_, S>,
     change: &Change,
 ) -> Result<(), Error>
-    ensures same_reference { tx.new.conn.ghost_name ≡ tx.old.conn.ghost_name }
-    ensures changes { let old = state S.Store tx.old.conn.now in
-        let new = state S.Store tx.new.conn.now in
-        Runs (λ _. MakesChange change.now []) old new result }
+    ensures same_reference { KeepsConnection tx.old tx.new }
+    ensures changes { Within S.Store tx.old tx.new (Runs (λ _. MakesChange change.now [])) result }
 {
     match change {
         Change::Put(entity) => put_entity(alloc, tx, entity),
@@ -45,10 +44,9 @@ pub(crate) fn write_change<S: Alter>(
     change: &Change,
     notify: &[EntityId],
 ) -> Result<(), Error>
-    ensures same_reference { tx.new.conn.ghost_name ≡ tx.old.conn.ghost_name }
-    ensures changes { let old = state S.Store tx.old.conn.now in
-        let new = state S.Store tx.new.conn.now in
-        Runs (λ _. MakesChange change.now notify.now) old new result }
+    ensures same_reference { KeepsConnection tx.old tx.new }
+    ensures changes { Within S.Store tx.old tx.new
+        (Runs (λ _. MakesChange change.now notify.now)) result }
 {
     write_one(alloc, tx, change)?;
     tell_all(alloc, tx, notify)

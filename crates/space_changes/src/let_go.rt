@@ -3,13 +3,13 @@ ghost use Rattle.std.specs.Prelude.{◌≡◌, ◌∷◌, false};
 ghost use Rattle.sqlite.specs.Held.{state};
 ghost use Rattle.entity_sweep.specs.Gone.{AllCanGo, less_all};
 ghost use Rattle.entity_sweep.specs.declared.gone.Gone.TheVariants.{Entity, Subscription};
+ghost use Rattle.space_tables.specs.Within.{KeepsConnection, Within};
 ghost use Rattle.space_changes.specs.Committing.{Commits, Keeping};
 ghost use Rattle.space_changes.specs.Numbering.{KeepsNumbers};
 ghost use Rattle.space_changes.specs.Statements.{Runs, MakesLess, MakesLessAll, MakesLessRest};
 
-use crate::number::number_of;
+use crate::number::{number_of, sub_number_of};
 use crate::remove::clear_entity;
-use crate::sub_number::sub_number_of;
 use crate::sub_remove::clear_sub;
 use entity_core::entity_id::EntityId;
 use entity_core::nature::Kind;
@@ -23,10 +23,8 @@ fn let_entity_go<S: Alter>(
     kind: Kind,
     id: EntityId,
 ) -> Result<(), Error>
-    ensures same_reference { tx.new.conn.ghost_name ≡ tx.old.conn.ghost_name }
-    ensures goes { let old = state S.Store tx.old.conn.now in
-        let new = state S.Store tx.new.conn.now in
-        Runs (λ _. MakesLess (Entity kind id)) old new result }
+    ensures same_reference { KeepsConnection tx.old tx.new }
+    ensures goes { Within S.Store tx.old tx.new (Runs (λ _. MakesLess (Entity kind id))) result }
 {
     let Some(num) = number_of(alloc, tx, kind, id)? else {
         return Err(Error::QueryReturnedNoRows);
@@ -39,10 +37,8 @@ fn let_sub_go<S: Alter>(
     tx: &mut Transaction<'_, S>,
     id: EntityId,
 ) -> Result<(), Error>
-    ensures same_reference { tx.new.conn.ghost_name ≡ tx.old.conn.ghost_name }
-    ensures goes { let old = state S.Store tx.old.conn.now in
-        let new = state S.Store tx.new.conn.now in
-        Runs (λ _. MakesLess (Subscription id)) old new result }
+    ensures same_reference { KeepsConnection tx.old tx.new }
+    ensures goes { Within S.Store tx.old tx.new (Runs (λ _. MakesLess (Subscription id))) result }
 {
     let Some(num) = sub_number_of(alloc, tx, id)? else {
         return Err(Error::QueryReturnedNoRows);
@@ -56,10 +52,8 @@ fn let_one_go<S: Alter>(
     tx: &mut Transaction<'_, S>,
     gone: &Gone,
 ) -> Result<(), Error>
-    ensures same_reference { tx.new.conn.ghost_name ≡ tx.old.conn.ghost_name }
-    ensures goes { let old = state S.Store tx.old.conn.now in
-        let new = state S.Store tx.new.conn.now in
-        Runs (λ _. MakesLess gone.now) old new result }
+    ensures same_reference { KeepsConnection tx.old tx.new }
+    ensures goes { Within S.Store tx.old tx.new (Runs (λ _. MakesLess gone.now)) result }
 {
     match gone {
         Gone::Entity(kind, id) => let_entity_go(alloc, tx, *kind, *id),
@@ -72,10 +66,8 @@ fn let_rest_go<S: Alter>(
     tx: &mut Transaction<'_, S>,
     rest: &[Gone],
 ) -> Result<(), Error>
-    ensures same_reference { tx.new.conn.ghost_name ≡ tx.old.conn.ghost_name }
-    ensures goes { let old = state S.Store tx.old.conn.now in
-        let new = state S.Store tx.new.conn.now in
-        Runs (λ _. MakesLessRest rest.now) old new result }
+    ensures same_reference { KeepsConnection tx.old tx.new }
+    ensures goes { Within S.Store tx.old tx.new (Runs (λ _. MakesLessRest rest.now)) result }
 {
     for next in rest {
         let_one_go(alloc, tx, next)?;
@@ -89,10 +81,9 @@ fn let_each_go<S: Alter>(
     first: &Gone,
     rest: &[Gone],
 ) -> Result<(), Error>
-    ensures same_reference { tx.new.conn.ghost_name ≡ tx.old.conn.ghost_name }
-    ensures goes { let old = state S.Store tx.old.conn.now in
-        let new = state S.Store tx.new.conn.now in
-        Runs (λ _. MakesLessAll (first.now ∷ rest.now)) old new result }
+    ensures same_reference { KeepsConnection tx.old tx.new }
+    ensures goes { Within S.Store tx.old tx.new
+        (Runs (λ _. MakesLessAll (first.now ∷ rest.now))) result }
 {
     let_one_go(alloc, tx, first)?;
     let_rest_go(alloc, tx, rest)

@@ -4,6 +4,7 @@
 mod availability;
 pub mod change;
 mod insert;
+mod inserted;
 pub mod let_go;
 mod number;
 mod put;
@@ -11,7 +12,6 @@ mod remove;
 pub mod round;
 mod serial;
 mod sub_insert;
-mod sub_number;
 mod sub_put;
 mod sub_remove;
 mod tell;

@@ -1,7 +1,7 @@
-//! The number under which the tables have an entity.
-ghost use Rattle.std.specs.Prelude.{◌≡◌};
-ghost use Rattle.sqlite.specs.Held.{state};
-ghost use Rattle.space_changes.specs.Statements.{Runs, FindsNumber, ShowsNumbers};
+//! The numbers under which the tables have entities and subscriptions.
+ghost use Rattle.std.specs.Prelude.{IfOk};
+ghost use Rattle.space_tables.specs.Within.{KeepsConnection, Within};
+ghost use Rattle.space_changes.specs.Statements.{FindsNumber, FindsSubNumber, IsShown, Runs, ShowsEntities, ShowsSubs};
 
 use entity_core::entity_id::EntityId;
 use entity_core::nature::Kind;
@@ -11,15 +11,33 @@ use std::alloc::Global;
 
 // The numbers of the rows of a kind and an id.
 fn numbers<S: Alter>(tx: &mut Transaction<'_, S>, kind: i64, id: &str) -> Result<Vec<Row>, Error>
-    ensures same_reference { tx.new.conn.ghost_name ≡ tx.old.conn.ghost_name }
-    ensures shows { let old = state S.Store tx.old.conn.now in
-        let new = state S.Store tx.new.conn.now in
-        Runs (λ rows. ShowsNumbers kind id.now rows.items) old new result }
+    ensures same_reference { KeepsConnection tx.old tx.new }
+    ensures shows { Within S.Store tx.old tx.new
+        (Runs (λ rows. ShowsEntities kind id.now rows.items)) result }
 {
     tx.query_all(
         "SELECT num FROM entity WHERE kind = ?1 AND id = ?2",
         params![kind, id],
     )
+}
+
+// The numbers of the subscriptions of an id.
+fn sub_numbers<S: Alter>(tx: &mut Transaction<'_, S>, id: &str) -> Result<Vec<Row>, Error>
+    ensures same_reference { KeepsConnection tx.old tx.new }
+    ensures shows { Within S.Store tx.old tx.new
+        (Runs (λ rows. ShowsSubs id.now rows.items)) result }
+{
+    tx.query_all("SELECT num FROM subscription WHERE id = ?1", params![id])
+}
+
+// The first of the numbers that are shown, if there is one.
+fn first_number(rows: &[Row]) -> Result<Option<i64>, Error>
+    ensures { IfOk result (λ found. IsShown rows.now found) }
+{
+    match rows.first() {
+        Some(row) => Ok(Some(row.get(0)?)),
+        None => Ok(None),
+    }
 }
 
 /// The number of an entity, if the tables have it.
@@ -29,16 +47,26 @@ pub(crate) fn number_of<S: Alter>(
     kind: Kind,
     id: EntityId,
 ) -> Result<Option<i64>, Error>
-    ensures same_reference { tx.new.conn.ghost_name ≡ tx.old.conn.ghost_name }
-    ensures finds { let old = state S.Store tx.old.conn.now in
-        let new = state S.Store tx.new.conn.now in
-        Runs (FindsNumber (kind, id)) old new result }
+    ensures same_reference { KeepsConnection tx.old tx.new }
+    ensures finds { Within S.Store tx.old tx.new (Runs (FindsNumber (kind, id))) result }
 {
     let _number = id.number();
     let text = id.text(alloc)?;
     let rows = numbers(tx, kind_number(kind), text.as_str())?;
-    match rows.first() {
-        Some(row) => Ok(Some(row.get(0)?)),
-        None => Ok(None),
-    }
+    first_number(rows.as_slice())
+}
+
+/// The number of a subscription, if the tables have it.
+pub(crate) fn sub_number_of<S: Alter>(
+    alloc: Global,
+    tx: &mut Transaction<'_, S>,
+    id: EntityId,
+) -> Result<Option<i64>, Error>
+    ensures same_reference { KeepsConnection tx.old tx.new }
+    ensures finds { Within S.Store tx.old tx.new (Runs (FindsSubNumber id)) result }
+{
+    let _number = id.number();
+    let text = id.text(alloc)?;
+    let rows = sub_numbers(tx, text.as_str())?;
+    first_number(rows.as_slice())
 }

@@ -1,15 +1,14 @@
 //! An entity is put in the place of the one that has its kind and id.
-ghost use Rattle.std.specs.Prelude.{◌≡◌, ◌≤ℤ◌, pos, IfOk, []};
-ghost use Rattle.sqlite.specs.Held.{state};
+ghost use Rattle.std.specs.Prelude.{◌≤ℤ◌, pos, IfOk, []};
 ghost use Rattle.space_core.specs.declared.space.Change.TheVariants.{Put};
+ghost use Rattle.space_tables.specs.Within.{KeepsConnection, Within};
 ghost use Rattle.space_changes.specs.Statements.{Runs, MakesChange};
 ghost use Rattle.space_changes.specs.Putting.{FindsNaming, InsertsEntity, MakesRoom};
 
 use crate::insert::insert_rows;
-use crate::number::number_of;
+use crate::number::{number_of, sub_number_of};
 use crate::remove::clear_entity;
 use crate::serial::raise_serial;
-use crate::sub_number::sub_number_of;
 use entity_core::entity::Entity;
 use space_rows::entity::rows_of;
 use sqlite::{Alter, Error, Transaction};
@@ -21,12 +20,10 @@ fn make_room<S: Alter>(
     tx: &mut Transaction<'_, S>,
     entity: &Entity,
 ) -> Result<i64, Error>
-    ensures same_reference { tx.new.conn.ghost_name ≡ tx.old.conn.ghost_name }
+    ensures same_reference { KeepsConnection tx.old tx.new }
     ensures least { IfOk result (λ num. pos 1 ≤ℤ num) }
     ensures most { IfOk result (λ num. num ≤ℤ pos entity.now.serial) }
-    ensures room { let old = state S.Store tx.old.conn.now in
-        let new = state S.Store tx.new.conn.now in
-        Runs (MakesRoom entity.now) old new result }
+    ensures room { Within S.Store tx.old tx.new (Runs (MakesRoom entity.now)) result }
 {
     let serial = entity.serial.number();
     match number_of(alloc, tx, entity.nature.kind(), entity.id)? {
@@ -48,10 +45,8 @@ fn naming_of<S: Alter>(
     tx: &mut Transaction<'_, S>,
     entity: &Entity,
 ) -> Result<Option<i64>, Error>
-    ensures same_reference { tx.new.conn.ghost_name ≡ tx.old.conn.ghost_name }
-    ensures finds { let old = state S.Store tx.old.conn.now in
-        let new = state S.Store tx.new.conn.now in
-        Runs (FindsNaming entity.now) old new result }
+    ensures same_reference { KeepsConnection tx.old tx.new }
+    ensures finds { Within S.Store tx.old tx.new (Runs (FindsNaming entity.now)) result }
 {
     match entity.nature.subscription() {
         Some(id) => match sub_number_of(alloc, tx, id)? {
@@ -71,10 +66,9 @@ fn insert_entity<S: Alter>(
 ) -> Result<(), Error>
     requires least { pos 1 ≤ℤ num }
     requires most { num ≤ℤ pos entity.now.serial }
-    ensures same_reference { tx.new.conn.ghost_name ≡ tx.old.conn.ghost_name }
-    ensures inserts { let old = state S.Store tx.old.conn.now in
-        let new = state S.Store tx.new.conn.now in
-        Runs (λ _. InsertsEntity entity.now num named) old new result }
+    ensures same_reference { KeepsConnection tx.old tx.new }
+    ensures inserts { Within S.Store tx.old tx.new
+        (Runs (λ _. InsertsEntity entity.now num named)) result }
 {
     let (row, volumes, cells) = rows_of(alloc, entity, num)?;
     insert_rows(tx, &row, &volumes, &cells, named)
@@ -86,10 +80,9 @@ pub(crate) fn put_entity<S: Alter>(
     tx: &mut Transaction<'_, S>,
     entity: &Entity,
 ) -> Result<(), Error>
-    ensures same_reference { tx.new.conn.ghost_name ≡ tx.old.conn.ghost_name }
-    ensures changes { let old = state S.Store tx.old.conn.now in
-        let new = state S.Store tx.new.conn.now in
-        Runs (λ _. MakesChange (Put entity.now) []) old new result }
+    ensures same_reference { KeepsConnection tx.old tx.new }
+    ensures changes { Within S.Store tx.old tx.new
+        (Runs (λ _. MakesChange (Put entity.now) [])) result }
 {
     let named = naming_of(alloc, tx, entity)?;
     let num = make_room(alloc, tx, entity)?;

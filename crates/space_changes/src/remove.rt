@@ -1,8 +1,8 @@
 //! The rows of an entity are removed, those that refer to others first.
-ghost use Rattle.std.specs.Prelude.{◌≡◌, ◌<◌, []};
-ghost use Rattle.sqlite.specs.Held.{state};
+ghost use Rattle.std.specs.Prelude.{◌<◌, []};
 ghost use Rattle.entity_core.specs.Serial.{greatest_serial};
 ghost use Rattle.space_core.specs.declared.space.Change.TheVariants.{Remove};
+ghost use Rattle.space_tables.specs.Within.{KeepsConnection, Within};
 ghost use Rattle.space_changes.specs.Layout.{Always, LacksCells, LacksParts, Relays, with_next_serial, without_cells, without_entity_row, without_naming, without_parts, without_rows, without_volumes};
 ghost use Rattle.space_changes.specs.Statements.{RelaysSound, Runs, MakesChange};
 
@@ -14,47 +14,42 @@ use sqlite::{Alter, Error, Transaction, params};
 use std::alloc::Global;
 
 fn clear_cells<S: Alter>(tx: &mut Transaction<'_, S>, num: i64) -> Result<usize, Error>
-    ensures same_reference { tx.new.conn.ghost_name ≡ tx.old.conn.ghost_name }
-    ensures clears { let old = state S.Store tx.old.conn.now in
-        let new = state S.Store tx.new.conn.now in
-        Runs (λ _. Relays Always (without_cells num)) old new result }
+    ensures same_reference { KeepsConnection tx.old tx.new }
+    ensures clears { Within S.Store tx.old tx.new
+        (Runs (λ _. Relays Always (without_cells num))) result }
 {
     tx.execute("DELETE FROM cell WHERE entity = ?1", params![num])
 }
 
 fn clear_volumes<S: Alter>(tx: &mut Transaction<'_, S>, num: i64) -> Result<usize, Error>
-    ensures same_reference { tx.new.conn.ghost_name ≡ tx.old.conn.ghost_name }
-    ensures clears { let old = state S.Store tx.old.conn.now in
-        let new = state S.Store tx.new.conn.now in
-        Runs (λ _. Relays (LacksCells num) (without_volumes num)) old new result }
+    ensures same_reference { KeepsConnection tx.old tx.new }
+    ensures clears { Within S.Store tx.old tx.new
+        (Runs (λ _. Relays (LacksCells num) (without_volumes num))) result }
 {
     tx.execute("DELETE FROM volume WHERE entity = ?1", params![num])
 }
 
 fn clear_naming<S: Alter>(tx: &mut Transaction<'_, S>, num: i64) -> Result<usize, Error>
-    ensures same_reference { tx.new.conn.ghost_name ≡ tx.old.conn.ghost_name }
-    ensures clears { let old = state S.Store tx.old.conn.now in
-        let new = state S.Store tx.new.conn.now in
-        Runs (λ _. Relays Always (without_naming num)) old new result }
+    ensures same_reference { KeepsConnection tx.old tx.new }
+    ensures clears { Within S.Store tx.old tx.new
+        (Runs (λ _. Relays Always (without_naming num))) result }
 {
     tx.execute("DELETE FROM naming WHERE entity = ?1", params![num])
 }
 
 fn clear_row<S: Alter>(tx: &mut Transaction<'_, S>, num: i64) -> Result<usize, Error>
-    ensures same_reference { tx.new.conn.ghost_name ≡ tx.old.conn.ghost_name }
-    ensures clears { let old = state S.Store tx.old.conn.now in
-        let new = state S.Store tx.new.conn.now in
-        Runs (λ _. RelaysSound (LacksParts num) (without_entity_row num)) old new result }
+    ensures same_reference { KeepsConnection tx.old tx.new }
+    ensures clears { Within S.Store tx.old tx.new
+        (Runs (λ _. RelaysSound (LacksParts num) (without_entity_row num))) result }
 {
     tx.execute("DELETE FROM entity WHERE num = ?1", params![num])
 }
 
 // Removes the volumes of an entity and their cells, and what it names is not kept.
 fn clear_parts<S: Alter>(tx: &mut Transaction<'_, S>, num: i64) -> Result<(), Error>
-    ensures same_reference { tx.new.conn.ghost_name ≡ tx.old.conn.ghost_name }
-    ensures clears { let old = state S.Store tx.old.conn.now in
-        let new = state S.Store tx.new.conn.now in
-        Runs (λ _. Relays Always (without_parts num)) old new result }
+    ensures same_reference { KeepsConnection tx.old tx.new }
+    ensures clears { Within S.Store tx.old tx.new
+        (Runs (λ _. Relays Always (without_parts num))) result }
 {
     clear_naming(tx, num)?;
     clear_cells(tx, num)?;
@@ -64,10 +59,9 @@ fn clear_parts<S: Alter>(tx: &mut Transaction<'_, S>, num: i64) -> Result<(), Er
 
 /// Removes all rows of an entity.
 pub(crate) fn clear_entity<S: Alter>(tx: &mut Transaction<'_, S>, num: i64) -> Result<(), Error>
-    ensures same_reference { tx.new.conn.ghost_name ≡ tx.old.conn.ghost_name }
-    ensures clears { let old = state S.Store tx.old.conn.now in
-        let new = state S.Store tx.new.conn.now in
-        Runs (λ _. RelaysSound Always (without_rows num)) old new result }
+    ensures same_reference { KeepsConnection tx.old tx.new }
+    ensures clears { Within S.Store tx.old tx.new
+        (Runs (λ _. RelaysSound Always (without_rows num))) result }
 {
     clear_parts(tx, num)?;
     clear_row(tx, num)?;
@@ -76,11 +70,10 @@ pub(crate) fn clear_entity<S: Alter>(tx: &mut Transaction<'_, S>, num: i64) -> R
 
 // Removes the entity of a number, and the serial goes on by one.
 fn remove_numbered<S: Alter>(tx: &mut Transaction<'_, S>, num: i64) -> Result<(), Error>
-    ensures same_reference { tx.new.conn.ghost_name ≡ tx.old.conn.ghost_name }
-    ensures removes { let old = state S.Store tx.old.conn.now in
-        let new = state S.Store tx.new.conn.now in
-        Runs (λ _. RelaysSound (λ l. l.serial < greatest_serial)
-        (λ l. with_next_serial (without_rows num l))) old new result }
+    ensures same_reference { KeepsConnection tx.old tx.new }
+    ensures removes { Within S.Store tx.old tx.new
+        (Runs (λ _. RelaysSound (λ l. l.serial < greatest_serial)
+        (λ l. with_next_serial (without_rows num l)))) result }
 {
     clear_entity(tx, num)?;
     raise_serial(tx)?;
@@ -94,10 +87,9 @@ pub(crate) fn remove_entity<S: Alter>(
     kind: Kind,
     id: EntityId,
 ) -> Result<(), Error>
-    ensures same_reference { tx.new.conn.ghost_name ≡ tx.old.conn.ghost_name }
-    ensures changes { let old = state S.Store tx.old.conn.now in
-        let new = state S.Store tx.new.conn.now in
-        Runs (λ _. MakesChange (Remove kind id) []) old new result }
+    ensures same_reference { KeepsConnection tx.old tx.new }
+    ensures changes { Within S.Store tx.old tx.new
+        (Runs (λ _. MakesChange (Remove kind id) [])) result }
 {
     let Some(num) = number_of(alloc, tx, kind, id)? else {
         return Err(Error::QueryReturnedNoRows);

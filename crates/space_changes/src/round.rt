@@ -2,6 +2,7 @@
 ghost use Rattle.std.specs.Prelude.{◌≡◌, ◌∷◌, false};
 ghost use Rattle.sqlite.specs.Held.{state};
 ghost use Rattle.space_core.specs.Round.{FitAll, changed_all};
+ghost use Rattle.space_tables.specs.Within.{KeepsConnection, Within};
 ghost use Rattle.space_changes.specs.Committing.{Commits, Keeping};
 ghost use Rattle.space_changes.specs.Numbering.{KeepsNumbersThroughout};
 ghost use Rattle.space_changes.specs.Statements.{Runs, MakesRest, MakesRound};
@@ -16,10 +17,8 @@ fn write_rest<S: Alter>(
     tx: &mut Transaction<'_, S>,
     rest: &[RoundChange],
 ) -> Result<(), Error>
-    ensures same_reference { tx.new.conn.ghost_name ≡ tx.old.conn.ghost_name }
-    ensures changes { let old = state S.Store tx.old.conn.now in
-        let new = state S.Store tx.new.conn.now in
-        Runs (λ _. MakesRest rest.now) old new result }
+    ensures same_reference { KeepsConnection tx.old tx.new }
+    ensures changes { Within S.Store tx.old tx.new (Runs (λ _. MakesRest rest.now)) result }
 {
     for next in rest {
         write_change(alloc, tx, &next.change, next.notify.as_slice())?;
@@ -33,10 +32,9 @@ fn write_round<S: Alter>(
     first: &RoundChange,
     rest: &[RoundChange],
 ) -> Result<(), Error>
-    ensures same_reference { tx.new.conn.ghost_name ≡ tx.old.conn.ghost_name }
-    ensures changes { let old = state S.Store tx.old.conn.now in
-        let new = state S.Store tx.new.conn.now in
-        Runs (λ _. MakesRound (first.now ∷ rest.now)) old new result }
+    ensures same_reference { KeepsConnection tx.old tx.new }
+    ensures changes { Within S.Store tx.old tx.new
+        (Runs (λ _. MakesRound (first.now ∷ rest.now))) result }
 {
     write_change(alloc, tx, &first.change, first.notify.as_slice())?;
     write_rest(alloc, tx, rest)

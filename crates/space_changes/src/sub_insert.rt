@@ -1,10 +1,11 @@
 //! Rows of a subscription are inserted, that of the subscription before those of its cells, or take
 //! the place of older ones.
-ghost use Rattle.std.specs.Prelude.{◌≡◌, [], ◌∷◌};
-ghost use Rattle.sqlite.specs.Held.{state};
+ghost use Rattle.std.specs.Prelude.{[], ◌∷◌};
+ghost use Rattle.space_tables.specs.Within.{KeepsConnection, Within};
 ghost use Rattle.space_changes.specs.Layout.{Always, HasSub, Relays, with_sub_cells, with_sub_row, without_sub_row};
 ghost use Rattle.space_changes.specs.Statements.{Runs};
 
+use crate::inserted::Inserted;
 use space_rows::rows::{SubCellRow, SubRow};
 use sqlite::{Alter, Error, Transaction, params};
 
@@ -13,10 +14,9 @@ pub(crate) fn insert_sub_row<S: Alter>(
     tx: &mut Transaction<'_, S>,
     row: &SubRow,
 ) -> Result<usize, Error>
-    ensures same_reference { tx.new.conn.ghost_name ≡ tx.old.conn.ghost_name }
-    ensures inserts { let old = state S.Store tx.old.conn.now in
-        let new = state S.Store tx.new.conn.now in
-        Runs (λ _. Relays Always (with_sub_row row.now)) old new result }
+    ensures same_reference { KeepsConnection tx.old tx.new }
+    ensures inserts { Within S.Store tx.old tx.new
+        (Runs (λ _. Relays Always (with_sub_row row.now))) result }
 {
     tx.execute(
         "INSERT INTO subscription (num, id, manager, serial, version, notes, url, for_intents, \
@@ -45,12 +45,10 @@ pub(crate) fn update_sub_row<S: Alter>(
     tx: &mut Transaction<'_, S>,
     row: &SubRow,
 ) -> Result<usize, Error>
-    ensures same_reference { tx.new.conn.ghost_name ≡ tx.old.conn.ghost_name }
-    ensures updates { let old = state S.Store tx.old.conn.now in
-        let new = state S.Store tx.new.conn.now in
-        let num = row.now.num in
-        Runs (λ _. Relays (HasSub num) (λ l. with_sub_row row.now (without_sub_row num l)))
-        old new result }
+    ensures same_reference { KeepsConnection tx.old tx.new }
+    ensures updates { let num = row.now.num in
+        Within S.Store tx.old tx.new
+        (Runs (λ _. Relays (HasSub num) (λ l. with_sub_row row.now (without_sub_row num l)))) result }
 {
     tx.execute(
         "UPDATE subscription SET id = ?2, manager = ?3, serial = ?4, version = ?5, notes = ?6, \
@@ -74,37 +72,27 @@ pub(crate) fn update_sub_row<S: Alter>(
     )
 }
 
-fn insert_sub_cell<S: Alter>(tx: &mut Transaction<'_, S>, row: &SubCellRow) -> Result<usize, Error>
-    ensures same_reference { tx.new.conn.ghost_name ≡ tx.old.conn.ghost_name }
-    ensures inserts { let old = state S.Store tx.old.conn.now in
-        let new = state S.Store tx.new.conn.now in
-        Runs (λ _. Relays Always (with_sub_cells (row.now ∷ []))) old new result }
-{
-    tx.execute(
-        "INSERT INTO subscription_cell (subscription, place, token, lo, hi) \
-         VALUES (?1, ?2, ?3, ?4, ?5)",
-        params![
-            row.subscription,
-            row.place,
-            row.token.text(),
-            row.lo,
-            row.hi
-        ],
-    )
-}
+impl Inserted for SubCellRow {
+    ghost use Rattle.std.proofs.Common.{append-nil, append_assoc};
 
-/// Inserts the rows of a subscription's cells.
-pub(crate) fn insert_sub_cells<S: Alter>(
-    tx: &mut Transaction<'_, S>,
-    cells: &[SubCellRow],
-) -> Result<(), Error>
-    ensures same_reference { tx.new.conn.ghost_name ≡ tx.old.conn.ghost_name }
-    ensures inserts { let old = state S.Store tx.old.conn.now in
-        let new = state S.Store tx.new.conn.now in
-        Runs (λ _. Relays Always (with_sub_cells cells.now)) old new result }
-{
-    for cell in cells {
-        insert_sub_cell(tx, cell)?;
+    ghost join = { with_sub_cells };
+
+    ghost none = { λ l i. record l { sub_cells = append-nil l.sub_cells i } };
+
+    ghost more = { λ rows row l i.
+        record l { sub_cells = append_assoc l.sub_cells rows (row ∷ []) i } };
+
+    fn insert<S: Alter>(&self, tx: &mut Transaction<'_, S>) -> Result<usize, Error> {
+        tx.execute(
+            "INSERT INTO subscription_cell (subscription, place, token, lo, hi) \
+             VALUES (?1, ?2, ?3, ?4, ?5)",
+            params![
+                self.subscription,
+                self.place,
+                self.token.text(),
+                self.lo,
+                self.hi
+            ],
+        )
     }
-    Ok(())
 }

@@ -1,13 +1,14 @@
 //! A subscription is put in the place of the one that has its id.
-ghost use Rattle.std.specs.Prelude.{◌≡◌, ◌≤ℤ◌, pos, []};
-ghost use Rattle.sqlite.specs.Held.{state};
+ghost use Rattle.std.specs.Prelude.{◌≤ℤ◌, pos, []};
 ghost use Rattle.space_core.specs.declared.space.Change.TheVariants.{PutSub};
+ghost use Rattle.space_tables.specs.Within.{KeepsConnection, Within};
 ghost use Rattle.space_changes.specs.Statements.{MakesChange, Runs};
 ghost use Rattle.space_changes.specs.SubPutting.{InsertsSub, ReplacesSub, StoresSub};
 
+use crate::inserted::insert_all;
+use crate::number::sub_number_of;
 use crate::serial::raise_serial;
-use crate::sub_insert::{insert_sub_cells, insert_sub_row, update_sub_row};
-use crate::sub_number::sub_number_of;
+use crate::sub_insert::{insert_sub_row, update_sub_row};
 use crate::sub_remove::clear_sub_cells;
 use entity_core::subscription::Sub;
 use space_rows::sub::rows_of_sub;
@@ -24,15 +25,13 @@ fn replace_sub<S: Alter>(
 ) -> Result<(), Error>
     requires least { pos 1 ≤ℤ num }
     requires most { num ≤ℤ pos sub.now.serial }
-    ensures same_reference { tx.new.conn.ghost_name ≡ tx.old.conn.ghost_name }
-    ensures replaces { let old = state S.Store tx.old.conn.now in
-        let new = state S.Store tx.new.conn.now in
-        Runs (λ _. ReplacesSub sub.now num) old new result }
+    ensures same_reference { KeepsConnection tx.old tx.new }
+    ensures replaces { Within S.Store tx.old tx.new (Runs (λ _. ReplacesSub sub.now num)) result }
 {
     let (row, cells) = rows_of_sub(alloc, sub, num)?;
     clear_sub_cells(tx, num)?;
     update_sub_row(tx, &row)?;
-    insert_sub_cells(tx, &cells)
+    insert_all(tx, &cells)
 }
 
 fn insert_sub<S: Alter>(
@@ -43,23 +42,19 @@ fn insert_sub<S: Alter>(
 ) -> Result<(), Error>
     requires least { pos 1 ≤ℤ num }
     requires most { num ≤ℤ pos sub.now.serial }
-    ensures same_reference { tx.new.conn.ghost_name ≡ tx.old.conn.ghost_name }
-    ensures inserts { let old = state S.Store tx.old.conn.now in
-        let new = state S.Store tx.new.conn.now in
-        Runs (λ _. InsertsSub sub.now num) old new result }
+    ensures same_reference { KeepsConnection tx.old tx.new }
+    ensures inserts { Within S.Store tx.old tx.new (Runs (λ _. InsertsSub sub.now num)) result }
 {
     let (row, cells) = rows_of_sub(alloc, sub, num)?;
     insert_sub_row(tx, &row)?;
-    insert_sub_cells(tx, &cells)
+    insert_all(tx, &cells)
 }
 
 // Stores the rows of a subscription, under the number of the one that has its id, or under its
 // serial.
 fn store_sub<S: Alter>(alloc: Global, tx: &mut Transaction<'_, S>, sub: &Sub) -> Result<(), Error>
-    ensures same_reference { tx.new.conn.ghost_name ≡ tx.old.conn.ghost_name }
-    ensures stores { let old = state S.Store tx.old.conn.now in
-        let new = state S.Store tx.new.conn.now in
-        Runs (λ _. StoresSub sub.now) old new result }
+    ensures same_reference { KeepsConnection tx.old tx.new }
+    ensures stores { Within S.Store tx.old tx.new (Runs (λ _. StoresSub sub.now)) result }
 {
     let serial = sub.serial.number();
     match sub_number_of(alloc, tx, sub.id)? {
@@ -79,10 +74,9 @@ pub(crate) fn put_sub<S: Alter>(
     tx: &mut Transaction<'_, S>,
     sub: &Sub,
 ) -> Result<(), Error>
-    ensures same_reference { tx.new.conn.ghost_name ≡ tx.old.conn.ghost_name }
-    ensures changes { let old = state S.Store tx.old.conn.now in
-        let new = state S.Store tx.new.conn.now in
-        Runs (λ _. MakesChange (PutSub sub.now) []) old new result }
+    ensures same_reference { KeepsConnection tx.old tx.new }
+    ensures changes { Within S.Store tx.old tx.new
+        (Runs (λ _. MakesChange (PutSub sub.now) [])) result }
 {
     store_sub(alloc, tx, sub)?;
     raise_serial(tx)?;

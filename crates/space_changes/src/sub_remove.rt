@@ -1,12 +1,12 @@
 //! The rows of a subscription are removed, cells first.
-ghost use Rattle.std.specs.Prelude.{◌≡◌, []};
-ghost use Rattle.sqlite.specs.Held.{state};
+ghost use Rattle.std.specs.Prelude.{[]};
 ghost use Rattle.space_core.specs.declared.space.Change.TheVariants.{RemoveSub};
+ghost use Rattle.space_tables.specs.Within.{KeepsConnection, Within};
 ghost use Rattle.space_changes.specs.Layout.{Always, IsFree, IsUnnamed, Relays, without_sub_cells, without_sub_row, without_sub_rows};
 ghost use Rattle.space_changes.specs.Statements.{MakesChange, RelaysSound, Runs};
 
+use crate::number::sub_number_of;
 use crate::serial::raise_serial;
-use crate::sub_number::sub_number_of;
 use entity_core::entity_id::EntityId;
 use sqlite::{Alter, Error, Transaction, params};
 use std::alloc::Global;
@@ -16,10 +16,9 @@ pub(crate) fn clear_sub_cells<S: Alter>(
     tx: &mut Transaction<'_, S>,
     num: i64,
 ) -> Result<usize, Error>
-    ensures same_reference { tx.new.conn.ghost_name ≡ tx.old.conn.ghost_name }
-    ensures clears { let old = state S.Store tx.old.conn.now in
-        let new = state S.Store tx.new.conn.now in
-        Runs (λ _. Relays Always (without_sub_cells num)) old new result }
+    ensures same_reference { KeepsConnection tx.old tx.new }
+    ensures clears { Within S.Store tx.old tx.new
+        (Runs (λ _. Relays Always (without_sub_cells num))) result }
 {
     tx.execute(
         "DELETE FROM subscription_cell WHERE subscription = ?1",
@@ -28,20 +27,18 @@ pub(crate) fn clear_sub_cells<S: Alter>(
 }
 
 fn clear_sub_row<S: Alter>(tx: &mut Transaction<'_, S>, num: i64) -> Result<usize, Error>
-    ensures same_reference { tx.new.conn.ghost_name ≡ tx.old.conn.ghost_name }
-    ensures clears { let old = state S.Store tx.old.conn.now in
-        let new = state S.Store tx.new.conn.now in
-        Runs (λ _. RelaysSound (IsFree num) (without_sub_row num)) old new result }
+    ensures same_reference { KeepsConnection tx.old tx.new }
+    ensures clears { Within S.Store tx.old tx.new
+        (Runs (λ _. RelaysSound (IsFree num) (without_sub_row num))) result }
 {
     tx.execute("DELETE FROM subscription WHERE num = ?1", params![num])
 }
 
 /// Removes all rows of a subscription that no entity names.
 pub(crate) fn clear_sub<S: Alter>(tx: &mut Transaction<'_, S>, num: i64) -> Result<(), Error>
-    ensures same_reference { tx.new.conn.ghost_name ≡ tx.old.conn.ghost_name }
-    ensures clears { let old = state S.Store tx.old.conn.now in
-        let new = state S.Store tx.new.conn.now in
-        Runs (λ _. RelaysSound (IsUnnamed num) (without_sub_rows num)) old new result }
+    ensures same_reference { KeepsConnection tx.old tx.new }
+    ensures clears { Within S.Store tx.old tx.new
+        (Runs (λ _. RelaysSound (IsUnnamed num) (without_sub_rows num))) result }
 {
     clear_sub_cells(tx, num)?;
     clear_sub_row(tx, num)?;
@@ -55,10 +52,9 @@ pub(crate) fn remove_sub<S: Alter>(
     tx: &mut Transaction<'_, S>,
     id: EntityId,
 ) -> Result<(), Error>
-    ensures same_reference { tx.new.conn.ghost_name ≡ tx.old.conn.ghost_name }
-    ensures changes { let old = state S.Store tx.old.conn.now in
-        let new = state S.Store tx.new.conn.now in
-        Runs (λ _. MakesChange (RemoveSub id) []) old new result }
+    ensures same_reference { KeepsConnection tx.old tx.new }
+    ensures changes { Within S.Store tx.old tx.new
+        (Runs (λ _. MakesChange (RemoveSub id) [])) result }
 {
     let Some(num) = sub_number_of(alloc, tx, id)? else {
         return Err(Error::QueryReturnedNoRows);

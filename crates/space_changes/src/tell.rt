@@ -1,6 +1,5 @@
 //! Subscriptions are told of a change.
-ghost use Rattle.std.specs.Prelude.{◌≡◌};
-ghost use Rattle.sqlite.specs.Held.{state};
+ghost use Rattle.space_tables.specs.Within.{KeepsConnection, Within};
 ghost use Rattle.space_changes.specs.Layout.{CanBeTold, with_told_row};
 ghost use Rattle.space_changes.specs.Statements.{RelaysSound, Runs};
 ghost use Rattle.space_changes.specs.SubPutting.{Tells, TellsOne};
@@ -11,10 +10,9 @@ use std::alloc::Global;
 
 // The index of the subscription with an id goes on by one.
 fn raise_notes<S: Alter>(tx: &mut Transaction<'_, S>, id: &str) -> Result<usize, Error>
-    ensures same_reference { tx.new.conn.ghost_name ≡ tx.old.conn.ghost_name }
-    ensures raises { let old = state S.Store tx.old.conn.now in
-        let new = state S.Store tx.new.conn.now in
-        Runs (λ _. RelaysSound (CanBeTold id.now) (with_told_row id.now)) old new result }
+    ensures same_reference { KeepsConnection tx.old tx.new }
+    ensures raises { Within S.Store tx.old tx.new
+        (Runs (λ _. RelaysSound (CanBeTold id.now) (with_told_row id.now))) result }
 {
     tx.execute(
         "UPDATE subscription SET notes = notes + 1 WHERE id = ?1",
@@ -23,10 +21,8 @@ fn raise_notes<S: Alter>(tx: &mut Transaction<'_, S>, id: &str) -> Result<usize,
 }
 
 fn tell<S: Alter>(alloc: Global, tx: &mut Transaction<'_, S>, id: EntityId) -> Result<(), Error>
-    ensures same_reference { tx.new.conn.ghost_name ≡ tx.old.conn.ghost_name }
-    ensures tells { let old = state S.Store tx.old.conn.now in
-        let new = state S.Store tx.new.conn.now in
-        Runs (λ _. TellsOne id) old new result }
+    ensures same_reference { KeepsConnection tx.old tx.new }
+    ensures tells { Within S.Store tx.old tx.new (Runs (λ _. TellsOne id)) result }
 {
     let text = id.text(alloc)?;
     raise_notes(tx, text.as_str())?;
@@ -39,10 +35,8 @@ pub(crate) fn tell_all<S: Alter>(
     tx: &mut Transaction<'_, S>,
     ids: &[EntityId],
 ) -> Result<(), Error>
-    ensures same_reference { tx.new.conn.ghost_name ≡ tx.old.conn.ghost_name }
-    ensures tells { let old = state S.Store tx.old.conn.now in
-        let new = state S.Store tx.new.conn.now in
-        Runs (λ _. Tells ids.now) old new result }
+    ensures same_reference { KeepsConnection tx.old tx.new }
+    ensures tells { Within S.Store tx.old tx.new (Runs (λ _. Tells ids.now)) result }
 {
     for id in ids {
         tell(alloc, tx, *id)?;

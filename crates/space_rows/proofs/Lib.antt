@@ -6,5 +6,4 @@ pub mod CellRows
 pub mod VolumeRows
 pub mod HeadRows
 pub mod EntityRows
-pub mod SubCellRows
 pub mod SubRows

@@ -2,6 +2,7 @@
 use Rattle.std.specs.Prelude.{◌≡◌, ◌≤◌, ℤ, pos, List, length, None, zero, suc, refl}
 use Rattle.std.proofs.Common.{sym, ap₂, subst, ◌∙◌, arith}
 use Rattle.grid_core.specs.Cell.{Cell}
+use Rattle.grid_core.proofs.CellNumber.{same_cell}
 use Rattle.grid_core.specs.Extent.{Extent, region_of, region_fault}
 use Rattle.entity_core.specs.declared.interest.Interest.{Interest}
 use Rattle.entity_core.specs.declared.interest.Interest.TheVariants.{Intents, Constraints, Both}
@@ -10,12 +11,15 @@ use Rattle.space_rows.specs.declared.rows.SubRow.{SubRow}
 use Rattle.space_rows.specs.declared.rows.SubCellRow.{SubCellRow}
 use Rattle.space_rows.specs.declared.sub_head.SubHead.{SubHead}
 use Rattle.space_rows.specs.Volumes.{HasBounds}
-use Rattle.space_rows.specs.Subs.{SpellsInterest, SpellsSub}
-use Rattle.space_rows.specs.SubCells.{SpellsSubCells}
+use Rattle.space_rows.specs.Subs.{IsSubCellRow, SpellsInterest, SpellsSub}
+use Rattle.space_rows.specs.Cells.{SpellsCell, SpellsCells}
 use Rattle.space_rows.specs.SubHead.{SpellsSubHead, bounds_of, sub_head_part, with_volume}
 use Rattle.space_rows.specs.Laws.{OneSub}
 use Rattle.space_rows.proofs.OneEntity.{one_id, one_pos}
-use Rattle.space_rows.proofs.SubCellRows.{one_cells}
+use Rattle.space_rows.proofs.CellRows.{one_cells}
+
+one_sub_cells : (num : ℤ) (rows : List SubCellRow) (cs ds : List Cell) → SpellsCells (IsSubCellRow num) 0 rows cs → SpellsCells (IsSubCellRow num) 0 rows ds → cs ≡ ds
+one_sub_cells num = one_cells (IsSubCellRow num) (λ n row c d p q. same_cell c d p.valid q.valid (p.row_is.token.reads.number ∙ sym q.row_is.token.reads.number)) 0
 
 pub sub_head_in : (row : SubRow) (cells : List SubCellRow) (s : Sub) → SpellsSub row cells s → SpellsSubHead row (sub_head_part s)
 sub_head_in row cells s p = record {
@@ -30,7 +34,7 @@ sub_head_in row cells s p = record {
   interest = p.sub.interest;
 }
 
-pub sub_cells_in : (row : SubRow) (cells : List SubCellRow) (s : Sub) → SpellsSub row cells s → SpellsSubCells row.num 0 cells s.volume.cells
+pub sub_cells_in : (row : SubRow) (cells : List SubCellRow) (s : Sub) → SpellsSub row cells s → SpellsCells (IsSubCellRow row.num) 0 cells s.volume.cells
 sub_cells_in row cells s p = record { rows_are = p.cells_are; valid = p.kept.volume.cells }
 
 sub_bounds_in : (row : SubRow) (cells : List SubCellRow) (s : Sub) → SpellsSub row cells s → HasBounds (bounds_of row) s.volume.cells s.volume
@@ -44,9 +48,9 @@ sub_bounds_in row cells s p = record {
 }
 
 -- the parts are the whole
-pub whole_sub : (row : SubRow) (cells : List SubCellRow) (h : SubHead) (cs : List Cell) (v : Extent) → SpellsSubHead row h → SpellsSubCells row.num 0 cells cs → HasBounds (bounds_of row) cs v → SpellsSub row cells (with_volume h v)
+pub whole_sub : (row : SubRow) (cells : List SubCellRow) (h : SubHead) (cs : List Cell) (v : Extent) → SpellsSubHead row h → SpellsCells (IsSubCellRow row.num) 0 cells cs → HasBounds (bounds_of row) cs v → SpellsSub row cells (with_volume h v)
 whole_sub row cells h cs v p c b =
-    let own = subst (SpellsSubCells row.num 0 cells) b.cells c in
+    let own = subst (SpellsCells (IsSubCellRow row.num) 0 cells) b.cells c in
     record {
       sub = record {
         least = p.least;
@@ -75,12 +79,12 @@ whole_sub row cells h cs v p c b =
       };
     }
 
-pub no_sub_cells : (row : SubRow) (cells : List SubCellRow) → ((cs : List Cell) → ¬ SpellsSubCells row.num 0 cells cs) → (s : Sub) → ¬ SpellsSub row cells s
+pub no_sub_cells : (row : SubRow) (cells : List SubCellRow) → ((cs : List Cell) → ¬ SpellsCells (IsSubCellRow row.num) 0 cells cs) → (s : Sub) → ¬ SpellsSub row cells s
 no_sub_cells row cells none s p = none s.volume.cells (sub_cells_in row cells s p)
 
-pub no_sub_bounds : (row : SubRow) (cells : List SubCellRow) (cs : List Cell) → SpellsSubCells row.num 0 cells cs → ((v : Extent) → ¬ HasBounds (bounds_of row) cs v) → (s : Sub) → ¬ SpellsSub row cells s
+pub no_sub_bounds : (row : SubRow) (cells : List SubCellRow) (cs : List Cell) → SpellsCells (IsSubCellRow row.num) 0 cells cs → ((v : Extent) → ¬ HasBounds (bounds_of row) cs v) → (s : Sub) → ¬ SpellsSub row cells s
 no_sub_bounds row cells cs c none s p =
-    let same : s.volume.cells ≡ cs = one_cells row.num 0 cells s.volume.cells cs (sub_cells_in row cells s p) c in
+    let same : s.volume.cells ≡ cs = one_sub_cells row.num cells s.volume.cells cs (sub_cells_in row cells s p) c in
     none s.volume (subst (λ (l : List Cell). HasBounds (bounds_of row) l s.volume) same (sub_bounds_in row cells s p))
 
 -- a volume within the limits has few cells
@@ -111,7 +115,7 @@ one_sub row cells s t p q =
     let version = sym p.sub.version ∙ q.sub.version in
     let serial = one_pos s.serial t.serial row.serial p.sub.serial q.sub.serial in
     let index = one_pos s.index t.index row.notes p.sub.notes q.sub.notes in
-    let cs = one_cells row.num 0 cells s.volume.cells t.volume.cells (sub_cells_in row cells s p) (sub_cells_in row cells t q) in
+    let cs = one_sub_cells row.num cells s.volume.cells t.volume.cells (sub_cells_in row cells s p) (sub_cells_in row cells t q) in
     let lower = sym p.sub.alt_lower ∙ q.sub.alt_lower in
     let upper = sym p.sub.alt_upper ∙ q.sub.alt_upper in
     let start = one_pos s.volume.time.0 t.volume.time.0 row.time_start p.sub.time_start q.sub.time_start in

@@ -5,35 +5,40 @@ use Rattle.std.proofs.Common.{sym, ap, ap₂, ◌∙◌, subst, append_assoc, ar
 use Rattle.std.proofs.lemmas.List.{append-nil}
 use Rattle.std.proofs.Math.ListN.{drop_of_length-le}
 use Rattle.grid_core.specs.Cell.{Cell}
+use Rattle.grid_core.proofs.CellNumber.{same_cell}
 use Rattle.grid_core.specs.Extent.{Extent, region_of, region_fault}
 use Rattle.space_rows.specs.declared.rows.VolumeRow.{VolumeRow}
 use Rattle.space_rows.specs.declared.rows.CellRow.{CellRow}
-use Rattle.space_rows.specs.Rows.{PlacedCell, placed, placed_cells, IsCellRow, IsVolumeRow}
+use Rattle.space_rows.specs.Rows.{IsVolume, PlacedCell, placed, placed_cells, IsCellRow, IsVolumeRow}
 use Rattle.space_rows.proofs.OneEntity.{one_bounds, one_number}
 use Rattle.space_rows.proofs.Pieces.{all_joined}
 use Rattle.space_rows.specs.Finds.{Finds}
 use Rattle.space_rows.specs.Volumes.{HasBounds, SpellsVolume, SpellsVolumes}
-use Rattle.space_rows.specs.Cells.{SpellsCells, StartsElse}
+use Rattle.space_rows.specs.Cells.{IsRowInVolume, SpellsCell, SpellsCells, StartsElse}
 use Rattle.space_rows.specs.Rows.{cells_at}
 use Rattle.space_rows.proofs.ReadSoFar.{ReadSoFar, read_more, read_nowhere, read_all}
-use Rattle.space_rows.proofs.CellRows.{one_cell}
+use Rattle.space_rows.proofs.CellRows.{one_cells, zip_map, zip_of}
 
-cells_once : (num : ℤ) (v n : ℕ) (rows : List CellRow) (cs ds : List Cell) → SpellsCells num v n rows cs → SpellsCells num v n rows ds → cs ≡ ds
-cells_once num v n [] [] [] p q = refl
-cells_once num v n [] [] (d ∷ ds) p q = absurd q.rows_are
-cells_once num v n [] (c ∷ cs) ds p q = absurd p.rows_are
-cells_once num v n (r ∷ rows) [] ds p q = absurd p.rows_are
-cells_once num v n (r ∷ rows) (c ∷ cs) [] p q = absurd q.rows_are
-cells_once num v n (r ∷ rows) (c ∷ cs) (d ∷ ds) p q =
-    ap₂ ◌∷◌ (one_cell num v n r c d (record { row_is = p.rows_are.0; valid = p.valid.0 }) (record { row_is = q.rows_are.0; valid = q.valid.0 }))
-    (cells_once num v (suc n) rows cs ds (record { rows_are = p.rows_are.1; valid = p.valid.1 }) (record { rows_are = q.rows_are.1; valid = q.valid.1 }))
+module _ (num : ℤ) (v : ℕ) where
+  one_cell : (n : ℕ) (row : CellRow) (c d : Cell) → SpellsCell (IsRowInVolume num v) n row c → SpellsCell (IsRowInVolume num v) n row d → c ≡ d
+  one_cell n row c d p q = same_cell c d p.valid q.valid (p.row_is.token.reads.number ∙ sym q.row_is.token.reads.number)
+
+  own_cells : (cells : List CellRow) (e : Extent) → AllZip (IsCellRow num) cells (placed_cells (v, e)) → IsVolume e → SpellsCells (IsRowInVolume num v) 0 cells e.cells
+  own_cells cells e are kept = record { rows_are = zip_of (IsCellRow num) _ cells (placed 0 e.cells) are; valid = kept.cells }
+
+  cells_once : (cells : List CellRow) (cs ds : List Cell) → SpellsCells (IsRowInVolume num v) 0 cells cs → SpellsCells (IsRowInVolume num v) 0 cells ds → cs ≡ ds
+  cells_once cells cs ds p q = one_cells (IsRowInVolume num v) one_cell 0 cells cs ds p q
+
+  -- where the rows spell no cells, they are those of no volume
+  pub no_cells : (row : VolumeRow) (cells : List CellRow) → ((cs : List Cell) → ¬ SpellsCells (IsRowInVolume num v) 0 cells cs) → (e : Extent) → ¬ SpellsVolume num v row cells e
+  no_cells row cells none e h = none e.cells (own_cells cells e h.cells_are h.kept)
 
 -- where the cells are read, the bounds say the rest
-pub found_bounds : (num : ℤ) (v : ℕ) (row : VolumeRow) (cells : List CellRow) (cs : List Cell) (o : Option Extent) → (row.entity ≡ num) × (row.place ≡ pos v) → SpellsCells num v 0 cells cs
+pub found_bounds : (num : ℤ) (v : ℕ) (row : VolumeRow) (cells : List CellRow) (cs : List Cell) (o : Option Extent) → (row.entity ≡ num) × (row.place ≡ pos v) → SpellsCells (IsRowInVolume num v) 0 cells cs
     → Finds (HasBounds row cs) o → Finds (SpellsVolume num v row cells) o
 found_bounds num v row cells cs None at s f = λ x h.
     f x (record {
-      cells = cells_once num v 0 cells cs x.cells s (record { rows_are = h.cells_are; valid = h.kept.cells });
+      cells = cells_once num v cells cs x.cells s (own_cells num v cells x h.cells_are h.kept);
       alt_lower = h.row_is.alt_lower;
       alt_upper = h.row_is.alt_upper;
       time_start = h.row_is.time_start;
@@ -41,10 +46,10 @@ found_bounds num v row cells cs None at s f = λ x h.
       limits = h.kept.limits;
     })
 found_bounds num v row cells cs (Some e) at s f =
-    let all = subst (SpellsCells num v 0 cells) f.cells s in
+    let all = subst (SpellsCells (IsRowInVolume num v) 0 cells) f.cells s in
     record {
       row_is = record { entity = at.0; place = at.1; alt_lower = f.alt_lower; alt_upper = f.alt_upper; time_start = f.time_start; time_end = f.time_end };
-      cells_are = all.rows_are;
+      cells_are = zip_map (IsCellRow num) _ cells (placed 0 e.cells) all.rows_are;
       kept = record { limits = f.limits; cells = all.valid };
     }
 
@@ -98,7 +103,7 @@ starts_else num v (r ∷ rows) (c ∷ cs) p q = λ e. let lt : v < c.volume = q.
 one_volume : (num : ℤ) (v : ℕ) (row : VolumeRow) (cells : List CellRow) (x y : Extent) → SpellsVolume num v row cells x → SpellsVolume num v row cells y → x ≡ y
 one_volume num v row cells x y p q =
     let b = one_bounds num row (v, x) (v, y) p.row_is q.row_is in
-    let cells = cells_once num v 0 cells x.cells y.cells (record { rows_are = p.cells_are; valid = p.kept.cells }) (record { rows_are = q.cells_are; valid = q.kept.cells }) in
+    let cells = cells_once num v cells x.cells y.cells (own_cells num v cells x p.cells_are p.kept) (own_cells num v cells y q.cells_are q.kept) in
     λ i. record { cells = cells i; altitude = b.1 i; time = b.2 i }
 
 join_volume : (num : ℤ) (v : ℕ) (row : VolumeRow) (rows : List VolumeRow) (own more : List CellRow) (e : Extent) (es : List Extent) → SpellsVolume num v row own e → SpellsVolumes num (suc v) rows more es → SpellsVolumes num v (row ∷ rows) (own ++ more) (e ∷ es)
@@ -198,10 +203,10 @@ abbrev pub VolumesWritten : ℤ → List Extent → ℕ → List VolumeRow → L
 VolumesWritten num vs i rows cells = (more : List VolumeRow) (others : List CellRow) → SpellsVolumes num i more others (drop i vs) → SpellsVolumes num 0 (rows ++ more) (cells ++ others) vs
 
 pub written_more : (num : ℤ) (vs : List Extent) (i : ℕ) (rows : List VolumeRow) (cells : List CellRow) (row : VolumeRow) (own : List CellRow) (v : Extent) → drop i vs ≡ v ∷ drop (i + 1) vs
-    → IsVolumeRow num row (i, v) → region_fault (region_of v) ≡ None → SpellsCells num i 0 own v.cells → VolumesWritten num vs i rows cells → VolumesWritten num vs (i + 1) (rows ++ row ∷ []) (cells ++ own)
+    → IsVolumeRow num row (i, v) → region_fault (region_of v) ≡ None → SpellsCells (IsRowInVolume num i) 0 own v.cells → VolumesWritten num vs i rows cells → VolumesWritten num vs (i + 1) (rows ++ row ∷ []) (cells ++ own)
 written_more num vs i rows cells row own v e is limits spelt w = λ more others h.
     let n : i + 1 ≡ suc i = omega arith in
-    let this : SpellsVolume num i row own v = record { row_is = is; cells_are = spelt.rows_are; kept = record { limits = limits; cells = spelt.valid } } in
+    let this : SpellsVolume num i row own v = record { row_is = is; cells_are = zip_map (IsCellRow num) _ own (placed 0 v.cells) spelt.rows_are; kept = record { limits = limits; cells = spelt.valid } } in
     let rest = subst (λ (k : ℕ). SpellsVolumes num k more others (drop (i + 1) vs)) n h in
     let joined = subst (SpellsVolumes num i (row ∷ more) (own ++ others)) (sym e) (join_volume num i row more own others v (drop (i + 1) vs) this rest) in
     subst (λ (l : List VolumeRow). SpellsVolumes num 0 l ((cells ++ own) ++ others) vs) (sym (append_assoc rows (row ∷ []) more))

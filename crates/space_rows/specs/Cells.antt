@@ -1,26 +1,38 @@
--- What rows of the table `cell` spell.
+-- What rows of the tables of cells spell.
 use Rattle.std.specs.Prelude.{◌≡◌, ℕ, ℤ, pos, List, [], ◌∷◌}
 use Rattle.std.specs.List.{AllByRecursion, AllZip}
-use Rattle.grid_core.specs.Cell.{Cell, IsCell}
+use Rattle.grid_core.specs.Cell.{Cell, IsCell, lo_of, hi_of}
 use Rattle.grid_core.specs.Token.{IsShortest}
 use Rattle.space_rows.specs.declared.rows.CellRow.{CellRow}
-use Rattle.space_rows.specs.Rows.{IsCellRow, cells_at}
+use Rattle.space_rows.specs.Rows.{IsCellRow, placed}
 
 -- the token that is printed of the cell
 pub record SpellsToken (text : List ℕ) (c : Cell) : Type 0 where
   pub token : IsShortest text c
   pub valid : IsCell c
 
--- the row of the cell at this place of that volume
-pub record SpellsCell (num : ℤ) (volume place : ℕ) (row : CellRow) (c : Cell) : Type 0 where
-  pub row_is : IsCellRow num row (record { volume = volume; place = place; cell = c })
+-- the token that is printed of the cell, and its first and last places
+pub record SpellsRange (text : List ℕ) (lo hi : ℤ) (c : Cell) : Type 0 where
+  pub token : SpellsToken text c
+  pub lo_is : lo ≡ pos (lo_of c)
+  pub hi_is : hi ≡ pos (hi_of c)
+
+-- the row of the cell at this place
+pub record SpellsCell {R : Type 0} (is_row : R → ℕ × Cell → Type 0) (place : ℕ) (row : R) (c : Cell)
+    : Type 0 where
+  pub row_is : is_row row (place, c)
   pub valid : IsCell c
 
--- the rows of cells of one volume, their places counted from a number
-pub record SpellsCells (num : ℤ) (volume place : ℕ) (rows : List CellRow) (cs : List Cell)
-    : Type 0 where
-  pub rows_are : AllZip (IsCellRow num) rows (cells_at volume place cs)
+-- the rows of cells, their places counted from a number
+pub record SpellsCells {R : Type 0} (is_row : R → ℕ × Cell → Type 0) (place : ℕ) (rows : List R)
+    (cs : List Cell) : Type 0 where
+  pub rows_are : AllZip is_row rows (placed place cs)
   pub valid : AllByRecursion IsCell cs
+
+-- the row of a cell, and of its place, in the volume of that place
+abbrev pub IsRowInVolume : ℤ → ℕ → CellRow → ℕ × Cell → Type 0
+IsRowInVolume num volume row c =
+    IsCellRow num row (record { volume = volume; place = c.0; cell = c.1 })
 
 -- the row is of the volume at that place
 abbrev pub IsOfVolume : ℕ → CellRow → Type 0

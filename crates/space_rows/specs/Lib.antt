@@ -4,6 +4,5 @@ pub mod Cells
 pub mod Volumes
 pub mod Head
 pub mod Subs
-pub mod SubCells
 pub mod SubHead
 pub mod Laws

@@ -1,11 +1,12 @@
-//! What rows of the table `cell` spell, and the rows of cells.
+//! What rows of the tables of cells spell, and the rows of cells.
 ghost use Rattle.std.specs.Prelude.{◌≡◌, ◌↔◌, ◌≤◌, ◌<◌, pos, IsTrue, IfOk, length, take, drop};
 ghost use Rattle.std.specs.List.{AllByRecursion};
 ghost use Rattle.grid_core.specs.Cell.{IsCell, lo_of, hi_of};
 ghost use Rattle.grid_core.specs.Token.{IsTokenOf};
-ghost use Rattle.space_rows.specs.Cells.{IsOfVolume, SpellsToken, SpellsCell, SpellsCells, StartsElse};
+ghost use Rattle.space_rows.specs.Cells.{IsOfVolume, SpellsToken, SpellsRange, SpellsCells, StartsElse};
 ghost use Rattle.space_rows.specs.Finds.{Finds, FindsList};
 
+use crate::row_of_cell::RowOfCell;
 use crate::rows::CellRow;
 use entity_core::text::Text;
 use grid_core::cell::CellId;
@@ -50,36 +51,25 @@ pub(crate) fn cell_of_token(alloc: Global, text: &str) -> Result<Option<CellId>,
     }
 }
 
-// Whether the numbers of a row are those of the cell.
-fn is_placed(row: &CellRow, num: i64, volume: usize, place: usize) -> bool
-    ensures { let r = row.now in
-        IsTrue result ↔ ((r.entity ≡ num) × (r.volume ≡ pos volume) × (r.place ≡ pos place)) }
+// Whether a cell has this first and this last place.
+fn has_range(lo: i64, hi: i64, cell: CellId) -> bool
+    ensures { IsTrue result ↔ ((lo ≡ pos (lo_of cell)) × (hi ≡ pos (hi_of cell))) }
 {
-    row.entity == num && (is_at(row.volume, volume) && is_at(row.place, place))
+    lo == i64::from(cell.lo()) && hi == i64::from(cell.hi())
 }
 
-fn has_range(row: &CellRow, cell: CellId) -> bool
-    ensures { let r = row.now in
-        IsTrue result ↔ ((r.lo ≡ pos (lo_of cell)) × (r.hi ≡ pos (hi_of cell))) }
-{
-    row.lo == i64::from(cell.lo()) && row.hi == i64::from(cell.hi())
-}
-
-fn cell_of(
+/// The cell of a token that is as it is printed, where its first and last places are these.
+pub(crate) fn cell_in(
     alloc: Global,
-    row: &CellRow,
-    num: i64,
-    volume: usize,
-    place: usize,
+    text: &str,
+    lo: i64,
+    hi: i64,
 ) -> Result<Option<CellId>, AllocError>
-    ensures { IfOk result (λ o. Finds (SpellsCell num volume place row.now) o) }
+    ensures { IfOk result (λ o. Finds (SpellsRange text.now lo hi) o) }
 {
-    if !is_placed(row, num, volume, place) {
-        return Ok(None);
-    }
-    match cell_of_token(alloc, row.token.text())? {
+    match cell_of_token(alloc, text)? {
         Some(cell) => {
-            if has_range(row, cell) {
+            if has_range(lo, hi, cell) {
                 Ok(Some(cell))
             } else {
                 Ok(None)
@@ -89,18 +79,27 @@ fn cell_of(
     }
 }
 
-/// The cells of a volume.
-pub(crate) fn cells_of(
+/// The token of a cell, and its first and last places.
+pub(crate) fn columns_of(alloc: Global, cell: CellId) -> Result<(Text, i64, i64), AllocError>
+    ensures { IfOk result (λ r. SpellsRange r.0 r.1 r.2 cell) }
+{
+    let _number = cell.raw();
+    let text = Text::from_string(token(alloc, cell)?);
+    Ok((text, i64::from(cell.lo()), i64::from(cell.hi())))
+}
+
+/// The cells of a volume, by rows of it alone.
+pub(crate) fn cells_of<R: RowOfCell>(
     alloc: Global,
     num: i64,
     volume: usize,
-    rows: &[CellRow],
+    rows: &[R],
 ) -> Result<Option<Vec<CellId>>, AllocError>
-    ensures { IfOk result (λ o. FindsList (SpellsCells num volume 0 rows.now) o) }
+    ensures { IfOk result (λ o. FindsList (SpellsCells (R.is_row num volume) 0 rows.now) o) }
 {
     let mut out = Vec::new(alloc);
     for (place, row) in rows.iter().enumerate() {
-        match cell_of(alloc, row, num, volume, place)? {
+        match row.cell(alloc, num, volume, place)? {
             Some(cell) => out.push(cell)?,
             None => return Ok(None),
         }
@@ -122,42 +121,20 @@ pub(crate) fn count_of(rows: &[CellRow], volume: usize) -> usize
     rows.len()
 }
 
-fn cell_row(
-    alloc: Global,
-    num: i64,
-    volume: usize,
-    place: usize,
-    cell: CellId,
-) -> Result<CellRow, AllocError>
-    requires volume { volume < 32 }
-    requires place { place < 512 }
-    ensures { IfOk result (λ row. SpellsCell num volume place row cell) }
-{
-    let _number = cell.raw();
-    Ok(CellRow {
-        entity: num,
-        volume: volume as i64,
-        place: place as i64,
-        token: Text::from_string(token(alloc, cell)?),
-        lo: i64::from(cell.lo()),
-        hi: i64::from(cell.hi()),
-    })
-}
-
 /// The rows of the cells of a volume.
-pub(crate) fn cell_rows(
+pub(crate) fn cell_rows<R: RowOfCell>(
     alloc: Global,
     num: i64,
     volume: usize,
     cells: &[CellId],
-) -> Result<Vec<CellRow>, AllocError>
+) -> Result<Vec<R>, AllocError>
     requires volume { volume < 32 }
     requires count { length cells.now ≤ 512 }
-    ensures { IfOk result (λ rows. SpellsCells num volume 0 rows.items cells.now) }
+    ensures { IfOk result (λ rows. SpellsCells (R.is_row num volume) 0 rows.items cells.now) }
 {
     let mut rows = Vec::new(alloc);
     for (place, cell) in cells.iter().enumerate() {
-        rows.push(cell_row(alloc, num, volume, place, *cell)?)?;
+        rows.push(R::of_cell(alloc, num, volume, place, *cell)?)?;
     }
     Ok(rows)
 }

@@ -4,8 +4,8 @@ ghost use Rattle.space_rows.specs.Finds.{Finds};
 ghost use Rattle.space_rows.specs.Subs.{SpellsSub};
 ghost use Rattle.space_rows.specs.SubHead.{with_volume};
 
+use crate::cells::{cell_rows, cells_of};
 use crate::rows::{SubCellRow, SubRow};
-use crate::sub_cells::{sub_cell_rows, sub_cells_of};
 use crate::sub_head::{SubHead, bounds_of, sub_head_of, sub_row};
 use crate::volumes::bounded;
 use entity_core::subscription::Sub;
@@ -35,7 +35,7 @@ pub fn sub_of(alloc: Global, row: &SubRow, cells: &[SubCellRow]) -> Result<Optio
     let Some(head) = sub_head_of(alloc, row)? else {
         return Ok(None);
     };
-    let Some(list) = sub_cells_of(alloc, row.num, cells)? else {
+    let Some(list) = cells_of(alloc, row.num, 0, cells)? else {
         return Ok(None);
     };
     match bounded(list, &bounds_of(row)) {
@@ -57,6 +57,6 @@ pub fn rows_of_sub(
     ensures spells { IfOk result (λ r. SpellsSub r.0 r.1.items sub.now) }
 {
     let row = sub_row(alloc, sub, num)?;
-    let cells = sub_cell_rows(alloc, num, sub.volume.cells())?;
+    let cells = cell_rows(alloc, num, 0, sub.volume.cells())?;
     Ok((row, cells))
 }

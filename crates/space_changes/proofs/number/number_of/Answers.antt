@@ -1,39 +1,20 @@
-use Rattle.std.proofs.Common.{to_z, of_z, w64, Some, None, ◌≡◌, ◌∙◌, ◌^◌, ◌<◌, rules, arith, length}
+use Rattle.std.proofs.Common.{to_z, of_z, w64, ◌≡◌, ◌∙◌, ◌^◌, ◌<◌, rules}
 use Rattle.sqlite.specs.Held.{state}
 use Rattle.entity_core.specs.EntityId.{printed}
 use Rattle.space_rows.specs.Rows.{kind_number}
-use Rattle.space_changes.specs.Statements.{ShowsNumbers, FindsNumber}
-use Rattle.space_changes.proofs.Running.{runs_as_well}
-use Rattle.space_changes.proofs.Numbers.{finds_none, finds_number, first_there}
+use Rattle.space_changes.specs.Statements.{FindsNumber, IsShown, ShowsEntities}
+use Rattle.space_changes.proofs.Running.{runs_made}
+use Rattle.space_changes.proofs.Numbers.{finds_number}
 use Rattle.space_changes.proofs.number.number_of.Goals as goal
-
-pub returns-in-Some-clause-finds : goal.returns-in-Some-clause-finds
-returns-in-Some-clause-finds g c =
-    let old = state g.S.Store c.args.tx.now.conn.now in
-    let new = state g.S.Store c.numbers.new.tx.conn.now in
-    let rows = c.in_ok-rows.rows.items in
-    let row = c.in-Some.row.now in
-    let num = c.in_ok-get-in-Some.field-0 in
-    let kind : to_z w64 (of_z w64 c.kind_number.result) ≡ kind_number c.args.kind = search rules in
-    let text : c.as_str.result.now ≡ printed c.args.id = c.as_str.ensures.value ∙ c.in_ok-text.ensures.text in
-    let low : c.args.id < 2 ^ 128 = search rules in
-    let own : to_z w64 (of_z w64 num) ≡ num = search rules in
-    let item = rw c.deref.ensures.value at c.in-Some.ensures.item in
-    let there = first_there rows row item.3.0 item.1 in
-    let column = c.in_ok-get-in-Some.ensures.ok.1 in
-    let shown = rw (kind, text) at c.in_ok-rows.ensures.shows in
-    rw own (runs_as_well (λ (found : _). ShowsNumbers (kind_number c.args.kind) (printed c.args.id) found.items) (FindsNumber (c.args.kind, c.args.id)) old new c.in_ok-rows.rows (Some num)
-    (finds_number (c.args.kind, c.args.id) rows row num old.now new.now low there column) shown)
 
 pub returns-clause-finds : goal.returns-clause-finds
 returns-clause-finds g c =
     let old = state g.S.Store c.args.tx.now.conn.now in
     let new = state g.S.Store c.numbers.new.tx.conn.now in
-    let rows = c.in_ok-rows.rows.items in
+    let rows = c.in_ok-rows.rows in
     let kind : to_z w64 (of_z w64 c.kind_number.result) ≡ kind_number c.args.kind = search rules in
     let text : c.as_str.result.now ≡ printed c.args.id = c.as_str.ensures.value ∙ c.in_ok-text.ensures.text in
-    let item = rw c.deref.ensures.value at c.in-None.ensures.item in
-    let none : length rows ≡ 0 = let few = item.3 in omega (arith, few) in
-    let shown = rw (kind, text) at c.in_ok-rows.ensures.shows in
-    runs_as_well (λ (found : _). ShowsNumbers (kind_number c.args.kind) (printed c.args.id) found.items) (FindsNumber (c.args.kind, c.args.id)) old new c.in_ok-rows.rows None
-    (finds_none (c.args.kind, c.args.id) rows old.now new.now none) shown
+    let low : c.args.id < 2 ^ 128 = search rules in
+    let first = rw c.as_slice.ensures.value at c.first_number.ensures in
+    runs_made (λ (found : _). ShowsEntities (kind_number c.args.kind) (printed c.args.id) found.items) (FindsNumber (c.args.kind, c.args.id)) old new (IsShown rows.items) rows c.first_number.result first
+    (λ found is shown. finds_number (c.args.kind, c.args.id) rows.items found old.now new.now low is shown) (rw (kind, text) at c.in_ok-rows.ensures.shows)

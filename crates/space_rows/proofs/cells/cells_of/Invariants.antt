@@ -4,4 +4,6 @@ use Rattle.space_rows.proofs.ReadSoFar.{ReadSoFar}
 use Rattle.space_rows.proofs.cells.cells_of.Given as goal
 
 abbrev pub invariant-loop-place : goal.invariant-loop-place
-invariant-loop-place l = ReadSoFar (SpellsCells l.fn.num l.volume 0 l.rows) (SpellsCells l.fn.num l.volume l.place (drop l.place l.rows)) l.out.items
+invariant-loop-place g l =
+    let is_row = g.R.RowOfCell.is_row l.fn.num l.volume in
+    ReadSoFar (SpellsCells is_row 0 l.rows) (SpellsCells is_row l.place (drop l.place l.rows)) l.out.items
