@@ -43,8 +43,8 @@ fn piece<S: Sweeps + Drop, M: Moments>(
     }
 }
 
-/// When what has ended is let go of: once a minute a piece, and, while there was some, one more after
-/// the next round.
+/// When what has ended is let go of: once a minute a piece, and, while there was some, one more
+/// after the next round.
 #[derive(Clone, Copy, Debug)]
 pub(crate) struct Sweeper {
     due: Duration,
