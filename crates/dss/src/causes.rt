@@ -1,4 +1,4 @@
-//! What lies behind a fault with which `serve` ends, as a person needs it, where more is to be told.
+//! What lies behind a fault with which `serve` ends, as a person needs it, where more is told.
 use dss_command::fault::Fault;
 use os::RangeLock;
 use space_opening::open_fault::OpenFault;
@@ -58,8 +58,8 @@ fn refusal_of(rt: &HostRuntime, name: &str) -> io::Result<Refusal> {
     Ok(Refusal::NoDatabase)
 }
 
-/// Where causes are told: on standard error, each on a line before that of its fault. That one cannot be
-/// told is no fault more.
+/// Where causes are told: on standard error, each on a line before that of its fault. That one
+/// cannot be told is no fault more.
 #[derive(Clone, Copy)]
 pub(crate) struct Causes<'a> {
     rt: &'a HostRuntime,

@@ -96,8 +96,8 @@ fn backups_of<'a>(
     }
 }
 
-// The token file's text and its table. Where more is to be told it is, first what is wrong with the file or
-// surely not meant, and then the limits: that it cannot be told is no reason not to serve.
+// The token file's text and its table. Where more is to be told it is, first what is wrong with the
+// file or surely not meant, and then the limits: that it cannot be told is no reason not to serve.
 fn tokens_of<E: Write>(
     rt: &HostRuntime,
     given: &Serving<'_>,

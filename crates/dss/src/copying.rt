@@ -34,8 +34,8 @@ fn length_of(rt: &HostRuntime, name: &str) -> Result<Option<u64>, Fault> {
     }
 }
 
-/// Refuses the name of a copy that has a file already, or beside which a log or a journal lies that is
-/// not empty, since that would be taken for the copy's.
+/// Refuses the name of a copy that has a file already, or beside which a log or a journal lies that
+/// is not empty, since that would be taken for the copy's.
 pub(crate) fn is_free(rt: &HostRuntime, to: &str) -> Result<(), Fault> {
     if length_of(rt, to)?.is_some() {
         return Err(Fault::Copy(CopyFault::Exists));
@@ -92,8 +92,8 @@ pub(crate) struct Copying<'a> {
 }
 
 impl<'a> Copying<'a> {
-    /// Begins a copy of what the file holds from where it is read next. What a copy of that name that
-    /// was given up has left is taken away.
+    /// Begins a copy of what the file holds from where it is read next. What a copy of that name
+    /// that was given up has left is taken away.
     pub(crate) fn begin(rt: &'a HostRuntime, source: File, to: &str) -> Result<Copying<'a>, Fault> {
         is_free(rt, to)?;
         let alloc = rt.alloc();

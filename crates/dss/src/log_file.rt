@@ -24,8 +24,8 @@ enum Place<'a> {
     File(Named<'a>),
 }
 
-/// What the lines of requests are written to: a file that is found under its name again after it was
-/// moved away, or standard error.
+/// What the lines of requests are written to: a file that is found under its name again after it
+/// was moved away, or standard error.
 #[derive(Drop)]
 pub(crate) struct SystemLog<'a> {
     rt: &'a HostRuntime,
@@ -46,8 +46,8 @@ fn is_found(rt: &HostRuntime, name: &str, file: &File) -> bool {
 }
 
 impl<'a> Named<'a> {
-    // Opens it anew where another file or none is found under its name, which is looked at each second.
-    // Where that cannot be done the lines go where they went.
+    // Opens it anew where another file or none is found under its name, which is looked at each
+    // second. Where that cannot be done the lines go where they went.
     fn find(&mut self, rt: &HostRuntime) {
         let Ok(now) = Instant::now(rt) else {
             return;

@@ -10,8 +10,8 @@ use std::io::{ErrorKind, Read, Write};
 use std::net::{Ipv4Addr, Shutdown, SocketAddr, SocketAddrV4};
 use std::time::{Duration, Instant};
 
-// The tokens of the listeners. A client's is the key under which it is watched, and is less; that of a
-// connection to the operator's port is its key and this much more.
+// The tokens of the listeners. A client's is the key under which it is watched, and is less; that
+// of a connection to the operator's port is its key and this much more.
 const LISTENER: usize = 1_000_000;
 
 const OPERATORS_LISTENER: usize = 1_000_001;
@@ -100,8 +100,8 @@ fn token_of(which: Watched) -> usize {
     }
 }
 
-// A listener on a port of an address, which is watched. It is told what the system says where there is
-// none to be had.
+// A listener on a port of an address, which is watched. It is told what the system says where there
+// is none to be had.
 fn listener_on(
     rt: &HostRuntime,
     poll: &Poll,
@@ -159,8 +159,8 @@ fn not_taken(cause: io::Error) -> NotTaken {
 }
 
 impl<'a> PortSockets<'a> {
-    /// Listens on a port of an address, and for operators on one of 127.0.0.1. Backups are made where
-    /// there is a folder for them.
+    /// Listens on a port of an address, and for operators on one of 127.0.0.1. Backups are made
+    /// where there is a folder for them.
     pub(crate) fn listen(
         rt: &'a HostRuntime,
         address: Ipv4Addr,

@@ -19,8 +19,8 @@ fn words(why: NoCopy) -> &'static str
     }
 }
 
-/// The answer to one who asks for the airspace with a query: a page of what is shown, or why nothing
-/// is, or that there is no such query.
+/// The answer to one who asks for the airspace with a query: a page of what is shown, or why
+/// nothing is, or that there is no such query.
 pub fn airspace_answer(
     alloc: Global,
     query: &str,

@@ -133,8 +133,8 @@ fn words(health: Health) -> &'static str
     }
 }
 
-/// The answer to what was asked. To one who asks for a backup it is that where there is no folder for
-/// them, and to one who asks for the airspace that where nothing is shown.
+/// The answer to what was asked. To one who asks for a backup it is that where there is no folder
+/// for them, and to one who asks for the airspace that where nothing is shown.
 pub fn answer(
     alloc: Global,
     asked: Asked,

@@ -89,8 +89,8 @@ impl Durations {
         self.between.iter().all(|count| *count == 0)
     }
 
-    /// Puts its samples behind the text, under three names: the counts of those that took at most so
-    /// long, the sum, and the count of all.
+    /// Puts its samples behind the text, under three names: the counts of those that took at most
+    /// so long, the sum, and the count of all.
     pub(crate) fn put(&self, text: &mut Exposition, operation: &str) -> Result<(), AllocError> {
         let mut count = 0_u64;
         for (bound, between) in WRITTEN.iter().zip(self.between.iter()) {

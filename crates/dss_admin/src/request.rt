@@ -61,8 +61,8 @@ fn said_by_head<'a>(
     said_by_line(spans.method.of(front), spans.path.of(front))
 }
 
-/// What the bytes so far say. A request has a head of at most 8 KiB and a body of at most 1 KiB, which
-/// nobody looks at.
+/// What the bytes so far say. A request has a head of at most 8 KiB and a body of at most 1 KiB,
+/// which nobody looks at.
 pub fn said_by(bytes: &[u8]) -> Said<'_> {
     let front = &bytes[..bytes.len().min(HEAD_LIMIT)];
     let mut fields = [EMPTY_HEADER_SPAN; 64];

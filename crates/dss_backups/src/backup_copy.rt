@@ -1,4 +1,4 @@
-//! One backup, as it is made beside the service: a copy of the database's file, then one of its log.
+//! One backup, as it is made beside the service: a copy of the database's file, then of its log.
 use crate::log_frames::LogHeader;
 use crate::page_set::PageSet;
 use dss_admin::backup::Backup;
@@ -16,8 +16,8 @@ const LOG_NAME: &str = "dss.db-wal";
 // The bytes of pages changed meanwhile that are copied at once with the log, at most.
 const LAST_PAGES: u64 = 2_097_152;
 
-// A new log has overwritten of the one before it at most so many bytes more than its frames have: it
-// writes zeros ahead.
+// A new log has overwritten of the one before it at most so many bytes more than its frames have:
+// it writes zeros ahead.
 const WRITTEN_AHEAD: u64 = 1_048_576;
 
 // How often a backup is begun anew, and how many pieces of changed pages are copied, at most.
@@ -152,8 +152,8 @@ impl BackupCopy {
         let _ = fs::remove_dir_all(rt, self.places.begun.as_str());
     }
 
-    // Looks at the log, and notes what checkpoints may have changed in the file since it was looked at
-    // last. `false`: that is not known.
+    // Looks at the log, and notes what checkpoints may have changed in the file since it was looked
+    // at last. `false`: that is not known.
     fn look(&mut self, alloc: Global) -> io::Result<bool> {
         let Some(header) = LogHeader::read(&self.log)? else {
             return Err(io::Error::from(ErrorKind::InvalidData));

@@ -52,8 +52,8 @@ fn try_folder(rt: &HostRuntime, folder: &str) -> io::Result<()> {
 }
 
 impl<'a> FolderBackups<'a> {
-    /// The folder of that name, for the database of that name, which is open. It can be written, and
-    /// holds nothing that was begun.
+    /// The folder of that name, for the database of that name, which is open. It can be written,
+    /// and holds nothing that was begun.
     pub fn new(rt: &'a HostRuntime, database: &str, folder: &str) -> io::Result<FolderBackups<'a>> {
         let alloc = rt.alloc();
         let path = fs::canonicalize(rt, database)?;
@@ -127,8 +127,8 @@ impl<'a> FolderBackups<'a> {
         }
     }
 
-    /// Makes the next piece of the one that goes on. What became of it, once nothing more is done for
-    /// it.
+    /// Makes the next piece of the one that goes on. What became of it, once nothing more is done
+    /// for it.
     pub fn go_on(&mut self) -> Option<Backup> {
         let Some(mut copy) = self.copy.take() else {
             return Some(Backup::Unread);

@@ -82,8 +82,8 @@ impl LogHeader {
         Ok(Some((number(&bytes, 0), number(&bytes, 4) != 0)))
     }
 
-    /// Goes over the frames of this log from that one on, and puts their pages into the set. How many
-    /// frames there are up to the last change.
+    /// Goes over the frames of this log from that one on, and puts their pages into the set. How
+    /// many frames there are up to the last change.
     pub(crate) fn mark_from(self, log: &File, from: u64, pages: &mut PageSet) -> io::Result<u64> {
         let mut frames = from;
         for index in from..u64::MAX {

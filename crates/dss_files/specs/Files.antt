@@ -49,16 +49,16 @@ IsRefusal fault = (why : OpenFault) × (fault ≡ Database why)
 abbrev pub IsOfDatabase : Fault → Type 0
 IsOfDatabase fault = IsRefusal fault ⊎ (fault ≡ DatabaseFailed)
 
--- How a command ends whose work over a space ended so, and whose space is closed last: with the fault
--- of the work, or else as the closing does.
+-- How a command ends whose work over a space ended so, and whose space is closed last: with the
+-- fault of the work, or else as the closing does.
 abbrev pub EndsClosing : {D : Type 0} {g : disk.Ghosts D}
     → Result (Unit {0}) Fault → Kept (FileStore D g) → Result (Files D) Fault → Type 0
 EndsClosing (Err why) k result = result ≡ Err why
 EndsClosing (Ok x) k (Ok files) = ClosesFiles k files
 EndsClosing (Ok x) k (Err why) = why ≡ DatabaseFailed
 
--- What was written of a space, which was only read, is the report of the airspace that it held, or the
--- cells of its references.
+-- What was written of a space, which was only read, is the report of the airspace that it held, or
+-- the cells of its references.
 pub record ReportsSpace {S : Type 0} (space : spaces.Ghosts S) (places : Bool)
     (before after : Option (List ℕ)) (old new : S) (done : Result (Unit {0}) Fault) : Type 0 where
   pub sound : space.is_sound new → space.is_sound old
@@ -69,8 +69,8 @@ pub record ReportsSpace {S : Type 0} (space : spaces.Ghosts S) (places : Bool)
   pub fault : IfErr done (λ fault. (fault ≡ DatabaseFailed) ⊎ (fault ≡ Memory) ⊎ (fault ≡ Output))
 
 module _ {D : Type 0} (g : disk.Ghosts D) (image : Image) where
-  -- As long as the disk returned what was written: whatever is found of the files, also without their
-  -- log, spells in format 2 the airspace for which they stood.
+  -- As long as the disk returned what was written: whatever is found of the files, also without
+  -- their log, spells in format 2 the airspace for which they stood.
   abbrev pub KeepsAirspace : Files D → Type 0
   KeepsAirspace files =
       AreClean g files.log files.db → (a : Airspace) → StandFor image a
@@ -85,8 +85,8 @@ module _ {D : Type 0} (g : disk.Ghosts D) (image : Image) where
         → WritesReport places a before after
     pub kept : KeepsAirspace files
 
-  -- What was written is the line of the format in which the files spelt an airspace, and they stand for
-  -- it in format 2.
+  -- What was written is the line of the format in which the files spelt an airspace, and they stand
+  -- for it in format 2.
   pub record UpgradesFiles (before after : Option (List ℕ)) (files : Files D) : Type 0 where
     pub told : AreClean g files.log files.db
         → (format : Format) (a : Airspace) → FilesSpell format image a
@@ -105,9 +105,9 @@ module _ {D : Type 0} (g : disk.Ghosts D) (image : Image) where
         → ∥ (FilesSpell Two left (swept until a)
         × FilesSpell Two (without_log left) (swept until a)) ∥₁
 
--- A space was taken over files and swept, or in part; then it was closed, or that failed. Whatever is
--- found of the files, after a closing or where a crash leaves what it may, spells in format 2 an airspace
--- that is, of the one for which they stood, swept in part.
+-- A space was taken over files and swept, or in part; then it was closed, or that failed. Whatever
+-- is found of the files, after a closing or where a crash leaves what it may, spells in format 2 an
+-- airspace that is, of the one for which they stood, swept in part.
 pub record SweepsPartly {D : Type 0} {g : disk.Ghosts D}
     (tables : spaces.Ghosts (Kept (FileStore D g))) (image : Image) (until : ℕ) : Type 0 where
   pub opened : Kept (FileStore D g)
@@ -135,9 +135,9 @@ pub record ServesClosing {D : Type 0} {g : disk.Ghosts D}
   pub part : IfErr done (ServesPartOver space tokens now remaining before after old new)
   pub closed : EndsClosing done new result
 
--- The clients of a port were answered over a space over tables with a copy of it in memory, after it
--- was read once at most for the copy, in rounds that were all settled, between which some of what had
--- ended went; after a fault some were, or none. Then it is given back, without the copy.
+-- The clients of a port were answered over a space over tables with a copy of it in memory, after
+-- it was read once at most for the copy, in rounds that were all settled, between which some of
+-- what had ended went; after a fault some were, or none. Then it is given back, without the copy.
 pub record ServesCopied {S M : Type 0} (tables : spaces.Ghosts (Kept S))
     (space : spaces.Ghosts (Bound (Group (Kept S))))
     (m : moments.Ghosts M) (gives : List ℕ → Type 0) (keep : Option ℕ) (tokens : TokenFile)

@@ -21,8 +21,8 @@ use Rattle.wire_http.specs.declared.moments.Moments as moments
 use Rattle.dss_command.specs.Service.{ServesClients}
 use Rattle.dss_files.specs.Files.{ClosesServed}
 
--- the next start finds in files what may have come, in this run, of the airspace for which they stood,
--- and no other
+-- the next start finds in files what may have come, in this run, of the airspace for which they
+-- stood, and no other
 abbrev pub FindsAgain : {T : Type 0} → spaces.Ghosts (Kept T) → (before : Image) → Run
     → (after : Image) → Type 0
 FindsAgain {T} again before run after =
@@ -30,9 +30,9 @@ FindsAgain {T} again before run after =
     → (next : Kept T) → FindsSpelt after again next → again.is_sound next
     → ∥ ((b : Airspace) × MayCome a run b × IsContent again.holds next b) ∥₁
 
--- What is known of files in which a database was served and closed: clients were answered in rounds,
--- between which some of what had ended was let go of, and the next start finds what may have come of the
--- run of these, also where the log is gone.
+-- What is known of files in which a database was served and closed: clients were answered in
+-- rounds, between which some of what had ended was let go of, and the next start finds what may
+-- have come of the run of these, also where the log is gone.
 pub record ServedIsFound {S T M : Type 0} (space : spaces.Ghosts S) (waiting : settles.Ghosts S)
     (m : moments.Ghosts M) (again : spaces.Ghosts (Kept T)) (gives : List ℕ → Type 0)
     (keep : Option ℕ) (tokens : TokenFile) (clock clock' : M) (before after : Image) : Type 0 where

@@ -1,5 +1,5 @@
-//! The commands over a database, whose files are opened first and closed last. What is said of them is
-//! said for all that the file and its log may hold, which `Start` stands for.
+//! The commands over a database, whose files are opened first and closed last. What is said of them
+//! is said for all that the file and its log may hold, which `Start` stands for.
 ghost use Rattle.std.specs.Prelude.{◌≡◌, ◌⊎◌, IfErr, IfOk, IfSome, IsSome, OnOk};
 ghost use Rattle.sqlite.specs.Files.{over_files};
 ghost use Rattle.sqlite.specs.WalFiles.{image_at};
@@ -38,8 +38,8 @@ use std::io::{Read, Write};
 use token_conf::token_table::TokenTable;
 use wire_http::{Counted, Moments};
 
-/// Opens the database in the file of that name, with all that it then holds where that was read. After
-/// a fault what is open of it is closed.
+/// Opens the database in the file of that name, with all that it then holds where that was read.
+/// After a fault what is open of it is closed.
 pub fn opened<F: Start>(
     rt: &HostRuntime,
     name: &str,
@@ -59,8 +59,8 @@ pub fn opened<F: Start>(
     }
 }
 
-/// Closes the database of a command whose work ended so: a fault of the work is told before one of the
-/// closing.
+/// Closes the database of a command whose work ended so: a fault of the work is told before one of
+/// the closing.
 pub fn closed<F: Start>(
     done: Result<(), Fault>,
     space: SqlSpace<FileStore<FileFrom<F>>>,
@@ -75,8 +75,8 @@ pub fn closed<F: Start>(
     }
 }
 
-// Prints the report of tables in some store: generic in it, for what is proved of the store of a file
-// is dear.
+// Prints the report of tables in some store: generic in it, for what is proved of the store of a
+// file is dear.
 fn reported<A: Alter + Drop, W: Write>(
     alloc: Global,
     space: &mut SqlSpace<A>,
@@ -108,8 +108,8 @@ pub fn report<F: Start, W: Write>(
     closed(done, space)
 }
 
-/// The command `upgrade`: the database in the file of that name is brought to the newest format, which
-/// an opening does, and closed, and then it is printed which format it had.
+/// The command `upgrade`: the database in the file of that name is brought to the newest format,
+/// which an opening does, and closed, and then it is printed which format it had.
 pub fn upgrade<F: Start, W: Write>(
     rt: &HostRuntime,
     name: &str,
@@ -128,8 +128,8 @@ pub fn upgrade<F: Start, W: Write>(
     Ok(files)
 }
 
-/// The database in the file of that name as it is to be copied: opened, and closed, so that the file
-/// alone has all, without its log. Until the files are let go no other program opens it.
+/// The database in the file of that name as it is to be copied: opened, and closed, so that the
+/// file alone has all, without its log. Until the files are let go no other program opens it.
 pub fn settled<F: Start>(
     rt: &HostRuntime,
     name: &str,
@@ -158,9 +158,9 @@ fn swept_by_copy<A: Alter + Drop>(
     (done, grouped.release())
 }
 
-/// The command `sweep`: of the airspace in the file of that name goes what a sweep until a moment takes,
-/// in seconds since 1970, and it is closed; then it is printed how much that was. After a fault some of
-/// it may be gone.
+/// The command `sweep`: of the airspace in the file of that name goes what a sweep until a moment
+/// takes, in seconds since 1970, and it is closed; then it is printed how much that was. After a
+/// fault some of it may be gone.
 pub fn sweep<F: Start, W: Write>(
     rt: &HostRuntime,
     name: &str,
@@ -265,10 +265,10 @@ fn served_by_copy<A: Alter + Drop, M: Moments, L: Listen + Drop, T: TokenSource 
 }
 
 /// The command `serve` over a database that was opened, which is closed last, with a copy of it in
-/// memory as long as there is memory for it, while the token file is watched. Changes that wait for the
-/// end of a round are kept then, or none of them. What has ended so long before as it is kept goes, a
-/// piece at a time, as long as there is the copy. With a number no more than so many entities and
-/// subscriptions are kept of each supplier.
+/// memory as long as there is memory for it, while the token file is watched. Changes that wait for
+/// the end of a round are kept then, or none of them. What has ended so long before as it is kept
+/// goes, a piece at a time, as long as there is the copy. With a number no more than so many
+/// entities and subscriptions are kept of each supplier.
 pub fn serve<F: Start, M: Moments, L: Listen + Drop, T: TokenSource + Drop, E: Write>(
     alloc: Global,
     space: SqlSpace<FileStore<FileFrom<F>>>,

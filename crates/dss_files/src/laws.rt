@@ -11,8 +11,8 @@ use sqlite::{Alter, FileFrom, FileStore, Start};
 use wire_http::Moments;
 
 /// From one start of `serve` to the next: what its clients were told as done, once it is closed, is
-/// found by whoever then opens the files. It is said of what `opened` takes, by its clause `finds`, of
-/// what `serve` then closes, by its clause `served`, and of what `SqlSpace::open` takes next.
+/// found by whoever then opens the files. It is said of what `opened` takes, by its clause `finds`,
+/// of what `serve` then closes, by its clause `served`, and of what `SqlSpace::open` takes next.
 pub fn next_start_finds<F: Start, M: Moments, T: Alter, W: TokenSource>()
     ensures { NextStartFinds ⟦<SqlSpace<FileStore<FileFrom<F>>> as Space>⟧
         ⟦<Bounded<Grouped<SqlSpace<FileStore<FileFrom<F>>>>> as Space>⟧ M.Moments

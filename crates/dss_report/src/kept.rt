@@ -1,5 +1,5 @@
 //! What a report needs of a space.
-ghost use Rattle.space_core.specs.Space.{Reads, Tells};
+ghost use Rattle.space_core.specs.Calls.{CallReads, CallTells};
 ghost use Rattle.dss_report.specs.Reading.{IsKeptIn};
 
 use entity_core::entity::Entity;
@@ -16,10 +16,8 @@ pub(crate) struct Kept {
 
 /// Reads it: each kind by rising ids.
 pub(crate) fn kept_in<S: Space>(space: &mut S) -> Result<Kept, SpaceFault>
-    ensures tells { Tells (S.Space.refusals space.old) (S.Space.refusals space.new)
-        (S.Space.is_broken space.old) (S.Space.is_broken space.new) result }
-    ensures reads { Reads S.Space.holds S.Space.is_sound S.Space.is_whole space.old space.new result
-        IsKeptIn }
+    ensures tells { CallTells S.Space space.old space.new result }
+    ensures reads { CallReads S.Space space.old space.new result IsKeptIn }
 {
     let intents = space.all(Kind::Intent)?;
     let constraints = space.all(Kind::Constraint)?;

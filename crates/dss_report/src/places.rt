@@ -128,9 +128,9 @@ fn text_of(alloc: Global, kept: &Kept) -> Result<Vec<u8>, AllocError>
 /// The cells of the references of a space: a line for each cell of each volume of each intent by
 /// rising ids, then of each constraint by rising ids.
 ///
-/// A line has the kind, the id, the manager, the state (`-` for a constraint), the cell's token, the
-/// volume's lower and upper altitude in decimetres, and its first and last time in seconds since
-/// 1970, with one space between. The space is only read.
+/// A line has the kind, the id, the manager, the state (`-` for a constraint), the cell's token,
+/// the volume's lower and upper altitude in decimetres, and its first and last time in seconds
+/// since 1970, with one space between. The space is only read.
 pub fn places_text<S: Space + Drop>(alloc: Global, space: &mut S) -> Result<Vec<u8>, ReportFault>
     ensures { Reports S.Space space.old space.new result (λ a text. IsPlacesOf a text.items) }
 {

@@ -18,8 +18,8 @@ use Rattle.dss_serve.specs.Tokens.{IsTakenAfter}
 abbrev pub IsAskedBy : Callers → Asked → Type 0
 IsAskedBy callers asked = (body : List ℕ) × IsCallOf callers asked.head body asked.place asked.call
 
--- Calls of which each was judged by one table, where tables were taken one after the other: first calls
--- of the callers of the first table, then calls of the callers of the second, and so on.
+-- Calls of which each was judged by one table, where tables were taken one after the other: first
+-- calls of the callers of the first table, then calls of the callers of the second, and so on.
 abbrev pub AskedUnder : List TokenFile → List Asked → Type 0
 AskedUnder [] all = all ≡ []
 AskedUnder (table ∷ tables) all =
@@ -96,8 +96,8 @@ abbrev pub all_timed_in : List Segment → List Round → List Timed
 all_timed_in segments rounds =
     flat_map (λ segment. all_timed segment.rounds) segments ++ all_timed rounds
 
--- Each piece was swept until a moment that the clock told, in that order, less the seconds that what
--- has ended is kept. Where it is kept for good there is none.
+-- Each piece was swept until a moment that the clock told, in that order, less the seconds that
+-- what has ended is kept. Where it is kept for good there is none.
 abbrev pub AllAreDue : (keep : Option ℕ) → List (Option ℕ) → List Segment → Type 0
 AllAreDue None told segments = segments ≡ []
 AllAreDue (Some keep) told segments = (moments : List ℕ) × AreAmong moments told
@@ -106,12 +106,12 @@ AllAreDue (Some keep) told segments = (moments : List ℕ) × AreAmong moments t
 module _ {S M : Type 0} (g : spaces.Ghosts S) (k : settles.Ghosts S) (m : moments.Ghosts M)
     (gives : List ℕ → Type 0) (keep : Option ℕ) (tokens : TokenFile) where
   -- The service was asked calls of requests, one after the other, and no other: one list of calls,
-  -- whoever made them. Each was judged by one table of tokens: the first is that of the start, and each
-  -- later one was read whole of the token file as it then was, with the same salt. They were made in
-  -- rounds, each of which was settled at its end: a client whose reply waited for that was told it as it
-  -- was made only where the changes were kept. Between rounds went pieces of what had ended so long before
-  -- a moment of the clock as it is kept, and nothing where it is kept for good. Each call was made at a
-  -- moment of the clock, which told no more than these.
+  -- whoever made them. Each was judged by one table of tokens: the first is that of the start, and
+  -- each later one was read whole of the token file as it then was, with the same salt. They were
+  -- made in rounds, each of which was settled at its end: a client whose reply waited for that was
+  -- told it as it was made only where the changes were kept. Between rounds went pieces of what had
+  -- ended so long before a moment of the clock as it is kept, and nothing where it is kept for
+  -- good. Each call was made at a moment of the clock, which told no more than these.
   pub record ServesAll (old new : Service S) (clock clock' : M) : Type 0 where
     pub all : List Asked
     pub segments : List Segment

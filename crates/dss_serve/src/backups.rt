@@ -10,8 +10,8 @@ pub enum Progress {
     Ended(Backup),
 }
 
-/// What makes backups of the database beside the service, one at a time, each by pieces. It is called
-/// between rounds, where no change is half made, and no call of it takes long.
+/// What makes backups of the database beside the service, one at a time, each by pieces. It is
+/// called between rounds, where no change is half made, and no call of it takes long.
 pub trait Backups {
     /// Begins a backup of that name.
     fn begin(&mut self, name: &str) -> Progress;

@@ -45,13 +45,14 @@ pub struct GivenUp {
     pub phase: Phase,
 }
 
-/// Where requests, and the faults of clients, of a token file that changed and of the store, are told.
-/// None of them ends the service.
+/// Where requests, and the faults of clients, of a token file that changed and of the store, are
+/// told. None of them ends the service.
 pub trait Journal {
     /// A connection was given up for that reason.
     fn failed(&mut self, fault: StreamFault, given_up: GivenUp);
 
-    /// A token file that changed was not taken, for that reason: the tokens before it stay in force.
+    /// A token file that changed was not taken, for that reason: the tokens before it stay in
+    /// force.
     fn refused_tokens(&mut self, fault: TokensFault);
 
     /// There is something to tell of the store. By itself it tells nothing.
@@ -60,8 +61,8 @@ pub trait Journal {
     /// A request was answered. By itself it tells nothing.
     fn answered(&mut self, _request: &LoggedRequest<'_>) {}
 
-    /// A round has ended: what is told of its requests may be written. How many of them could not be
-    /// told of since the start.
+    /// A round has ended: what is told of its requests may be written. How many of them could not
+    /// be told of since the start.
     fn end_round(&mut self) -> u64 {
         0
     }

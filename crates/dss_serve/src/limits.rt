@@ -32,7 +32,8 @@ pub(crate) const LOOKS_SOON: u64 = 50;
 pub(crate) const LOOKS: u64 = 1_000;
 
 // How many clients wait for the end of a round at most, and about how many bytes their answers have
-// together: more save next to nothing of a sync that they share, and each waits for the calls of all.
+// together: more save next to nothing of a sync that they share, and each waits for the calls of
+// all.
 pub(crate) const MOST_HELD_BACK: usize = 64;
 
 pub(crate) const HELD_BACK_BYTES: usize = 1_048_576;

@@ -266,8 +266,8 @@ impl<T: Socket> Link<T> {
         self.connection.let_go();
     }
 
-    /// Answers the next request, if it is held whole, or ends the connection's requests. An answer is
-    /// held back where changes wait to be kept, before the call or after it.
+    /// Answers the next request, if it is held whole, or ends the connection's requests. An answer
+    /// is held back where changes wait to be kept, before the call or after it.
     pub(crate) fn ask<S: Settles + Drop, M: Moments>(
         &mut self,
         desk: Desk<'_>,
@@ -298,8 +298,8 @@ impl<T: Socket> Link<T> {
         Ok(step)
     }
 
-    /// Tells the answer that is held back, by how its round was settled. Without memory nothing of it
-    /// is told.
+    /// Tells the answer that is held back, by how its round was settled. Without memory nothing of
+    /// it is told.
     pub(crate) fn tell(
         &mut self,
         alloc: Global,

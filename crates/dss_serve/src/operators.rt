@@ -173,8 +173,8 @@ impl<N: Sockets + Drop> Operators<N> {
         }
     }
 
-    // Tells one what became of the backup that it waits for. One that came later under its key waits
-    // for none: it would have been told that one goes on.
+    // Tells one what became of the backup that it waits for. One that came later under its key
+    // waits for none: it would have been told that one goes on.
     fn tell(&mut self, key: usize, backup: Backup, now: Duration) {
         if let Some(operator) = self.all.get_mut(key) {
             operator.tell(self.alloc, backup, now);

@@ -122,8 +122,8 @@ impl<T: Socket> Peer<T> {
         self.queued = queued;
     }
 
-    /// Whether it was waited for long enough. A client that waits for its turn, or for a place, is not
-    /// late: it is the service that keeps it waiting.
+    /// Whether it was waited for long enough. A client that waits for its turn, or for a place, is
+    /// not late: it is the service that keeps it waiting.
     pub(crate) fn is_late(&self, now: Duration) -> bool {
         !self.queued && !self.wants_place && self.until < now
     }
@@ -306,8 +306,8 @@ impl<T: Socket> Peer<T> {
         Ok(None)
     }
 
-    // Sends what waits, and reads where no whole request is held. Answers what becomes of the client
-    // where it is not to be asked yet.
+    // Sends what waits, and reads where no whole request is held. Answers what becomes of the
+    // client where it is not to be asked yet.
     fn prepare(&mut self, now: Duration) -> Result<Option<Turned>, StreamFault> {
         if self.link.wants_write() {
             if !self.writable {

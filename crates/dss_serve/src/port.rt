@@ -59,8 +59,8 @@ pub(crate) struct Port<N: Sockets> {
     places: usize,
     // those whose answers are held back in a round: none after it
     held_back: HeldBack,
-    // how many connections may still be accepted, if they are counted, how many were, whether one may
-    // wait, and until when the system has no room for it
+    // how many connections may still be accepted, if they are counted, how many were, whether one
+    // may wait, and until when the system has no room for it
     left: Option<u64>,
     accepted: u64,
     waiting: bool,
@@ -68,7 +68,8 @@ pub(crate) struct Port<N: Sockets> {
     // how many clients have their last answer, and when it was last looked for late ones
     ending: usize,
     looked: Duration,
-    // what operators are told, and until when clients are waited for, where one told the service to end
+    // what operators are told, and until when clients are waited for, where one told the service to
+    // end
     figures: Figures,
     store: StoreWatch,
     sweeper: Sweeper,
@@ -77,8 +78,8 @@ pub(crate) struct Port<N: Sockets> {
 }
 
 impl<N: Sockets + Drop> Port<N> {
-    /// A port without clients. What it needs of memory for the most of them is taken here, so that no
-    /// client is forgotten later for want of it.
+    /// A port without clients. What it needs of memory for the most of them is taken here, so that
+    /// no client is forgotten later for want of it.
     pub(crate) fn new(
         alloc: Global,
         sockets: N,
@@ -134,8 +135,8 @@ impl<N: Sockets + Drop> Port<N> {
             && self.peers.len() < self.clients
     }
 
-    // How long the system may wait for something to tell: at most until the token file is looked at,
-    // and not at all while there may be more that has ended.
+    // How long the system may wait for something to tell: at most until the token file is looked
+    // at, and not at all while there may be more that has ended.
     fn patience(&self, now: Duration) -> Duration {
         if self.sweeper.goes_on() {
             return Duration::from_millis(0);
@@ -501,9 +502,9 @@ impl<N: Sockets + Drop> Port<N> {
         self.settle(service, now, journal);
     }
 
-    /// Gives each client that has one its turn, and settles what they were answered. Each answer that
-    /// waits for that is told then: before the changes are kept, no answer to one, nor one that has
-    /// seen it, is sent. Where many wait, the round is settled more than once.
+    /// Gives each client that has one its turn, and settles what they were answered. Each answer
+    /// that waits for that is told then: before the changes are kept, no answer to one, nor one
+    /// that has seen it, is sent. Where many wait, the round is settled more than once.
     pub(crate) fn round<S: Settles + Drop, M: Moments, J: Journal>(
         &mut self,
         desk: Desk<'_>,
@@ -534,8 +535,8 @@ impl<N: Sockets + Drop> Port<N> {
         self.figures.faults.lost_lines = journal.end_round();
     }
 
-    /// Lets go of a piece of what had ended so many seconds ago, where that is due. Without a number
-    /// nothing goes.
+    /// Lets go of a piece of what had ended so many seconds ago, where that is due. Without a
+    /// number nothing goes.
     pub(crate) fn sweep<S: Sweeps + Drop, M: Moments, J: Journal>(
         &mut self,
         keep: Option<u64>,
@@ -612,8 +613,8 @@ impl<N: Sockets + Drop> Port<N> {
     }
 
     /// Answers operators, where there may be any, shows them what the service keeps, which stays as
-    /// it is, and makes a piece of a backup that one asked for. `true`: one told the service to end,
-    /// and it has ended.
+    /// it is, and makes a piece of a backup that one asked for. `true`: one told the service to
+    /// end, and it has ended.
     pub(crate) fn serve_operators<S: Settles + Shows + Drop>(
         &mut self,
         operated: Option<Build<'_>>,

@@ -29,32 +29,34 @@ fn in_force<'a>(first: &'a TokenTable, newer: &'a Option<TokenTable>) -> &'a Tok
     }
 }
 
-/// Answers the requests of the clients that are accepted, until so many connections were accepted as
-/// the limits tell and the last of them is closed; without such a number it goes on.
+/// Answers the requests of the clients that are accepted, until so many connections were accepted
+/// as the limits tell and the last of them is closed; without such a number it goes on.
 ///
 /// Calls are made one after the other: whatever the clients do, and in whatever order, the service
 /// was asked one list of calls, each made by a request that bears the token of its caller. Each
 /// client that has something to do has a turn before any has its second.
 ///
-/// Calls are made in rounds, of one turn of each client. The changes of a round are kept at its end,
-/// all of them or none, and no answer to a change, nor one that has seen it, is sent before that. Where
-/// they are not kept, each of those answers is told as a fault: several clients have status 500 then,
-/// or 503 where the service has stopped. When the function returns, every round has ended so.
+/// Calls are made in rounds, of one turn of each client. The changes of a round are kept at its
+/// end, all of them or none, and no answer to a change, nor one that has seen it, is sent before
+/// that. Where they are not kept, each of those answers is told as a fault: several clients have
+/// status 500 then, or 503 where the service has stopped. When the function returns, every round
+/// has ended so.
 ///
-/// Each call is made at a moment of the clock, which tells one for each request: only where it fails,
-/// or memory lacks, is a request not asked.
+/// Each call is made at a moment of the clock, which tells one for each request: only where it
+/// fails, or memory lacks, is a request not asked.
 ///
 /// Each call is judged by one table of tokens. The token file is looked at each second, between two
-/// rounds: where it has changed and reads whole, with the same salt, its table is in force from then
-/// on, and else it is told to the journal why not.
+/// rounds: where it has changed and reads whole, with the same salt, its table is in force from
+/// then on, and else it is told to the journal why not.
 ///
-/// What had ended so many seconds before a moment that the clock told may go, where a number of them is
-/// given to keep: of intents, constraints and subscriptions a piece at a time, between two rounds.
-/// Without such a number nothing goes.
+/// What had ended so many seconds before a moment that the clock told may go, where a number of
+/// them is given to keep: of intents, constraints and subscriptions a piece at a time, between two
+/// rounds. Without such a number nothing goes.
 ///
-/// With a build there is an operator's port, whose connections are answered in the same rounds; nothing
-/// that is asked there is a call of the service. What it keeps is shown there by `&`, so that it is the
-/// same before and after. Backups that are asked for there are made between rounds, piece by piece.
+/// With a build there is an operator's port, whose connections are answered in the same rounds;
+/// nothing that is asked there is a call of the service. What it keeps is shown there by `&`, so
+/// that it is the same before and after. Backups that are asked for there are made between rounds,
+/// piece by piece.
 ///
 /// It is done only where a number of connections is given, or an operator may tell it to end. An
 /// error is one of the system that ends the service; the calls before it stand. A fault of a client

@@ -22,7 +22,8 @@ pub(crate) enum Fate {
     Unknown,
 }
 
-/// What became of the changes of a round, by how it was settled. Nothing is known where none waited.
+/// What became of the changes of a round, by how it was settled. Nothing is known where none
+/// waited.
 pub(crate) fn fate_of_round(waited: bool, settled: Result<(), SpaceFault>) -> Option<Fate>
     ensures { result ≡ fate_of_round waited settled }
 {
@@ -34,8 +35,9 @@ pub(crate) fn fate_of_round(waited: bool, settled: Result<(), SpaceFault>) -> Op
     }
 }
 
-/// What became of the change of an answer that no round held back. A fault alone tells nothing of the
-/// store: it may be one of memory, or a bound. But a store that is failing makes each change by itself.
+/// What became of the change of an answer that no round held back. A fault alone tells nothing of
+/// the store: it may be one of memory, or a bound. But a store that is failing makes each change by
+/// itself.
 pub(crate) fn fate_of_change(answer: Answer, is_failing: bool) -> Option<Fate> {
     match answer.outcome {
         Outcome::Stopped => Some(Fate::Unknown),
@@ -45,8 +47,9 @@ pub(crate) fn fate_of_change(answer: Answer, is_failing: bool) -> Option<Fate> {
     }
 }
 
-/// What became of a piece of a sweep. Where nothing went, and the service goes on, that tells nothing
-/// of the store: memory may have lacked, or a copy in it of what is kept. The next change tells.
+/// What became of a piece of a sweep. Where nothing went, and the service goes on, that tells
+/// nothing of the store: memory may have lacked, or a copy in it of what is kept. The next change
+/// tells.
 pub(crate) fn fate_of_sweep(swept: Result<usize, SweepFault>) -> Option<Fate>
     ensures { result ≡ fate_of_sweep swept }
 {

@@ -44,9 +44,9 @@ fn piece<S: Sweeps + Drop, M: Moments>(
     }
 }
 
-/// When what has ended is let go of: once a minute a piece, and, while there was some, one more after
-/// each second round. An answer to a change is written in the round after the one that kept it, so
-/// nobody waits for two pieces.
+/// When what has ended is let go of: once a minute a piece, and, while there was some, one more
+/// after each second round. An answer to a change is written in the round after the one that kept
+/// it, so nobody waits for two pieces.
 #[derive(Clone, Copy, Debug)]
 pub(crate) struct Sweeper {
     due: Duration,

@@ -87,8 +87,8 @@ impl<T: TokenSource> TokenWatch<T> {
         self.tokens
     }
 
-    // The file could not be read: it is told at the second look, for one that is written anew may be
-    // gone for a moment.
+    // The file could not be read: it is told at the second look, for one that is written anew may
+    // be gone for a moment.
     fn miss(&mut self, cause: &io::Error) -> Option<TokensFault> {
         if cause.kind() == ErrorKind::OutOfMemory {
             return Some(TokensFault::Wrong(ConfFault::Memory));
@@ -140,8 +140,9 @@ impl<T: TokenSource> TokenWatch<T> {
         }
     }
 
-    /// Looks at the file, each second. Where it has other bytes than those that were last judged, and
-    /// says a table with the salt of the first one, that is to be taken. Else it is told once why not.
+    /// Looks at the file, each second. Where it has other bytes than those that were last judged,
+    /// and says a table with the salt of the first one, that is to be taken. Else it is told once
+    /// why not.
     pub(crate) fn look<J: Journal>(
         &mut self,
         alloc: Global,

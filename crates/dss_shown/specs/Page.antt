@@ -84,9 +84,9 @@ page_members next entities serial subs suppliers = with_suppliers suppliers
     (put (codes "subscriptions") subs (put (codes "serial") (number (unsigned serial))
     (with_next next (put (codes "entities") entities no_members))))
 
--- A page of what is shown: of the entities, and of the subscriptions, the first of those that come after
--- a key, each in its place, and the serial. It has no next one where these are all. The first page has
--- what suppliers have set.
+-- A page of what is shown: of the entities, and of the subscriptions, the first of those that come
+-- after a key, each in its place, and the serial. It has no next one where these are all. The first
+-- page has what suppliers have set.
 pub record IsPage (entities : List Entity) (subs : List Sub) (settings : List Setting) (serial : ℕ)
     (after : Option Key) (d : Data) : Type 0 where
   pub found : List Entity

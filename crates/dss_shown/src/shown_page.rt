@@ -171,8 +171,9 @@ fn page_json(alloc: Global, shown: Shown<'_>, query: Query) -> Result<Value, All
     )
 }
 
-/// The page of a query, of what a space shows: compact JSON, the members of each object in the order
-/// of their names. The first page also has the availability of each supplier that has set one.
+/// The page of a query, of what a space shows: compact JSON, the members of each object in the
+/// order of their names. The first page also has the availability of each supplier that has set
+/// one.
 pub fn page_text(alloc: Global, shown: Shown<'_>, query: Query) -> Result<String, AllocError>
     ensures { IfOk result (λ text. (d : Data) × IsInOrder (string_bytes text) d
         × IsPage shown.entry.entities.now shown.entry.subscriptions.now

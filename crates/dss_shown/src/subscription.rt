@@ -55,8 +55,8 @@ fn members_json(
     Ok(Value::from(members))
 }
 
-/// A subscription: its extent, its manager, and what its manager is shown of it, but for its version
-/// and the intents that name it.
+/// A subscription: its extent, its manager, and what its manager is shown of it, but for its
+/// version and the intents that name it.
 pub(crate) fn sub_json(
     alloc: Global,
     sub: &Sub,

@@ -8,9 +8,9 @@ use Rattle.space_core.specs.declared.space.SpaceFault.{SpaceFault}
 use Rattle.dss_sweep.specs.Swept.{IsLess}
 use Rattle.dss_sweep.specs.declared.swept.Swept.{Swept}
 
--- What a sweep until a moment, which ended so, leaves where the airspace was this one. After `Ok` that
--- airspace, swept, and no other, and what is told is what it has less than before; after a fault
--- nothing but one that is swept in part, or not at all.
+-- What a sweep until a moment, which ended so, leaves where the airspace was this one. After `Ok`
+-- that airspace, swept, and no other, and what is told is what it has less than before; after a
+-- fault nothing but one that is swept in part, or not at all.
 abbrev pub LeavesSwept : {S : Type 0} → (S → Airspace → Type 0) → ℕ → Airspace → S
     → Result Swept SpaceFault → Type 0
 LeavesSwept Holds until a new result =
@@ -18,8 +18,8 @@ LeavesSwept Holds until a new result =
     (λ told. IsContent Holds new (swept until a) × IsLess a (swept until a) told)
     (λ _. (b : Airspace) → Holds new b → IsPartlySwept until a b)
 
--- A space was swept until a moment, or in part. Of one that was broken nothing went, and there was a
--- fault.
+-- A space was swept until a moment, or in part. Of one that was broken nothing went, and there was
+-- a fault.
 pub record SweepsSpace {S : Type 0} (g : Ghosts S) (until : ℕ) (old new : S)
     (result : Result Swept SpaceFault) : Type 0 where
   pub sound : g.is_sound new → g.is_sound old

@@ -13,8 +13,8 @@ const PIECE: usize = 256;
 // More pieces than come of any space.
 const MOST_PIECES: u64 = 4_294_967_296;
 
-/// Lets go of all that a sweep until a moment takes, piece by piece, and tells how much that was. After
-/// a fault the pieces before it stand.
+/// Lets go of all that a sweep until a moment takes, piece by piece, and tells how much that was.
+/// After a fault the pieces before it stand.
 pub fn sweep_space<S: Sweeps + Drop>(space: &mut S, until: u64) -> Result<Swept, SpaceFault>
     ensures swept { SweepsSpace S.Space until space.old space.new result }
     ensures waits { S.Settles.waits space.new ≡ S.Settles.waits space.old }

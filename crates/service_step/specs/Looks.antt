@@ -101,11 +101,21 @@ Prepares admitted g a made =
     IsAirspace a → BreaksNone admitted a → AreFacts admitted.call.now.op a g
     → Makes admitted a made.change made.notify made.answer
 
--- A change puts a subscription and notifies nobody, and its answer is what a supplier sees of it and
--- of what it is for.
+-- nothing is changed, and the answer is that
+abbrev pub IsReading : Answer → Made → Type 0
+IsReading answer made = (made.change ≡ None) × (made.answer ≡ answer)
+
+-- that is changed, nobody is notified, and the answer is that
+abbrev pub IsUntold : Change → Answer → Made → Type 0
+IsUntold change answer made =
+    (made.change ≡ Some change) × (made.notify ≡ []) × (made.answer ≡ answer)
+
+-- A change puts a subscription and notifies nobody, and its answer is what a supplier sees of it
+-- and of what it is for.
 abbrev pub PutsSub : Sub → Airspace → List ℕ → Made → Type 0
-PutsSub s a uss made = (made.change ≡ Some (changes.PutSub s)) × (made.notify ≡ [])
-    × (made.answer ≡ SubStored (seen_sub a s) (seen_of kinds.Intent a uss s) (seen_of kinds.Constraint a uss s))
+PutsSub s a uss made = IsUntold (changes.PutSub s)
+    (SubStored (seen_sub a s) (seen_of kinds.Intent a uss s) (seen_of kinds.Constraint a uss s))
+    made
 
 -- the index of each that a change notifies can rise
 abbrev pub CanTell : Airspace → Kind → List Region → Type 0

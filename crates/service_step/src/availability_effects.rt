@@ -1,6 +1,7 @@
 //! The effects of the operations on availabilities.
-ghost use Rattle.std.specs.Prelude.{◌≡◌, IfOk, Some, None, unwrap_or, []};
+ghost use Rattle.std.specs.Prelude.{IfOk, unwrap_or, []};
 ghost use Rattle.entity_core.specs.Ovn.{ovn_text};
+ghost use Rattle.service_step.specs.Looks.{IsReading, IsUntold};
 
 use crate::made::Made;
 use crate::reply::Answer;
@@ -21,10 +22,9 @@ pub fn setting(
     uss: &UssId,
     availability: Availability,
 ) -> Result<Made, AllocError>
-    ensures { IfOk result (λ made. (made.change
-        ≡ Some (Change.Avail uss.now availability (ovn_text salt.now serial)))
-        × (made.notify ≡ [])
-        × (made.answer ≡ Answer.Avail uss.now availability (ovn_text salt.now serial))) }
+    ensures { IfOk result (IsUntold
+        (Change.Avail uss.now availability (ovn_text salt.now serial))
+        (Answer.Avail uss.now availability (ovn_text salt.now serial))) }
 {
     let version = ovn_of(alloc, salt, serial.number())?;
     let shown = version.clone()?.into_text();
@@ -42,8 +42,8 @@ pub fn told(
     uss: &UssId,
     stated: &Option<(Availability, Ovn)>,
 ) -> Result<Made, AllocError>
-    ensures { IfOk result (λ made. (made.change ≡ None)
-        × (made.answer ≡ Answer.Avail uss.now (unwrap_or stated.now (Availability.Unknown, [])).0
+    ensures { IfOk result (IsReading (Answer.Avail uss.now
+        (unwrap_or stated.now (Availability.Unknown, [])).0
         (unwrap_or stated.now (Availability.Unknown, [])).1)) }
 {
     let uss = uss.clone()?;

@@ -4,7 +4,7 @@ ghost use Rattle.entity_core.specs.Serial.{greatest_serial};
 ghost use Rattle.entity_core.specs.Entity.{greatest_version};
 ghost use Rattle.entity_core.specs.Search.{meeting_in, subscribers_in};
 ghost use Rattle.policy_core.specs.View.{view_of};
-ghost use Rattle.service_step.specs.Looks.{Announces, CanTell, Looks, PutsEntity};
+ghost use Rattle.service_step.specs.Looks.{Announces, CanTell, IsReading, Looks, PutsEntity};
 ghost use Rattle.service_notices.specs.Notices.{notices_in, notified_in, touched};
 ghost use Rattle.service_step.specs.Step.{created, kept_as, updated};
 
@@ -84,8 +84,7 @@ pub fn listing<S: Space>(
     area: &Area,
 ) -> Result<Made, Halt>
     ensures { Looks S.Space space.old space.new result
-        (λ a made. (made.change ≡ None) ×
-        (made.answer ≡ Answer.Listed kind
+        (λ a. IsReading (Answer.Listed kind
         (map (view_of a uss.now) (meeting_in a.entities kind (area.now ∷ []) None)))) }
 {
     let met = look_meeting(space, kind, from_ref(area), None)?;
@@ -101,8 +100,7 @@ pub fn reading<S: Space>(
     entity: &Entity,
 ) -> Result<Made, Halt>
     ensures { Looks S.Space space.old space.new result
-        (λ a made. (made.change ≡ None) ×
-        (made.answer ≡ Answer.Found (view_of a uss.now entity.now))) }
+        (λ a. IsReading (Answer.Found (view_of a uss.now entity.now))) }
 {
     let shown = reference(space, uss, entity)?;
     Ok(Made::reading(alloc, Answer::Found(shown)))

@@ -29,7 +29,8 @@ use space_core::met::Met;
 use space_core::space::Space;
 use std::alloc::{AllocError, Global};
 
-/// A put that is judged: its id, who makes it, and the subscription that it names, if that is there.
+/// A put that is judged: its id, who makes it, and the subscription that it names, if that is
+/// there.
 #[derive(Clone, Copy)]
 pub struct JudgedPut<'c> {
     pub id: EntityId,
@@ -38,8 +39,8 @@ pub struct JudgedPut<'c> {
     pub caller: &'c Caller,
 }
 
-/// Entities that a put needs to know, in their order, and the present availability of the manager of
-/// each, at its place.
+/// Entities that a put needs to know, in their order, and the present availability of the manager
+/// of each, at its place.
 #[derive(Debug, Drop)]
 pub struct Needed {
     pub entities: Vec<Entity>,

@@ -1,10 +1,10 @@
 //! The effects of the operations on subscriptions.
-ghost use Rattle.std.specs.Prelude.{◌≡◌, IfOk, Some, None, map, [], ◌∷◌};
+ghost use Rattle.std.specs.Prelude.{◌≡◌, IfOk, None, map, [], ◌∷◌};
 ghost use Rattle.entity_core.specs.declared.nature.Kind.TheVariants as kinds;
 ghost use Rattle.entity_core.specs.Search.{dependents_in, meeting_in, subscriptions_in};
 ghost use Rattle.grid_core.specs.Extent.{region_of};
 ghost use Rattle.policy_core.specs.View.{view_of};
-ghost use Rattle.service_step.specs.Looks.{Looks, PutsSub};
+ghost use Rattle.service_step.specs.Looks.{IsReading, IsUntold, Looks, PutsSub};
 ghost use Rattle.service_step.specs.Step.{seen_of, seen_sub, sub_kept_as};
 
 use crate::halt::Halt;
@@ -138,8 +138,7 @@ pub fn sub_listing<S: Space>(
     area: &Area,
 ) -> Result<Made, Halt>
     ensures { Looks S.Space space.old space.new result
-        (λ a made. (made.change ≡ None) ×
-        (made.answer ≡ Answer.SubListed
+        (λ a. IsReading (Answer.SubListed
         (map (seen_sub a) (subscriptions_in a.subscriptions uss.now area.now)))) }
 {
     let own = look_own(space, uss, area)?;
@@ -150,7 +149,7 @@ pub fn sub_listing<S: Space>(
 /// The subscription that is read.
 pub fn sub_reading<S: Space>(space: &mut S, alloc: Global, sub: &Sub) -> Result<Made, Halt>
     ensures { Looks S.Space space.old space.new result
-        (λ a made. (made.change ≡ None) × (made.answer ≡ Answer.SubFound (seen_sub a sub.now))) }
+        (λ a. IsReading (Answer.SubFound (seen_sub a sub.now))) }
 {
     let shown = seen_sub(space, alloc, sub)?;
     Ok(Made::reading(alloc, Answer::SubFound(shown)))
@@ -209,8 +208,7 @@ pub fn sub_removal<S: Space>(
     sub: &Sub,
 ) -> Result<Made, Halt>
     ensures { Looks S.Space space.old space.new result
-        (λ a made. (made.change ≡ Some (Change.RemoveSub id)) × (made.notify ≡ [])
-        × (made.answer ≡ Answer.SubFound (seen_sub a sub.now))) }
+        (λ a. IsUntold (Change.RemoveSub id) (Answer.SubFound (seen_sub a sub.now))) }
 {
     let shown = seen_sub(space, alloc, sub)?;
     Ok(Made::untold(alloc, Change::RemoveSub(id), Answer::SubFound(shown)))

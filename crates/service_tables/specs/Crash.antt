@@ -50,7 +50,8 @@ abbrev pub CrashAfterCall : {S : Type 0} → Ghosts S → spaces.Ghosts (Kept S)
 CrashAfterCall {S} g space = (old new : Service (Kept S)) (now : ℕ) (call : Call) (reply : Reply)
     → IsReplyTo space old new now call reply → CrashLeaves g (salt_of old) now call old new reply
 
--- what is kept of a space whose changes may wait, and whether some do, by the space over tables in it
+-- what is kept of a space whose changes may wait, and whether some do, by the space over tables in
+-- it
 abbrev pub waiting_of : {S : Type 0} → spaces.Ghosts S → settles.Ghosts (Group S)
 waiting_of tables = record { keeps = keeps_in tables; waits = waits_in }
 
@@ -59,9 +60,9 @@ abbrev pub bound_waiting_of : {S : Type 0} → spaces.Ghosts S → settles.Ghost
 bound_waiting_of tables =
     record { keeps = λ k a. keeps_in tables k.space a; waits = λ k. waits_in k.space }
 
--- What a crash leaves after a call of a service whose changes may wait. Where none waits, before the
--- call or after it: as the reply says. Where one does, the tables are as they were before the call,
--- and so is what a crash leaves of them.
+-- What a crash leaves after a call of a service whose changes may wait. Where none waits, before
+-- the call or after it: as the reply says. Where one does, the tables are as they were before the
+-- call, and so is what a crash leaves of them.
 pub record CrashLeavesGrouped {S : Type 0} (g : Ghosts S) (salt : List ℕ) (now : ℕ)
     (call : Call) (old new : Service (Group (Kept S))) (reply : Reply) : Type 0 where
   pub alone : is_shut old ≡ false
@@ -78,8 +79,8 @@ CrashAfterGroupedCall {S} g space =
     → IsReplyTo space old new now call reply
     → CrashLeavesGrouped g (salt_of old) now call old new reply
 
--- The trees keep the airspace that is due as a round ended so: the one that was seen, the one that was
--- kept before, or one of the two.
+-- The trees keep the airspace that is due as a round ended so: the one that was seen, the one that
+-- was kept before, or one of the two.
 abbrev pub KeepsSettled : (kept seen : Airspace) → Result (Unit {0}) SpaceFault → Trees → Type 0
 KeepsSettled kept seen (Ok x) db = Keeps db seen
 KeepsSettled kept seen (Err Unchanged) db = Keeps db kept

@@ -26,8 +26,8 @@ abbrev pub SomeIsHeld : {S : Type 0} → spaces.Ghosts S → Type 0
 SomeIsHeld {S} space =
     (s : S) → space.is_sound s → space.is_whole s → ∥ ((a : Airspace) × space.holds s a) ∥₁
 
--- Calls that read may leave this of a space: it holds nothing but what it held, and is whole where it
--- was.
+-- Calls that read may leave this of a space: it holds nothing but what it held, and is whole where
+-- it was.
 pub record IsOnlyRead {S : Type 0} (space : spaces.Ghosts S) (old new : S) : Type 0 where
   pub sound : space.is_sound new → space.is_sound old
   pub whole : space.is_sound new → space.is_whole old → space.is_whole new
@@ -36,8 +36,8 @@ pub record IsOnlyRead {S : Type 0} (space : spaces.Ghosts S) (old new : S) : Typ
 module _ {D : Type 0} {g : disk.Ghosts D} (tables : spaces.Ghosts (Kept (FileStore D g)))
     (space : spaces.Ghosts (Bound (Group (Kept (FileStore D g))))) where
   -- A service starts over files: a space was taken over them, which was only read since; over it, a
-  -- list in memory and a bound of what is kept of each supplier is the space of the service, in which
-  -- no change waits.
+  -- list in memory and a bound of what is kept of each supplier is the space of the service, in
+  -- which no change waits.
   pub record StartsOver (image : Image) (old : Service (Bound (Group (Kept (FileStore D g))))) : Type 0 where
     pub opened : Kept (FileStore D g)
     pub finds : FindsSpelt image tables opened
@@ -50,8 +50,8 @@ module _ {D : Type 0} {g : disk.Ghosts D} (tables : spaces.Ghosts (Kept (FileSto
   IsSoundByStore k = tables.is_sound k.space.store → space.is_sound k
 
   -- A service started over files, and was asked rounds of calls, after some of which it let go of
-  -- some of what had ended, and calls that no round ended; its space over tables was given up, and a
-  -- crash left of the files what it may: nothing of the changes that waited then.
+  -- some of what had ended, and calls that no round ended; its space over tables was given up, and
+  -- a crash left of the files what it may: nothing of the changes that waited then.
   abbrev pub ContinuesInRounds : Type 0
   ContinuesInRounds =
       (before after : Image) (old swept mid new : Service (Bound (Group (Kept (FileStore D g)))))

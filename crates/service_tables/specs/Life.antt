@@ -1,4 +1,4 @@
--- What a service over files leaves in its whole life: run after run, each ended by a stop or a crash.
+-- What a service over files leaves in its whole life: run after run, each ended by stop or crash.
 use Rattle.std.specs.Prelude.{◌≡◌, ◌⊎◌, ◌↔◌, ℕ, List, [], ◌∷◌, ◌++◌, Ok, false}
 use Rattle.std.specs.List.{AllByRecursion}
 use Rattle.sqlite_disk.specs.declared.Disk as disk
@@ -26,14 +26,15 @@ use Rattle.space_sql.specs.Found.{AreUnmade, FilesSpell, FindsSpelt, RefusesFoun
 use Rattle.space_sql.specs.Holding.{Kept}
 use Rattle.space_sql.specs.Restart.{ClosesFiles, FilesHave, FilesLeft, LeavesFiles, LeavesTrees, without_log}
 
--- files stand for the airspace: they spell it in a format, or have no table, and it is the empty one
+-- files stand for the airspace: they spell it in a format, or have no table, and it is the empty
+-- one
 abbrev pub StandFor : Image → Airspace → Type 0
 StandFor image a =
     ((format : Format) × FilesSpell format image a) ⊎ (AreUnmade image × (a ≡ empty_at 0))
 
--- A run of a service over files: its salt, and what it was asked, in rounds after each of which some
--- of what had ended was let go of, and in rounds after these. A sweep of files that no service serves
--- is a run, too, in which nobody calls.
+-- A run of a service over files: its salt, and what it was asked, in rounds after each of which
+-- some of what had ended was let go of, and in rounds after these. A sweep of files that no service
+-- serves is a run, too, in which nobody calls.
 pub record Run : Type 0 where
   pub salt : List ℕ
   pub segments : List Segment
@@ -63,16 +64,17 @@ abbrev pub alone : List Timed → List Reply → Round
 alone calls replies = record { calls = made_at_once calls replies; settled = Ok tt }
 
 -- Of such a round what may be kept is what its calls may have made of the airspace: by the policy's
--- steps for those that were answered, and for the one that was answered `Stopped`, if there is one, by
--- its step or not.
+-- steps for those that were answered, and for the one that was answered `Stopped`, if there is one,
+-- by its step or not.
 abbrev pub AloneIsStepped : Type 0
 AloneIsStepped =
     (salt : List ℕ) (a b : Airspace) (calls : List Timed) (replies : List Reply)
     → MayHaveKept salt a (alone calls replies ∷ []) b ↔ MayHaveStepped salt a calls replies b
 
 -- The airspace may have come of another one in this run: by the policy's steps for the calls that
--- were answered; of the first round in which a caller was told `Stopped`, if there is one, by those up
--- to that call, or by all that were made in it; and what was let go of between two rounds had ended.
+-- were answered; of the first round in which a caller was told `Stopped`, if there is one, by those
+-- up to that call, or by all that were made in it; and what was let go of between two rounds had
+-- ended.
 abbrev pub MayCome : Airspace → Run → Airspace → Type 0
 MayCome a run b = MayHaveKeptSwept run.salt a run.segments run.rounds b
 
@@ -81,8 +83,8 @@ abbrev pub Continues : Image → Run → Image → Type 0
 Continues before run after =
     (a : Airspace) → StandFor before a → ∥ ((b : Airspace) × MayCome a run b × StandFor after b) ∥₁
 
--- A space was opened over files, a service over it was asked calls in order, each once, it was given
--- up, and a crash left of the files what it may.
+-- A space was opened over files, a service over it was asked calls in order, each once, it was
+-- given up, and a crash left of the files what it may.
 abbrev pub ContinuesServed : {D : Type 0} {g : disk.Ghosts D}
     → spaces.Ghosts (Kept (FileStore D g)) → Type 0
 ContinuesServed {D} {g} space =
@@ -105,8 +107,8 @@ ContinuesClosed {D} {g} space =
     → Continues before (run_of old (alone calls replies ∷ [])) after
     × Continues before (run_of old (alone calls replies ∷ [])) (without_log after)
 
--- A space was not opened over files, the connection that came back was given up, and a crash left of
--- the files what it may.
+-- A space was not opened over files, the connection that came back was given up, and a crash left
+-- of the files what it may.
 abbrev pub ContinuesRefused : {D : Type 0} → disk.Ghosts D → Type 0
 ContinuesRefused {D} g =
     (before after : Image) (back : Held (FileStore D g)) (fault : OpenFault)
@@ -141,16 +143,16 @@ LifeIsFound {T} again =
     → FindsSpelt after again next → again.is_sound next
     → ∥ ((b : Airspace) × MayComeOfAll a runs b × IsContent again.holds next b) ∥₁
 
--- Where no caller of a run was told `Stopped`, and nothing was let go of in it, one airspace alone may
--- come of it: the policy's, after all calls that were answered.
+-- Where no caller of a run was told `Stopped`, and nothing was let go of in it, one airspace alone
+-- may come of it: the policy's, after all calls that were answered.
 abbrev pub UnstoppedIsDue : Type 0
 UnstoppedIsDue =
     (a b : Airspace) (run : Run) → run.segments ≡ [] → has_stopped (all_told run.rounds) ≡ false
     → MayCome a run b
     → b ≡ airspace_after run.salt a (answered_calls (all_timed run.rounds) (all_told run.rounds))
 
--- what is due of segments and rounds: the policy's airspace after all calls that were answered, over
--- one of which some of what had ended was let go of after each segment
+-- what is due of segments and rounds: the policy's airspace after all calls that were answered,
+-- over one of which some of what had ended was let go of after each segment
 abbrev pub IsDue : List ℕ → Airspace → List Segment → List Round → Airspace → Type 0
 IsDue salt a [] rounds b = b ≡ airspace_after_rounds salt a rounds
 IsDue salt a (segment ∷ segments) rounds b =

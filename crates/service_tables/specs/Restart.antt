@@ -28,9 +28,9 @@ IsDueAfter before after (Denied _ _) P = P before
 IsDueAfter before after Fault P = P before
 IsDueAfter before after Stopped P = P before ⊎ P after
 
--- A service over files that had one airspace answered a call, its store was given up, and a crash left
--- of the files what it may: a space that is opened over these holds the airspace that is due, and no
--- other.
+-- A service over files that had one airspace answered a call, its store was given up, and a crash
+-- left of the files what it may: a space that is opened over these holds the airspace that is due,
+-- and no other.
 abbrev pub RestartAfterCall : {D T : Type 0} {g : disk.Ghosts D}
     → spaces.Ghosts (Kept (FileStore D g)) → spaces.Ghosts (Kept T) → Type 0
 RestartAfterCall {D} {T} {g} space again =

@@ -15,14 +15,15 @@ use sqlite_disk::Disk;
 
 /// After each call, whatever its reply: what a crash then leaves of the tables. After an answer the
 /// policy's airspace, after a denial or a fault the one before, after `Stopped` one of the two, and
-/// nothing else from then on. It is said of whatever `Service::call` answers, by its clause `reply`.
+/// nothing else from then on. It is said of whatever `Service::call` answers, by its clause
+/// `reply`.
 pub fn crash_after_a_call<S: Alter>()
     ensures { CrashAfterCall S.Store ⟦<SqlSpace<S> as Space>⟧ }
 {}
 
-/// The same of a service over tables whose changes may wait: a call in which none waits leaves what a
-/// call at once leaves, and one in which some do leaves the tables as they were. It is said of whatever
-/// `Service::call` answers, by its clause `reply`.
+/// The same of a service over tables whose changes may wait: a call in which none waits leaves what
+/// a call at once leaves, and one in which some do leaves the tables as they were. It is said of
+/// whatever `Service::call` answers, by its clause `reply`.
 pub fn crash_after_a_grouped_call<S: Alter + Drop>()
     ensures { CrashAfterGroupedCall S.Store ⟦<Grouped<SqlSpace<S>> as Space>⟧ }
 {}
@@ -47,10 +48,10 @@ fn open_segment_of_tables<A: Alter + Drop>()
         (bound_waiting_of ⟦<SqlSpace<A> as Space>⟧) }
 {}
 
-/// From one run to the next: after each call of a service over files, whatever its reply, and after a
-/// crash, a space that is opened over what the files then hold has the airspace that is due. It is said
-/// of whatever `Service::call` answers, of what `space_sql::laws::files_left` gives back, and of what
-/// `SqlSpace::open` takes, by its clause `finds`.
+/// From one run to the next: after each call of a service over files, whatever its reply, and after
+/// a crash, a space that is opened over what the files then hold has the airspace that is due. It
+/// is said of whatever `Service::call` answers, of what `space_sql::laws::files_left` gives back,
+/// and of what `SqlSpace::open` takes, by its clause `finds`.
 pub fn restart_after_a_call<S: Start, T: Alter>()
     ensures { RestartAfterCall ⟦<SqlSpace<FileStore<FileFrom<S>>> as Space>⟧
         ⟦<SqlSpace<T> as Space>⟧ }
@@ -58,17 +59,17 @@ pub fn restart_after_a_call<S: Start, T: Alter>()
 
 /// A whole run over files, from its opening over its calls to what a crash then leaves: files that
 /// stood for an airspace stand for one that may have come of it. A machine that stops is a disk on
-/// which every later call fails, so that the call under way answers, or the opening is refused. It is
-/// said of what `SqlSpace::open` takes, of what `Service::call`, `Service::run` and `serve_stream`
-/// answer, and of what `space_sql::laws::files_left` gives back.
+/// which every later call fails, so that the call under way answers, or the opening is refused. It
+/// is said of what `SqlSpace::open` takes, of what `Service::call`, `Service::run` and
+/// `serve_stream` answer, and of what `space_sql::laws::files_left` gives back.
 pub fn run_continues<S: Start>()
     ensures { ContinuesServed ⟦<SqlSpace<FileStore<FileFrom<S>>> as Space>⟧ }
 {}
 
 /// The same of a service whose changes may wait, with a bound of what is kept of each supplier, or
 /// none, and which between two rounds lets go of some of what has ended, or does not. It is said of
-/// what `Service::call`, `Service::settle` and `Service::sweep` answer, of what `Bounded::release` and
-/// `Grouped::release` give back, and then `space_sql::laws::files_left`.
+/// what `Service::call`, `Service::settle` and `Service::sweep` answer, of what `Bounded::release`
+/// and `Grouped::release` give back, and then `space_sql::laws::files_left`.
 pub fn run_in_rounds_continues<S: Start>()
     ensures { ContinuesInRounds ⟦<SqlSpace<FileStore<FileFrom<S>>> as Space>⟧
         ⟦<Bounded<Grouped<SqlSpace<FileStore<FileFrom<S>>>>> as Space>⟧ }
@@ -91,8 +92,8 @@ pub fn closed_run_in_rounds_continues<S: Start>()
     open_segment_of_tables::<FileStore<FileFrom<S>>>();
 }
 
-/// Of an opening that was refused with a connection that came back: the airspace is the same. It is said
-/// of what `SqlSpace::open` refuses, and of what `space_sql::laws::trees_left` gives back.
+/// Of an opening that was refused with a connection that came back: the airspace is the same. It is
+/// said of what `SqlSpace::open` refuses, and of what `space_sql::laws::trees_left` gives back.
 pub fn refusal_continues<S: Start>()
     ensures { ContinuesRefused ⟦<FileFrom<S> as Disk>⟧ }
 {}
@@ -120,8 +121,8 @@ pub fn unstopped_is_due()
     ensures swept { UnstoppedIsDueSwept }
 {}
 
-/// What comes of a run in which nobody called, and some of what had ended was let go of, as of a sweep
-/// of files that no service serves, is the airspace swept in part, and nothing else.
+/// What comes of a run in which nobody called, and some of what had ended was let go of, as of a
+/// sweep of files that no service serves, is the airspace swept in part, and nothing else.
 pub fn sweep_run_is_partly()
     ensures { SweepRunIsPartly }
 {}

@@ -1,3 +1,4 @@
+pub mod Calls
 pub mod Met
 pub mod Round
 pub mod Settle

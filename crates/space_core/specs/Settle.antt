@@ -5,9 +5,9 @@ use Rattle.space_core.specs.declared.space.SpaceFault.{SpaceFault}
 use Rattle.space_core.specs.declared.space.SpaceFault.TheVariants.{Unchanged}
 use Rattle.space_core.specs.Space.{IsContent}
 
--- After `Ok` what was seen is held, and no other; after `Unchanged` what was kept before is held; and
--- whatever comes, nothing is held but what was kept before or was seen. A space that was whole stays
--- so.
+-- After `Ok` what was seen is held, and no other; after `Unchanged` what was kept before is held;
+-- and whatever comes, nothing is held but what was kept before or was seen. A space that was whole
+-- stays so.
 pub record Settling {S T : Type 0} (Holds Keeps : S → Airspace → Type 0)
     (IsSound IsWhole : S → Type 0) (old new : S) (result : Result T SpaceFault) : Type 0 where
   pub sound : IsSound new → IsSound old

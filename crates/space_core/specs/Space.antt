@@ -95,6 +95,11 @@ pub record Tells {T : Type 0} (refusals refusals' : ℕ) (broken broken' : Bool)
   pub breaks : broken' ≡ is_broken_after broken result
   pub stays_broken : broken ≡ true → IsErrOf result Broken
 
+-- the same, of a space before and after the call
+abbrev pub TellsBy : {S T : Type 0} → (S → ℕ) → (S → Bool) → S → S → Result T SpaceFault → Type 0
+TellsBy refusals is_broken old new result =
+    Tells (refusals old) (refusals new) (is_broken old) (is_broken new) result
+
 -- It holds this airspace and no other: its content.
 pub record IsContent {S : Type 0} (Holds : S → Airspace → Type 0) (s : S) (a : Airspace)
     : Type 0 where

@@ -1,6 +1,5 @@
 //! A round of changes, which a space makes together.
-ghost use Rattle.entity_core.specs.Airspace.{Airspace};
-ghost use Rattle.space_core.specs.Space.{Tells, Changes};
+ghost use Rattle.space_core.specs.Calls.{CallChanges, CallTells, OfEachHeld};
 ghost use Rattle.space_core.specs.Round.{FitAll, changed_all};
 
 use crate::space::{Change, Space, SpaceFault};
@@ -19,11 +18,8 @@ pub trait Rounds: Space {
     /// each fits the airspace that those before it leave. What is held, also after a crash, is the
     /// airspace before all of them or the one after all of them.
     fn apply_all(&mut self, round: &[RoundChange]) -> Result<(), SpaceFault>
-        requires fits { Self.is_sound self.old → (a : Airspace) → Self.holds self.old a
-            → FitAll round.now a }
-        ensures tells { Tells (Self.refusals self.old) (Self.refusals self.new)
-            (Self.is_broken self.old) (Self.is_broken self.new) result }
-        ensures changes { Changes Self.holds Self.is_sound Self.is_whole
-            (Self.is_broken self.old) self.old self.new result
+        requires fits { OfEachHeld Self.Space self.old (FitAll round.now) }
+        ensures tells { CallTells Self.Space self.old self.new result }
+        ensures changes { CallChanges Self.Space self.old self.new result
             (changed_all round.now) };
 }

@@ -1,8 +1,7 @@
 //! The trait of spaces whose changes may wait to be kept.
 ghost use Rattle.std.specs.Prelude.{◌≡◌, ◌||◌, Bool, true, false, ◌↔◌};
 ghost use Rattle.entity_core.specs.Airspace.{Airspace};
-ghost use Rattle.space_core.specs.Space.{Tells};
-ghost use Rattle.space_core.specs.Settle.{Settling};
+ghost use Rattle.space_core.specs.Calls.{CallSettles, CallTells};
 
 use crate::space::{Space, SpaceFault};
 
@@ -24,11 +23,9 @@ pub trait Settles: Space {
     /// Keeps all changes that wait, or none of them: then what was kept before them is seen again.
     /// None waits any more.
     fn settle(&mut self) -> Result<(), SpaceFault>
-        ensures tells { Tells (Self.refusals self.old) (Self.refusals self.new)
-            (Self.is_broken self.old) (Self.is_broken self.new) result }
+        ensures tells { CallTells Self.Space self.old self.new result }
         ensures calm { waits self.new ≡ false }
-        ensures settles { Settling Self.holds keeps Self.is_sound Self.is_whole
-            self.old self.new result };
+        ensures settles { CallSettles Self.Space self.old self.new result keeps };
 
     /// Where no change waits, what is held is kept.
     ghost quiet: { (s : Self) (a : Airspace) → waits s ≡ false → Self.holds s a ↔ keeps s a };

@@ -4,7 +4,7 @@ ghost use Rattle.entity_core.specs.Airspace.{Airspace, IsAirspace};
 ghost use Rattle.entity_core.specs.Search.{all_in, dependents_in, subscribers_in, subscriptions_in};
 ghost use Rattle.std.specs.FinMap.{get};
 ghost use Rattle.space_core.specs.Met.{met_in};
-ghost use Rattle.space_core.specs.Space.{Code, Tells, Reads, Changes, Fits, changed};
+ghost use Rattle.space_core.specs.Space.{Code, TellsBy, Reads, Changes, Fits, changed};
 
 use crate::met::Met;
 use entity_core::availability::Availability;
@@ -63,9 +63,9 @@ impl Change {
 /// A place where an airspace is kept.
 ///
 /// What a space holds, which its calls see, is a relation, since a fault may leave it open which of
-/// two airspaces that is. A constructor gives a space with one content (`IsContent`); each call says
-/// what becomes of it. A space that is broken before its first call has no one content. Unless it
-/// says otherwise, what it holds is also what a crash at this moment may leave.
+/// two airspaces that is. A constructor gives a space with one content (`IsContent`); each call
+/// says what becomes of it. A space that is broken before its first call has no one content. Unless
+/// it says otherwise, what it holds is also what a crash at this moment may leave.
 pub trait Space {
     /// An airspace that it may turn out to hold. It is one, until the space is broken.
     ghost holds: { Self → Airspace → Type 0 };
@@ -88,8 +88,7 @@ pub trait Space {
     /// The entity of a kind and an id, if there is one.
     fn entity(&mut self, kind: Kind, id: EntityId) -> Result<Option<Entity>, SpaceFault>
         ensures fixed { fixed self.new ≡ fixed self.old }
-        ensures tells { Tells (refusals self.old) (refusals self.new)
-            (is_broken self.old) (is_broken self.new) result }
+        ensures tells { TellsBy refusals is_broken self.old self.new result }
         ensures reads { Reads holds is_sound is_whole self.old self.new result
             (λ a found. found ≡ get a.entities (kind, id)) };
 
@@ -102,40 +101,35 @@ pub trait Space {
         except: Option<EntityId>,
     ) -> Result<Vec<Met>, SpaceFault>
         ensures fixed { fixed self.new ≡ fixed self.old }
-        ensures tells { Tells (refusals self.old) (refusals self.new)
-            (is_broken self.old) (is_broken self.new) result }
+        ensures tells { TellsBy refusals is_broken self.old self.new result }
         ensures reads { Reads holds is_sound is_whole self.old self.new result
             (λ a found. found.items ≡ met_in a kind areas.now except) };
 
     /// The entities of a kind: each once, by rising ids.
     fn all(&mut self, kind: Kind) -> Result<Vec<Entity>, SpaceFault>
         ensures fixed { fixed self.new ≡ fixed self.old }
-        ensures tells { Tells (refusals self.old) (refusals self.new)
-            (is_broken self.old) (is_broken self.new) result }
+        ensures tells { TellsBy refusals is_broken self.old self.new result }
         ensures reads { Reads holds is_sound is_whole self.old self.new result
             (λ a found. found.items ≡ all_in a.entities kind) };
 
     /// What is kept of a supplier, if it has set its availability.
     fn availability(&mut self, uss: &UssId) -> Result<Option<(Availability, Ovn)>, SpaceFault>
         ensures fixed { fixed self.new ≡ fixed self.old }
-        ensures tells { Tells (refusals self.old) (refusals self.new)
-            (is_broken self.old) (is_broken self.new) result }
+        ensures tells { TellsBy refusals is_broken self.old self.new result }
         ensures reads { Reads holds is_sound is_whole self.old self.new result
             (λ a found. found ≡ get a.availabilities uss.now) };
 
     /// The subscription of an id, if there is one.
     fn subscription(&mut self, id: EntityId) -> Result<Option<Sub>, SpaceFault>
         ensures fixed { fixed self.new ≡ fixed self.old }
-        ensures tells { Tells (refusals self.old) (refusals self.new)
-            (is_broken self.old) (is_broken self.new) result }
+        ensures tells { TellsBy refusals is_broken self.old self.new result }
         ensures reads { Reads holds is_sound is_whole self.old self.new result
             (λ a found. found ≡ get a.subscriptions id) };
 
     /// The subscriptions of a supplier whose volumes meet an area: each once, by rising ids.
     fn subscriptions_of(&mut self, uss: &UssId, area: &Area) -> Result<Vec<Sub>, SpaceFault>
         ensures fixed { fixed self.new ≡ fixed self.old }
-        ensures tells { Tells (refusals self.old) (refusals self.new)
-            (is_broken self.old) (is_broken self.new) result }
+        ensures tells { TellsBy refusals is_broken self.old self.new result }
         ensures reads { Reads holds is_sound is_whole self.old self.new result
             (λ a found. found.items ≡ subscriptions_in a.subscriptions uss.now area.now) };
 
@@ -143,24 +137,21 @@ pub trait Space {
     /// them: each once, by rising ids.
     fn subscribers(&mut self, kind: Kind, areas: &[Area]) -> Result<Vec<Sub>, SpaceFault>
         ensures fixed { fixed self.new ≡ fixed self.old }
-        ensures tells { Tells (refusals self.old) (refusals self.new)
-            (is_broken self.old) (is_broken self.new) result }
+        ensures tells { TellsBy refusals is_broken self.old self.new result }
         ensures reads { Reads holds is_sound is_whole self.old self.new result
             (λ a found. found.items ≡ subscribers_in a.subscriptions kind areas.now) };
 
     /// The ids of the intents that name a subscription, rising.
     fn dependents(&mut self, id: EntityId) -> Result<Vec<EntityId>, SpaceFault>
         ensures fixed { fixed self.new ≡ fixed self.old }
-        ensures tells { Tells (refusals self.old) (refusals self.new)
-            (is_broken self.old) (is_broken self.new) result }
+        ensures tells { TellsBy refusals is_broken self.old self.new result }
         ensures reads { Reads holds is_sound is_whole self.old self.new result
             (λ a found. found.items ≡ dependents_in a.entities id) };
 
     /// How many changes there were.
     fn serial(&mut self) -> Result<u64, SpaceFault>
         ensures fixed { fixed self.new ≡ fixed self.old }
-        ensures tells { Tells (refusals self.old) (refusals self.new)
-            (is_broken self.old) (is_broken self.new) result }
+        ensures tells { TellsBy refusals is_broken self.old self.new result }
         ensures reads { Reads holds is_sound is_whole self.old self.new result
             (λ a serial. serial ≡ a.serial) };
 
@@ -171,8 +162,7 @@ pub trait Space {
         requires fits { is_sound self.old → (a : Airspace) → holds self.old a
             → Fits change notify.now a }
         ensures fixed { fixed self.new ≡ fixed self.old }
-        ensures tells { Tells (refusals self.old) (refusals self.new)
-            (is_broken self.old) (is_broken self.new) result }
+        ensures tells { TellsBy refusals is_broken self.old self.new result }
         ensures changes { Changes holds is_sound is_whole
             (is_broken self.old) self.old self.new result
             (changed change notify.now) };

@@ -31,7 +31,8 @@ IndexIsWithin serial (Avail uss availability version) = Unit {0}
 IndexIsWithin serial (PutSub s) = s.index ≤ serial
 IndexIsWithin serial (RemoveSub id) = Unit {0}
 
--- what lists ask of a change that they make: their serial can go on, and no index comes to be over it
+-- what lists ask of a change that they make: their serial can go on, and no index comes to be over
+-- it
 pub record CanFollow (change : Change) (a : Airspace) : Type 0 where
   pub room : a.serial < greatest_serial
   pub within : IndexIsWithin (a.serial + 1) change

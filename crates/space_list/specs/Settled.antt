@@ -1,5 +1,5 @@
--- No change waits in a space in memory. Proved, so nothing has to be believed here: a law of an `impl`
--- cites `specs/` alone.
+-- No change waits in a space in memory. Proved, so nothing has to be believed here: a law of an
+-- `impl` cites `specs/` alone.
 use Rattle.std.specs.Prelude.{◌≡◌, false, true}
 
 pub never : {P : Type 0} → false ≡ true → P

@@ -1,5 +1,5 @@
-//! An airspace in memory: its entities in a tree and its lists, with an index of the entities and one
-//! of the subscriptions by their cells.
+//! An airspace in memory: its entities in a tree and its lists, with an index of the entities and
+//! one of the subscriptions by their cells.
 #![tactic(auto)]
 
 mod cell_index;

@@ -9,8 +9,8 @@ use std::alloc::Global;
 
 /// A space that can be read whole.
 pub trait Listing: Space {
-    /// All that it holds now, as a space in memory that is made with this allocator. It reads as any
-    /// other call does, and changes nothing.
+    /// All that it holds now, as a space in memory that is made with this allocator. It reads as
+    /// any other call does, and changes nothing.
     ///
     /// It answers `Unchanged` where it could not be read, or where memory lacks for what was read;
     /// it may be asked again then. After `Broken` every call of the space answers `Broken`.

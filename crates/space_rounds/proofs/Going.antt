@@ -9,7 +9,6 @@ use Rattle.space_core.specs.declared.round.RoundChange.{RoundChange}
 use Rattle.space_core.specs.declared.space.Space.{Ghosts}
 use Rattle.space_core.specs.declared.space.SpaceFault.{SpaceFault}
 use Rattle.space_core.specs.declared.space.SpaceFault.TheVariants.{Unchanged, Broken}
-use Rattle.space_core.specs.Round.{changed_all}
 use Rattle.space_core.specs.Space.{Changes, IsContent, Reads, Tells, refusals_after}
 use Rattle.space_list.specs.declared.list.ListSpace.{ListSpace}
 use Rattle.space_list.specs.List.{content_of}

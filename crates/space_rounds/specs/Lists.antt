@@ -23,8 +23,8 @@ pub record Making {S T : Type 0} (g : Ghosts S) (old new : S) (round : List Roun
   pub no_other : g.is_sound new → (b : Airspace) → g.holds new b
       → g.holds old b ⊎ ((a : Airspace) × g.holds old a × (b ≡ changed_all round a))
 
--- What becomes of a list once its store has answered. It stays after `Ok` where it is not full; else
--- it goes, and counts as lost only where the store refused the round and it is not full.
+-- What becomes of a list once its store has answered. It stays after `Ok` where it is not full;
+-- else it goes, and counts as lost only where the store refused the round and it is not full.
 abbrev pub Staying : {T : Type 0} → (full : Bool) → Result T SpaceFault
     → (list list' : Option ListSpace) → (lost' : Bool) → Type 0
 Staying true answer list list' lost' = (list' ≡ None) × (lost' ≡ false)

@@ -1,7 +1,6 @@
 //! The trait of spaces that let go of what is there.
-ghost use Rattle.entity_core.specs.Airspace.{Airspace};
 ghost use Rattle.entity_sweep.specs.Gone.{AllCanGo, less_all};
-ghost use Rattle.space_core.specs.Space.{Changes, Tells};
+ghost use Rattle.space_core.specs.Calls.{CallChanges, CallTells, OfEachHeld};
 
 use entity_sweep::gone::Gone;
 use space_core::space::{Space, SpaceFault};
@@ -13,11 +12,7 @@ pub trait LetsGo: Space {
     /// before it leave, and no intent names it. What is held, also after a crash, is the airspace
     /// before all of them went or the one after.
     fn let_go(&mut self, gone: &[Gone]) -> Result<(), SpaceFault>
-        requires can { Self.is_sound self.old → (a : Airspace) → Self.holds self.old a
-            → AllCanGo gone.now a }
-        ensures tells { Tells (Self.refusals self.old) (Self.refusals self.new)
-            (Self.is_broken self.old) (Self.is_broken self.new) result }
-        ensures changes { Changes Self.holds Self.is_sound Self.is_whole
-            (Self.is_broken self.old) self.old self.new result
-            (less_all gone.now) };
+        requires can { OfEachHeld Self.Space self.old (AllCanGo gone.now) }
+        ensures tells { CallTells Self.Space self.old self.new result }
+        ensures changes { CallChanges Self.Space self.old self.new result (less_all gone.now) };
 }

@@ -1,8 +1,7 @@
 //! The trait of spaces that find what has ended and let go of it.
 ghost use Rattle.std.specs.Prelude.{◌≡◌};
-ghost use Rattle.entity_core.specs.Airspace.{Airspace};
 ghost use Rattle.entity_sweep.specs.Gone.{AllCanGo, IsPiece, less_all};
-ghost use Rattle.space_core.specs.Space.{Changes, Reads, Tells};
+ghost use Rattle.space_core.specs.Calls.{CallChanges, CallReads, CallTells, OfEachHeld};
 
 use entity_sweep::gone::Gone;
 use space_core::settle::Settles;
@@ -15,21 +14,17 @@ pub trait Sweeps: Settles {
     /// as where there is no copy in memory, it answers `Unchanged`.
     fn ended(&mut self, until: u64, most: usize) -> Result<Vec<Gone>, SpaceFault>
         ensures fixed { Self.Space.fixed self.new ≡ Self.Space.fixed self.old }
-        ensures tells { Tells (Self.Space.refusals self.old) (Self.Space.refusals self.new)
-            (Self.Space.is_broken self.old) (Self.Space.is_broken self.new) result }
-        ensures reads { Reads Self.Space.holds Self.Space.is_sound Self.Space.is_whole
-            self.old self.new result (λ a gone. IsPiece until most gone.items a) }
+        ensures tells { CallTells Self.Space self.old self.new result }
+        ensures reads { CallReads Self.Space self.old self.new result
+            (λ a gone. IsPiece until most gone.items a) }
         ensures waits { Self.Settles.waits self.new ≡ Self.Settles.waits self.old };
 
     /// Lets go of these, or of none of them: each is there in what those before it leave, and no
     /// intent names it. The serial stays and nobody is told. Where changes wait it answers
     /// `Unchanged`; else what is left is kept at once.
     fn let_go(&mut self, gone: &[Gone]) -> Result<(), SpaceFault>
-        requires can { Self.Space.is_sound self.old → (a : Airspace) → Self.Space.holds self.old a
-            → AllCanGo gone.now a }
-        ensures tells { Tells (Self.Space.refusals self.old) (Self.Space.refusals self.new)
-            (Self.Space.is_broken self.old) (Self.Space.is_broken self.new) result }
-        ensures changes { Changes Self.Space.holds Self.Space.is_sound Self.Space.is_whole
-            (Self.Space.is_broken self.old) self.old self.new result (less_all gone.now) }
+        requires can { OfEachHeld Self.Space self.old (AllCanGo gone.now) }
+        ensures tells { CallTells Self.Space self.old self.new result }
+        ensures changes { CallChanges Self.Space self.old self.new result (less_all gone.now) }
         ensures waits { Self.Settles.waits self.new ≡ Self.Settles.waits self.old };
 }

@@ -1,10 +1,10 @@
-//! Serves streams of requests over tables in memory, and compares searches, for tests: no command of
-//! `dss` keeps its tables in memory.
+//! Serves streams of requests over tables in memory, and compares searches, for tests: no command
+//! of `dss` keeps its tables in memory.
 //!
 //! The first word names the token file. Each further one is the name of a stream of requests, whose
-//! answers are printed, or `cell:` with the token of a cell: of each kind it is told how many of the
-//! references meet the cell, and whether the search by the index on cells and one that goes through
-//! all references find the same.
+//! answers are printed, or `cell:` with the token of a cell: of each kind it is told how many of
+//! the references meet the cell, and whether the search by the index on cells and one that goes
+//! through all references find the same.
 #![tactic(auto)]
 
 use entity_core::entity::Entity;

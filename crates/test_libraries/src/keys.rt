@@ -101,7 +101,8 @@ fn numbers(alloc: Global, count: u64, below: u64) -> Option<Vec<u64>> {
     Some(numbers)
 }
 
-// Whether so many are missing from a key of so many numbers below one, and those that the plain search finds.
+// Whether so many are missing from a key of so many numbers below one, and those that the plain
+// search finds.
 fn is_missing(alloc: Global, count: u64, below: u64, missing: usize) -> bool {
     let (Some(needed), Some(own)) = (numbers(alloc, 401, 401), numbers(alloc, count, below)) else {
         return false;

@@ -17,8 +17,8 @@ pub record Covers (buffer : List ℕ) (headers : List HeaderSpan) (spans : Reque
   pub version : spans.version ≡ h.minor
   pub fields : AreFieldsAt buffer headers spans.headers h.fields
 
--- What stands in the buffer, with these bytes ahead of it, is of the kind that was found. A whole head
--- stands there whatever follows.
+-- What stands in the buffer, with these bytes ahead of it, is of the kind that was found. A whole
+-- head stands there whatever follows.
 abbrev pub Finds : List ℕ → List ℕ → List HeaderSpan → Found → Type 0
 Finds ahead buffer fields Nothing = IsKind (buffer ++ ahead) nothing
 Finds ahead buffer fields Part = IsKind (buffer ++ ahead) cut

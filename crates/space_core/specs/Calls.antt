@@ -1,0 +1,29 @@
+-- What the calls of a space tell and leave, by the whole of its trait.
+use Rattle.std.specs.Prelude.{Result}
+use Rattle.entity_core.specs.Airspace.{Airspace}
+use Rattle.space_core.specs.declared.space.Space.{Ghosts}
+use Rattle.space_core.specs.declared.space.SpaceFault.{SpaceFault}
+use Rattle.space_core.specs.Settle.{Settling}
+use Rattle.space_core.specs.Space.{Changes, Reads, TellsBy}
+
+-- P, of each airspace that a sound space may hold
+abbrev pub OfEachHeld : {S : Type 0} → Ghosts S → S → (Airspace → Type 0) → Type 0
+OfEachHeld g s P = g.is_sound s → (a : Airspace) → g.holds s a → P a
+
+module _ {S T : Type 0} (g : Ghosts S) (old new : S) (result : Result T SpaceFault) where
+  -- what it tells of its faults
+  abbrev pub CallTells : Type 0
+  CallTells = TellsBy g.refusals g.is_broken old new result
+
+  -- It reads: an answer has P of each airspace that was held.
+  abbrev pub CallReads : (Airspace → T → Type 0) → Type 0
+  CallReads P = Reads g.holds g.is_sound g.is_whole old new result P
+
+  -- It makes a change.
+  abbrev pub CallChanges : (Airspace → Airspace) → Type 0
+  CallChanges change =
+      Changes g.holds g.is_sound g.is_whole (g.is_broken old) old new result change
+
+  -- What waited is kept, or none of it.
+  abbrev pub CallSettles : (S → Airspace → Type 0) → Type 0
+  CallSettles Keeps = Settling g.holds Keeps g.is_sound g.is_whole old new result
