@@ -25,8 +25,8 @@ use Rattle.dss_report.specs.Cell.{IsLineOfToken}
 use Rattle.dss_command.specs.Fault.{status_of}
 use Rattle.dss_command.specs.declared.fault.Fault.{Fault}
 
--- Help is written whole, and then the status is 0, or else 1; a refusal has the status 2, and want of
--- memory 1.
+-- Help is written whole, and then the status is 0, or else 1; a refusal has the status 2, and want
+-- of memory 1.
 abbrev pub EndsRefused : LineFault → (before after : Option (List ℕ)) → ℕ → Type 0
 EndsRefused (fault.Shown text) before after status =
     ((status ≡ 0) × Appends before after (string_bytes text)) ⊎ (status ≡ 1)
@@ -42,9 +42,9 @@ abbrev pub WritesCell : List ℕ → (before after : Option (List ℕ)) → Type
 WritesCell token before after = (line : List ℕ) × IsLineOfToken token line × Appends before after line
 
 module _ (does : Doing) where
-  -- What a line asks for was done: by the command of its name, with its values. `serve` writes to the
-  -- second writer, `backup` to none, and every other command to the first; to both where no token is
-  -- made, to tell why.
+  -- What a line asks for was done: by the command of its name, with its values. `serve` writes to
+  -- the second writer, `backup` to none, and every other command to the first; to both where no
+  -- token is made, to tell why.
   abbrev pub Does : Line → (remaining output output' error error' : Option (List ℕ))
       → Result (Unit {0}) Fault → Type 0
   Does (Run tokens now database requests) remaining output output' error error' done =
@@ -79,8 +79,8 @@ module _ (does : Doing) where
     pub quiet : OnOk done (error' ≡ told)
     pub status_is : status ≡ status_of done
 
-  -- Words without a mistake that ask for a line end as its command does, and other words as they are
-  -- refused.
+  -- Words without a mistake that ask for a line end as its command does, and other words as they
+  -- are refused.
   abbrev pub EndsLine : List Text → (remaining output output' error error' : Option (List ℕ)) → ℕ
       → Type 0
   EndsLine words remaining output output' error error' status =

@@ -15,10 +15,10 @@ pub record IsServiceOver {S : Type 0} (tokens : TokenFile) (space : S) (service 
   pub salt_is : held.salt_of service ≡ salt_of tokens
   pub goes : held.is_shut service ≡ false
 
--- Such a service was asked calls of requests, each of the caller whose token it bears, and no other, in
--- rounds that were all settled, and the space is given back as it is then. Between rounds some of what
--- had ended so long before as it is kept went, and nothing where it is kept for good. The token file is
--- the one of the start, and then what was taken of the bytes that it gives.
+-- Such a service was asked calls of requests, each of the caller whose token it bears, and no
+-- other, in rounds that were all settled, and the space is given back as it is then. Between rounds
+-- some of what had ended so long before as it is kept went, and nothing where it is kept for good.
+-- The token file is the one of the start, and then what was taken of the bytes that it gives.
 pub record ServesClients {S M : Type 0} (g : spaces.Ghosts S) (k : settles.Ghosts S)
     (m : moments.Ghosts M) (gives : List ℕ → Type 0) (keep : Option ℕ) (tokens : TokenFile)
     (old new : S) (clock clock' : M) : Type 0 where

@@ -24,8 +24,8 @@ StandsStill old moment new = (moment ≡ moment_of old) × (new ≡ old)
 
 module _ {S : Type 0} (g : Ghosts S) (tokens : TokenFile) (now : ℕ)
     (remaining before after : Option (List ℕ)) where
-  -- A service was asked what an input of the reader spells, each call at that moment, and the answers
-  -- were written.
+  -- A service was asked what an input of the reader spells, each call at that moment, and the
+  -- answers were written.
   pub record ServesAt (old new : Service S) (served : Served) : Type 0 where
     pub input : List ℕ
     pub clock : Fixed
@@ -35,7 +35,8 @@ module _ {S : Type 0} (g : Ghosts S) (tokens : TokenFile) (now : ℕ)
     pub serves : Serves g StandsStill (callers_of tokens) most_requests input old new clock clock'
         before after served
 
-  -- It was asked the first requests, and their answers were written, before the stream was given up.
+  -- It was asked the first requests, and their answers were written, before the stream was given
+  -- up.
   pub record ServesPartAt (old new : Service S) (fault : Fault) : Type 0 where
     pub why : StreamFault
     pub fault_is : IsOfStream why fault
@@ -56,7 +57,8 @@ module _ {S : Type 0} (g : Ghosts S) (tokens : TokenFile) (now : ℕ)
     pub serves : ServesAt first last served
     pub ends : new ≡ space_of last
 
-  -- So of a stream that was given up; where memory lacked for the routes, nothing was asked or written.
+  -- So of a stream that was given up; where memory lacked for the routes, nothing was asked or
+  -- written.
   abbrev pub ServesPartOver : (old new : S) → Fault → Type 0
   ServesPartOver old new fault =
       ((fault ≡ Memory) × (new ≡ old) × (after ≡ before))

@@ -33,15 +33,15 @@ abbrev pub Judges : List Mistake → Result (Unit {0}) Fault → Type 0
 Judges [] result = result ≡ Ok tt
 Judges (m ∷ ms) result = result ≡ Err (fault.Tokens (fault_of m))
 
--- How a check ends of a file of which its reader says this: where it is done the reader takes the file,
--- and a fault of the file is the one that the reader tells.
+-- How a check ends of a file of which its reader says this: where it is done the reader takes the
+-- file, and a fault of the file is the one that the reader tells.
 abbrev pub EndsCheck : Result TokenFile ConfFault → Result (Unit {0}) Fault → Type 0
 EndsCheck said (Ok x) = IsOk said
 EndsCheck said (Err (fault.Tokens why)) = said ≡ Err why
 EndsCheck said (Err other) = Unit {0}
 
--- The line that tells why a token file that changed was not taken, without its end: that of the fault
--- with which a command ends by such a file, and for another salt one of its own.
+-- The line that tells why a token file that changed was not taken, without its end: that of the
+-- fault with which a command ends by such a file, and for another salt one of its own.
 abbrev pub refusal_line : TokensFault → List ℕ
 refusal_line refusal.Unread = line_of fault.TokensUnread
 refusal_line (refusal.Wrong conf.Memory) = line_of fault.Memory

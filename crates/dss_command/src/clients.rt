@@ -55,8 +55,8 @@ pub fn tell_client<E: Write>(fault: StreamFault, error: &mut E) -> io::Result<()
     tell(&Fault::from(fault), error)
 }
 
-// Where requests are told, if there is a log of them, and the faults of clients and of the token file,
-// each on a line, and, where more is to be told, whether the store keeps what it is given.
+// Where requests are told, if there is a log of them, and the faults of clients and of the token
+// file, each on a line, and, where more is to be told, whether the store keeps what it is given.
 #[derive(Drop)]
 struct Lines<'a, E: Write, L> {
     error: &'a mut E,
@@ -215,11 +215,11 @@ fn serve_sockets<
     (ended(served), service.into_space())
 }
 
-/// Answers the clients of a port by a service that it makes over a space, which is given back as it is
-/// then, after the last round of calls was settled. The token file is watched meanwhile, and what has
-/// ended so long before as it is kept goes between rounds. It tells that the port is listened on, and
-/// later the fault of each client that is given up, and why a token file that changed was not taken;
-/// each request that is answered is logged.
+/// Answers the clients of a port by a service that it makes over a space, which is given back as it
+/// is then, after the last round of calls was settled. The token file is watched meanwhile, and
+/// what has ended so long before as it is kept goes between rounds. It tells that the port is
+/// listened on, and later the fault of each client that is given up, and why a token file that
+/// changed was not taken; each request that is answered is logged.
 ///
 /// It is done only where a number of connections is given, or an operator's port.
 pub fn serve_port<

@@ -15,8 +15,8 @@ use std::alloc::Global;
 use std::io::{Read, Write};
 use wire_http::Counted;
 
-/// The commands that need the system. What it holds and does, no clause can say: which text the file
-/// of a name has, who listens on a port, what time it is.
+/// The commands that need the system. What it holds and does, no clause can say: which text the
+/// file of a name has, who listens on a port, what time it is.
 ///
 /// `does line remaining before after done`: the command of that line may end so, where the reader
 /// has this to give and the writer is left so.

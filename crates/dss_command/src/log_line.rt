@@ -117,8 +117,8 @@ fn line_at(alloc: Global, time: &str, request: &LoggedRequest<'_>) -> Result<Str
     Ok(line)
 }
 
-/// The line for a request that was answered at that moment, with its end. It has no part of a token, of
-/// an OVN or of a body.
+/// The line for a request that was answered at that moment, with its end. It has no part of a
+/// token, of an OVN or of a body.
 pub(crate) fn log_line(
     alloc: Global,
     moment: Option<Timestamp>,

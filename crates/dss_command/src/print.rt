@@ -110,7 +110,8 @@ pub fn put_places<S: Space + Drop, W: Write>(
     put(lines.as_slice(), output)
 }
 
-/// The command `report`, over a space, which is only read: its report, or the cells of its references.
+/// The command `report`, over a space, which is only read: its report, or the cells of its
+/// references.
 pub fn report<S: Space + Drop, W: Write>(
     alloc: Global,
     space: &mut S,

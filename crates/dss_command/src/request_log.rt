@@ -15,8 +15,8 @@ pub trait LogFile {
     fn append(&mut self, bytes: &[u8]) -> io::Result<usize>;
 }
 
-/// The log of requests. The lines of a round are held until it ends, and then written at once. Those
-/// that could not be held or written whole are lost, and counted.
+/// The log of requests. The lines of a round are held until it ends, and then written at once.
+/// Those that could not be held or written whole are lost, and counted.
 #[derive(Drop)]
 pub(crate) struct RequestLog<L> {
     alloc: Global,

@@ -1,5 +1,5 @@
-//! The command `tokens`, over texts and random bytes: a token file is checked, or a token or a salt is
-//! made for one.
+//! The command `tokens`, over texts and random bytes: a token file is checked, or a token or a salt
+//! is made for one.
 ghost use Rattle.std.specs.Prelude.{◌≡◌, ◌⊎◌, IfErr, OnOk};
 ghost use Rattle.std.specs.Io.KnownBytes.{Appends};
 ghost use Rattle.token_conf.specs.TokenFile.{file_of};
@@ -36,8 +36,8 @@ fn judged(mistakes: &[Mistake]) -> Result<(), Fault>
     }
 }
 
-/// Tells what is wrong with the text of a token file, and what it surely does not mean, in the lines
-/// of `check_tokens`.
+/// Tells what is wrong with the text of a token file, and what it surely does not mean, in the
+/// lines of `check_tokens`.
 pub fn tell_tokens<E: Write>(alloc: Global, text: &str, error: &mut E) -> Result<(), Fault>
     ensures { IfErr result (λ fault. (fault ≡ Memory) ⊎ (fault ≡ Output)) }
 {
@@ -47,9 +47,9 @@ pub fn tell_tokens<E: Write>(alloc: Global, text: &str, error: &mut E) -> Result
     put_lines(report.lines.as_slice(), error)
 }
 
-/// What is wrong with the text of the token file of that name, and what it surely does not mean, on a
-/// line each. Where nothing is wrong a line tells how much the file has; else the fault is the one that
-/// the other commands tell of the file.
+/// What is wrong with the text of the token file of that name, and what it surely does not mean, on
+/// a line each. Where nothing is wrong a line tells how much the file has; else the fault is the
+/// one that the other commands tell of the file.
 pub fn check_tokens<W: Write>(
     alloc: Global,
     file: &str,
@@ -70,8 +70,8 @@ pub fn check_tokens<W: Write>(
     put("\n".as_bytes(), output)
 }
 
-/// The table of a new token of a supplier with scopes, whose text is made of these bytes. What is wrong
-/// with the supplier or a scope is told on a line of `error`.
+/// The table of a new token of a supplier with scopes, whose text is made of these bytes. What is
+/// wrong with the supplier or a scope is told on a line of `error`.
 pub fn new_token<W: Write, E: Write>(
     alloc: Global,
     uss: &str,

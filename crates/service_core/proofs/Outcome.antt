@@ -26,7 +26,8 @@ use Rattle.service_step.specs.Admitted.{IsAdmitted}
 use Rattle.service_step.specs.Looks.{Looks, Prepares, changed_by}
 use Rattle.service_core.specs.Decision.{Allows, BreaksNoStanding, Decides}
 use Rattle.service_step.specs.Reply.{is_stopped}
-use Rattle.service_core.specs.Service.{Answers, AnswersTo, MayFail, OfEachHeld, reply_of}
+use Rattle.service_core.specs.Service.{Answers, AnswersTo, MayFail, reply_of}
+use Rattle.space_core.specs.Calls.{OfEachHeld}
 
 pub step_denied : (salt : List ℕ) (a : Airspace) (t : ℕ) (c : Call) (p : Rule) (m : Missing) → first_broken a t c ≡ Some p → m ≡ told_missing a c p → step salt a t c ≡ (a, Denied p m)
 unfolding step

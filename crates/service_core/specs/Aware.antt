@@ -58,8 +58,8 @@ last_writer salt k a (c ∷ cs) (r ∷ rs) =
 
 -- ---- what it knew
 
--- whether a call was to know of an entity, where it was made: it is told of such entities there, and
--- this one was not spared then
+-- whether a call was to know of an entity, where it was made: it is told of such entities there,
+-- and this one was not spared then
 abbrev pub is_owed : MadeCall → Entity → Bool
 is_owed made y = call_needs made.before made.call y.nature && not (is_spared made.before y)
 

@@ -14,8 +14,8 @@ use Rattle.service_core.specs.Run.{Timed}
 
 -- ---- the calls that were answered `Done`
 
--- Of calls that were made from an airspace on and answered so, those answered `Done`, in order, each
--- with the airspace before it.
+-- Of calls that were made from an airspace on and answered so, those answered `Done`, in order,
+-- each with the airspace before it.
 abbrev pub done_calls : List ℕ → Airspace → List Timed → List Reply → List MadeCall
 done_calls salt a [] rs = []
 done_calls salt a (c ∷ cs) [] = []

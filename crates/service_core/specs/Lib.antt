@@ -7,4 +7,5 @@ pub mod Blind
 pub mod Aware
 pub mod Count
 pub mod Stale
+pub mod FromEmpty
 pub mod Swept

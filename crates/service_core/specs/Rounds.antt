@@ -6,8 +6,8 @@ use Rattle.space_core.specs.declared.space.Space as spaces
 use Rattle.space_core.specs.declared.settle.Settles as settles
 use Rattle.space_core.specs.declared.space.SpaceFault.{SpaceFault}
 use Rattle.space_core.specs.declared.space.SpaceFault.TheVariants.{Unchanged}
-use Rattle.space_core.specs.Settle.{Settling}
-use Rattle.space_core.specs.Space.{IsContent, Tells, is_broken_after}
+use Rattle.space_core.specs.Calls.{CallSettles, CallTells}
+use Rattle.space_core.specs.Space.{IsContent, is_broken_after}
 use Rattle.service_step.specs.declared.halt.Halt.TheVariants.{Space}
 use Rattle.service_step.specs.declared.reply.Reply.{Reply}
 use Rattle.service_step.specs.declared.reply.Reply.TheVariants.{Stopped}
@@ -72,10 +72,8 @@ module _ {S : Type 0} (g : spaces.Ghosts S) (k : settles.Ghosts S) where
     pub salt : salt_of new ≡ salt_of old
     pub shuts : is_shut new ≡ is_broken_after (is_shut old) result
     pub calm : k.waits (space_of new) ≡ false
-    pub tells : Tells (g.refusals (space_of old)) (g.refusals (space_of new))
-        (g.is_broken (space_of old)) (g.is_broken (space_of new)) result
-    pub settles : Settling g.holds k.keeps g.is_sound g.is_whole
-        (space_of old) (space_of new) result
+    pub tells : CallTells g (space_of old) (space_of new) result
+    pub settles : CallSettles g (space_of old) (space_of new) result k.keeps
 
   -- one round after the other
   abbrev pub MadeRounds : Service S → List Round → Service S → Type 0
@@ -147,8 +145,8 @@ abbrev pub RoundsAreThePolicy : {S : Type 0} → spaces.Ghosts S → settles.Gho
 RoundsAreThePolicy {S} g k = (old new : Service S) (rounds : List Round) (a : Airspace)
     → AskedInRounds g k old rounds new a → RunsInRounds k (salt_of old) a rounds new
 
--- In the midst of a round, as where a crash comes then, that is kept which is kept where its changes
--- are not; a reply that waits was told to nobody yet, and counts as a failure.
+-- In the midst of a round, as where a crash comes then, that is kept which is kept where its
+-- changes are not; a reply that waits was told to nobody yet, and counts as a failure.
 abbrev pub OpenRoundIsUnkept : {S : Type 0} → spaces.Ghosts S → settles.Ghosts S → Type 0
 OpenRoundIsUnkept {S} g k =
     (old mid new : Service S) (rounds : List Round) (calls : List Made) (a : Airspace)

@@ -60,7 +60,3 @@ pub record Answers {S : Type 0} (g : Ghosts S) (salt : List ℕ) (now : ℕ) (c 
 abbrev pub AnswersTo : {S : Type 0} → Ghosts S → Admitted → S → S → Reply → Type 0
 AnswersTo g admitted old new reply =
     Answers g admitted.salt.now admitted.moment admitted.call.now old new reply
-
--- P, of each airspace that a sound space may hold
-abbrev pub OfEachHeld : {S : Type 0} → Ghosts S → S → (Airspace → Type 0) → Type 0
-OfEachHeld g s P = g.is_sound s → (a : Airspace) → g.holds s a → P a

@@ -1,5 +1,5 @@
 -- A key of old OVNs is not enough.
-use Rattle.std.specs.Prelude.{◌≡◌, ◌≢◌, ℕ, ◌≤◌, List, Contains}
+use Rattle.std.specs.Prelude.{◌≡◌, ◌≢◌, ℕ, ◌≤◌, false, List, Contains}
 use Rattle.std.specs.List.{AllByRecursion}
 use Rattle.std.specs.FinMap.{entries}
 use Rattle.entity_core.specs.Airspace.{Airspace}
@@ -10,9 +10,13 @@ use Rattle.policy_core.specs.declared.call.Call.{Call}
 use Rattle.policy_core.specs.declared.rule.Rule.TheVariants.{Key}
 use Rattle.policy_core.specs.Known.{IsListed, MayDeny}
 use Rattle.policy_core.specs.Missing.{key_shown, needed}
+use Rattle.service_core.specs.declared.service.Service.{Service}
+use Rattle.service_core.specs.Held.{is_shut, salt_of, space_of}
 use Rattle.service_step.specs.declared.reply.Reply.{Reply}
 use Rattle.service_step.specs.declared.reply.Reply.TheVariants.{Done, Denied, Fault, Stopped}
 use Rattle.service_step.specs.Step.{step}
+use Rattle.space_core.specs.Space.{IsContent}
+use Rattle.space_core.specs.declared.space.Space.{Ghosts}
 
 -- ---- the airspace
 
@@ -72,3 +76,10 @@ pub record IsStale (salt : List ℕ) (kind : Kind) (a : Airspace) (c : Call) (y 
 abbrev pub StaleIsRefused : Type 0
 StaleIsRefused = (salt : List ℕ) (a : Airspace) (now : ℕ) (c : Call) (kind : Kind) (y : Entity)
     → IsStale salt kind a c y → IsRefusedFor kind a c y (step salt a now c).1
+
+-- A service that was not shut, over a space of one airspace, refuses it so, or the call fails.
+abbrev pub RefusesStale : {S : Type 0} → Ghosts S → Service S → Service S → Call → Reply → Type 0
+RefusesStale g old new c reply = is_shut old ≡ false → g.is_sound (space_of new)
+    → (a : Airspace) → IsContent g.holds (space_of old) a
+    → (kind : Kind) (y : Entity) → IsStale (salt_of old) kind a c y
+    → FailsOrIsRefused kind a c y reply

@@ -8,7 +8,8 @@ use Rattle.space_core.specs.declared.space.Space as spaces
 use Rattle.space_core.specs.declared.settle.Settles as settles
 use Rattle.space_core.specs.declared.space.SpaceFault.{SpaceFault}
 use Rattle.space_core.specs.declared.space.SpaceFault.TheVariants.{Broken, Unchanged}
-use Rattle.space_core.specs.Space.{IsContent, Tells, is_broken_after}
+use Rattle.space_core.specs.Calls.{CallTells}
+use Rattle.space_core.specs.Space.{IsContent, is_broken_after}
 use Rattle.service_step.specs.declared.reply.Reply.{Reply}
 use Rattle.service_step.specs.declared.reply.Reply.TheVariants.{Stopped}
 use Rattle.service_core.specs.declared.service.Service.{Service}
@@ -20,8 +21,8 @@ use Rattle.service_core.specs.Stale.{AllNumbered}
 -- ---- a piece of a sweep
 
 -- What a piece of a sweep leaves of a space whose content was the airspace `a`: after `Ok` that
--- airspace, swept in part; after `Unchanged` itself; after `Broken` nothing but one that is swept in
--- part, or not at all.
+-- airspace, swept in part; after `Unchanged` itself; after `Broken` nothing but one that is swept
+-- in part, or not at all.
 abbrev pub LeavesPartly : {S : Type 0} → spaces.Ghosts S → ℕ → Airspace → S → Result ℕ SpaceFault
     → Type 0
 LeavesPartly g until a new (Ok n) =
@@ -40,15 +41,14 @@ pub record HaveGone {S : Type 0} (g : spaces.Ghosts S) (until most n : ℕ) (a :
   pub content : IsContent g.holds new (less_all gone a)
 
 module _ {S : Type 0} (g : spaces.Ghosts S) (k : settles.Ghosts S) where
-  -- Some of what had ended by a moment was let go of, and it was so much; none only where nothing is
-  -- left that has. A service whose space broke then is shut, and one that was shut is as it was.
+  -- Some of what had ended by a moment was let go of, and it was so much; none only where nothing
+  -- is left that has. A service whose space broke then is shut, and one that was shut is as it was.
   pub record IsSweep (until most : ℕ) (old new : Service S) (result : Result ℕ SpaceFault)
       : Type 0 where
     pub salt : salt_of new ≡ salt_of old
     pub shut : is_shut old ≡ true → (new ≡ old) × IsErrOf result Broken
     pub shuts : is_shut new ≡ is_broken_after (is_shut old) result
-    pub tells : is_shut old ≡ false → Tells (g.refusals (space_of old)) (g.refusals (space_of new))
-        (g.is_broken (space_of old)) (g.is_broken (space_of new)) result
+    pub tells : is_shut old ≡ false → CallTells g (space_of old) (space_of new) result
     pub waits : k.waits (space_of new) ≡ k.waits (space_of old)
     pub sound : g.is_sound (space_of new) → g.is_sound (space_of old)
     pub whole : g.is_sound (space_of new) → g.is_whole (space_of old) → g.is_whole (space_of new)
@@ -140,9 +140,9 @@ AreToldAndKept salt a (segment ∷ segments) rounds after = AreTold salt a segme
     ((b : Airspace) × IsPartlySwept segment.until (airspace_after_rounds salt a segment.rounds) b
     × AreToldAndKept salt b segments rounds after)
 
--- What is told and what is kept is the policy's over what the sweeps between left. While the service
--- is not shut, nobody is told `Stopped`, and one airspace is kept; and never is another kept than may
--- be.
+-- What is told and what is kept is the policy's over what the sweeps between left. While the
+-- service is not shut, nobody is told `Stopped`, and one airspace is kept; and never is another
+-- kept than may be.
 pub record RunsSwept {S : Type 0} (k : settles.Ghosts S) (salt : List ℕ) (a : Airspace)
     (segments : List Segment) (rounds : List Round) (new : Service S) : Type 0 where
   pub told : AreToldSwept salt a segments rounds
@@ -153,15 +153,16 @@ pub record RunsSwept {S : Type 0} (k : settles.Ghosts S) (salt : List ℕ) (a : 
 
 -- ---- laws
 
--- Over segments and rounds, what is told and what is kept is the policy's over what the sweeps left.
+-- Over segments and rounds, what is told and what is kept is the policy's over what the sweeps
+-- left.
 abbrev pub SegmentsAreThePolicy : {S : Type 0} → spaces.Ghosts S → settles.Ghosts S → Type 0
 SegmentsAreThePolicy {S} g k =
     (old new : Service S) (segments : List Segment) (rounds : List Round) (a : Airspace)
     → AskedInSegments g k old segments rounds new a
     → RunsSwept k (salt_of old) a segments rounds new
 
--- In the midst of a round, as where a crash comes then, that is kept which is kept where its changes
--- are not.
+-- In the midst of a round, as where a crash comes then, that is kept which is kept where its
+-- changes are not.
 abbrev pub OpenSegmentIsUnkept : {S : Type 0} → spaces.Ghosts S → settles.Ghosts S → Type 0
 OpenSegmentIsUnkept {S} g k =
     (old mid new : Service S) (segments : List Segment) (rounds : List Round) (calls : List Made)

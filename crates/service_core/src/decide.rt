@@ -5,7 +5,9 @@ ghost use Rattle.grid_core.specs.Extent.{region_of};
 ghost use Rattle.policy_core.specs.Missing.{is_nothing};
 ghost use Rattle.service_step.specs.Admitted.{IsAdmitted};
 ghost use Rattle.service_step.specs.Looks.{Looks, IsReady};
-ghost use Rattle.service_core.specs.Decision.{BreaksNoStanding, BreaksNoStandingBy, Decides, IsFirstBy, IsMissingFor, IsReadyIfAllowed, decision_of, missing_by, missing_kind_by};
+ghost use Rattle.service_core.specs.Decision.{BreaksNoStanding, BreaksNoStandingBy, Decides};
+ghost use Rattle.service_core.specs.Decision.{IsFirstBy, IsMissingFor, IsReadyIfAllowed};
+ghost use Rattle.service_core.specs.Decision.{decision_of, missing_by, missing_kind_by};
 
 use entity_core::nature::Kind;
 use entity_core::subscription::Sub;

@@ -1,21 +1,24 @@
 //! Laws of the policy's steps and of rounds, each named by a function that does nothing.
 ghost use Rattle.service_core.specs.Aware.{MeetingIsMutual};
 ghost use Rattle.service_core.specs.Blind.{CallIsBlind, RunIsBlind};
-ghost use Rattle.service_core.specs.Rounds.{KeptRoundsRun, OpenRoundIsUnkept, RoundIsAsked, RoundsAreAware, RoundsAreCounted, RoundsAreNumbered, RoundsAreThePolicy};
+ghost use Rattle.service_core.specs.Rounds.{KeptRoundsRun, OpenRoundIsUnkept};
+ghost use Rattle.service_core.specs.Rounds.{RoundIsAsked, RoundsAreAware, RoundsAreCounted};
+ghost use Rattle.service_core.specs.Rounds.{RoundsAreNumbered, RoundsAreThePolicy};
 ghost use Rattle.service_core.specs.Stale.{StaleIsRefused};
-ghost use Rattle.service_core.specs.Swept.{OpenSegmentIsUnkept, SegmentsAreThePolicy, SweptIsNumbered};
+ghost use Rattle.service_core.specs.Swept.{OpenSegmentIsUnkept};
+ghost use Rattle.service_core.specs.Swept.{SegmentsAreThePolicy, SweptIsNumbered};
 ghost use Rattle.service_step.specs.Step.{StepsAnswer, StepsKeep};
 
 use space_core::settle::Settles;
 
-/// After each call, an entity stands under its own kind and id, a subscription under its own id, and
-/// no index is over the serial, where it was so before.
+/// After each call, an entity stands under its own kind and id, a subscription under its own id,
+/// and no index is over the serial, where it was so before.
 pub fn steps_keep()
     ensures { StepsKeep }
 {}
 
-/// The policy answers each call `Done` or `Denied`. `Fault` and `Stopped` are never its answers: they
-/// tell that memory lacked or a space failed.
+/// The policy answers each call `Done` or `Denied`. `Fault` and `Stopped` are never its answers:
+/// they tell that memory lacked or a space failed.
 pub fn steps_answer()
     ensures { StepsAnswer }
 {}
@@ -73,9 +76,9 @@ pub fn rounds_are_aware<S: Settles>()
     ensures counted { RoundsAreCounted S.Settles.own }
 {}
 
-/// What callers are told, and what is kept, where some of what has ended goes between two rounds: it
-/// is what the rounds tell and leave over the airspace that was left of those before, swept in part.
-/// While the service is not shut, one airspace is kept.
+/// What callers are told, and what is kept, where some of what has ended goes between two rounds:
+/// it is what the rounds tell and leave over the airspace that was left of those before, swept in
+/// part. While the service is not shut, one airspace is kept.
 pub fn segments_are_the_policy<S: Settles>()
     ensures { SegmentsAreThePolicy S.Space S.Settles.own }
 {}
@@ -85,8 +88,8 @@ pub fn open_segment_is_unkept<S: Settles>()
     ensures { OpenSegmentIsUnkept S.Space S.Settles.own }
 {}
 
-/// Of what is kept after segments and rounds from the empty airspace, each entity has the OVN of its
-/// own serial: none is given twice, since a sweep leaves the serial as it is.
+/// Of what is kept after segments and rounds from the empty airspace, each entity has the OVN of
+/// its own serial: none is given twice, since a sweep leaves the serial as it is.
 pub fn swept_is_numbered<S: Settles>()
     ensures { SweptIsNumbered S.Settles.own }
 {}

@@ -1,20 +1,18 @@
 //! A service over a space.
 ghost use Rattle.std.specs.Prelude.{◌≡◌, ◌<◌, ℕ, Some, IfOk, OnErr, true, false};
 ghost use Rattle.std.specs.Borrow.{Lends, sem};
-ghost use Rattle.entity_core.specs.Airspace.{Airspace, empty_at};
-ghost use Rattle.entity_core.specs.declared.entity.Entity.{Entity};
-ghost use Rattle.entity_core.specs.declared.nature.Kind.{Kind};
+ghost use Rattle.entity_core.specs.Airspace.{Airspace};
 ghost use Rattle.entity_sweep.specs.Gone.{IsSweptAlready};
-ghost use Rattle.space_core.specs.Space.{IsContent, Tells};
+ghost use Rattle.space_core.specs.Calls.{CallTells, OfEachHeld};
+ghost use Rattle.space_core.specs.Space.{IsContent};
 ghost use Rattle.service_core.specs.contracts.service.Service.{the_row};
 ghost use Rattle.service_step.specs.Admitted.{IsAdmitted};
 ghost use Rattle.service_step.specs.Looks.{IsReady};
 ghost use Rattle.service_core.specs.Decision.{Allows, Decides};
-ghost use Rattle.service_core.specs.Service.{AnswersTo, OfEachHeld, reply_of};
-ghost use Rattle.service_core.specs.Run.{Answered, IsReplyTo, has_stopped};
-ghost use Rattle.service_core.specs.Aware.{Aware};
-ghost use Rattle.service_core.specs.Count.{Counts};
-ghost use Rattle.service_core.specs.Stale.{AllNumbered, IsStale, FailsOrIsRefused};
+ghost use Rattle.service_core.specs.Service.{AnswersTo, reply_of};
+ghost use Rattle.service_core.specs.Run.{Answered, IsReplyTo};
+ghost use Rattle.service_core.specs.FromEmpty.{RunIsAware, RunIsCounted, RunIsNumbered};
+ghost use Rattle.service_core.specs.Stale.{RefusesStale};
 ghost use Rattle.service_core.specs.Held.{space_of, salt_of, is_shut, with_space};
 ghost use Rattle.service_core.specs.Swept.{HaveGone, LeavesPartly};
 
@@ -103,8 +101,7 @@ fn changed<S: Space>(
 
 // Some of what has ended goes.
 fn swept<S: Sweeps>(space: &mut S, until: u64, most: usize) -> Result<usize, SpaceFault>
-    ensures tells { Tells (S.refusals space.old) (S.refusals space.new)
-        (S.is_broken space.old) (S.is_broken space.new) result }
+    ensures tells { CallTells S.Space space.old space.new result }
     ensures waits { S.waits space.new ≡ S.waits space.old }
     ensures sound { S.is_sound space.new → S.is_sound space.old }
     ensures whole { S.is_sound space.new → S.is_whole space.old → S.is_whole space.new }
@@ -178,10 +175,7 @@ impl<S: Space + Drop> Service<S> {
     /// done: it is denied by one of P1 to P14 or by P16, and where it is P14, the entity is listed.
     pub fn call(&mut self, alloc: Global, now: u64, call: &Call) -> Reply
         ensures reply { IsReplyTo S.Space self.old self.new now call.now result }
-        ensures stale { is_shut self.old ≡ false → S.is_sound (space_of self.new)
-            → (a : Airspace) → IsContent S.holds (space_of self.old) a
-            → (kind : Kind) (y : Entity) → IsStale (salt_of self.old) kind a call.now y
-            → FailsOrIsRefused kind a call.now y result }
+        ensures stale { RefusesStale S.Space self.old self.new call.now result }
     {
         if self.stopped {
             return Reply::Stopped;
@@ -206,8 +200,8 @@ impl<S: Space + Drop> Service<S> {
     /// Answers calls in order, each at its moment. The room for the replies is taken first, so that
     /// after an error no call was made.
     ///
-    /// Where the space was empty, each entity that is held then has the OVN of its own serial. Where
-    /// also nothing stopped: of two entities that meet in the end, where
+    /// Where the space was empty, each entity that is held then has the OVN of its own serial.
+    /// Where also nothing stopped: of two entities that meet in the end, where
     /// the later one is an intent that is planned or flown as planned, the last put of the later
     /// one had the OVN of the other in its key (that of a constraint, if it named a subscription
     /// that was for constraints, or none and its caller processes them; that of an intent that was
@@ -218,19 +212,11 @@ impl<S: Space + Drop> Service<S> {
         ensures none_made { OnErr result (self.new ≡ self.old) }
         ensures answered { IfOk result (λ replies.
             Answered S.Space self.old calls.now replies.items self.new) }
-        ensures aware { is_shut self.old ≡ false → S.is_sound (space_of self.new)
-            → IfOk result (λ replies. has_stopped replies.items ≡ false
-            → (n : ℕ) → IsContent S.holds (space_of self.old) (empty_at n)
-            → (a : Airspace) → S.holds (space_of self.new) a
-            → Aware (salt_of self.old) (empty_at n) calls.now replies.items a) }
-        ensures counted { is_shut self.old ≡ false → S.is_sound (space_of self.new)
-            → IfOk result (λ replies. has_stopped replies.items ≡ false
-            → (n : ℕ) → IsContent S.holds (space_of self.old) (empty_at n)
-            → (a : Airspace) → S.holds (space_of self.new) a
-            → Counts (salt_of self.old) (empty_at n) calls.now replies.items a) }
-        ensures numbered { S.is_sound (space_of self.new)
-            → (n : ℕ) → IsContent S.holds (space_of self.old) (empty_at n)
-            → (a : Airspace) → S.holds (space_of self.new) a → AllNumbered (salt_of self.old) a }
+        ensures aware { IfOk result (λ replies.
+            RunIsAware S.Space self.old calls.now replies.items self.new) }
+        ensures counted { IfOk result (λ replies.
+            RunIsCounted S.Space self.old calls.now replies.items self.new) }
+        ensures numbered { RunIsNumbered S.Space self.old self.new }
     {
         let mut replies = Vec::with_capacity(alloc, calls.len())?;
         for entry in calls {

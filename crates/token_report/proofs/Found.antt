@@ -1,6 +1,6 @@
 -- What is found in tables of values.
 use Rattle.std.proofs.Common.{◌≡◌, ℕ, ◌+◌, ◌<◌, true, false, List, [], ◌∷◌, ◌++◌, length, get_or, drop, map, Option, Some, None, refl, sym, ap, ◌∙◌}
-use Rattle.std.specs.Prelude.{Bool, Vec, MatchOption, ◌||◌, is_some, not, option_and_then, option_map}
+use Rattle.std.specs.Prelude.{Bool, Vec, MatchOption, ◌||◌, is_some, option_and_then, option_map}
 use Rattle.std.specs.Borrow.{Bor}
 use Rattle.std.specs.Option.{option_map_or}
 use Rattle.std.specs.List.{list_any}

@@ -1,5 +1,5 @@
-//! What is said of a mistake and of a warning, but for its place. What stands at `text` and at `salt` is
-//! never said.
+//! What is said of a mistake and of a warning, but for its place. What stands at `text` and at
+//! `salt` is never said.
 use crate::mistake::Mistake;
 use crate::table::{name_fault, token_fault};
 use crate::warning::Warning;

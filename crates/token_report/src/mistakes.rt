@@ -1,9 +1,12 @@
 //! The mistakes of a token file.
-ghost use Rattle.std.specs.Prelude.{◌≡◌, ◌++◌, ◌∷◌, [], None, Some, IfOk, OnOk, codes, map, option_map};
+ghost use Rattle.std.specs.Prelude.{◌≡◌, ◌++◌, ◌∷◌, [], None, Some};
+ghost use Rattle.std.specs.Prelude.{IfOk, OnOk, codes, map, option_map};
 ghost use Rattle.toml.specs.Data.{get};
 ghost use Rattle.toml.specs.View.{view};
 ghost use Rattle.token_conf.specs.TokenFile.{file_of};
-ghost use Rattle.token_report.specs.Mistakes.{Explain, holder_of, mistakes_in, mistakes_of, mistakes_of_list, mistakes_of_table, mistakes_of_tables, unless};
+ghost use Rattle.token_report.specs.Mistakes.{Explain, holder_of, mistakes_in};
+ghost use Rattle.token_report.specs.Mistakes.{mistakes_of, mistakes_of_list};
+ghost use Rattle.token_report.specs.Mistakes.{mistakes_of_table, mistakes_of_tables, unless};
 
 use crate::mistake::Mistake;
 use crate::table::{has_scopes, has_text, name_at, token_text};

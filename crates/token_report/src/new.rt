@@ -1,8 +1,10 @@
 //! How a new token and a new salt are written.
-ghost use Rattle.std.specs.Prelude.{◌≡◌, ◌++◌, IfErr, IfNone, IfOk, IfSome, None, OnOk, false, map, string_bytes, true};
+ghost use Rattle.std.specs.Prelude.{◌≡◌, ◌++◌, IfErr, IfNone, IfOk, IfSome};
+ghost use Rattle.std.specs.Prelude.{None, OnOk, false, map, string_bytes, true};
 ghost use Rattle.std.specs.List.{list_all};
 ghost use Rattle.entity_core.specs.IdTexts.{name_fault};
-ghost use Rattle.token_report.specs.New.{IsWhyNone, list_after, list_of, names_in, quoted, salt_line_of, table_of};
+ghost use Rattle.token_report.specs.New.{IsWhyNone, list_after, list_of, names_in};
+ghost use Rattle.token_report.specs.New.{quoted, salt_line_of, table_of};
 ghost use Rattle.token_report.specs.Warnings.{is_scope};
 
 use crate::message::{scope_message, uss_text_message};
@@ -76,7 +78,8 @@ fn names_in(alloc: Global, text: &str) -> Result<Vec<&str>, AllocError>
 
 // The first of the names that no scope has.
 fn unknown_among<'a>(names: &[&'a str]) -> Option<&'a str>
-    ensures some { IfSome result (λ _. list_all is_scope (map (λ name. name.now) names.now) ≡ false) }
+    ensures some { IfSome result (λ _.
+        list_all is_scope (map (λ name. name.now) names.now) ≡ false) }
     ensures unknown { IfSome result (λ name. is_scope name.now ≡ false) }
     ensures none { IfNone result (list_all is_scope (map (λ name. name.now) names.now) ≡ true) }
 {

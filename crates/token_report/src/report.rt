@@ -108,8 +108,10 @@ fn put_lines_of_warnings(
 
 // What is told of a document.
 fn report_of(alloc: Global, text: &str, document: &Value) -> Result<Report, AllocError>
-    ensures mistakes { IfOk result (λ report. report.mistakes.items ≡ mistakes_of (view document.now)) }
-    ensures warnings { IfOk result (λ report. report.warnings.items ≡ warnings_of (view document.now)) }
+    ensures mistakes { IfOk result (λ report.
+        report.mistakes.items ≡ mistakes_of (view document.now)) }
+    ensures warnings { IfOk result (λ report.
+        report.warnings.items ≡ warnings_of (view document.now)) }
     ensures summary { IfOk result (λ report. report.summary ≡ summary_of (view document.now)) }
     ensures lines { IfOk result (λ report.
         vec_len report.lines ≡ vec_len report.mistakes + vec_len report.warnings) }
@@ -178,9 +180,10 @@ fn report_of_text(alloc: Global, text: &str) -> Result<Report, AllocError>
     }
 }
 
-/// What is told of the text of a token file. Its mistakes are exactly what the reader of token files
-/// refuses: it takes the file where there is none, and else tells the fault of the first. What stands at
-/// `text` and at `salt` is on no line. The time grows with the square of the number of tokens.
+/// What is told of the text of a token file. Its mistakes are exactly what the reader of token
+/// files refuses: it takes the file where there is none, and else tells the fault of the first.
+/// What stands at `text` and at `salt` is on no line. The time grows with the square of the number
+/// of tokens.
 pub fn report_on(alloc: Global, text: &str) -> Result<Report, AllocError>
     ensures mistakes { IfOk result (λ report. report.mistakes.items ≡ mistakes_in text.now) }
     ensures explain { IfOk result (λ report. Explain report.mistakes.items (file_of text.now)) }

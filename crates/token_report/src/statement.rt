@@ -1,5 +1,6 @@
 //! Where the statements of a TOML document begin.
-ghost use Rattle.std.specs.Prelude.{◌≡◌, ◌==◌, ◌≤◌, IfOk, IfSome, count_by, length, string_bytes, true};
+ghost use Rattle.std.specs.Prelude.{◌≡◌, ◌==◌, ◌≤◌, IfOk, IfSome};
+ghost use Rattle.std.specs.Prelude.{count_by, length, string_bytes, true};
 ghost use Rattle.std.specs.List.{All};
 ghost use Rattle.toml_parser.specs.Reading.{key_view};
 ghost use Rattle.toml_parser.specs.Strings as strings;
@@ -174,7 +175,8 @@ fn statement_at(
     }
 }
 
-// The first statement that begins at that byte or after it, and the byte behind the lines that it has.
+// The first statement that begins at that byte or after it, and the byte behind the lines that it
+// has.
 fn next_statement(
     alloc: Global,
     text: &str,

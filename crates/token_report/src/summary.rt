@@ -1,7 +1,8 @@
 //! How much a token file has.
 ghost use Rattle.std.specs.Prelude.{◌≡◌, map};
 ghost use Rattle.toml.specs.View.{view};
-ghost use Rattle.token_report.specs.Summary.{has_new_uss, has_uss, is_uss_of_any, salt_length, summary_of, suppliers_of, tokens_of};
+ghost use Rattle.token_report.specs.Summary.{has_new_uss, has_uss, is_uss_of_any, salt_length};
+ghost use Rattle.token_report.specs.Summary.{summary_of, suppliers_of, tokens_of};
 
 use crate::table::{list_at, name_at};
 use std::alloc::{AllocError, Global};

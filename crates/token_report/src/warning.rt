@@ -4,8 +4,8 @@ use entity_core::text::Text;
 /// The shortest salt that is not warned of.
 pub const SHORTEST_SALT: usize = 32;
 
-/// What a token file says and surely does not mean, though its reader takes it. Tables are counted from
-/// 0, in the order of the list `token`.
+/// What a token file says and surely does not mean, though its reader takes it. Tables are counted
+/// from 0, in the order of the list `token`.
 #[derive(Debug, Drop)]
 pub enum Warning {
     /// The salt stands in an example.

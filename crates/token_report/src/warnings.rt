@@ -3,7 +3,11 @@ ghost use Rattle.std.specs.Prelude.{◌≡◌, ◌++◌, [], IfOk, OnOk, map, no
 ghost use Rattle.std.specs.Option.{option_map_or};
 ghost use Rattle.toml.specs.Data.{as_str};
 ghost use Rattle.toml.specs.View.{items_view, table_view, view};
-ghost use Rattle.token_report.specs.Warnings.{is_of_example, is_read, is_scope, warnings_of, warnings_of_keys, warnings_of_list, warnings_of_member, warnings_of_names, warnings_of_salt, warnings_of_table, warnings_of_tables, when};
+ghost use Rattle.token_report.specs.Warnings.{is_of_example, is_read, is_scope};
+ghost use Rattle.token_report.specs.Warnings.{warnings_of, warnings_of_keys};
+ghost use Rattle.token_report.specs.Warnings.{warnings_of_list, warnings_of_member};
+ghost use Rattle.token_report.specs.Warnings.{warnings_of_names, warnings_of_salt};
+ghost use Rattle.token_report.specs.Warnings.{warnings_of_table, warnings_of_tables, when};
 
 use crate::table::{list_at, name_at};
 use crate::warning::{SHORTEST_SALT, Warning};

@@ -14,7 +14,7 @@ use Rattle.wire_http.specs.declared.connection.Connection.{Connection}
 use Rattle.wire_http.specs.declared.connection.Step.{Step}
 use Rattle.wire_http.specs.declared.connection.Step.TheVariants as steps
 use Rattle.wire_http.specs.declared.end.End.{End}
-use Rattle.wire_http.specs.Connection.{held_of, has_ended, is_done, left_of, output_of, ready_of, slot_for, slot_of, IsStep}
+use Rattle.wire_http.specs.Connection.{held_of, has_ended, is_done, left_of, output_of, ready_of, slot_of, IsStep}
 use Rattle.wire_http.specs.Count.{most_requests}
 use Rattle.wire_http.specs.Held.{MayCome}
 use Rattle.wire_http.specs.Many.{AnyMoment, HoldsBackLast, IsNextCall, IsServed, IsServedAfter, IsServedWhole}

@@ -1,5 +1,5 @@
 -- What one connection holds, and what a step of it does.
-use Rattle.std.specs.Prelude.{◌≡◌, ◌<◌, ◌≤◌, ◌-◌, ℕ, Bool, true, false, List, [], ◌++◌, length, drop, Option, Some, None, is_some, option_map}
+use Rattle.std.specs.Prelude.{◌≡◌, ◌<◌, ◌≤◌, ◌-◌, ℕ, Bool, true, false, List, [], ◌++◌, length, drop, Option, Some, is_some, option_map}
 use Rattle.std.specs.List.{concat}
 use Rattle.space_core.specs.declared.space.Space.{Ghosts}
 use Rattle.service_core.specs.declared.service.Service.{Service}
@@ -96,7 +96,8 @@ module _ {S M : Type 0} (g : Ghosts S) (Gives : M → ℕ → M → Type 0) (cal
       × (held_of c' ≡ held_of c) × (left_of c' ≡ left_of c) × (is_done c' ≡ true)
       × (slot_of c' ≡ slot_of c)
 
-  -- What is noted is of that request and its reply, or of the rule of the wire that ended the stream.
+  -- What is noted is of that request and its reply, or of the rule of the wire that ended the
+  -- stream.
   abbrev pub IsNotedAs : (step : Step) → IsStep step → Type 0
   IsNotedAs steps.Waits is = noted_of c' ≡ noted_of c
   IsNotedAs (steps.Answered n) is = noted_of c' ≡ Some (noted_for is.1.0 is.1.1)

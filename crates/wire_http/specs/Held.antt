@@ -29,7 +29,8 @@ HasNoneBelow bytes count = (later : List ℕ) → length (bytes ++ later) < coun
     → HasNoRequest (bytes ++ later)
 
 -- A whole request stands at the front of the held bytes, or they stop the stream so, whatever may
--- still come; or the input has not ended, and no whole request stands there before so many are held.
+-- still come; or the input has not ended, and no whole request stands there before so many are
+-- held.
 abbrev pub IsHeld : List ℕ → Bool → List HeaderSpan → Held → Type 0
 IsHeld bytes ended fields (Gives next) = (later : List ℕ) → MayCome ended later
     → IsNext later bytes fields next

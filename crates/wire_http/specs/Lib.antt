@@ -14,7 +14,9 @@ pub mod Received
 pub mod Reply
 pub mod Source
 pub mod Stop
+pub mod Stream
 pub mod Text
 pub mod Turn
 pub mod Turns
+pub mod Laws
 pub mod Wire

@@ -25,8 +25,8 @@ AnyMoment clock moment clock' = Unit {0}
 abbrev pub Spells : Callers → List ℕ → List Asked → ℕ → List ℕ → Type 0
 Spells callers came all n rest = Leads AnyMoment callers most_requests came tt all n rest tt
 
--- These bytes have come, these requests of them were asked and answered so, and the answers are what
--- was sent and what is to be sent.
+-- These bytes have come, these requests of them were asked and answered so, and the answers are
+-- what was sent and what is to be sent.
 pub record IsServed (callers : Callers) (came : List ℕ) (all : List Asked) (replies : List Reply)
     (sent : List ℕ) (c : Connection) : Type 0 where
   pub one_each : length replies ≡ length all
@@ -35,15 +35,15 @@ pub record IsServed (callers : Callers) (came : List ℕ) (all : List Asked) (re
   pub texts : sent ++ output_of c ≡ concat (answers all replies)
   pub goes_on : is_done c ≡ false
 
--- The answer to that request is held back, and it is the last: what was sent and what may be sent are
--- the answers to the requests before it.
+-- The answer to that request is held back, and it is the last: what was sent and what may be sent
+-- are the answers to the requests before it.
 pub record HoldsBackLast (all : List Asked) (replies : List Reply) (asked : Asked) (sent : List ℕ)
     (c : Connection) : Type 0 where
   pub slot : slot_of c ≡ Some (slot_for asked)
   pub before : sent ++ ready_of c ≡ concat (answers all replies)
 
--- The whole of an input was served so: its requests were asked and answered, and then it ended, as a
--- stream of that input is served alone.
+-- The whole of an input was served so: its requests were asked and answered, and then it ended, as
+-- a stream of that input is served alone.
 pub record IsServedWhole (callers : Callers) (input : List ℕ) (all : List Asked)
     (replies : List Reply) (end : End) (text : List ℕ) : Type 0 where
   pub n : ℕ

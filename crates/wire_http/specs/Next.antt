@@ -13,8 +13,8 @@ use Rattle.wire_http.specs.Wire.{IsRequest}
 abbrev pub body_at : List ℕ → ℕ → ℕ → List ℕ
 body_at buffer start size = take size (drop start buffer)
 
--- This request stands in the buffer, whatever follows, and the spans cover its parts; or what stands
--- there, with these bytes ahead of it, stops the stream so.
+-- This request stands in the buffer, whatever follows, and the spans cover its parts; or what
+-- stands there, with these bytes ahead of it, stops the stream so.
 abbrev pub IsNext : List ℕ → List ℕ → List HeaderSpan → Next → Type 0
 IsNext ahead buffer fields (Request spans size) =
     (h : RequestHead)

@@ -54,7 +54,8 @@ abbrev pub noted_for : Asked → Reply → Noted
 noted_for asked reply =
     noted_as (kind_asked asked.place asked.head.method) asked.call (outcome_of reply)
 
--- After the end of a stream: the rule of the wire that a request broke, and else what was noted before.
+-- After the end of a stream: the rule of the wire that a request broke, and else what was noted
+-- before.
 abbrev pub noted_after : End → Option Noted → Option Noted
 noted_after (ends.Wire rule) noted = Some (record {
   operation = None;

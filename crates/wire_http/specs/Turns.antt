@@ -10,8 +10,8 @@ use Rattle.wire_http.specs.Connection.{is_done}
 use Rattle.wire_http.specs.Many.{HoldsBackLast, IsServed}
 use Rattle.wire_http.specs.Wire.{Asked, timed}
 
--- A call that was made: for which connection, what was asked, the reply, and what the caller is told:
--- that reply, unless the answer was replaced.
+-- A call that was made: for which connection, what was asked, the reply, and what the caller is
+-- told: that reply, unless the answer was replaced.
 pub record MadeCall : Type 0 where
   pub connection : ℕ
   pub asked : Asked
@@ -54,8 +54,8 @@ pub record AreServed {S : Type 0} (g : Ghosts S) (callers : Callers) (first now 
       → IsServed callers (came who) (asked_for who log) (told_for who log) (sent who)
       (connections who)
 
--- So it is after calls for that connection, at most one. It is told as it was answered, and its answer
--- is held back.
+-- So it is after calls for that connection, at most one. It is told as it was answered, and its
+-- answer is held back.
 pub record AreServedAfter {S : Type 0} (g : Ghosts S) (callers : Callers) (first now : Service S)
     (log : List MadeCall) (came sent : ℕ → List ℕ) (connections : ℕ → Connection) (who : ℕ)
     (next : Connection) : Type 0 where

@@ -109,8 +109,8 @@ pub record IsFront (texts : List (List ℕ)) (bytes : List ℕ) : Type 0 where
   pub others_whole : length (concat (take (length texts - 1) texts)) ≤ size
   pub last_short : size < length (concat texts)
 
--- The stream was given up before its next request was asked: one may still come, and the answers are
--- whole.
+-- The stream was given up before its next request was asked: one may still come, and the answers
+-- are whole.
 pub record GivesUpAsking
     {M : Type 0} (Gives : M → ℕ → M → Type 0) (callers : Callers)
     (fault : StreamFault) (n : ℕ) (left : List ℕ) (later clock' : M) (texts : List (List ℕ))
@@ -120,8 +120,8 @@ pub record GivesUpAsking
   pub clock_is : ClockAfter Gives callers fault left later clock'
   pub whole : bytes ≡ concat texts
 
--- It was given up in the last answer, or in the text of the rule that the rest breaks. No moment was
--- taken since then.
+-- It was given up in the last answer, or in the text of the rule that the rest breaks. No moment
+-- was taken since then.
 pub record GivesUpAnswering
     {M : Type 0} (fault : StreamFault) (n : ℕ) (left : List ℕ) (later clock' : M)
     (texts : List (List ℕ)) (bytes : List ℕ) : Type 0 where

@@ -1,5 +1,6 @@
 //! The call that a request makes.
-ghost use Rattle.std.specs.Prelude.{◌≡◌, ℕ, length, map, take, if◌then◌else◌, All, Err, IfOk, IfErr, OnOk};
+ghost use Rattle.std.specs.Prelude.{◌≡◌, ℕ, length, map, take, if◌then◌else◌};
+ghost use Rattle.std.specs.Prelude.{All, Err, IfOk, IfErr, OnOk};
 ghost use Rattle.httparse.specs.Spans.{IsHeaderWithin, header_bytes};
 ghost use Rattle.token_conf.specs.TokenFile.{callers_of};
 ghost use Rattle.wire_body.specs.Body.{words_of};
@@ -40,8 +41,8 @@ fn read_as(
     }
 }
 
-// What a path, a method and a body ask for: the place of the path, the kind that the place has of the
-// method, and the operation.
+// What a path, a method and a body ask for: the place of the path, the kind that the place has of
+// the method, and the operation.
 #[derive(Drop)]
 struct Sought {
     place: Option<Place>,

@@ -1,5 +1,6 @@
 //! One connection as steps over bytes. It makes no system call: its caller moves the bytes.
-ghost use Rattle.std.specs.Prelude.{◌≡◌, ◌<◌, ◌≤◌, ◌+◌, ◌-◌, length, drop, take, Some, ◌++◌, IfOk, OnOk, OnErr, vec_len, vec_capacity};
+ghost use Rattle.std.specs.Prelude.{◌≡◌, ◌<◌, ◌≤◌, ◌+◌, ◌-◌, length, drop, take, Some};
+ghost use Rattle.std.specs.Prelude.{◌++◌, IfOk, OnOk, OnErr, vec_len, vec_capacity};
 ghost use Rattle.std.specs.List.{concat};
 ghost use Rattle.std.specs.Option.{ForSome};
 ghost use Rattle.service_core.specs.Held.{Stays};
@@ -139,8 +140,8 @@ fn end_behind(alloc: Global, output: &mut Vec<u8>, end: End) -> Result<(), Alloc
     }
 }
 
-// The answer that is held back, the last of all: where its text begins, the place of its request, and
-// whether the connection closes after it.
+// The answer that is held back, the last of all: where its text begins, the place of its request,
+// and whether the connection closes after it.
 #[derive(Clone, Copy)]
 struct HeldBack {
     start: usize,
@@ -151,8 +152,8 @@ struct HeldBack {
 /// The bytes that one connection holds: those that came and belong to no earlier request, and
 /// those of answers that are not sent yet.
 ///
-/// The answer to the last request is held back, and no byte of it is to be sent, until the caller lets
-/// it go or has it replaced.
+/// The answer to the last request is held back, and no byte of it is to be sent, until the caller
+/// lets it go or has it replaced.
 #[derive(Drop)]
 pub struct Connection {
     held: Vec<u8>,
@@ -178,7 +179,10 @@ pub struct Connection {
 impl Connection {
     ghost use Rattle.std.specs.Prelude.{[], true, false, IsTrue, ◌↔◌, Err, IfErr, None, option_map};
     ghost use Rattle.token_conf.specs.TokenFile.{callers_of};
-    ghost use Rattle.wire_http.specs.Connection.{held_of, left_of, has_ended, is_done, output_of, ready_of, held_back_of, holds_back, slot_of, noted_of, HasRoom, IsStep, IsNotedStep, IsStepPart};
+    ghost use Rattle.wire_http.specs.Connection.{held_of, left_of, has_ended, is_done};
+    ghost use Rattle.wire_http.specs.Connection.{output_of, ready_of, held_back_of};
+    ghost use Rattle.wire_http.specs.Connection.{holds_back, slot_of, noted_of, HasRoom};
+    ghost use Rattle.wire_http.specs.Connection.{IsStep, IsNotedStep, IsStepPart};
     ghost use Rattle.wire_http.specs.HeldBack.{text_at};
     ghost use Rattle.wire_http.specs.Count.{one_more};
     ghost use Rattle.wire_http.specs.Noted.{noted_instead};
@@ -206,7 +210,8 @@ impl Connection {
         }
     }
 
-    /// How many bytes more it takes in: none where a head and a body of the greatest sizes are held.
+    /// How many bytes more it takes in: none where a head and a body of the greatest sizes are
+    /// held.
     pub fn room(&self) -> usize
         ensures { result ≡ most_held - length (held_of self.now) }
     {
@@ -228,8 +233,8 @@ impl Connection {
         !self.held.is_empty()
     }
 
-    /// What its last answer was to, and how that ended: nothing before the first. The text of a rule of
-    /// the wire is an answer, too.
+    /// What its last answer was to, and how that ended: nothing before the first. The text of a
+    /// rule of the wire is an answer, too.
     pub fn noted(&self) -> Option<&Noted>
         ensures { option_map (λ noted. noted.now) result ≡ noted_of self.now }
     {
@@ -442,11 +447,11 @@ impl Connection {
         Ok(Step::Answered(left))
     }
 
-    /// Answers the next request, if it is held whole, and holds its answer back; or ends the stream:
-    /// what `serve_stream` does next of the same bytes, with no reading and no writing.
+    /// Answers the next request, if it is held whole, and holds its answer back; or ends the
+    /// stream: what `serve_stream` does next of the same bytes, with no reading and no writing.
     ///
-    /// After a fault no request more is answered, and nothing was put behind the output. At most one
-    /// call was made whose answer is lost, and it stands as it was done.
+    /// After a fault no request more is answered, and nothing was put behind the output. At most
+    /// one call was made whose answer is lost, and it stands as it was done.
     pub fn advance<S: Space + Drop, M: Moments>(
         &mut self,
         alloc: Global,

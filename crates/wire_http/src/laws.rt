@@ -4,11 +4,10 @@ ghost use Rattle.httparse.specs.Grammar.{RequestHead};
 ghost use Rattle.policy_core.specs.declared.call.Call.{Call};
 ghost use Rattle.token_conf.specs.TokenFile.{Callers};
 ghost use Rattle.wire_http.specs.Asked.{IsCallOf};
-ghost use Rattle.wire_http.specs.Stop.{AreSameEnds};
-ghost use Rattle.wire_http.specs.Wire.{Asked, Finishes, IsRequest, Leads};
+ghost use Rattle.wire_http.specs.Laws.{OneStream};
+ghost use Rattle.wire_http.specs.Wire.{IsRequest};
 ghost use Rattle.wire_head.specs.Rest.{Kind, IsKind, AreSame};
 ghost use Rattle.wire_head.specs.Target.{path_of};
-ghost use Rattle.wire_http.specs.declared.end.End.{End};
 ghost use Rattle.wire_route.specs.declared.place.Place.{Place};
 
 use crate::moments::Moments;
@@ -41,10 +40,5 @@ pub fn sample_path()
 /// end, but where what is left of them breaks the grammar and also has too many fields: there both
 /// rules are right.
 pub fn one_stream<M: Moments>()
-    ensures { ((c : M) (m n : ℕ) (d e : M) → M.gives c m d → M.gives c n e → (n ≡ m) × (e ≡ d))
-        → (callers : Callers) (bound : ℕ) (rest : List ℕ) (clock : M)
-        → (all others : List Asked) (n m : ℕ) (left last : List ℕ) (d e : M) (end other : End)
-        → Leads M.gives callers bound rest clock all n left d → Finishes n left end
-        → Leads M.gives callers bound rest clock others m last e → Finishes m last other
-        → (others ≡ all) × (last ≡ left) × (e ≡ d) × AreSameEnds left end other }
+    ensures { OneStream M.gives }
 {}

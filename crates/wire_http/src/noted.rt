@@ -35,8 +35,8 @@ pub struct Noted {
     pub operation: Option<OpKind>,
     /// The supplier that asked, where a token says so.
     pub supplier: Option<UssId>,
-    /// The id of the entity or the subscription that is asked for, where words and body have the form
-    /// of one that names it.
+    /// The id of the entity or the subscription that is asked for, where words and body have the
+    /// form of one that names it.
     pub entity: Option<EntityId>,
     /// How it ended.
     pub outcome: Outcome,

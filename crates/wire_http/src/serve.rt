@@ -1,5 +1,6 @@
 //! The service over a stream.
-ghost use Rattle.std.specs.Prelude.{◌≡◌, ◌<◌, ◌≤◌, ◌+◌, ◌-◌, ◌⊎◌, ℕ, List, true, length, take, Err, OnErr, OnOk, IfErr, IfOk};
+ghost use Rattle.std.specs.Prelude.{◌≡◌, ◌<◌, ◌≤◌, ◌+◌, ◌-◌, ◌⊎◌, ℕ, List, true};
+ghost use Rattle.std.specs.Prelude.{length, take, Err, OnErr, OnOk, IfErr, IfOk};
 ghost use Rattle.std.specs.List.{concat};
 ghost use Rattle.std.specs.Io.KnownBytes.{Appends};
 ghost use Rattle.token_conf.specs.TokenFile.{callers_of};
@@ -8,12 +9,11 @@ ghost use Rattle.wire_http.specs.Counted.{inner_of, calls_of, failures_of, has_f
 ghost use Rattle.wire_http.specs.Count.{FailsLast, IsGreatest, one_more};
 ghost use Rattle.wire_http.specs.Count.{most_reads, most_requests};
 ghost use Rattle.wire_http.specs.Fault.{GaveUpAnswering, Tells};
-ghost use Rattle.wire_http.specs.Input.{IsInput};
 ghost use Rattle.wire_http.specs.Reply.{Replies, RepliesPart};
 ghost use Rattle.wire_http.specs.Source.{HasSpent, ahead_of, bytes_of};
+ghost use Rattle.wire_http.specs.Stream.{ServesStream, ServesStreamPart};
 ghost use Rattle.wire_http.specs.Text.{end_texts};
 ghost use Rattle.wire_http.specs.Turn.{IsTurn, IsTurnPart, MayGoOn};
-ghost use Rattle.wire_http.specs.Wire.{Serves, ServesPart};
 
 use crate::call::{Pending, Received, ask, left_after};
 use crate::counted::Counted;
@@ -169,19 +169,17 @@ pub fn serve_stream<S: Space + Drop, M: Moments, R: Read, W: Write>(
     reader: &mut Counted<R>,
     writer: &mut Counted<W>,
 ) -> Result<Served, StreamFault>
-    // What the input spells was asked and answered, whatever the pieces were in which it came. Where
-    // nobody knows a reader's bytes, as those of a file or a socket, there is an input of which this
-    // holds.
-    ensures serves { IfOk result (λ served. (input : List ℕ)
-        × IsInput (R.remaining (inner_of reader.old)) input
-        × Serves S.Space M.gives (callers_of tokens.now) most_requests input
-        service.old service.new moments.old moments.new
-        (W.contents (inner_of writer.old)) (W.contents (inner_of writer.new)) served) }
-    ensures part { IfErr result (λ fault. (input : List ℕ)
-        × IsInput (R.remaining (inner_of reader.old)) input
-        × ServesPart S.Space M.gives (callers_of tokens.now) most_requests input
-        service.old service.new moments.old moments.new
-        (W.contents (inner_of writer.old)) (W.contents (inner_of writer.new)) fault) }
+    // What the input spells was asked and answered, whatever the pieces were in which it came.
+    // Where nobody knows a reader's bytes, as those of a file or a socket, there is an input of
+    // which this holds.
+    ensures serves { IfOk result (ServesStream S.Space M.gives tokens.now
+        (R.remaining (inner_of reader.old))
+        (service.old, moments.old, W.contents (inner_of writer.old))
+        (service.new, moments.new, W.contents (inner_of writer.new))) }
+    ensures part { IfErr result (ServesStreamPart S.Space M.gives tokens.now
+        (R.remaining (inner_of reader.old))
+        (service.old, moments.old, W.contents (inner_of writer.old))
+        (service.new, moments.new, W.contents (inner_of writer.new))) }
 
     // What is told to have failed did so once, and a reader or a writer was not called after it.
     ensures read { result ≡ Err StreamFault.Read

@@ -29,7 +29,8 @@ impl<R: Read> Source<'_, R> {
     fn read_more(&mut self, piece: &mut [u8; PIECE], room: usize) -> Result<bool, StreamFault>
         requires { 0 < room }
         ensures reads { Reads R.remaining self.old self.new result }
-        ensures short { OnOk result (length (bytes_of self.new) ≤ length (bytes_of self.old) + room) }
+        ensures short { OnOk result
+            (length (bytes_of self.new) ≤ length (bytes_of self.old) + room) }
         ensures end { IfOk result (λ came. came ≡ false
             → (bytes_of self.new ≡ bytes_of self.old) × IsAtEnd (ahead_of R.remaining self.new)) }
         ensures fewer { OnOk result (self.new.turns + 1 ≡ self.old.turns) }
@@ -49,8 +50,8 @@ impl<R: Read> Source<'_, R> {
         }
     }
 
-    /// Reads until the buffer holds `count` bytes, and at most as many as a head may have where they
-    /// are fewer. `false`: the input ended before.
+    /// Reads until the buffer holds `count` bytes, and at most as many as a head may have where
+    /// they are fewer. `false`: the input ended before.
     pub(crate) fn fill(&mut self, count: usize) -> Result<bool, StreamFault>
         ensures reads { Reads R.remaining self.old self.new result }
         ensures short { OnOk result (length (bytes_of self.new)

@@ -1,7 +1,9 @@
 //! The text of an answer (RFC 9112, section 2.1; this project's profile).
 ghost use Rattle.std.specs.Prelude.{◌≡◌, IfOk};
 ghost use Rattle.std.specs.String.{string_bytes};
-ghost use Rattle.wire_http.specs.Text.{answer_text, reason_of, rule_field, reply_field, status_line, length_line, close_field, front_of, rule_body, rule_text};
+ghost use Rattle.wire_http.specs.Text.{answer_text, reason_of, rule_field};
+ghost use Rattle.wire_http.specs.Text.{reply_field, status_line, length_line};
+ghost use Rattle.wire_http.specs.Text.{close_field, front_of, rule_body, rule_text};
 
 use policy_core::rule::Rule;
 use service_step::reply::Reply;

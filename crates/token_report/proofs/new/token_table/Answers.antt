@@ -1,5 +1,4 @@
-use Rattle.std.proofs.Common.{false, List, ℕ, map, sym, ap, ◌∙◌}
-use Rattle.std.specs.Prelude.{is_some}
+use Rattle.std.proofs.Common.{List, ℕ, map, sym, ap, ◌∙◌}
 use Rattle.std.specs.Borrow.{Bor}
 use Rattle.std.specs.List.{list_all}
 use Rattle.token_report.specs.Warnings.{is_scope}

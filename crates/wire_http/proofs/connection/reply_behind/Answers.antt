@@ -1,4 +1,4 @@
-use Rattle.std.proofs.Common.{Some, sym, append-nil, ◌∙◌}
+use Rattle.std.proofs.Common.{sym, append-nil, ◌∙◌}
 use Rattle.wire_http.proofs.Written.{some_message}
 use Rattle.wire_http.proofs.connection.reply_behind.Goals as goal
 
