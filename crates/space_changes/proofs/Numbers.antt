@@ -1,5 +1,5 @@
 -- The numbers of entities and subscriptions are found.
-use Rattle.std.proofs.Common.{◌≡◌, inl, inr, ℕ, ◌<◌, ◌^◌, ℤ, List, [], ◌∷◌, map, filter, length, ◌&&◌, Bool, true, false, Option, Some, None, refl, sym, ap, subst, subst₂, ◌∙◌, arith, int_eq, get_or}
+use Rattle.std.proofs.Common.{◌≡◌, inl, ℕ, ◌<◌, ◌^◌, ℤ, List, [], ◌∷◌, map, filter, length, ◌&&◌, Bool, true, false, Option, Some, None, refl, sym, ap, subst, subst₂, ◌∙◌, arith, int_eq, get_or}
 use Rattle.std.specs.Prelude.{IsPermutation}
 use Rattle.std.specs.Ordering.{eq_by_cmp}
 use Rattle.std.specs.FinMap.{nat_cmp-IsAntisymmetric, slice_cmp-IsAntisymmetric}
