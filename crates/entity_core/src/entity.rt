@@ -69,7 +69,7 @@ impl Entity {
             version: self.version,
             serial: self.serial,
             ovn: self.ovn.clone()?,
-            volumes: self.volumes.clone(alloc)?,
+            volumes: self.volumes.clone()?,
             url: self.url.clone()?,
         })
     }

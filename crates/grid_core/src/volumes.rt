@@ -7,11 +7,13 @@ ghost use Rattle.grid_core.specs.Volumes.{IsSpan, covered_sum, meets_some, span_
 use crate::volume::{Area, Volume};
 use std::alloc::{AllocError, Global};
 use std::marker::Model;
+use std::rc::Rc;
 
-/// The volumes of an entity, from 1 to 32 (this project's profile). Contracts see their list.
+/// The volumes of an entity, from 1 to 32 (this project's profile), which its copies share.
+/// Contracts see their list.
 #[derive(Debug, Drop)]
 pub struct Volumes {
-    items: Vec<Volume>,
+    items: Rc<Vec<Volume>>,
 }
 
 impl Model for Volumes {
@@ -20,9 +22,10 @@ impl Model for Volumes {
 
     ghost Value = { List Extent };
 
-    ghost view = { λ a. a.items.items };
+    ghost view = { λ a. a.items.value.items };
 
-    ghost invariant = { λ a. (1 ≤ length a.items.items) × (length a.items.items ≤ 32) };
+    ghost invariant = { λ a. (1 ≤ length a.items.value.items)
+        × (length a.items.value.items ≤ 32) };
 }
 
 /// Whether a volume meets some area.
@@ -36,16 +39,6 @@ fn any_meet(volumes: &[Volume], areas: &[Area]) -> bool
     ensures { result ≡ any_meet volumes.now areas.now }
 {
     volumes.iter().any(|volume| meets_some(volume, areas))
-}
-
-fn clone_all(alloc: Global, volumes: &[Volume]) -> Result<Vec<Volume>, AllocError>
-    ensures { IfOk result (λ v. v.items ≡ volumes.now) }
-{
-    let mut items = Vec::new(alloc);
-    for volume in volumes {
-        items.push(volume.clone()?)?;
-    }
-    Ok(items)
 }
 
 // The times from the one's first to the last of both.
@@ -101,16 +94,18 @@ fn covered_sum(volumes: &[Volume]) -> u64
 }
 
 impl Volumes {
-    /// These volumes; none where there are none or over 32, and they are dropped then. It takes no
-    /// memory.
-    pub fn from_vec(items: Vec<Volume>) -> Option<Volumes>
-        ensures some { IfSome result (λ v. v ≡ items.items) }
-        ensures none { IfNone result ((1 ≤ length items.items) → (length items.items ≤ 32) → ⊥) }
+    /// These volumes; none where there are none or over 32, and they are dropped then, as they are
+    /// where memory is wanting.
+    pub fn from_vec(alloc: Global, items: Vec<Volume>) -> Result<Option<Volumes>, AllocError>
+        ensures some { IfOk result (λ made. IfSome made (λ v. v ≡ items.items)) }
+        ensures none { IfOk result (λ made. IfNone made
+            ((1 ≤ length items.items) → (length items.items ≤ 32) → ⊥)) }
     {
         if items.is_empty() || items.len() > 32 {
-            None
+            Ok(None)
         } else {
-            Some(Volumes { items })
+            let items = Rc::new(alloc, items)?;
+            Ok(Some(Volumes { items }))
         }
     }
 
@@ -120,7 +115,7 @@ impl Volumes {
         ensures least { 1 ≤ length self.now }
         ensures most { length self.now ≤ 32 }
     {
-        self.items.as_slice()
+        self.items.as_ref().as_slice()
     }
 
     /// Whether some volume meets some area. Each is tested alone, and none are merged.
@@ -128,7 +123,7 @@ impl Volumes {
         ensures test { result ≡ any_meet self.now areas.now }
         ensures relation { IsTrue result ↔ AnyMeet self.now areas.now }
     {
-        any_meet(&self.items, areas)
+        any_meet(self.items(), areas)
     }
 
     /// The least first time and the greatest last time, in seconds since 1970.
@@ -143,7 +138,7 @@ impl Volumes {
         ensures value { result ≡ span_of self.now }
         ensures some { 1 ≤ length self.now }
     {
-        span_of(&self.items)
+        span_of(self.items())
     }
 
     /// How many cells of level 13 they count for, volume by volume and cell by cell (this project's
@@ -151,29 +146,21 @@ impl Volumes {
     pub fn covered(&self) -> u64
         ensures { result ≡ covered_sum self.now }
     {
-        covered_sum(&self.items)
+        covered_sum(self.items())
     }
 
     /// The volumes as areas, all of whose bounds are there.
     pub fn areas(&self, alloc: Global) -> Result<Vec<Area>, AllocError>
         ensures { IfOk result (λ areas. areas.items ≡ map region_of self.now) }
     {
-        areas_of(alloc, &self.items)
+        areas_of(alloc, self.items())
     }
 
-    /// The volumes themselves. It takes no memory.
-    pub fn into_vec(self) -> Vec<Volume>
-        ensures { result.items ≡ self }
-    {
-        let Volumes { items } = self;
-        items
-    }
-
-    /// Equal volumes.
-    pub fn clone(&self, alloc: Global) -> Result<Volumes, AllocError>
+    /// Equal volumes, which are shared. It takes no memory.
+    pub fn clone(&self) -> Result<Volumes, AllocError>
         ensures { IfOk result (λ v. v ≡ self.now) }
     {
-        let items = clone_all(alloc, &self.items)?;
+        let items = self.items.clone()?;
         Ok(Volumes { items })
     }
 }

@@ -70,7 +70,7 @@ fn entity_of(
         version,
         serial,
         ovn: ovn_of(alloc, salt, serial.number())?,
-        volumes: put.volumes.clone(alloc)?,
+        volumes: put.volumes.clone()?,
         url: put.url.clone()?,
     })
 }

@@ -14,11 +14,11 @@ use grid_core::volume::Volume;
 use grid_core::volumes::Volumes;
 use std::alloc::{AllocError, Global};
 
-fn joined(head: Head, list: Vec<Volume>) -> Option<Entity>
-    ensures { Finds (HasVolumes head list.items) result }
+fn joined(alloc: Global, head: Head, list: Vec<Volume>) -> Result<Option<Entity>, AllocError>
+    ensures { IfOk result (λ o. Finds (HasVolumes head list.items) o) }
 {
-    match Volumes::from_vec(list) {
-        Some(volumes) => Some(Entity {
+    match Volumes::from_vec(alloc, list)? {
+        Some(volumes) => Ok(Some(Entity {
             nature: head.nature,
             id: head.id,
             manager: head.manager,
@@ -27,8 +27,8 @@ fn joined(head: Head, list: Vec<Volume>) -> Option<Entity>
             ovn: head.ovn,
             volumes,
             url: head.url,
-        }),
-        None => None,
+        })),
+        None => Ok(None),
     }
 }
 
@@ -49,7 +49,7 @@ pub fn entity_of(
         return Ok(None);
     };
     match volumes_of(alloc, row.num, volumes, cells)? {
-        Some(list) => Ok(joined(head, list)),
+        Some(list) => joined(alloc, head, list),
         None => Ok(None),
     }
 }

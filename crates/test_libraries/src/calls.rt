@@ -61,7 +61,7 @@ fn kept(alloc: Global, op: &Operation, number: u32) -> Option<Entity> {
         version,
         serial,
         ovn,
-        volumes: put.volumes.clone(alloc).ok()?,
+        volumes: put.volumes.clone().ok()?,
         url,
     })
 }

@@ -36,7 +36,7 @@ fn volumes(alloc: Global) -> Option<Volumes> {
     items
         .push(Volume::new(cells, (0, 1000), (900, 1500)).ok()?)
         .ok()?;
-    Volumes::from_vec(items)
+    Volumes::from_vec(alloc, items).ok()?
 }
 
 // An entity with the OVN of a number.

@@ -52,13 +52,16 @@ fn are_few_cells(volumes: &[Volume]) -> bool
 }
 
 // The volumes, from 1 to 32 with at most 2,048 cells in all.
-fn few_volumes(volumes: Vec<Volume>) -> Option<Volumes>
-    ensures { result ≡ few_volumes volumes.items }
+fn few_volumes(alloc: Global, volumes: Vec<Volume>) -> Result<Volumes, BodyFault>
+    ensures { Gives result (few_volumes volumes.items) }
 {
-    if are_few_cells(&volumes) {
-        Volumes::from_vec(volumes)
-    } else {
-        None
+    if !are_few_cells(&volumes) {
+        return Err(BodyFault::Malformed);
+    }
+    match Volumes::from_vec(alloc, volumes) {
+        Ok(Some(volumes)) => Ok(volumes),
+        Ok(None) => Err(BodyFault::Malformed),
+        Err(_) => Err(BodyFault::Memory),
     }
 }
 
@@ -75,10 +78,7 @@ fn volumes_in(alloc: Global, value: &Value) -> Result<Volumes, BodyFault>
         return Err(BodyFault::Malformed);
     }
     let volumes = each_volume(alloc, items)?;
-    match few_volumes(volumes) {
-        Some(volumes) => Ok(volumes),
-        None => Err(BodyFault::Malformed),
-    }
+    few_volumes(alloc, volumes)
 }
 
 #[tactic(auto, unfolding(crate::specs::Put::volumes_of))]
