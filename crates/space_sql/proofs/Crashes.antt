@@ -76,14 +76,14 @@ if_err_as (Ok x) f p = tt
 if_err_as (Err e) f p = f e p
 
 module _ (old opened : State) (live : IsLive opened) (settled : IsTrue opened.is_open → opened.now ≡ opened.committed) {X C : Type 0} (r : Result X (OpenFault × C)) (Left : Type 0) (sees : Left → IsTrue opened.is_open × ∥ old.may_leave opened.committed.trees ∥₁) where
-  pub taken_again : (Sound : X → Type 0) (Has : X → Airspace → Type 0) → IfOk r (λ s. Sound s → (format : Format) → opened.now.schema ≡ schema_of format → (a : Airspace) × SpellsAs format opened.now a × Has s a)
+  pub taken_again : (Sound : X → Type 0) (Has : X → Airspace → Type 0) → IfOk r (λ s. (format : Format) → Sound s → opened.now.schema ≡ schema_of format → (a : Airspace) × SpellsAs format opened.now a × Has s a)
       → IfOk r (λ s. Sound s → is_whole_in old → Left → ∥ ((a : Airspace) × holds_in old a × Has s a) ∥₁)
   taken_again Sound Has taken = if_ok_as r (λ s got sound whole left. ∥∥₁_map (sees left).1 (λ may.
       let it = found_again old opened whole live (sees left).0 (settled (sees left).0) may in
-      let own = got sound Two it.schema in
+      let own = got Two sound it.schema in
       (own.0, subst (λ a. holds_in old a) (one_airspace _ _ it.held own.0 refl it.spelt own.1) it.holds, own.2))) taken
 
-  pub refused_again : (Clean : C → Type 0) → IfErr r (λ e. Clean e.1 → (format : Format) → opened.now.schema ≡ schema_of format → Refuses format opened.now e.0) → IfErr r (λ e. Clean e.1 → is_whole_in old → Left → e.0 ≡ Store)
+  pub refused_again : (Clean : C → Type 0) → IfErr r (λ e. (format : Format) → Clean e.1 → opened.now.schema ≡ schema_of format → Refuses format opened.now e.0) → IfErr r (λ e. Clean e.1 → is_whole_in old → Left → e.0 ≡ Store)
   refused_again Clean refuses = if_err_as r (λ e why clean whole left. is_store e.0 (λ other. not_there (sees left).1 (λ may.
       let it = found_again old opened whole live (sees left).0 (settled (sees left).0) may in
-      not_refused Two opened.now it.held e.0 it.spelt (why clean Two it.schema) other))) refuses
+      not_refused Two opened.now it.held e.0 it.spelt (why Two clean it.schema) other))) refuses

@@ -78,7 +78,7 @@ module _ (image : Image) (s : State) (it : IsOpenedOver image s) where
 
   held_found : {S : Type 0} (space : Ghosts (Kept S)) (k : Kept S) → HoldsSpelt space s k → space.is_sound k → (format : Format) (a : Airspace) → FilesSpell format image a → IsContent space.holds k a
   held_found space k holds sound format a h =
-      let own = holds sound format (found_schema format h.0 (h.1, h.2.0)) in
+      let own = holds format sound (found_schema format h.0 (h.1, h.2.0)) in
       subst (λ b. IsContent space.holds k b) (one_airspace_of format s.now s.now own.0 a refl own.1 (found_spelt format a h)) own.2
 
   told_found : (upgraded : Type 0) → (upgraded ↔ (presence_in s.now.schema.tables ≡ Whole One)) → (format : Format) (a : Airspace) → FilesSpell format image a → (upgraded ↔ (format ≡ One))
@@ -141,7 +141,7 @@ pub refuses : (image : Image) (s back : State) (fault : OpenFault) → (HasClean
 refuses image s back fault opened rests went due new =
     let before = λ (clean : HasCleanDisk back). opened (omega (arith, went.clean, clean)) in
     record {
-      due = λ clean. due_found image s (before clean) fault (due clean);
+      due = λ clean. due_found image s (before clean) fault (λ format. due format clean);
       new = λ clean none. new (found_none image s (before clean) none);
       spelt = λ clean. left_found image s (before clean) back fault rests went clean;
       unmade = λ clean none. left_unmade image s (before clean) back fault rests went clean none none_stands;

@@ -51,6 +51,10 @@ pub record IsOpenedOver (image : Image) (s : State) : Type 0 where
   pub live : IsLive s
   pub found : FindsIn image s
 
+-- it is one, as long as the disk has returned what was written
+abbrev pub IsOver : Image → State → Type 0
+IsOver image s = HasCleanDisk s → IsOpenedOver image s
+
 -- What is known of a space that was taken over files which held this: it holds exactly the airspace
 -- that was spelt there, or an empty one where there was no table, and where it holds one, it is
 -- whole; and it tells whether it was spelt in format 1.

@@ -1,21 +1,22 @@
 -- What taking a database tells, and what it leaves.
-use Rattle.std.specs.Prelude.{◌≡◌, false}
+use Rattle.std.specs.Prelude.{◌≡◌, ◌≢◌, false}
 use Rattle.sqlite_trees.specs.Tree.{Trees}
 use Rattle.sqlite_trees.specs.declared.store.Store as stores
 use Rattle.sqlite.specs.Effect.{Database}
 use Rattle.sqlite.specs.Held.{Held, state}
 use Rattle.sqlite.specs.State.{State, HasCleanDisk}
-use Rattle.entity_core.specs.Airspace.{Airspace}
+use Rattle.entity_core.specs.Airspace.{Airspace, empty_at}
 use Rattle.space_core.specs.Space.{IsContent}
 use Rattle.space_core.specs.declared.space.Space.{Ghosts}
 use Rattle.space_tables.specs.Spelling.{SpellsAs}
-use Rattle.space_tables.specs.Tables.{schema_of}
+use Rattle.space_tables.specs.Tables.{no_schema, schema_of}
 use Rattle.space_tables.specs.declared.format.Format.{Format}
 use Rattle.space_tables.specs.declared.format.Format.TheVariants.{One, Two}
 use Rattle.space_tables.specs.declared.presence.Presence.{Presence}
 use Rattle.space_tables.specs.declared.presence.Presence.TheVariants.{Missing, Partial, Whole}
 use Rattle.space_tables.specs.Making.{MayBeMade}
 use Rattle.space_tables.specs.Presence.{presence_in}
+use Rattle.space_select.specs.Reading.{IsAsFound}
 use Rattle.space_opening.specs.Opening.{MayBeMoved, Refuses}
 use Rattle.space_opening.specs.declared.open_fault.OpenFault.{OpenFault}
 use Rattle.space_opening.specs.declared.open_fault.OpenFault.TheVariants.{Store}
@@ -29,17 +30,42 @@ pub record IsFresh {S : Type 0} (g : stores.Ghosts S) (space : Ghosts (Kept S)) 
   pub unrefused : space.refusals k ≡ 0
   pub works : space.is_broken k ≡ false
 
--- what is taken of tables of a format holds the airspace that they spell
-abbrev pub HoldsSpelt : {S : Type 0} → Ghosts (Kept S) → State → Kept S → Type 0
-HoldsSpelt space opened s =
-    space.is_sound s → (format : Format) → opened.now.schema ≡ schema_of format
+-- what is taken where there was no table is an empty airspace
+abbrev pub HoldsEmpty : {S : Type 0} → Ghosts (Kept S) → State → Kept S → Type 0
+HoldsEmpty space opened s =
+    space.is_sound s → opened.now.schema ≡ no_schema → IsContent space.holds s (empty_at 0)
+
+-- ---- of tables of one format
+
+-- what is taken of them holds the airspace that they spell
+abbrev pub HoldsSpeltAs : {S : Type 0} → Format → Ghosts (Kept S) → State → Kept S → Type 0
+HoldsSpeltAs format space opened s =
+    space.is_sound s → opened.now.schema ≡ schema_of format
     → (a : Airspace) × SpellsAs format opened.now a × IsContent space.holds s a
 
--- the fault of a connection that came back is one that is due over tables of a format
+-- the fault of the connection that came back is one that is due
+abbrev pub IsDueFaultAs : Format → State → State → OpenFault → Type 0
+IsDueFaultAs format opened back fault =
+    HasCleanDisk back → opened.now.schema ≡ schema_of format → Refuses format opened.now fault
+
+-- after each fault but `Store` the connection that came back is as it was found
+abbrev pub IsUnwrittenAs : Format → State → State → OpenFault → Type 0
+IsUnwrittenAs format opened back fault =
+    HasCleanDisk back → opened.now.schema ≡ schema_of format → fault ≢ Store
+    → IsAsFound opened back
+
+-- ---- the same of tables of either
+
+abbrev pub HoldsSpelt : {S : Type 0} → Ghosts (Kept S) → State → Kept S → Type 0
+HoldsSpelt space opened s = (format : Format) → HoldsSpeltAs format space opened s
+
 abbrev pub IsDueFault : State → State → OpenFault → Type 0
-IsDueFault opened back fault =
-    HasCleanDisk back → (format : Format) → opened.now.schema ≡ schema_of format
-    → Refuses format opened.now fault
+IsDueFault opened back fault = (format : Format) → IsDueFaultAs format opened back fault
+
+abbrev pub IsUnwritten : State → State → OpenFault → Type 0
+IsUnwritten opened back fault = (format : Format) → IsUnwrittenAs format opened back fault
+
+-- ---- what a crash leaves
 
 -- Trees that opening may have committed, by how the database stood to the tables: those of an empty
 -- airspace where there was no table, those of format 2 with the airspace that tables of format 1
@@ -54,6 +80,8 @@ MayBeTaken (Whole Two) old trees = ⊥
 abbrev pub MayBeOpened : State → OpenFault → Trees → Type 0
 MayBeOpened old fault trees =
     (fault ≡ Store) × MayBeTaken (presence_in old.now.schema.tables) old trees
+
+-- ---- which airspace it is
 
 -- databases with the same rows spell one airspace at most in a format
 abbrev pub OneAirspaceAs : Type 0

@@ -11,18 +11,18 @@ ghost use Rattle.sqlite.specs.declared.error.ErrorCode.TheVariants.{NotADatabase
 ghost use Rattle.entity_core.specs.Airspace.{Airspace, empty_at};
 ghost use Rattle.space_core.specs.Space.{IsContent};
 ghost use Rattle.space_tables.specs.Making.{IsSettled, MayBeMade};
-ghost use Rattle.space_tables.specs.Spelling.{Spells, SpellsAs};
+ghost use Rattle.space_tables.specs.Spelling.{Spells};
 ghost use Rattle.space_tables.specs.Presence.{presence_in};
-ghost use Rattle.space_tables.specs.Tables.{dss_schema, first_schema, no_schema, schema_of};
+ghost use Rattle.space_tables.specs.Tables.{dss_schema, no_schema};
 ghost use Rattle.space_tables.specs.declared.format.Format.{Format};
 ghost use Rattle.space_tables.specs.declared.format.Format.TheVariants.{One, Two};
 ghost use Rattle.space_tables.specs.declared.presence.Presence.TheVariants.{Whole};
-ghost use Rattle.space_opening.specs.Opening.{MayBeMoved, Refuses};
+ghost use Rattle.space_opening.specs.Opening.{MayBeMoved};
 ghost use Rattle.space_opening.specs.declared.open_fault.OpenFault.TheVariants.{Store, Version};
-ghost use Rattle.space_sql.specs.Found.{FindsSpelt, IsOpenedOver, RefusesFound};
+ghost use Rattle.space_sql.specs.Found.{FindsSpelt, IsOver, RefusesFound};
 ghost use Rattle.space_sql.specs.Remains.{RefusesOpening};
 ghost use Rattle.space_sql.specs.Listed.{IsAllOf};
-ghost use Rattle.space_sql.specs.Opening.{HoldsSpelt, IsDueFault, IsFresh, MayBeOpened};
+ghost use Rattle.space_sql.specs.Opening.{HoldsEmpty, HoldsSpelt, HoldsSpeltAs, IsDueFault, IsDueFaultAs, IsFresh, IsUnwritten, IsUnwrittenAs, MayBeOpened};
 ghost use Rattle.space_sql.specs.Restart.{ClosesFiles};
 
 use crate::listed::is_ours;
@@ -73,9 +73,8 @@ fn make_new<S: Alter>(alloc: Global, mut conn: Connection<S>) -> Taking<S>
     ensures clean { IfOk result (λ t. HasCleanDisk (state S.Store t.0.conn)
         → HasCleanDisk (state S.Store conn)) }
     ensures fresh { IfOk result (λ t. IsFresh S.Store ⟦<SqlSpace<S> as Space>⟧ t.0) }
-    ensures made { IfOk result (λ t. ⟦<SqlSpace<S> as Space>⟧.is_sound t.0
-        → (state S.Store conn).now.schema ≡ no_schema
-        → IsContent ⟦<SqlSpace<S> as Space>⟧.holds t.0 (empty_at 0)) }
+    ensures made { IfOk result
+        (λ t. HoldsEmpty ⟦<SqlSpace<S> as Space>⟧ (state S.Store conn) t.0) }
     ensures new { IfOk result (λ t. t.0.upgraded ≡ false) }
     ensures all { IfOk result (λ t. (state S.Store conn).now.schema ≡ dss_schema
         → IfSome t.1 (IsAllOf S.Store t.0)) }
@@ -96,20 +95,16 @@ fn take_second<S: Alter>(alloc: Global, mut conn: Connection<S>) -> Taking<S>
     ensures clean { IfOk result (λ t. HasCleanDisk (state S.Store t.0.conn)
         → HasCleanDisk (state S.Store conn)) }
     ensures fresh { IfOk result (λ t. IsFresh S.Store ⟦<SqlSpace<S> as Space>⟧ t.0) }
-    ensures taken { IfOk result (λ t. ⟦<SqlSpace<S> as Space>⟧.is_sound t.0
-        → (state S.Store conn).now.schema ≡ dss_schema
-        → (a : Airspace) × SpellsAs Two (state S.Store conn).now a
-        × IsContent ⟦<SqlSpace<S> as Space>⟧.holds t.0 a) }
+    ensures taken { IfOk result
+        (λ t. HoldsSpeltAs Two ⟦<SqlSpace<S> as Space>⟧ (state S.Store conn) t.0) }
     ensures same { IfOk result (λ t. t.0.upgraded ≡ false) }
     ensures all { IfOk result (λ t. (state S.Store conn).now.schema ≡ dss_schema
         → IfSome t.1 (IsAllOf S.Store t.0)) }
-    ensures refused { IfErr result (λ e. HasCleanDisk (state S.Store e.1)
-        → (state S.Store conn).now.schema ≡ dss_schema
-        → Refuses Two (state S.Store conn).now e.0) }
+    ensures refused { IfErr result
+        (λ e. IsDueFaultAs Two (state S.Store conn) (state S.Store e.1) e.0) }
     ensures back { IfErr result (λ e. e.1.in_transaction ≡ false) }
-    ensures unwritten { IfErr result (λ e. HasCleanDisk (state S.Store e.1)
-        → (state S.Store conn).now.schema ≡ dss_schema → e.0 ≢ OpenFault.Store
-        → IsSettled (state S.Store e.1) × ((state S.Store e.1).now ≡ (state S.Store conn).now)) }
+    ensures unwritten { IfErr result
+        (λ e. IsUnwrittenAs Two (state S.Store conn) (state S.Store e.1) e.0) }
     ensures left { IfErr result (λ e.
         Survives (state S.Store conn) (state S.Store e.1) (λ _. ⊥)) }
 {
@@ -125,20 +120,16 @@ fn take_first<S: Alter>(alloc: Global, mut conn: Connection<S>) -> Taking<S>
     ensures clean { IfOk result (λ t. HasCleanDisk (state S.Store t.0.conn)
         → HasCleanDisk (state S.Store conn)) }
     ensures fresh { IfOk result (λ t. IsFresh S.Store ⟦<SqlSpace<S> as Space>⟧ t.0) }
-    ensures taken { IfOk result (λ t. ⟦<SqlSpace<S> as Space>⟧.is_sound t.0
-        → (state S.Store conn).now.schema ≡ first_schema
-        → (a : Airspace) × SpellsAs One (state S.Store conn).now a
-        × IsContent ⟦<SqlSpace<S> as Space>⟧.holds t.0 a) }
+    ensures taken { IfOk result
+        (λ t. HoldsSpeltAs One ⟦<SqlSpace<S> as Space>⟧ (state S.Store conn) t.0) }
     ensures upgraded { IfOk result (λ t. IsTrue t.0.upgraded) }
     ensures all { IfOk result (λ t. (state S.Store conn).now.schema ≡ dss_schema
         → IfSome t.1 (IsAllOf S.Store t.0)) }
-    ensures refused { IfErr result (λ e. HasCleanDisk (state S.Store e.1)
-        → (state S.Store conn).now.schema ≡ first_schema
-        → Refuses One (state S.Store conn).now e.0) }
+    ensures refused { IfErr result
+        (λ e. IsDueFaultAs One (state S.Store conn) (state S.Store e.1) e.0) }
     ensures back { IfErr result (λ e. e.1.in_transaction ≡ false) }
-    ensures unwritten { IfErr result (λ e. HasCleanDisk (state S.Store e.1)
-        → (state S.Store conn).now.schema ≡ first_schema → e.0 ≢ OpenFault.Store
-        → IsSettled (state S.Store e.1) × ((state S.Store e.1).now ≡ (state S.Store conn).now)) }
+    ensures unwritten { IfErr result
+        (λ e. IsUnwrittenAs One (state S.Store conn) (state S.Store e.1) e.0) }
     ensures left { IfErr result (λ e. Survives (state S.Store conn) (state S.Store e.1)
         (λ trees. (e.0 ≡ OpenFault.Store) × MayBeMoved (state S.Store conn) trees)) }
 {
@@ -174,9 +165,8 @@ impl<S: Alter> SqlSpace<S> {
         ensures clean { IfOk result (λ t. HasCleanDisk (state S.Store t.0.conn)
             → HasCleanDisk (state S.Store conn)) }
         ensures fresh { IfOk result (λ t. IsFresh S.Store ⟦<SqlSpace<S> as Space>⟧ t.0) }
-        ensures made { IfOk result (λ t. ⟦<SqlSpace<S> as Space>⟧.is_sound t.0
-            → (state S.Store conn).now.schema ≡ no_schema
-            → IsContent ⟦<SqlSpace<S> as Space>⟧.holds t.0 (empty_at 0)) }
+        ensures made { IfOk result
+            (λ t. HoldsEmpty ⟦<SqlSpace<S> as Space>⟧ (state S.Store conn) t.0) }
         ensures taken { IfOk result
             (λ t. HoldsSpelt ⟦<SqlSpace<S> as Space>⟧ (state S.Store conn) t.0) }
         ensures upgraded { IfOk result (λ t. IsTrue t.0.upgraded
@@ -185,12 +175,10 @@ impl<S: Alter> SqlSpace<S> {
             → IfSome t.1 (IsAllOf S.Store t.0)) }
         ensures new { IfErr result (λ e. (state S.Store conn).now.schema ≡ no_schema
             → e.0 ≡ OpenFault.Store) }
-        ensures refused { IfErr result (λ e.
-            IsDueFault (state S.Store conn) (state S.Store e.1) e.0) }
-        ensures unwritten { IfErr result (λ e. HasCleanDisk (state S.Store e.1)
-            → (format : Format) → (state S.Store conn).now.schema ≡ schema_of format
-            → e.0 ≢ OpenFault.Store → IsSettled (state S.Store e.1)
-            × ((state S.Store e.1).now ≡ (state S.Store conn).now)) }
+        ensures refused { IfErr result
+            (λ e. IsDueFault (state S.Store conn) (state S.Store e.1) e.0) }
+        ensures unwritten { IfErr result
+            (λ e. IsUnwritten (state S.Store conn) (state S.Store e.1) e.0) }
         ensures left { IfErr result (λ e. Survives (state S.Store conn) (state S.Store e.1)
             (MayBeOpened (state S.Store conn) e.0)) }
         ensures back { IfErr result (λ e. e.1.in_transaction ≡ false) }
@@ -232,11 +220,9 @@ fn taken_over<S: Alter>(alloc: Global, conn: Connection<S>) -> Taking<S>
     ensures fresh { IfOk result (λ t. IsFresh S.Store ⟦<SqlSpace<S> as Space>⟧ t.0) }
     ensures all { IfOk result (λ t. (state S.Store conn).now.schema ≡ dss_schema
         → IfSome t.1 (IsAllOf S.Store t.0)) }
-    ensures finds { (image : Image) → (HasCleanDisk (state S.Store conn)
-        → IsOpenedOver image (state S.Store conn))
+    ensures finds { (image : Image) → IsOver image (state S.Store conn)
         → IfOk result (λ t. FindsSpelt image ⟦<SqlSpace<S> as Space>⟧ t.0) }
-    ensures refuses { (image : Image) → (HasCleanDisk (state S.Store conn)
-        → IsOpenedOver image (state S.Store conn))
+    ensures refuses { (image : Image) → IsOver image (state S.Store conn)
         → IfErr result (λ e. RefusesFound image (state S.Store e.1) e.0) }
 {
     at_rest(&conn);
@@ -248,11 +234,9 @@ fn taken_whole<S: Alter>(alloc: Global, conn: Connection<S>) -> Taking<S>
     requires { conn.in_transaction ≡ false }
     ensures fresh { IfOk result (λ t. IsFresh S.Store ⟦<SqlSpace<S> as Space>⟧ t.0) }
     ensures all { IfOk result (λ t. IfSome t.1 (IsAllOf S.Store t.0)) }
-    ensures finds { (image : Image) → (HasCleanDisk (state S.Store conn)
-        → IsOpenedOver image (state S.Store conn))
+    ensures finds { (image : Image) → IsOver image (state S.Store conn)
         → IfOk result (λ t. FindsSpelt image ⟦<SqlSpace<S> as Space>⟧ t.0) }
-    ensures refuses { (image : Image) → (HasCleanDisk (state S.Store conn)
-        → IsOpenedOver image (state S.Store conn))
+    ensures refuses { (image : Image) → IsOver image (state S.Store conn)
         → IfErr result (λ e. RefusesFound image (state S.Store e.1) e.0) }
 {
     if is_ours(alloc, conn.schema()) {
@@ -325,8 +309,7 @@ fn file<S: Start>(
     ensures outside { IfOk result (λ conn. conn.in_transaction ≡ false) }
     ensures memory { path.now ≡ codes ":memory:"
         → IsErrAnd result (λ e. e.0 ≡ OpenFault.Store) }
-    ensures opened { IfOk result (λ conn. HasCleanDisk (file_state conn)
-        → IsOpenedOver (image_at S.Start) (file_state conn)) }
+    ensures opened { IfOk result (λ conn. IsOver (image_at S.Start) (file_state conn)) }
     ensures refuses { IfErr result (λ e. RefusesOpening (image_at S.Start) e.1 e.0) }
 {
     match Connection::open_from(rt, path, false, start) {

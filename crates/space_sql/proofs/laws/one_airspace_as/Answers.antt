@@ -9,4 +9,4 @@ returns-clause-one g c = openings.one_airspace_as
 
 pub returns-clause-holds : goal.returns-clause-holds
 returns-clause-holds g c = λ opened k holds sound format a spelt.
-    openings.of_each_spelt (λ b. IsContent (holds_of g.S.Store) k b) format (state g.S.Store opened).now a (holds sound format spelt.schema) spelt
+    openings.of_each_spelt (λ b. IsContent (holds_of g.S.Store) k b) format (state g.S.Store opened).now a (holds format sound spelt.schema) spelt
