@@ -34,12 +34,12 @@ serve::serve_clients
               indexed::meeting
             needed::missing_from
               missing::missing
-          effects::prepared
+          effects::prepare
             ovn::ovn_of
             indexed_subscriptions::for_kind
             notice::notices_of
           changes::wait
-            list::follow
+            memory::follow
         text::answer_text
           answer::reply_text
     port::settle
@@ -64,7 +64,7 @@ PARTS = {
     "look::look": "what the call names, from the copy in memory",
     "standing::standing": "the rules on what was found",
     "needed::needed_with": "the key",
-    "effects::prepared": "the change and the answer, made",
+    "effects::prepare": "the change and the answer, made",
     "changes::wait": "the change is seen, and waits",
     "text::answer_text": "the answer, held back",
     "port::settle": "the end of the round",
@@ -123,7 +123,7 @@ def spaces():
     """The calls of the traits of spaces, and the crates of the space over tables and of its copy in memory."""
     calls = [name for crate, file, name in functions() if crate == "space_core" and file in ("space", "round", "settle")]
     sources = sorted(TOP.glob("crates/*/src/*.rt"))
-    is_space = re.compile(r"Space for (SqlSpace|Grouped|ListSpace)\b")
+    is_space = re.compile(r"Space for (SqlSpace|Grouped|MemorySpace)\b")
     return calls, [it.parent.parent.name for it in sources if is_space.search(it.read_text())]
 
 

@@ -12,7 +12,7 @@ from places import cell
 
 TOP = pathlib.Path(__file__).resolve().parents[2]
 NAME = "bench_service"
-USES = "entity_core policy_core space_core space_list space_sql service_core wire_body wire_reply"
+USES = "entity_core policy_core space_core space_memory space_sql service_calls wire_body wire_reply"
 CALLS = 2_000
 # others may use the machine meanwhile, so the fastest round counts
 ROUNDS = 5

@@ -2,8 +2,8 @@
 use crate::copying::{Copying, is_free};
 use dss_command::copy_fault::CopyFault;
 use dss_command::fault::{Fault, of_system};
-use dss_files::files::settled;
-use space_opening::open_fault::OpenFault;
+use dss_files::files::settle_database;
+use space_format::open_fault::OpenFault;
 use sqlite::Start;
 use std::fs;
 use std::fs::File;
@@ -17,7 +17,7 @@ fn is_database(rt: &HostRuntime, name: &str) -> Result<(), Fault> {
 }
 
 // Copies a file.
-fn copied(rt: &HostRuntime, name: &str, to: &str) -> Result<(), Fault> {
+fn copy_file(rt: &HostRuntime, name: &str, to: &str) -> Result<(), Fault> {
     let source = match File::open(rt, name) {
         Ok(source) => source,
         Err(cause) => return Err(of_system(&cause, Fault::Copy(CopyFault::Read))),
@@ -46,6 +46,6 @@ pub(crate) fn backup<F: Start>(
 ) -> Result<(), Fault> {
     is_free(rt, to)?;
     is_database(rt, database)?;
-    let _files = settled(rt, database, start)?;
-    copied(rt, database, to)
+    let _files = settle_database(rt, database, start)?;
+    copy_file(rt, database, to)
 }

@@ -12,7 +12,7 @@ use dss_command::fault::{Fault, of_system};
 use dss_command::limits::tell_limits;
 use dss_command::token_files::tell_tokens;
 use dss_command::tokens::{salt_of, table_of};
-use dss_files::files::{self, closed, opened};
+use dss_files::files::{self, close_database, open_database};
 use dss_line::serving::Serving;
 use dss_serve::limits::{Limits, MOST_CLIENTS};
 use dss_serve::token_watch::TokenWatch;
@@ -150,7 +150,7 @@ pub(crate) fn serve<F: Start, E: Write>(
     let (text, tokens) = tokens_of(rt, given, causes, error)?;
     let salt = salt_of(&tokens)?;
     let log = log_of(rt, given, causes)?;
-    let (space, listed) = match opened(rt, given.database, start) {
+    let (space, listed) = match open_database(rt, given.database, start) {
         Ok(taken) => taken,
         Err(fault) => {
             causes.tell_of_database(given.database, &fault);
@@ -160,7 +160,7 @@ pub(crate) fn serve<F: Start, E: Write>(
     let backups = match backups_of(rt, given, causes) {
         Ok(backups) => backups,
         Err(fault) => {
-            let _files = closed(Err(fault), space)?;
+            let _files = close_database(Err(fault), space)?;
             return Ok(());
         }
     };

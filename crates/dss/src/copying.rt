@@ -17,7 +17,7 @@ const BEGUN: &str = ".begun";
 // What the names of the files end with that are read with a database.
 const BESIDE: [&str; 2] = ["-wal", "-journal"];
 
-fn unread(cause: io::Error) -> Fault {
+fn unread_source(cause: io::Error) -> Fault {
     of_system(&cause, Fault::Copy(CopyFault::Read))
 }
 
@@ -113,7 +113,7 @@ impl<'a> Copying<'a> {
 
     /// Copies the next piece, and says whether there was one. After a fault it has to be given up.
     pub(crate) fn go_on(&mut self) -> Result<bool, Fault> {
-        let length = self.source.read(&mut self.piece).map_err(unread)?;
+        let length = self.source.read(&mut self.piece).map_err(unread_source)?;
         let read = &self.piece[..length];
         self.copy.write_all(read).map_err(unwritten)?;
         Ok(length != 0)

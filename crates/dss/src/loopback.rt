@@ -56,7 +56,7 @@ fn request_bytes<R: Read>(rt: &HostRuntime, name: &str, input: &mut R) -> Result
 
 // The two ends of a connection of this program to itself, of which the first has sent these bytes
 // and sends no more.
-fn connected(rt: &HostRuntime, request: &[u8]) -> io::Result<(TcpStream, TcpStream)> {
+fn connect_self(rt: &HostRuntime, request: &[u8]) -> io::Result<(TcpStream, TcpStream)> {
     let listener = TcpListener::bind(rt, (Ipv4Addr::LOCALHOST, 0))?;
     let mut client = TcpStream::connect(rt, listener.local_addr()?)?;
     client.write_all(request)?;
@@ -89,7 +89,7 @@ fn answers_to(
 ) -> Result<Vec<u8>, Fault>
     requires { salt ≡ salt_of tokens.now }
 {
-    let (mut client, mut server) = match connected(rt, request) {
+    let (mut client, mut server) = match connect_self(rt, request) {
         Ok(ends) => ends,
         Err(cause) => return Err(of_system(&cause, Fault::Socket)),
     };

@@ -45,7 +45,7 @@ fn run_words(rt: &HostRuntime) -> io::Result<u8> {
 }
 
 // Tells on one line why the words of the command line cannot be had, and answers the exit status.
-fn unread(rt: &HostRuntime, error: &io::Error) -> u8 {
+fn unread_words(rt: &HostRuntime, error: &io::Error) -> u8 {
     if error.kind() == io::ErrorKind::InvalidData {
         let _ = eprintln!(rt; "error: a word of the command line is not UTF-8");
         return 2;
@@ -57,6 +57,6 @@ fn unread(rt: &HostRuntime, error: &io::Error) -> u8 {
 fn main(rt: HostRuntime) -> ExitCode {
     match run_words(&rt) {
         Ok(status) => ExitCode::from(status),
-        Err(error) => ExitCode::from(unread(&rt, &error)),
+        Err(error) => ExitCode::from(unread_words(&rt, &error)),
     }
 }

@@ -6,7 +6,7 @@ use crate::tokens::token_table;
 use dss_command::fault::{Fault, of_system};
 use dss_command::stream::serve_in_memory;
 use dss_command::tokens::salt_of;
-use dss_files::files::{self, closed, opened};
+use dss_files::files::{self, close_database, open_database};
 use entity_core::salt::Salt;
 use sqlite::Start;
 use std::fs::File;
@@ -63,7 +63,7 @@ fn over_file<F: Start, R: Read, W: Write>(
 ) -> Result<(), Fault>
     requires { salt ≡ salt_of tokens.now }
 {
-    let (space, _) = opened(rt, name, start)?;
+    let (space, _) = open_database(rt, name, start)?;
     let files = if given.requests == "-" {
         files::run(rt.alloc(), space, salt, tokens, given.now, input, output)
     } else {
@@ -80,7 +80,7 @@ fn over_file<F: Start, R: Read, W: Write>(
                     output,
                 )
             }
-            Err(cause) => closed(Err(of_system(&cause, Fault::RequestsUnread)), space),
+            Err(cause) => close_database(Err(of_system(&cause, Fault::RequestsUnread)), space),
         }
     };
     let _files = files?;

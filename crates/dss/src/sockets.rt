@@ -124,7 +124,7 @@ fn listener_on(
 }
 
 // The next connection of a listener.
-fn accepted(listener: &TcpListener) -> Result<Client, NotTaken> {
+fn accept_client(listener: &TcpListener) -> Result<Client, NotTaken> {
     match listener.accept() {
         Ok((stream, address)) => {
             let _ = stream.set_nodelay(true);
@@ -206,12 +206,12 @@ impl<'a> Sockets for PortSockets<'a> {
     }
 
     fn accept(&mut self) -> Result<Client, NotTaken> {
-        accepted(&self.listener)
+        accept_client(&self.listener)
     }
 
     fn accept_operator(&mut self) -> Result<Client, NotTaken> {
         match &self.operators {
-            Some(listener) => accepted(listener),
+            Some(listener) => accept_client(listener),
             None => Err(NotTaken::NoneWaits),
         }
     }

@@ -10,7 +10,7 @@ use space_shown::shown::{NoCopy, Shown};
 use std::alloc::{AllocError, Global};
 
 // Why nothing is shown, in words.
-fn words(why: NoCopy) -> &'static str
+fn no_copy_words(why: NoCopy) -> &'static str
     ensures { result.now ≡ words_of why }
 {
     match why {
@@ -30,7 +30,7 @@ pub fn airspace_answer(
 {
     let shown = match shown {
         Ok(shown) => shown,
-        Err(why) => return whole(alloc, 503, None, None, words(why)),
+        Err(why) => return whole(alloc, 503, None, None, no_copy_words(why)),
     };
     let Some(query) = Query::read(query) else {
         return whole(alloc, 400, None, None, "no such query\n");

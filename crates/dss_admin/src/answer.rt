@@ -4,7 +4,7 @@ ghost use Rattle.std.specs.String.{string_bytes};
 ghost use Rattle.dss_admin.specs.Answer.{Answers, AnswersBackup, allow_line, front_of, length_line, reason_of, status_line, text_of, type_line, type_of, words_of};
 ghost use Rattle.dss_admin.specs.Figures.{health_of};
 
-use crate::asked::{Asked, Health, Page, status};
+use crate::asked::{Asked, Health, Page, asked_status};
 use crate::backup::{self, Backup};
 use crate::build::Build;
 use crate::figures::Figures;
@@ -121,7 +121,7 @@ pub(crate) fn whole(
 }
 
 // How the service is, in words.
-fn words(health: Health) -> &'static str
+fn health_words(health: Health) -> &'static str
     ensures { result.now ≡ words_of health }
 {
     match health {
@@ -144,9 +144,9 @@ pub fn answer(
     ensures { IfOk result (λ text. Answers asked (health_of figures.now) text.items) }
 {
     let health = figures.health;
-    let status = status(asked, health);
+    let status = asked_status(asked, health);
     match asked {
-        Asked::Does(Page::Health) => whole(alloc, status, None, None, words(health)),
+        Asked::Does(Page::Health) => whole(alloc, status, None, None, health_words(health)),
         Asked::Does(Page::Metrics) => {
             let text = metrics(alloc, figures, build)?;
             whole(alloc, status, Some(Page::Metrics), None, text.as_str())
@@ -163,8 +163,14 @@ pub fn answer(
 pub fn backup_answer(alloc: Global, backup: Backup) -> Result<Vec<u8>, AllocError>
     ensures { IfOk result (λ text. AnswersBackup backup text.items) }
 {
-    let words = backup::words(alloc, backup)?;
-    whole(alloc, backup::status(backup), None, None, words.as_str())
+    let words = backup::backup_words(alloc, backup)?;
+    whole(
+        alloc,
+        backup::backup_status(backup),
+        None,
+        None,
+        words.as_str(),
+    )
 }
 
 /// The answer where a rule of the wire is broken.

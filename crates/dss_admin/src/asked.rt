@@ -94,7 +94,7 @@ pub fn asked_by(method: &[u8], path: &[u8]) -> Asked
 }
 
 /// The status of the answer.
-pub fn status(asked: Asked, health: Health) -> u16
+pub fn asked_status(asked: Asked, health: Health) -> u16
     ensures { result ≡ status_of asked health }
 {
     match (asked, health) {

@@ -53,7 +53,7 @@ pub fn name_in(query: &str) -> Option<&str>
 }
 
 /// The status of the answer.
-pub fn status(backup: Backup) -> u16
+pub fn backup_status(backup: Backup) -> u16
     ensures { result ≡ status_of backup }
 {
     match backup {
@@ -67,7 +67,7 @@ pub fn status(backup: Backup) -> u16
 }
 
 // The body of the answer.
-pub(crate) fn words(alloc: Global, backup: Backup) -> Result<String, AllocError>
+pub(crate) fn backup_words(alloc: Global, backup: Backup) -> Result<String, AllocError>
     ensures { IfOk result (λ text. string_bytes text ≡ words_of backup) }
 {
     let text = match backup {

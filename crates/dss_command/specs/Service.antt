@@ -1,7 +1,7 @@
 -- The service of a command.
 use Rattle.std.specs.Prelude.{◌≡◌, ℕ, List, Option, false}
-use Rattle.service_core.specs.Held as held
-use Rattle.service_core.specs.declared.service.Service.{Service}
+use Rattle.service_calls.specs.Held as held
+use Rattle.service_calls.specs.declared.service.Service.{Service}
 use Rattle.space_core.specs.declared.settle.Settles as settles
 use Rattle.space_core.specs.declared.space.Space as spaces
 use Rattle.token_conf.specs.TokenFile.{TokenFile, salt_of}

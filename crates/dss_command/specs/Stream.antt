@@ -4,8 +4,8 @@ use Rattle.dss_command.specs.Fault.{IsOfStream}
 use Rattle.dss_command.specs.Service.{IsServiceOver}
 use Rattle.dss_command.specs.declared.fault.Fault.{Fault}
 use Rattle.dss_command.specs.declared.fault.Fault.TheVariants.{Memory}
-use Rattle.service_core.specs.Held.{space_of}
-use Rattle.service_core.specs.declared.service.Service.{Service}
+use Rattle.service_calls.specs.Held.{space_of}
+use Rattle.service_calls.specs.declared.service.Service.{Service}
 use Rattle.entity_core.specs.Airspace.{empty_at}
 use Rattle.space_core.specs.Space.{IsContent}
 use Rattle.space_core.specs.declared.space.Space.{Ghosts}

@@ -20,7 +20,7 @@ use dss_serve::serve::serve_clients;
 use dss_serve::sockets::Sockets;
 use dss_serve::token_watch::{TokenSource, TokenWatch, TokensFault};
 use entity_core::salt::Salt;
-use service_core::service::Service;
+use service_calls::service::Service;
 use space_shown::shown::Shows;
 use space_sweeps::sweeps::Sweeps;
 use std::alloc::Global;
@@ -97,7 +97,7 @@ impl<'a, E: Write, L: LogFile> Journal for Lines<'a, E, L> {
 }
 
 // How the command ends by how the service ended.
-fn ended(served: io::Result<()>) -> Result<(), Fault>
+fn end_of_serving(served: io::Result<()>) -> Result<(), Fault>
     ensures { EndsServing served result }
 {
     match served {
@@ -212,7 +212,7 @@ fn serve_sockets<
         build_of(given.operated),
         journal,
     );
-    (ended(served), service.into_space())
+    (end_of_serving(served), service.into_space())
 }
 
 /// Answers the clients of a port by a service that it makes over a space, which is given back as it

@@ -7,7 +7,7 @@ ghost use Rattle.dss_command.specs.Fault.{line_of, status_of, told_by};
 use crate::copy_fault::CopyFault;
 use dss_report::fault::{CellFault, ReportFault};
 use grid_core::token::TokenFault;
-use space_opening::open_fault::OpenFault;
+use space_format::open_fault::OpenFault;
 use std::io::{ErrorKind, Write};
 use std::{fmt, io};
 use token_conf::conf_fault::ConfFault;

@@ -108,7 +108,7 @@ pub trait Commands {
 }
 
 /// The exit status of a command that ended, after its fault was told on one line.
-pub fn ended<E: Write>(done: Result<(), Fault>, error: &mut E) -> u8
+pub fn end_status<E: Write>(done: Result<(), Fault>, error: &mut E) -> u8
     ensures status { result ≡ status_of done }
     ensures quiet { OnOk done (E.contents error.new ≡ E.contents error.old) }
 {
@@ -130,16 +130,16 @@ fn shown<O: Write>(text: &String, output: &mut O) -> Result<(), Fault>
 
 /// What a command line that asks for no command gets, and its exit status: help, which is written
 /// to `output`, or why it was refused, to `error`.
-pub fn refused<O: Write, E: Write>(fault: LineFault, output: &mut O, error: &mut E) -> u8
+pub fn refuse_line<O: Write, E: Write>(fault: LineFault, output: &mut O, error: &mut E) -> u8
     ensures { EndsRefused fault (O.contents output.old) (O.contents output.new) result }
 {
     match fault {
-        LineFault::Shown(text) => ended(shown(&text, output), error),
+        LineFault::Shown(text) => end_status(shown(&text, output), error),
         LineFault::Refused(text) => {
             let _ = write!(error, "{text}");
             2
         }
-        LineFault::Memory => ended(Err(Fault::Memory), error),
+        LineFault::Memory => end_status(Err(Fault::Memory), error),
     }
 }
 
@@ -202,8 +202,8 @@ pub fn run_line<'a, C: Commands + Drop, R: Read, O: Write, E: Write>(
     match parse(alloc, words) {
         Ok(line) => {
             let done = perform(alloc, commands, line, input, output, error);
-            ended(done, error)
+            end_status(done, error)
         }
-        Err(fault) => refused(fault, output, error),
+        Err(fault) => refuse_line(fault, output, error),
     }
 }

@@ -7,9 +7,9 @@ ghost use Rattle.dss_command.specs.declared.fault.Fault.TheVariants.{Memory};
 
 use crate::fault::Fault;
 use entity_core::salt::Salt;
-use service_core::service::Service;
+use service_calls::service::Service;
 use space_core::space::Space;
-use space_list::list::ListSpace;
+use space_memory::memory::MemorySpace;
 use std::alloc::Global;
 use std::io::{Read, Write};
 use token_conf::token_table::TokenTable;
@@ -84,11 +84,11 @@ pub fn serve_in_memory<R: Read, W: Write>(
     writer: &mut Counted<W>,
 ) -> Result<(), Fault>
     requires { salt ≡ salt_of tokens.now }
-    ensures { OnOk result (ServesEmpty ⟦<ListSpace as Space>⟧ tokens.now now
+    ensures { OnOk result (ServesEmpty ⟦<MemorySpace as Space>⟧ tokens.now now
         (R.remaining (inner_of reader.old))
         (W.contents (inner_of writer.old)) (W.contents (inner_of writer.new))) }
 {
-    let space = ListSpace::new(alloc);
+    let space = MemorySpace::new(alloc);
     let (done, _) = serve_stream_over(alloc, space, salt, tokens, now, reader, writer);
     done
 }

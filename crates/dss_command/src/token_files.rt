@@ -27,7 +27,7 @@ fn put_lines<W: Write>(lines: &[String], output: &mut W) -> Result<(), Fault>
 }
 
 // How a check ends whose file has these mistakes.
-fn judged(mistakes: &[Mistake]) -> Result<(), Fault>
+fn refuse_mistakes(mistakes: &[Mistake]) -> Result<(), Fault>
     ensures { Judges mistakes.now result }
 {
     match mistakes.first() {
@@ -62,7 +62,7 @@ pub fn check_tokens<W: Write>(
         return Err(Fault::Memory);
     };
     put_lines(report.lines.as_slice(), output)?;
-    judged(report.mistakes.as_slice())?;
+    refuse_mistakes(report.mistakes.as_slice())?;
     let Ok(line) = report.summary.line(alloc, file) else {
         return Err(Fault::Memory);
     };

@@ -14,7 +14,7 @@ use std::io::Write;
 use token_conf::conf_fault::ConfFault;
 use token_conf::token_table::TokenTable;
 
-fn passed(told: Result<TokenTable, ConfFault>) -> Result<TokenTable, Fault>
+fn pass_table(told: Result<TokenTable, ConfFault>) -> Result<TokenTable, Fault>
     ensures { Passes told result }
 {
     match told {
@@ -28,7 +28,7 @@ fn passed(told: Result<TokenTable, ConfFault>) -> Result<TokenTable, Fault>
 pub fn table_of(alloc: Global, text: &str) -> Result<TokenTable, Fault>
     ensures { Tables text.now result }
 {
-    passed(TokenTable::read(alloc, text))
+    pass_table(TokenTable::read(alloc, text))
 }
 
 /// The salt of the table's OVNs. Its one fault is `Memory`.

@@ -4,8 +4,8 @@ use Rattle.std.proofs.Common.{sym, subst, ◌∙◌}
 use Rattle.sqlite_trees.specs.declared.store.Store.{Ghosts}
 use Rattle.space_core.specs.declared.space.SpaceFault.{SpaceFault}
 use Rattle.space_core.specs.Space.{Reads, Tells}
-use Rattle.space_reading.specs.Judging.{listed_airspace}
-use Rattle.space_reading.specs.declared.judgement.Listed.{Listed}
+use Rattle.space_load.specs.Judging.{listed_airspace}
+use Rattle.space_load.specs.declared.judgement.Listed.{Listed}
 use Rattle.space_sql.specs.Holding.{Kept, holds_of, is_sound_of, is_whole_of}
 use Rattle.space_sql.specs.Listed.{IsAllOf}
 

@@ -8,10 +8,10 @@ use Rattle.sqlite_store.specs.declared.store.FileStore.{FileStore}
 use Rattle.sqlite.specs.Files.{over_files}
 use Rattle.sqlite.specs.Recovery.{Image}
 use Rattle.sqlite.specs.WalReads.{AreClean}
-use Rattle.service_core.specs.declared.service.Service.{Service}
-use Rattle.service_core.specs.Held.{salt_of, space_of}
-use Rattle.service_core.specs.Rounds.{Round, unkept}
-use Rattle.service_core.specs.Swept.{Segment}
+use Rattle.service_calls.specs.declared.service.Service.{Service}
+use Rattle.service_calls.specs.Held.{salt_of, space_of}
+use Rattle.service_calls.specs.Rounds.{Round, unkept}
+use Rattle.service_calls.specs.Swept.{Segment}
 use Rattle.service_tables.specs.Crash.{bound_waiting_of}
 use Rattle.service_tables.specs.InRounds.{ContinuesInRoundsClosed, IsOnlyRead, IsSoundByStore, StartsOver}
 use Rattle.service_tables.specs.Life.{Continues, run_swept}

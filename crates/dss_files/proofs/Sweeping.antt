@@ -17,7 +17,7 @@ use Rattle.space_core.specs.Space.{IsContent, Reads, Tells, is_broken_after}
 use Rattle.space_core.specs.declared.space.Space as spaces
 use Rattle.space_core.specs.declared.space.SpaceFault.{SpaceFault}
 use Rattle.space_core.specs.declared.space.SpaceFault.TheVariants.{Broken, Unchanged}
-use Rattle.space_reading.specs.declared.judgement.Listed.{Listed}
+use Rattle.space_load.specs.declared.judgement.Listed.{Listed}
 use Rattle.space_rounds.specs.Grouped.{Group, waits_in}
 use Rattle.space_sql.specs.Found.{FilesSpell, FindsSpelt}
 use Rattle.space_sql.specs.Holding.{Kept}

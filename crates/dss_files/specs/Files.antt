@@ -15,9 +15,9 @@ use Rattle.service_tables.specs.Life.{StandFor}
 use Rattle.space_core.specs.declared.space.Space as spaces
 use Rattle.space_core.specs.Space.{Reads}
 use Rattle.space_core.specs.declared.space.SpaceFault.{SpaceFault}
-use Rattle.space_opening.specs.declared.open_fault.OpenFault.{OpenFault}
-use Rattle.space_reading.specs.Judging.{listed_airspace}
-use Rattle.space_reading.specs.declared.judgement.Listed.{Listed}
+use Rattle.space_format.specs.declared.open_fault.OpenFault.{OpenFault}
+use Rattle.space_load.specs.Judging.{listed_airspace}
+use Rattle.space_load.specs.declared.judgement.Listed.{Listed}
 use Rattle.space_bounds.specs.Bounded.{Bound}
 use Rattle.space_rounds.specs.Grouped.{Group, waits_in}
 use Rattle.space_sql.specs.Found.{FilesSpell, FindsSpelt}

@@ -28,7 +28,7 @@ use entity_core::salt::Salt;
 use space_bounds::bounded::Bounded;
 use space_bounds::tally::Tally;
 use space_core::space::{Space, SpaceFault};
-use space_reading::judgement::Listed;
+use space_load::judgement::Listed;
 use space_rounds::grouped::Grouped;
 use space_sql::space::SqlSpace;
 use sqlite::{Alter, FileFrom, FileStore, Files, Start};
@@ -40,7 +40,7 @@ use wire_http::{Counted, Moments};
 
 /// Opens the database in the file of that name, with all that it then holds where that was read.
 /// After a fault what is open of it is closed.
-pub fn opened<F: Start>(
+pub fn open_database<F: Start>(
     rt: &HostRuntime,
     name: &str,
     start: F,
@@ -61,7 +61,7 @@ pub fn opened<F: Start>(
 
 /// Closes the database of a command whose work ended so: a fault of the work is told before one of
 /// the closing.
-pub fn closed<F: Start>(
+pub fn close_database<F: Start>(
     done: Result<(), Fault>,
     space: SqlSpace<FileStore<FileFrom<F>>>,
 ) -> Result<Files<FileFrom<F>>, Fault>
@@ -77,7 +77,7 @@ pub fn closed<F: Start>(
 
 // Prints the report of tables in some store: generic in it, for what is proved of the store of a
 // file is dear.
-fn reported<A: Alter + Drop, W: Write>(
+fn report_tables<A: Alter + Drop, W: Write>(
     alloc: Global,
     space: &mut SqlSpace<A>,
     places: bool,
@@ -103,9 +103,9 @@ pub fn report<F: Start, W: Write>(
     ensures told { IfErr result (λ fault.
         IsOfDatabase fault ⊎ (fault ≡ Memory) ⊎ (fault ≡ Output)) }
 {
-    let (mut space, _) = opened(rt, name, start)?;
-    let done = reported(rt.alloc(), &mut space, places, output);
-    closed(done, space)
+    let (mut space, _) = open_database(rt, name, start)?;
+    let done = report_tables(rt.alloc(), &mut space, places, output);
+    close_database(done, space)
 }
 
 /// The command `upgrade`: the database in the file of that name is brought to the newest format,
@@ -121,16 +121,16 @@ pub fn upgrade<F: Start, W: Write>(
     ensures told { IfErr result (λ fault.
         (IsOfDatabase fault × (output.new ≡ output.old)) ⊎ (fault ≡ Output)) }
 {
-    let (space, _) = opened(rt, name, start)?;
+    let (space, _) = open_database(rt, name, start)?;
     let upgraded = space.upgraded();
-    let files = closed(Ok(()), space)?;
+    let files = close_database(Ok(()), space)?;
     put_format(upgraded, output)?;
     Ok(files)
 }
 
 /// The database in the file of that name as it is to be copied: opened, and closed, so that the
 /// file alone has all, without its log. Until the files are let go no other program opens it.
-pub fn settled<F: Start>(
+pub fn settle_database<F: Start>(
     rt: &HostRuntime,
     name: &str,
     start: F,
@@ -138,8 +138,8 @@ pub fn settled<F: Start>(
     ensures kept { IfOk result (KeepsAirspace ⟦<FileFrom<F> as Disk>⟧ (image_at F.Start)) }
     ensures told { IfErr result IsOfDatabase }
 {
-    let (space, _) = opened(rt, name, start)?;
-    let files = closed(Ok(()), space)?;
+    let (space, _) = open_database(rt, name, start)?;
+    let files = close_database(Ok(()), space)?;
     Ok(files)
 }
 
@@ -175,15 +175,15 @@ pub fn sweep<F: Start, W: Write>(
     ensures told { IfErr result (λ fault.
         (IsOfDatabase fault × (output.new ≡ output.old)) ⊎ (fault ≡ Output)) }
 {
-    let (space, listed) = opened(rt, name, start)?;
+    let (space, listed) = open_database(rt, name, start)?;
     let (done, space) = swept_by_copy(rt.alloc(), space, listed, until);
     match done {
         Ok(swept) => {
-            let files = closed(Ok(()), space)?;
+            let files = close_database(Ok(()), space)?;
             put_swept(swept, output)?;
             Ok(files)
         }
-        Err(_) => closed(Err(Fault::DatabaseFailed), space),
+        Err(_) => close_database(Err(Fault::DatabaseFailed), space),
     }
 }
 
@@ -224,7 +224,7 @@ pub fn run<F: Start, R: Read, W: Write>(
         (W.contents (inner_of writer.old)) (W.contents (inner_of writer.new)) space result }
 {
     let (done, space) = served(alloc, space, salt, tokens, now, reader, writer);
-    closed(done, space)
+    close_database(done, space)
 }
 
 // A tally of what is kept of each supplier, where there is a bound.
@@ -292,5 +292,5 @@ pub fn serve<F: Start, M: Moments, L: Listen + Drop, T: TokenSource + Drop, E: W
     let (done, space) = served_by_copy(
         alloc, space, listed, most_kept, salt, given, watch, moments, listener, error,
     );
-    closed(done, space)
+    close_database(done, space)
 }

@@ -2,17 +2,17 @@
 ghost use Rattle.std.specs.Prelude.{◌≡◌, false, IfSome, Result};
 ghost use Rattle.space_core.specs.Space.{Reads, Tells};
 ghost use Rattle.space_core.specs.declared.space.SpaceFault.{SpaceFault};
-ghost use Rattle.space_reading.specs.Judging.{listed_airspace};
-ghost use Rattle.space_reading.specs.declared.judgement.Listed.{Listed};
+ghost use Rattle.space_load.specs.Judging.{listed_airspace};
+ghost use Rattle.space_load.specs.declared.judgement.Listed.{Listed};
 ghost use Rattle.space_rounds.specs.Grouped.{waits_in};
 ghost use Rattle.space_sql.specs.Holding.{holds_of, is_sound_of, is_whole_of};
 ghost use Rattle.space_sql.specs.Listed.{IsAllOf};
 
-use entity_lists::entities::Entities;
-use entity_lists::subscriptions::Subscriptions;
+use entity_maps::entities::Entities;
+use entity_maps::subscriptions::Subscriptions;
 use space_bounds::tally::Tally;
-use space_list::list::ListSpace;
-use space_reading::judgement::Listed;
+use space_load::judgement::Listed;
+use space_memory::memory::MemorySpace;
 use space_rounds::grouped::Grouped;
 use space_sql::space::SqlSpace;
 use sqlite::Alter;
@@ -50,7 +50,7 @@ fn with_lists<S: Alter + Drop>(
         serial,
     } = listed;
     count(tally, &entities, &subscriptions);
-    match ListSpace::of(alloc, entities, subscriptions, availabilities, serial) {
+    match MemorySpace::of(alloc, entities, subscriptions, availabilities, serial) {
         Ok(list) => Grouped::new(alloc, space, list),
         Err(_) => Grouped::without(alloc, space),
     }

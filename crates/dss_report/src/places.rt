@@ -116,7 +116,7 @@ fn put_entities(alloc: Global, text: &mut Vec<u8>, entities: &[Entity]) -> Resul
 }
 
 // The text of what a space keeps.
-fn text_of(alloc: Global, kept: &Kept) -> Result<Vec<u8>, AllocError>
+fn text_of_places(alloc: Global, kept: &Kept) -> Result<Vec<u8>, AllocError>
     ensures { IfOk result (λ text. IsPlacesIn kept.now text.items) }
 {
     let mut text = Vec::new(alloc);
@@ -138,5 +138,5 @@ pub fn places_text<S: Space + Drop>(alloc: Global, space: &mut S) -> Result<Vec<
         Ok(kept) => kept,
         Err(_) => return Err(ReportFault::Space),
     };
-    Ok(text_of(alloc, &kept)?)
+    Ok(text_of_places(alloc, &kept)?)
 }

@@ -9,11 +9,11 @@ use Rattle.std.proofs.lemmas.List.Elements.{All-append, All-cons, All-nil}
 use Rattle.space_core.specs.declared.settle.Settles as settles
 use Rattle.space_core.specs.declared.space.Space as spaces
 use Rattle.space_core.specs.declared.space.SpaceFault.{SpaceFault}
-use Rattle.service_core.specs.declared.service.Service.{Service}
-use Rattle.service_core.specs.Held.{space_of}
-use Rattle.service_core.specs.Rounds.{IsSettled, Made, MadeInOrder, MadeRounds, Round, all_timed, timed_in}
-use Rattle.service_core.specs.Run.{IsReplyTo, Timed}
-use Rattle.service_core.specs.Swept.{MadeSegments, Segment, SweepsOnce}
+use Rattle.service_calls.specs.declared.service.Service.{Service}
+use Rattle.service_calls.specs.Held.{space_of}
+use Rattle.service_calls.specs.Rounds.{IsSettled, Made, MadeInOrder, MadeRounds, Round, all_timed, timed_in}
+use Rattle.service_calls.specs.Run.{IsReplyTo, Timed}
+use Rattle.service_calls.specs.Swept.{MadeSegments, Segment, SweepsOnce}
 use Rattle.service_step.specs.declared.reply.Reply.{Reply}
 use Rattle.token_conf.specs.TokenFile.{Callers, TokenFile, callers_of}
 use Rattle.wire_http.specs.Count.{one_more}

@@ -1,7 +1,7 @@
 -- How bytes move between a client's socket and its connection.
 use Rattle.std.specs.Prelude.{◌≡◌, ◌<◌, ℕ, Bool, true, false, List, [], ◌++◌, length, take, drop, Option, None, Result, Ok, Err, OnOk, OnErr}
 use Rattle.std.specs.Io.KnownBytes.{Appends, Consumes, IsAtEnd, Keeps}
-use Rattle.service_core.specs.Service.{reply_of}
+use Rattle.service_calls.specs.Service.{reply_of}
 use Rattle.service_step.specs.declared.halt.Halt.TheVariants as halts
 use Rattle.service_step.specs.declared.reply.Reply.{Reply}
 use Rattle.space_core.specs.declared.space.SpaceFault.{SpaceFault}

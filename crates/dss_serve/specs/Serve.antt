@@ -3,10 +3,10 @@ use Rattle.std.specs.Prelude.{◌≡◌, ◌-◌, ◌⊎◌, ℕ, List, [], ◌�
 use Rattle.std.specs.List.{flat_map}
 use Rattle.space_core.specs.declared.settle.Settles as settles
 use Rattle.space_core.specs.declared.space.Space as spaces
-use Rattle.service_core.specs.declared.service.Service.{Service}
-use Rattle.service_core.specs.Rounds.{Made, MadeInOrder, MadeRounds, Round, all_timed}
-use Rattle.service_core.specs.Run.{Timed}
-use Rattle.service_core.specs.Swept.{MadeSegments, Segment, SweepsOnce}
+use Rattle.service_calls.specs.declared.service.Service.{Service}
+use Rattle.service_calls.specs.Rounds.{Made, MadeInOrder, MadeRounds, Round, all_timed}
+use Rattle.service_calls.specs.Run.{Timed}
+use Rattle.service_calls.specs.Swept.{MadeSegments, Segment, SweepsOnce}
 use Rattle.token_conf.specs.TokenFile.{Callers, TokenFile, callers_of}
 use Rattle.wire_http.specs.Asked.{IsCallOf}
 use Rattle.wire_http.specs.Count.{one_more}

@@ -1,6 +1,6 @@
 //! A client's socket with its connection, and the bytes that move between the two.
 ghost use Rattle.std.specs.Prelude.{◌≡◌};
-ghost use Rattle.service_core.specs.Service.{reply_of};
+ghost use Rattle.service_calls.specs.Service.{reply_of};
 ghost use Rattle.service_step.specs.declared.halt.Halt.TheVariants as halts;
 ghost use Rattle.dss_serve.specs.Link.{connection_of, socket_of, GoesUnless, IsFresh, IsToldBy, LetsGo, Receives, Sends};
 
@@ -9,7 +9,7 @@ use crate::limits::PIECE;
 use crate::sockets::Socket;
 use dss_admin::requests::Denial;
 use policy_core::call::OpKind;
-use service_core::service::Service;
+use service_calls::service::Service;
 use service_step::reply::Reply;
 use space_core::settle::Settles;
 use space_core::space::SpaceFault;
@@ -117,7 +117,7 @@ pub(crate) struct Link<T> {
 impl<T: Socket> Link<T> {
     ghost use Rattle.std.specs.Prelude.{◌<◌, ◌-◌, ◌↔◌, ◌||◌, false, length, IfOk, IfErr, IsTrue, option_map};
     ghost use Rattle.token_conf.specs.TokenFile.{callers_of};
-    ghost use Rattle.service_core.specs.Held.{Stays, space_of};
+    ghost use Rattle.service_calls.specs.Held.{Stays, space_of};
     ghost use Rattle.wire_http.specs.Connection.{held_of, held_back_of, holds_back, is_done, noted_of, ready_of, IsStep, IsStepPart};
     ghost use Rattle.wire_http.specs.declared.connection.Connection.{Connection};
     ghost use Rattle.wire_http.specs.Held.{most_held};

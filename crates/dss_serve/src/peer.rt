@@ -8,7 +8,7 @@ use crate::limits::{LAST_PIECES, PIECE, SMALL};
 use crate::link::{Answer, Came, Link, Went};
 use crate::phase::Phase;
 use crate::sockets::{Socket, Told};
-use service_core::service::Service;
+use service_calls::service::Service;
 use space_core::settle::Settles;
 use space_core::space::SpaceFault;
 use std::alloc::Global;

@@ -1,7 +1,7 @@
 //! All clients of a port, and whose turn it is.
 ghost use Rattle.std.specs.Prelude.{◌≡◌, ◌⊎◌, IsSome, IsTrue, Result};
 ghost use Rattle.token_conf.specs.TokenFile.{callers_of};
-ghost use Rattle.service_core.specs.Rounds.{IsSettled};
+ghost use Rattle.service_calls.specs.Rounds.{IsSettled};
 ghost use Rattle.space_core.specs.declared.space.SpaceFault.{SpaceFault};
 ghost use Rattle.dss_serve.specs.Serve.{GoesOn, MaySweep, ServesBy};
 
@@ -21,7 +21,7 @@ use dss_admin::figures::Figures;
 use dss_admin::kept::Kept;
 use dss_admin::requests::Answered;
 use dss_admin::tokens::Tokens;
-use service_core::service::Service;
+use service_calls::service::Service;
 use slab::Slab;
 use space_core::settle::Settles;
 use space_core::space::SpaceFault;

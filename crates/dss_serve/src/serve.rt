@@ -9,7 +9,7 @@ use crate::port::Port;
 use crate::sockets::Sockets;
 use crate::token_watch::{TokenSource, TokenWatch};
 use dss_admin::build::Build;
-use service_core::service::Service;
+use service_calls::service::Service;
 use space_shown::shown::Shows;
 use space_sweeps::sweeps::Sweeps;
 use std::alloc::Global;

@@ -2,7 +2,7 @@
 ghost use Rattle.std.specs.Prelude.{Some};
 ghost use Rattle.dss_serve.specs.Serve.{MaySweep};
 
-use service_core::service::Service;
+use service_calls::service::Service;
 use space_core::space::SpaceFault;
 use space_sweeps::sweeps::Sweeps;
 use std::mem;

@@ -4,7 +4,7 @@ use Rattle.std.specs.Prelude.{IfOk}
 use Rattle.std.proofs.lemmas.List.{map_push, map_more}
 use Rattle.entity_core.specs.declared.subscription.Sub.{Sub}
 use Rattle.dss_shown.specs.Page.{AreShown, IsEntityShown, IsSubShown, present_of, sub_members}
-use Rattle.entity_lists.specs.declared.availabilities.Setting.{Setting}
+use Rattle.entity_maps.specs.declared.availabilities.Setting.{Setting}
 use Rattle.entity_core.specs.Entity.{kind_of}
 use Rattle.entity_core.specs.declared.availability.Availability.{Availability}
 use Rattle.entity_core.specs.declared.entity.Entity.{Entity}

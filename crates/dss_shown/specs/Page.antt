@@ -8,8 +8,8 @@ use Rattle.entity_core.specs.declared.availability.Availability.TheVariants.{Unk
 use Rattle.entity_core.specs.declared.entity.Entity.{Entity}
 use Rattle.entity_core.specs.declared.nature.Kind.TheVariants.{Constraint, Intent}
 use Rattle.entity_core.specs.declared.subscription.Sub.{Sub}
-use Rattle.entity_lists.specs.Availabilities.{availability_map}
-use Rattle.entity_lists.specs.declared.availabilities.Setting.{Setting}
+use Rattle.entity_maps.specs.Availabilities.{availability_map}
+use Rattle.entity_maps.specs.declared.availabilities.Setting.{Setting}
 use Rattle.serde_json.specs.Data.{Data, Members, array, boolean, no_members, number, object, put, string, unsigned}
 use Rattle.serde_json.specs.View.{items_of}
 use Rattle.wire_body.specs.Availability.{name_of}

@@ -8,7 +8,7 @@ use crate::query::Query;
 use crate::volume::cells_of;
 use entity_core::entity::Entity;
 use entity_core::subscription::Sub;
-use entity_lists::entities::Entities;
+use entity_maps::entities::Entities;
 use std::alloc::{AllocError, Global};
 
 // About how many cells all that a page shows has at most: it ends after the one that comes to them.

@@ -16,7 +16,7 @@ use entity_core::entity::Entity;
 use entity_core::entity_id::EntityId;
 use entity_core::nature::Kind;
 use entity_core::subscription::Sub;
-use entity_lists::availabilities::Availabilities;
+use entity_maps::availabilities::Availabilities;
 use serde_json::{Map, Value, put};
 use space_shown::shown::Shown;
 use std::alloc::{AllocError, Global};
@@ -125,7 +125,7 @@ fn suppliers_of(
 }
 
 // The members of a page.
-fn members_json(
+fn page_members_json(
     alloc: Global,
     next: Option<String>,
     entities: Value,
@@ -161,7 +161,7 @@ fn page_json(alloc: Global, shown: Shown<'_>, query: Query) -> Result<Value, All
     let entity_values = entities_json(alloc, &entities.found, shown.availabilities)?;
     let sub_values = subs_json(alloc, &subs.found, shown.availabilities)?;
     let suppliers = suppliers_of(alloc, query.after, shown.availabilities)?;
-    members_json(
+    page_members_json(
         alloc,
         next,
         entity_values,

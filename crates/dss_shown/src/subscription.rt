@@ -14,7 +14,7 @@ use std::alloc::{AllocError, Global};
 use wire_body::availability::name_of;
 
 // The members of a subscription, with that extent.
-fn members_json(
+fn sub_members_json(
     alloc: Global,
     sub: &Sub,
     availability: Availability,
@@ -66,5 +66,5 @@ pub(crate) fn sub_json(
         × (view v ≡ object (sub_members sub.now availability extents))) }
 {
     let extents = volume_json(alloc, &sub.volume)?;
-    members_json(alloc, sub, availability, extents)
+    sub_members_json(alloc, sub, availability, extents)
 }

@@ -47,6 +47,6 @@ IsToldOf fault Length = fault ≡ Some Length
 IsToldOf fault Form = fault ≡ Some Form
 
 -- A text without a fault is read as it is, unless memory runs out; else its first fault is told.
-abbrev pub Reads : Option IdFault → List ℕ → Result (List ℕ) IdFault → Type 0
-Reads fault text result =
+abbrev pub ReadsText : Option IdFault → List ℕ → Result (List ℕ) IdFault → Type 0
+ReadsText fault text result =
     MatchResult result (λ id. (id ≡ text) × (fault ≡ None)) (λ e. IsToldOf fault e)

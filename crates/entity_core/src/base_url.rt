@@ -1,6 +1,6 @@
 //! Addresses of suppliers.
 ghost use Rattle.std.specs.Prelude.{◌≡◌, IfOk, None};
-ghost use Rattle.entity_core.specs.IdTexts.{Reads, url_fault};
+ghost use Rattle.entity_core.specs.IdTexts.{ReadsText, url_fault};
 
 use crate::id_fault::IdFault;
 use crate::visible::read_visible;
@@ -30,7 +30,7 @@ impl Model for BaseUrl {
 impl BaseUrl {
     /// Reads an address. The error is the first fault of the text.
     pub fn read(alloc: Global, text: &str) -> Result<BaseUrl, IdFault>
-        ensures { Reads (url_fault text.now) text.now result }
+        ensures { ReadsText (url_fault text.now) text.now result }
     {
         let letters = read_visible(alloc, text, 1, 255)?;
         Ok(BaseUrl { letters })

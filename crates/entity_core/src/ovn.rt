@@ -2,7 +2,7 @@
 ghost use Rattle.std.specs.Prelude.{◌≡◌, IfOk, None, length};
 ghost use Rattle.std.specs.String.{string_bytes};
 ghost use Rattle.hex.specs.Hex.{encode_lower};
-ghost use Rattle.entity_core.specs.IdTexts.{Reads, ovn_fault};
+ghost use Rattle.entity_core.specs.IdTexts.{ReadsText, ovn_fault};
 ghost use Rattle.entity_core.specs.Ovn.{ovn_text, ovn_message};
 
 use crate::id_fault::IdFault;
@@ -35,7 +35,7 @@ impl Model for Ovn {
 impl Ovn {
     /// Reads an OVN as a caller writes it. The error is the first fault of the text.
     pub fn read(alloc: Global, text: &str) -> Result<Ovn, IdFault>
-        ensures { Reads (ovn_fault text.now) text.now result }
+        ensures { ReadsText (ovn_fault text.now) text.now result }
     {
         let letters = read_visible(alloc, text, 16, 128)?;
         Ok(Ovn { letters })

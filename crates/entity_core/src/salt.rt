@@ -1,6 +1,6 @@
 //! Salts of OVNs.
 ghost use Rattle.std.specs.Prelude.{◌≡◌, IfOk, None};
-ghost use Rattle.entity_core.specs.IdTexts.{Reads, name_fault};
+ghost use Rattle.entity_core.specs.IdTexts.{ReadsText, name_fault};
 
 use crate::id_fault::IdFault;
 use crate::name::read_name;
@@ -30,7 +30,7 @@ impl Model for Salt {
 impl Salt {
     /// Reads a salt. The error is the first fault of the text.
     pub fn read(alloc: Global, text: &str) -> Result<Salt, IdFault>
-        ensures { Reads (name_fault text.now) text.now result }
+        ensures { ReadsText (name_fault text.now) text.now result }
     {
         let letters = read_name(alloc, text)?;
         Ok(Salt { letters })

@@ -35,7 +35,7 @@ use Rattle.service_step.specs.declared.reply.Answer.{Answer}
 use Rattle.service_step.specs.declared.reply.Answer.TheVariants as answers
 use Rattle.service_step.specs.declared.reply.Reply.{Reply}
 use Rattle.service_step.specs.declared.reply.Reply.TheVariants.{Done}
-use Rattle.service_step.specs.declared.look.Facts as own
+use Rattle.service_step.specs.declared.look.OwnFacts as own
 use Rattle.service_notices.specs.Notices.{notices_in, touched}
 use Rattle.service_notices.specs.declared.notice.Notify.{Notify}
 use Rattle.service_step.specs.Step.{effect, effect_by, created, updated, kept_with, create_effect, put_effect, update_effect, delete_effect, sub_kept_as, seen_of, seen_sub, stored_reply, put_sub_effect, update_sub_effect, delete_sub_effect}
@@ -190,7 +190,7 @@ same_seen a uss s x = refl
 abbrev ids_for : Airspace → Kind → List Region → List ℕ
 ids_for a kind areas = map (λ s. s.id) (subscribers_in a.subscriptions kind areas)
 
-module _ (q : Admitted) (is_admitted : IsAdmitted q) (g : own.Facts) (a : Airspace) where
+module _ (q : Admitted) (is_admitted : IsAdmitted q) (g : own.OwnFacts) (a : Airspace) where
   abbrev salt : List ℕ
   salt = q.salt.now
 

@@ -20,7 +20,7 @@ use Rattle.entity_core.specs.declared.subscription.Sub.{Sub}
 use Rattle.service_step.specs.declared.admitted.Admitted.{Admitted}
 use Rattle.service_step.specs.declared.halt.Halt.{Halt}
 use Rattle.service_step.specs.declared.halt.Halt.TheVariants.{NoMemory, Space}
-use Rattle.service_step.specs.declared.look.Facts as own
+use Rattle.service_step.specs.declared.look.OwnFacts as own
 use Rattle.service_step.specs.declared.made.Made.{Made}
 use Rattle.service_step.specs.declared.reply.Answer.{Answer}
 use Rattle.service_step.specs.declared.reply.Answer.TheVariants.{SubStored}
@@ -61,7 +61,7 @@ pub record Looks {S T : Type 0} (g : Ghosts S) (old new : S) (result : Result T 
       (λ _. (g.refusals new ≡ g.refusals old) × (g.is_broken new ≡ g.is_broken old))
       (λ h. ToldBy h (g.refusals old) (g.refusals new) (g.is_broken old) (g.is_broken new))
 
-abbrev pub facts_in : own.Facts → Facts
+abbrev pub facts_in : own.OwnFacts → Facts
 facts_in g = record {
   found = g.found;
   stated = g.stated;
@@ -71,7 +71,7 @@ facts_in g = record {
 }
 
 -- what was looked up is what the airspace has for the operation
-abbrev pub AreFacts : Operation → Airspace → own.Facts → Type 0
+abbrev pub AreFacts : Operation → Airspace → own.OwnFacts → Type 0
 AreFacts op a g = Regards a op (facts_in g)
 
 -- what is to be read, updated or deleted was found
@@ -96,7 +96,7 @@ pub record Makes (admitted : Admitted) (a : Airspace) (change : Option Change) (
   pub fits : IfSome change (λ change. Fits change told a)
 
 -- for each airspace that may be kept in which the call breaks no rule
-abbrev pub Prepares : Admitted → own.Facts → Airspace → Made → Type 0
+abbrev pub Prepares : Admitted → own.OwnFacts → Airspace → Made → Type 0
 Prepares admitted g a made =
     IsAirspace a → BreaksNone admitted a → AreFacts admitted.call.now.op a g
     → Makes admitted a made.change made.notify made.answer

@@ -37,7 +37,7 @@ pub fn setting(
 }
 
 /// What is told of a supplier.
-pub fn told(
+pub fn availability_reading(
     alloc: Global,
     uss: &UssId,
     stated: &Option<(Availability, Ovn)>,

@@ -5,10 +5,10 @@ ghost use Rattle.service_step.specs.Admitted.{IsAdmitted};
 ghost use Rattle.service_step.specs.Looks.{Looks, IsReady, Prepares};
 
 use crate::admitted::Admitted;
-use crate::availability_effects::{setting, told};
+use crate::availability_effects::{availability_reading, setting};
 use crate::entity_effects::{creation, listing, next_serial, reading, removal, update};
 use crate::halt::Halt;
-use crate::look::Facts;
+use crate::look::OwnFacts;
 use crate::made::Made;
 use crate::sub_effects::{sub_creation, sub_listing, sub_reading, sub_removal, sub_update};
 use policy_core::call::Operation;
@@ -29,11 +29,11 @@ fn is_about_sub(op: &Operation) -> bool
 }
 
 // What is made for a call about subscriptions.
-fn prepared_sub<S: Space>(
+fn prepare_sub<S: Space>(
     space: &mut S,
     alloc: Global,
     admitted: &Admitted<'_>,
-    facts: &Facts,
+    facts: &OwnFacts,
 ) -> Result<Made, Halt>
     requires admitted { IsAdmitted admitted.now }
     requires ready { IsReady admitted.now.call.now.op facts.now.found facts.now.sub }
@@ -70,18 +70,18 @@ fn prepared_sub<S: Space>(
 
 /// What is made for a call that breaks no rule. Nothing is changed yet, and all that the
 /// answer holds is made.
-pub fn prepared<S: Space>(
+pub fn prepare<S: Space>(
     space: &mut S,
     alloc: Global,
     admitted: &Admitted<'_>,
-    facts: &Facts,
+    facts: &OwnFacts,
 ) -> Result<Made, Halt>
     requires admitted { IsAdmitted admitted.now }
     requires ready { IsReady admitted.now.call.now.op facts.now.found facts.now.sub }
     ensures { Looks S.Space space.old space.new result (Prepares admitted.now facts.now) }
 {
     if is_about_sub(&admitted.call.op) {
-        return prepared_sub(space, alloc, admitted, facts);
+        return prepare_sub(space, alloc, admitted, facts);
     }
     let serial = next_serial(facts.serial);
     let salt = admitted.salt;
@@ -107,7 +107,7 @@ pub fn prepared<S: Space>(
             };
             removal(space, alloc, uss, *kind, *id, entity)
         }
-        Operation::ReadAvail(named) => Ok(told(alloc, named, &facts.stated)?),
+        Operation::ReadAvail(named) => Ok(availability_reading(alloc, named, &facts.stated)?),
         Operation::SetAvail(named, _, availability) => {
             Ok(setting(alloc, salt, serial, named, *availability)?)
         }

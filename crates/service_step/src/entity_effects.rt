@@ -117,7 +117,7 @@ fn look_notified<S: Space>(space: &mut S, kind: Kind, areas: &[Area]) -> Result<
 }
 
 // The ids of those, and what they are told.
-fn notified<S: Space>(
+fn notify_subscribers<S: Space>(
     space: &mut S,
     alloc: Global,
     kind: Kind,
@@ -156,7 +156,7 @@ pub fn creation<S: Space>(
     let entity = entity_of(alloc, salt, serial, uss, Version::first(), id, put)?;
     let shown = reference(space, uss, &entity)?;
     let areas = entity.volumes.areas(alloc)?;
-    let (notify, told) = notified(space, alloc, entity.nature.kind(), &areas)?;
+    let (notify, told) = notify_subscribers(space, alloc, entity.nature.kind(), &areas)?;
     Ok(Made {
         change: Some(Change::Put(entity)),
         notify,
@@ -185,7 +185,7 @@ pub fn update<S: Space>(
     let entity = entity_of(alloc, salt, serial, &old.manager, version, id, put)?;
     let shown = reference(space, uss, &entity)?;
     let areas = touched(alloc, &old.volumes, &entity.volumes)?;
-    let (notify, told) = notified(space, alloc, entity.nature.kind(), &areas)?;
+    let (notify, told) = notify_subscribers(space, alloc, entity.nature.kind(), &areas)?;
     Ok(Made {
         change: Some(Change::Put(entity)),
         notify,
@@ -208,7 +208,7 @@ pub fn removal<S: Space>(
 {
     let shown = reference(space, uss, entity)?;
     let areas = entity.volumes.areas(alloc)?;
-    let (notify, told) = notified(space, alloc, kind, &areas)?;
+    let (notify, told) = notify_subscribers(space, alloc, kind, &areas)?;
     Ok(Made {
         change: Some(Change::Remove(kind, id)),
         notify,

@@ -28,7 +28,7 @@ use std::alloc::{AllocError, Global};
 
 /// What was looked up for an operation.
 #[derive(Debug, Drop)]
-pub struct Facts {
+pub struct OwnFacts {
     pub found: Option<Entity>,
     pub stated: Option<(Availability, Ovn)>,
     pub serial: u64,
@@ -36,7 +36,7 @@ pub struct Facts {
     pub depended: bool,
 }
 
-impl Facts {
+impl OwnFacts {
     /// All of it, lent.
     pub fn lent(&self) -> LentFacts<'_>
         ensures { lent_facts result ≡ facts_in self.now }
@@ -159,7 +159,7 @@ fn look_depended<S: Space>(space: &mut S, op: &Operation) -> Result<bool, Halt>
 
 /// Looks up what the rules and the effect of an operation need. It takes no memory of its own. The
 /// serial comes first, since each operation asks for it: so a space that is broken is told at once.
-pub fn look<S: Space>(space: &mut S, op: &Operation) -> Result<Facts, Halt>
+pub fn look<S: Space>(space: &mut S, op: &Operation) -> Result<OwnFacts, Halt>
     ensures looks { Looks S.Space space.old space.new result (AreFacts op.now) }
     ensures memory { result ≢ Err Halt.NoMemory }
     ensures broken { S.is_broken space.old ≡ true
@@ -170,7 +170,7 @@ pub fn look<S: Space>(space: &mut S, op: &Operation) -> Result<Facts, Halt>
     let stated = look_stated(space, op)?;
     let sub = look_sub(space, subject_of(op))?;
     let depended = look_depended(space, op)?;
-    Ok(Facts {
+    Ok(OwnFacts {
         found,
         stated,
         serial,

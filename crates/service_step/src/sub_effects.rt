@@ -112,7 +112,7 @@ fn seen_of<S: Space>(
 }
 
 // What is answered of a subscription that is put, and of what it is for.
-fn stored<S: Space>(space: &mut S, alloc: Global, uss: &UssId, sub: &Sub) -> Result<Answer, Halt>
+fn store_sub<S: Space>(space: &mut S, alloc: Global, uss: &UssId, sub: &Sub) -> Result<Answer, Halt>
     ensures { Looks S.Space space.old space.new result (λ a answer. answer
         ≡ Answer.SubStored (seen_sub a sub.now)
         (seen_of kinds.Intent a uss.now sub.now) (seen_of kinds.Constraint a uss.now sub.now)) }
@@ -159,7 +159,7 @@ pub fn sub_reading<S: Space>(space: &mut S, alloc: Global, sub: &Sub) -> Result<
 fn sub_put<S: Space>(space: &mut S, alloc: Global, uss: &UssId, sub: Sub) -> Result<Made, Halt>
     ensures { Looks S.Space space.old space.new result (λ a made. PutsSub sub a uss.now made) }
 {
-    let answer = stored(space, alloc, uss, &sub)?;
+    let answer = store_sub(space, alloc, uss, &sub)?;
     Ok(Made::untold(alloc, Change::PutSub(sub), answer))
 }
 

@@ -9,7 +9,7 @@ use Rattle.entity_core.proofs.Keys.{key_total, key_exact}
 use Rattle.entity_sweep.specs.Sweep.{IsPartlySwept}
 use Rattle.entity_sweep.proofs.Maps.{all_at, each_found}
 use Rattle.entity_sweep.proofs.Pieces.{part_proper, same_serial}
-use Rattle.service_core.specs.Stale.{IsNumbered}
+use Rattle.service_calls.specs.Stale.{IsNumbered}
 use Rattle.service_sweep.specs.Kept.{SweepKeepsAware, SweepKeepsCounts, SweepKeepsNumbers}
 
 pub keeps_counts : SweepKeepsCounts

@@ -27,7 +27,7 @@ use Rattle.policy_core.specs.Standing.{depended_of, found_of, stated_of, sub_of}
 use Rattle.service_notices.specs.Notices.{notifies, touched, volumes_of}
 use Rattle.service_step.specs.Step.{created, delete_effect, delete_sub_effect, effect, kept_with, read_effect, read_sub_effect, step, step_by, sub_kept_as, update_effect, update_sub_effect, updated}
 use Rattle.service_step.proofs.Keeps.{steps_keep}
-use Rattle.service_core.specs.Run.{airspace_after}
+use Rattle.service_calls.specs.Run.{airspace_after}
 use Rattle.service_sweep.specs.Ahead.{LooksAhead, RunCommutes, RunIsUnseen, Shows}
 use Rattle.entity_sweep.specs.Sweep.{IsPartlySwept, goes, goes_by, has_ended, staying, swept}
 use Rattle.service_sweep.proofs.Commutes.{commutes}

@@ -20,7 +20,7 @@ use Rattle.policy_core.specs.Call.{named_by, subject_of}
 use Rattle.policy_core.specs.Standing.{found_of}
 use Rattle.service_notices.specs.Notices.{notifies}
 use Rattle.service_step.specs.Step.{step}
-use Rattle.service_core.specs.Run.{Timed, airspace_after, replies_of}
+use Rattle.service_calls.specs.Run.{Timed, airspace_after, replies_of}
 use Rattle.entity_sweep.specs.Sweep.{IsPartlySwept, NamesStand, SameOnceSwept, goes, has_ended, sub_has_ended, swept}
 
 -- ---- calls that look ahead

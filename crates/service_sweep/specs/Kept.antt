@@ -3,10 +3,10 @@ use Rattle.std.specs.Prelude.{ℕ, List}
 use Rattle.entity_core.specs.Airspace.{Airspace}
 use Rattle.entity_sweep.specs.Sweep.{IsPartlySwept}
 use Rattle.service_step.specs.declared.reply.Reply.{Reply}
-use Rattle.service_core.specs.Aware.{Aware}
-use Rattle.service_core.specs.Count.{Counts}
-use Rattle.service_core.specs.Run.{Timed}
-use Rattle.service_core.specs.Stale.{AllNumbered}
+use Rattle.service_calls.specs.Aware.{Aware}
+use Rattle.service_calls.specs.Count.{Counts}
+use Rattle.service_calls.specs.Run.{Timed}
+use Rattle.service_calls.specs.Stale.{AllNumbered}
 
 -- Of an airspace after a run let some of what has ended be let go. That notifies nobody: the index
 -- of each subscription that stays is the number of calls, after the one that last created it, that

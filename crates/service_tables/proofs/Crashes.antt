@@ -13,10 +13,10 @@ use Rattle.sqlite_trees.specs.declared.memory.MemStore.{MemStore}
 use Rattle.sqlite.specs.Held.{state}
 use Rattle.sqlite.specs.Steps.{over_memory}
 use Rattle.space_core.specs.Space.{IsContent, nothing_fixed}
-use Rattle.service_core.specs.Held.{is_shut, salt_of, space_of}
-use Rattle.service_core.specs.Run.{IsReplyTo}
-use Rattle.service_core.specs.Service.{Leaves}
-use Rattle.service_core.specs.declared.service.Service.{Service}
+use Rattle.service_calls.specs.Held.{is_shut, salt_of, space_of}
+use Rattle.service_calls.specs.Run.{IsReplyTo}
+use Rattle.service_calls.specs.Service.{Leaves}
+use Rattle.service_calls.specs.declared.service.Service.{Service}
 use Rattle.service_step.specs.Step.{step}
 use Rattle.space_sql.specs.Holding.{Keeps, Kept, holds_of, is_sound_of, is_whole_of}
 use Rattle.space_sql.proofs.Crashes.{leaves_held}

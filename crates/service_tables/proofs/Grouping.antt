@@ -15,13 +15,13 @@ use Rattle.space_core.specs.Space.{Code, IsContent}
 use Rattle.service_step.specs.declared.reply.Reply.{Reply}
 use Rattle.service_step.specs.declared.reply.Reply.TheVariants.{Done, Denied, Fault, Stopped}
 use Rattle.service_step.specs.Step.{step}
-use Rattle.service_core.specs.Held.{is_shut, salt_of, space_of}
-use Rattle.service_core.specs.Rounds.{IsSettled}
-use Rattle.service_core.specs.Run.{IsReplyTo}
-use Rattle.service_core.specs.Service.{Leaves}
-use Rattle.service_core.specs.Swept.{OpenSegmentIsUnkept}
-use Rattle.service_core.specs.declared.service.Service.{Service}
-use Rattle.service_core.proofs.Segments.{open_segment}
+use Rattle.service_calls.specs.Held.{is_shut, salt_of, space_of}
+use Rattle.service_calls.specs.Rounds.{IsSettled}
+use Rattle.service_calls.specs.Run.{IsReplyTo}
+use Rattle.service_calls.specs.Service.{Leaves}
+use Rattle.service_calls.specs.Swept.{OpenSegmentIsUnkept}
+use Rattle.service_calls.specs.declared.service.Service.{Service}
+use Rattle.service_calls.proofs.Segments.{open_segment}
 use Rattle.space_bounds.specs.Bounded.{Bound}
 use Rattle.space_rounds.specs.Grouped.{Group, IsSoundIn, fixed_in, holds_in, is_whole_in, pending, waits_in}
 use Rattle.space_rounds.specs.Laws.{content_of_its_store, kept_while_waiting, seen_is_kept, sound_as_its_store, works_while_waiting}

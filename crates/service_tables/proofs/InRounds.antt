@@ -14,10 +14,10 @@ use Rattle.entity_core.specs.Airspace.{Airspace}
 use Rattle.space_core.specs.Space.{IsContent}
 use Rattle.space_core.specs.declared.settle.Settles as settles
 use Rattle.space_core.specs.declared.space.Space.{Ghosts}
-use Rattle.service_core.specs.declared.service.Service.{Service}
-use Rattle.service_core.specs.Held.{salt_of, space_of}
-use Rattle.service_core.specs.Rounds.{Made, MadeInOrder, MadeRounds, Round, unkept}
-use Rattle.service_core.specs.Swept.{MadeSegments, MayHaveKeptSwept, OpenSegmentIsUnkept, Segment}
+use Rattle.service_calls.specs.declared.service.Service.{Service}
+use Rattle.service_calls.specs.Held.{salt_of, space_of}
+use Rattle.service_calls.specs.Rounds.{Made, MadeInOrder, MadeRounds, Round, unkept}
+use Rattle.service_calls.specs.Swept.{MadeSegments, MayHaveKeptSwept, OpenSegmentIsUnkept, Segment}
 use Rattle.space_bounds.specs.Bounded.{Bound}
 use Rattle.space_rounds.specs.Grouped.{Group}
 use Rattle.space_tables.specs.declared.format.Format.TheVariants.{Two}

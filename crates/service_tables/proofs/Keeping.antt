@@ -8,11 +8,11 @@ use Rattle.entity_sweep.proofs.Pieces.{pieces_make}
 use Rattle.service_step.specs.Step.{step}
 use Rattle.service_step.specs.declared.reply.Reply.{Reply}
 use Rattle.service_step.specs.declared.reply.Reply.TheVariants.{Done, Denied, Fault, Stopped}
-use Rattle.service_core.specs.Rounds.{IfStopped, Made, MayHaveKept, MayHaveLeft, Round, airspace_of, all_timed, all_told, timed_in, told_in, told_of, unkept}
-use Rattle.service_core.specs.Run.{MayHaveStepped, Timed, airspace_after, answered_calls, has_stopped}
-use Rattle.service_core.specs.Swept.{MayHaveKeptSwept, Segment, airspace_after_rounds, all_told_in}
-use Rattle.service_core.proofs.InRounds.{even_in}
-use Rattle.service_core.proofs.Joined.{airspace_then, goes_first, stops_then}
+use Rattle.service_calls.specs.Rounds.{IfStopped, Made, MayHaveKept, MayHaveLeft, Round, airspace_of, all_timed, all_told, timed_in, told_in, told_of, unkept}
+use Rattle.service_calls.specs.Run.{MayHaveStepped, Timed, airspace_after, answered_calls, has_stopped}
+use Rattle.service_calls.specs.Swept.{MayHaveKeptSwept, Segment, airspace_after_rounds, all_told_in}
+use Rattle.service_calls.proofs.InRounds.{even_in}
+use Rattle.service_calls.proofs.Joined.{airspace_then, goes_first, stops_then}
 use Rattle.service_tables.specs.Life.{AreEmpty, IsDue, alone}
 
 -- of a round in which nothing waited

@@ -19,16 +19,16 @@ use Rattle.space_core.specs.declared.space.Space.{Ghosts}
 use Rattle.service_step.specs.Step.{step}
 use Rattle.service_step.specs.declared.reply.Reply.{Reply}
 use Rattle.service_step.specs.declared.reply.Reply.TheVariants.{Done, Denied, Fault, Stopped}
-use Rattle.service_core.specs.declared.service.Service.{Service}
-use Rattle.service_core.specs.Held.{is_shut, salt_of, space_of}
-use Rattle.service_core.specs.Run.{Answered, AskedInOrder, MayHaveStepped, Timed, airspace_after, answered_calls, has_stopped}
-use Rattle.service_core.proofs.Runs.{answered}
+use Rattle.service_calls.specs.declared.service.Service.{Service}
+use Rattle.service_calls.specs.Held.{is_shut, salt_of, space_of}
+use Rattle.service_calls.specs.Run.{Answered, AskedInOrder, MayHaveStepped, Timed, airspace_after, answered_calls, has_stopped}
+use Rattle.service_calls.proofs.Runs.{answered}
 use Rattle.space_tables.specs.declared.format.Format.TheVariants.{Two}
-use Rattle.space_opening.specs.declared.open_fault.OpenFault.{OpenFault}
+use Rattle.space_format.specs.declared.open_fault.OpenFault.{OpenFault}
 use Rattle.space_sql.specs.Found.{FilesSpell, FindsSpelt, RefusesFound}
 use Rattle.space_sql.specs.Holding.{Kept, holds_of, is_sound_of, is_whole_of}
 use Rattle.space_sql.specs.Restart.{ClosesFiles, FilesHave, FilesLeft, LeavesFiles, LeavesTrees, without_log}
-use Rattle.service_core.specs.Rounds.{MayHaveKept}
+use Rattle.service_calls.specs.Rounds.{MayHaveKept}
 use Rattle.service_tables.specs.Life.{Continues, Lives, MayComeOfAll, Run, StandFor, alone, run_of, unasked}
 use Rattle.service_tables.proofs.Crashes.{words_of}
 use Rattle.service_tables.proofs.Keeping.{alone_is_stepped}

@@ -11,10 +11,10 @@ use Rattle.space_core.specs.declared.space.SpaceFault.{SpaceFault}
 use Rattle.space_core.specs.declared.space.SpaceFault.TheVariants.{Unchanged, Broken}
 use Rattle.service_step.specs.declared.reply.Reply.{Reply}
 use Rattle.service_step.specs.declared.reply.Reply.TheVariants.{Done, Denied, Fault, Stopped}
-use Rattle.service_core.specs.declared.service.Service.{Service}
-use Rattle.service_core.specs.Held.{is_shut, salt_of, space_of}
-use Rattle.service_core.specs.Rounds.{IsSettled}
-use Rattle.service_core.specs.Run.{IsReplyTo}
+use Rattle.service_calls.specs.declared.service.Service.{Service}
+use Rattle.service_calls.specs.Held.{is_shut, salt_of, space_of}
+use Rattle.service_calls.specs.Rounds.{IsSettled}
+use Rattle.service_calls.specs.Run.{IsReplyTo}
 use Rattle.service_step.specs.Step.{step}
 use Rattle.space_bounds.specs.Bounded.{Bound}
 use Rattle.space_rounds.specs.Grouped.{Group, keeps_in, waits_in}

@@ -9,10 +9,10 @@ use Rattle.sqlite.specs.Recovery.{Image}
 use Rattle.sqlite.specs.WalReads.{AreClean}
 use Rattle.entity_core.specs.Airspace.{Airspace}
 use Rattle.space_core.specs.declared.space.Space as spaces
-use Rattle.service_core.specs.declared.service.Service.{Service}
-use Rattle.service_core.specs.Held.{is_shut, space_of}
-use Rattle.service_core.specs.Rounds.{Made, MadeInOrder, MadeRounds, Round, unkept}
-use Rattle.service_core.specs.Swept.{MadeSegments, Segment}
+use Rattle.service_calls.specs.declared.service.Service.{Service}
+use Rattle.service_calls.specs.Held.{is_shut, space_of}
+use Rattle.service_calls.specs.Rounds.{Made, MadeInOrder, MadeRounds, Round, unkept}
+use Rattle.service_calls.specs.Swept.{MadeSegments, Segment}
 use Rattle.space_bounds.specs.Bounded.{Bound}
 use Rattle.space_rounds.specs.Grouped.{Group, waits_in}
 use Rattle.space_sql.specs.Found.{FindsSpelt}

@@ -15,13 +15,13 @@ use Rattle.entity_sweep.specs.Sweep.{IsPartlySwept}
 use Rattle.space_core.specs.Space.{IsContent}
 use Rattle.space_core.specs.declared.space.Space as spaces
 use Rattle.service_step.specs.declared.reply.Reply.{Reply}
-use Rattle.service_core.specs.declared.service.Service.{Service}
-use Rattle.service_core.specs.Held.{is_shut, salt_of, space_of}
-use Rattle.service_core.specs.Rounds.{Made, MayHaveKept, Round, all_timed, all_told}
-use Rattle.service_core.specs.Run.{AskedInOrder, MayHaveStepped, Timed, airspace_after, answered_calls, has_stopped}
-use Rattle.service_core.specs.Swept.{MayHaveKeptSwept, Segment, airspace_after_rounds, all_told_in}
+use Rattle.service_calls.specs.declared.service.Service.{Service}
+use Rattle.service_calls.specs.Held.{is_shut, salt_of, space_of}
+use Rattle.service_calls.specs.Rounds.{Made, MayHaveKept, Round, all_timed, all_told}
+use Rattle.service_calls.specs.Run.{AskedInOrder, MayHaveStepped, Timed, airspace_after, answered_calls, has_stopped}
+use Rattle.service_calls.specs.Swept.{MayHaveKeptSwept, Segment, airspace_after_rounds, all_told_in}
 use Rattle.space_tables.specs.declared.format.Format.{Format}
-use Rattle.space_opening.specs.declared.open_fault.OpenFault.{OpenFault}
+use Rattle.space_format.specs.declared.open_fault.OpenFault.{OpenFault}
 use Rattle.space_sql.specs.Found.{AreUnmade, FilesSpell, FindsSpelt, RefusesFound}
 use Rattle.space_sql.specs.Holding.{Kept}
 use Rattle.space_sql.specs.Restart.{ClosesFiles, FilesHave, FilesLeft, LeavesFiles, LeavesTrees, without_log}

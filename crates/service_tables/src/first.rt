@@ -6,9 +6,9 @@ ghost use Rattle.service_tables.specs.Crash.{LeavesDue};
 
 use entity_core::salt::Salt;
 use policy_core::call::Call;
-use service_core::service::Service;
+use service_calls::service::Service;
 use service_step::reply::Reply;
-use space_opening::open_fault::OpenFault;
+use space_format::open_fault::OpenFault;
 use space_sql::laws::memory_is_sound;
 use space_sql::space::SqlSpace;
 use sqlite::MemStore;

@@ -1,16 +1,16 @@
 //! The first call of a service over an empty airspace in memory.
 ghost use Rattle.std.specs.Prelude.{◌≡◌, false};
 ghost use Rattle.entity_core.specs.Airspace.{empty_at};
-ghost use Rattle.service_core.specs.Held.{space_of};
+ghost use Rattle.service_calls.specs.Held.{space_of};
 ghost use Rattle.service_step.specs.Reply.{is_stopped};
-ghost use Rattle.service_core.specs.Service.{Leaves, MayFail};
+ghost use Rattle.service_calls.specs.Service.{Leaves, MayFail};
 
 use entity_core::salt::Salt;
 use policy_core::call::Call;
-use service_core::service::Service;
+use service_calls::service::Service;
 use service_step::reply::Reply;
 use space_core::space::Space;
-use space_list::list::ListSpace;
+use space_memory::memory::MemorySpace;
 use std::alloc::Global;
 
 /// Answers a call over a new, empty airspace, and gives the service that did so.
@@ -19,14 +19,19 @@ use std::alloc::Global;
 /// the content are the policy's, or it is `Fault` and the airspace is still empty. Such a space has
 /// refused nothing before, so that for a call that breaks one of P7 to P13, P16 or P17 a `Fault`
 /// comes only where it did now.
-pub fn first_call(alloc: Global, salt: Salt, now: u64, call: &Call) -> (Reply, Service<ListSpace>)
-    ensures leaves { Leaves ⟦<ListSpace as Space>⟧ salt (empty_at 0) now call.now
+pub fn first_call_in_memory(
+    alloc: Global,
+    salt: Salt,
+    now: u64,
+    call: &Call,
+) -> (Reply, Service<MemorySpace>)
+    ensures leaves { Leaves ⟦<MemorySpace as Space>⟧ salt (empty_at 0) now call.now
         result.0 (space_of result.1) }
     ensures fails { MayFail (empty_at 0) now call.now result.0 0
-        (⟦<ListSpace as Space>⟧.refusals (space_of result.1)) }
+        (⟦<MemorySpace as Space>⟧.refusals (space_of result.1)) }
     ensures goes_on { is_stopped result.0 ≡ false }
 {
-    let mut service = Service::new(ListSpace::new(alloc), salt);
+    let mut service = Service::new(MemorySpace::new(alloc), salt);
     let reply = service.call(alloc, now, call);
     (reply, service)
 }

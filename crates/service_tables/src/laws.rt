@@ -1,6 +1,6 @@
 //! The laws of a service over tables. No program calls these functions: what they say is in their
 //! contracts.
-ghost use Rattle.service_core.specs.Swept.{OpenSegmentIsUnkept};
+ghost use Rattle.service_calls.specs.Swept.{OpenSegmentIsUnkept};
 ghost use Rattle.service_tables.specs.Crash.{CrashAfterCall, CrashAfterGroupedCall, CrashAfterRound, bound_waiting_of};
 ghost use Rattle.service_tables.specs.InRounds.{ContinuesInRounds, ContinuesInRoundsClosed, SomeIsHeld};
 ghost use Rattle.service_tables.specs.Life.{AloneIsStepped, AskedOn, ContinuesClosed, ContinuesRefused, ContinuesServed, LifeIsFound, LifeLeaves, SweepRunIsPartly, UnstoppedIsDue, UnstoppedIsDueSwept};

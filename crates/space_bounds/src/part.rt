@@ -9,7 +9,7 @@ use entity_core::entity_id::EntityId;
 use entity_core::nature::Kind;
 use entity_core::subscription::Sub;
 use entity_core::uss_id::UssId;
-use entity_lists::subscriptions::Subscriptions;
+use entity_maps::subscriptions::Subscriptions;
 use entity_sweep::gone::Gone;
 use space_core::space::{Change, Space, SpaceFault};
 use space_shown::shown::Shown;
@@ -70,7 +70,7 @@ pub(crate) fn kept_at<S: Space>(space: &mut S, place: Place) -> Result<Option<Pa
 }
 
 /// The supplier of what a change puts, and how much that is.
-pub(crate) fn added(change: &Change) -> Option<(&UssId, Kept)>
+pub(crate) fn added_by(change: &Change) -> Option<(&UssId, Kept)>
     ensures { ¬ IsPut change.now → result ≡ None }
 {
     match change {

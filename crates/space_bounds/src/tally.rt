@@ -3,10 +3,10 @@ ghost use Rattle.std.specs.Prelude.{◌≡◌, IsSome};
 ghost use Rattle.space_bounds.specs.Bounded.{IsPut};
 
 use crate::kept::Kept;
-use crate::part::{Part, added};
+use crate::part::{Part, added_by};
 use entity_core::uss_id::UssId;
-use entity_lists::entities::Entities;
-use entity_lists::subscriptions::Subscriptions;
+use entity_maps::entities::Entities;
+use entity_maps::subscriptions::Subscriptions;
 use space_core::space::Change;
 use std::alloc::{AllocError, Global};
 
@@ -38,7 +38,7 @@ pub(crate) struct Step {
 }
 
 // What is left at a place of what was there, of which some is taken at one.
-fn left(was: Kept, at: usize, taken: Option<(usize, Kept)>) -> Kept {
+fn left_at(was: Kept, at: usize, taken: Option<(usize, Kept)>) -> Kept {
     match taken {
         Some((from, size)) => { if from == at { was.without(size) } else { was } }
         None => was,
@@ -136,7 +136,7 @@ impl Tally {
             },
             None => None,
         };
-        let Some((manager, size)) = added(change) else {
+        let Some((manager, size)) = added_by(change) else {
             return Some(Step { taken, given: None });
         };
         if !self.is_whole {
@@ -146,7 +146,7 @@ impl Tally {
             return None;
         };
         let before = self.at(at);
-        let after = left(before, at, taken).with(size);
+        let after = left_at(before, at, taken).with(size);
         if after.is_within(self.most, before) {
             Some(Step {
                 taken,

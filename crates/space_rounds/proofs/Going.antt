@@ -10,8 +10,8 @@ use Rattle.space_core.specs.declared.space.Space.{Ghosts}
 use Rattle.space_core.specs.declared.space.SpaceFault.{SpaceFault}
 use Rattle.space_core.specs.declared.space.SpaceFault.TheVariants.{Unchanged, Broken}
 use Rattle.space_core.specs.Space.{Changes, IsContent, Reads, Tells, refusals_after}
-use Rattle.space_list.specs.declared.list.ListSpace.{ListSpace}
-use Rattle.space_list.specs.List.{content_of}
+use Rattle.space_memory.specs.declared.memory.MemorySpace.{MemorySpace}
+use Rattle.space_memory.specs.Memory.{content_of}
 use Rattle.space_rounds.specs.Grouped.{Agrees, Group, IsAhead, IsSoundIn, ReadsParts, ahead_of, group, holds_in, is_lost, is_whole_in, pending, some_wait, waits_in}
 use Rattle.space_rounds.specs.Laws.{content_of_its_store, seen_is_kept, sound_as_its_store}
 use Rattle.space_rounds.specs.Sweeps.{Following, LettingGo, Untold}
@@ -32,7 +32,7 @@ untold_of (Ok x) = Err Unchanged
 untold_of (Err Unchanged) = Err Unchanged
 untold_of (Err Broken) = Err Broken
 
-calm_of : (l : Option ListSpace) (round : List RoundChange) → round ≡ [] → some_wait (pending (ahead_of l round)) ≡ false
+calm_of : (l : Option MemorySpace) (round : List RoundChange) → round ≡ [] → some_wait (pending (ahead_of l round)) ≡ false
 calm_of None round none = refl
 calm_of (Some l) round none = ap some_wait none
 
@@ -44,7 +44,7 @@ module _ {S : Type 0} (g : Ghosts S) where
   -- ---- what has ended
 
   -- the list tells it
-  pub told_by_list : {T : Type 0} (s : S) (l : ListSpace) (k k' : ℕ) (r r' : Result T SpaceFault) (P : Airspace → T → Type 0) → IfErr r (λ fault. fault ≡ Unchanged) → IfOk r (λ x. P (content_of l) x)
+  pub told_by_list : {T : Type 0} (s : S) (l : MemorySpace) (k k' : ℕ) (r r' : Result T SpaceFault) (P : Airspace → T → Type 0) → IfErr r (λ fault. fault ≡ Unchanged) → IfOk r (λ x. P (content_of l) x)
       → r' ≡ r → k' ≡ refusals_after k r → ReadsParts g s s (Some l) (Some l) k k' r' P
   told_by_list s l k k' r r' P fault found same counted =
       list_reads g s l l 0 (refusals_after 0 r) k k' r r' P (tells_unbroken r fault) (reads_kept l l r P refl found) same counted
@@ -119,20 +119,20 @@ module _ {S : Type 0} (g : Ghosts S) where
   -- ---- letting go
 
   -- what a group can let go of, its store can
-  pub can_go : (s : S) (l : Option ListSpace) (p : Upkeep) (round : List RoundChange) (k : ℕ) (gone : List Gone) → round ≡ [] → Agrees g s l p round
+  pub can_go : (s : S) (l : Option MemorySpace) (p : Upkeep) (round : List RoundChange) (k : ℕ) (gone : List Gone) → round ≡ [] → Agrees g s l p round
       → (IsSoundIn g (group s (ahead_of l round) k) → (a : Airspace) → holds_in g (group s (ahead_of l round) k) a → AllCanGo gone a) → g.is_sound s → (a : Airspace) → g.holds s a → AllCanGo gone a
   can_go s l p round k gone none h can sound a held =
       can (whole_sound g s l p round k h sound) a ((seen_is_kept g.holds (group s (ahead_of l round) k) a (calm_of l round none)).1 held)
 
   module _ (s t : S) (gone : List Gone) where
-    ahead_less : (l m : ListSpace) (x : Unit {0}) → IsAhead g s l [] → g.is_broken t ≡ g.is_broken s → Changes {T = Unit {0}} g.holds g.is_sound g.is_whole (g.is_broken s) s t (Ok x) (less_all gone)
+    ahead_less : (l m : MemorySpace) (x : Unit {0}) → IsAhead g s l [] → g.is_broken t ≡ g.is_broken s → Changes {T = Unit {0}} g.holds g.is_sound g.is_whole (g.is_broken s) s t (Ok x) (less_all gone)
         → content_of m ≡ less_all gone (content_of l) → IsAhead g t m []
     ahead_less l m x h breaks c went = record {
       live = breaks ∙ h.live;
       base = λ sound. let it = h.base (c.sound sound) in (less_all gone it.0, c.done sound it.0 it.1.held, tt, went ∙ ap (less_all gone) it.3);
     }
 
-    ahead_refused : (l : ListSpace) → IsAhead g s l [] → g.is_broken t ≡ g.is_broken s → Changes {T = Unit {0}} g.holds g.is_sound g.is_whole (g.is_broken s) s t (Err Unchanged) (less_all gone) → IsAhead g t l []
+    ahead_refused : (l : MemorySpace) → IsAhead g s l [] → g.is_broken t ≡ g.is_broken s → Changes {T = Unit {0}} g.holds g.is_sound g.is_whole (g.is_broken s) s t (Err Unchanged) (less_all gone) → IsAhead g t l []
     ahead_refused l h breaks c = record {
       live = breaks ∙ h.live;
       base = λ sound.
@@ -140,25 +140,25 @@ module _ {S : Type 0} (g : Ghosts S) where
           (it.0, record { held = (c.refused sound refl it.0).0 it.1.held; only = λ b now. it.1.only b ((c.refused sound refl b).1 now) }, tt, it.3);
     }
 
-    none_follows : (n : Option ListSpace) (r : Result (Unit {0}) SpaceFault) → Following gone r None n → n ≡ None
+    none_follows : (n : Option MemorySpace) (r : Result (Unit {0}) SpaceFault) → Following gone r None n → n ≡ None
     none_follows n (Ok x) list = list
     none_follows n (Err Unchanged) list = list
     none_follows n (Err Broken) list = list
 
-    module _ (n : Option ListSpace) (p q : Upkeep) (stays : is_lost q ≡ true → is_lost p ≡ true) where
-      listed_agrees : (l : ListSpace) (r : Result (Unit {0}) SpaceFault) → IsAhead g s l [] → Tells (g.refusals s) (g.refusals t) (g.is_broken s) (g.is_broken t) r
+    module _ (n : Option MemorySpace) (p q : Upkeep) (stays : is_lost q ≡ true → is_lost p ≡ true) where
+      listed_agrees : (l : MemorySpace) (r : Result (Unit {0}) SpaceFault) → IsAhead g s l [] → Tells (g.refusals s) (g.refusals t) (g.is_broken s) (g.is_broken t) r
           → Changes g.holds g.is_sound g.is_whole (g.is_broken s) s t r (less_all gone) → Following gone r (Some l) n → Agrees g t n q []
       listed_agrees l (Ok x) h tells c list = subst (λ y. Agrees g t y q []) (sym list.1) (ahead_less l list.0 x h tells.breaks c list.2)
       listed_agrees l (Err Unchanged) h tells c list = subst (λ y. Agrees g t y q []) (sym list) (ahead_refused l h tells.breaks c)
       listed_agrees l (Err Broken) h tells c list = agrees_none g t n q list (λ lost works. absurd (let e : true ≡ false = sym tells.breaks ∙ works in cc))
 
-      pub agrees_gone : (l : Option ListSpace) (round : List RoundChange) (r : Result (Unit {0}) SpaceFault) → round ≡ [] → Agrees g s l p round → Tells (g.refusals s) (g.refusals t) (g.is_broken s) (g.is_broken t) r
+      pub agrees_gone : (l : Option MemorySpace) (round : List RoundChange) (r : Result (Unit {0}) SpaceFault) → round ≡ [] → Agrees g s l p round → Tells (g.refusals s) (g.refusals t) (g.is_broken s) (g.is_broken t) r
           → Changes g.holds g.is_sound g.is_whole (g.is_broken s) s t r (less_all gone) → Following gone r l n → Agrees g t n q round
       agrees_gone l (c ∷ cs) r none h tells changes list = absurd (let e = none in cc)
       agrees_gone None [] r none h tells changes list = agrees_none g t n q (none_follows n r list) (λ lost. one_changed g s t (less_all gone) r tells changes (h.1 (stays lost)))
       agrees_gone (Some l) [] r none h tells changes list = listed_agrees l r h tells changes list
 
-    pub goes : (l n : Option ListSpace) (round : List RoundChange) (k k' : ℕ) (r r' : Result (Unit {0}) SpaceFault) → round ≡ [] → Tells (g.refusals s) (g.refusals t) (g.is_broken s) (g.is_broken t) r
+    pub goes : (l n : Option MemorySpace) (round : List RoundChange) (k k' : ℕ) (r r' : Result (Unit {0}) SpaceFault) → round ≡ [] → Tells (g.refusals s) (g.refusals t) (g.is_broken s) (g.is_broken t) r
         → Changes g.holds g.is_sound g.is_whole (g.is_broken s) s t r (less_all gone) → r' ≡ r → k' ≡ refusals_after k r
         → LettingGo g (group s (ahead_of l round) k) (group t (ahead_of n round) k') r' gone
     goes l n round k k' r r' none tells c is counted =
@@ -172,11 +172,11 @@ module _ {S : Type 0} (g : Ghosts S) where
 
   -- ---- while changes wait
 
-  works_waiting : (s : S) (l : Option ListSpace) (p : Upkeep) (round : List RoundChange) → (round ≡ [] → ⊥) → Agrees g s l p round → g.is_broken s ≡ false
+  works_waiting : (s : S) (l : Option MemorySpace) (p : Upkeep) (round : List RoundChange) → (round ≡ [] → ⊥) → Agrees g s l p round → g.is_broken s ≡ false
   works_waiting s None p round waits h = absurd (waits h.0)
   works_waiting s (Some l) p round waits h = h.live
 
-  pub nothing_goes : (s : S) (l : Option ListSpace) (p : Upkeep) (round : List RoundChange) (k k' : ℕ) (gone : List Gone) (r : Result (Unit {0}) SpaceFault) → (round ≡ [] → ⊥) → Agrees g s l p round
+  pub nothing_goes : (s : S) (l : Option MemorySpace) (p : Upkeep) (round : List RoundChange) (k k' : ℕ) (gone : List Gone) (r : Result (Unit {0}) SpaceFault) → (round ≡ [] → ⊥) → Agrees g s l p round
       → r ≡ Err Unchanged → k' ≡ refusals_after {T = Unit {0}} k (Err Unchanged) → LettingGo g (group s (ahead_of l round) k) (group s (ahead_of l round) k') r gone
   nothing_goes s l p round k k' gone r waits h is counted =
       subst (λ q. LettingGo {T = Unit {0}} g (group s (ahead_of l round) k) (group s (ahead_of l round) k') q gone) (sym is) (record {

@@ -8,21 +8,21 @@ use Rattle.space_core.specs.declared.space.SpaceFault.{SpaceFault}
 use Rattle.space_core.specs.declared.space.SpaceFault.TheVariants.{Unchanged, Broken}
 use Rattle.space_core.specs.Round.{changed_all}
 use Rattle.space_core.specs.Space.{Reads, Tells, UnlessBroken, is_broken_after, refusals_after}
-use Rattle.space_list.specs.declared.list.ListSpace.{ListSpace}
-use Rattle.space_list.specs.List.{content_of}
+use Rattle.space_memory.specs.declared.memory.MemorySpace.{MemorySpace}
+use Rattle.space_memory.specs.Memory.{content_of}
 use Rattle.space_rounds.specs.Grouped.{Group, HoldsOne, IsAhead, Reading, ReadsParts, group, holds_in}
 
 -- a list that is read keeps its airspace
-list_same : {T : Type 0} (l m : ListSpace) (n n' : ℕ) (r : Result T SpaceFault) (P : Airspace → T → Type 0)
-    → Tells n n' false false r → Reads (λ (s : ListSpace) a. a ≡ content_of s) (λ _. Unit {0}) (λ _. Unit {0}) l m r P
+list_same : {T : Type 0} (l m : MemorySpace) (n n' : ℕ) (r : Result T SpaceFault) (P : Airspace → T → Type 0)
+    → Tells n n' false false r → Reads (λ (s : MemorySpace) a. a ≡ content_of s) (λ _. Unit {0}) (λ _. Unit {0}) l m r P
     → content_of m ≡ content_of l
 list_same l m n n' (Ok x) P t r = sym (r.stays tt (content_of l) refl)
 list_same l m n n' (Err Unchanged) P t r = sym (r.stays tt (content_of l) refl)
 list_same l m n n' (Err Broken) P t r = absurd (let e = t.breaks in cc)
 
 -- what a list tells that stays as it is
-pub reads_kept : {T : Type 0} (l m : ListSpace) (r : Result T SpaceFault) (P : Airspace → T → Type 0) → content_of m ≡ content_of l → IfOk r (λ found. P (content_of l) found)
-    → Reads (λ (s : ListSpace) a. a ≡ content_of s) (λ _. Unit {0}) (λ _. Unit {0}) l m r P
+pub reads_kept : {T : Type 0} (l m : MemorySpace) (r : Result T SpaceFault) (P : Airspace → T → Type 0) → content_of m ≡ content_of l → IfOk r (λ found. P (content_of l) found)
+    → Reads (λ (s : MemorySpace) a. a ≡ content_of s) (λ _. Unit {0}) (λ _. Unit {0}) l m r P
 reads_kept l m (Ok x) P kept found = record {
   sound = λ _. tt;
   whole = λ _ _. tt;
@@ -47,17 +47,17 @@ reads_kept l m (Err Broken) P kept found = record {
 
 module _ {S : Type 0} (g : Ghosts S) where
   -- a list with the same airspace
-  pub ahead_same : (s : S) (l m : ListSpace) (round : List RoundChange) → content_of m ≡ content_of l → IsAhead g s l round → IsAhead g s m round
+  pub ahead_same : (s : S) (l m : MemorySpace) (round : List RoundChange) → content_of m ≡ content_of l → IsAhead g s l round → IsAhead g s m round
   ahead_same s l m round same h = record { live = h.live; base = λ sound. let it = h.base sound in (it.0, it.1, it.2, same ∙ it.3) }
 
   -- what is seen is what the list has
-  seen_listed : (s : S) (l : ListSpace) (round : List RoundChange) (n : ℕ) → IsAhead g s l round → g.is_sound s → (b : Airspace) → holds_in g (group s (Some round) n) b → b ≡ content_of l
+  seen_listed : (s : S) (l : MemorySpace) (round : List RoundChange) (n : ℕ) → IsAhead g s l round → g.is_sound s → (b : Airspace) → holds_in g (group s (Some round) n) b → b ≡ content_of l
   seen_listed s l round n h sound b seen =
       let it = h.base sound in
       seen.2 ∙ ap (changed_all round) (it.1.only seen.0 seen.1) ∙ sym it.3
 
   -- what a list shows is what is seen
-  pub list_shows : (s : S) (l : ListSpace) (round : List RoundChange) (a : Airspace) → IsAhead g s l round → a ≡ content_of l → g.is_sound s → (b : Airspace) → holds_in g (group s (Some round) 0) b → b ≡ a
+  pub list_shows : (s : S) (l : MemorySpace) (round : List RoundChange) (a : Airspace) → IsAhead g s l round → a ≡ content_of l → g.is_sound s → (b : Airspace) → holds_in g (group s (Some round) 0) b → b ≡ a
   list_shows s l round a h same sound b seen = seen_listed s l round 0 h sound b seen ∙ sym same
 
   -- ---- reading
@@ -83,12 +83,12 @@ module _ {S : Type 0} (g : Ghosts S) where
       list_stays (Err Unchanged) = λ a h. h
       list_stays (Err Broken) = tt
 
-      list_answers : (l m : ListSpace) (r : Result T SpaceFault) → IsAhead g s l round → Reads (λ (s : ListSpace) a. a ≡ content_of s) (λ _. Unit {0}) (λ _. Unit {0}) l m r P
+      list_answers : (l m : MemorySpace) (r : Result T SpaceFault) → IsAhead g s l round → Reads (λ (s : MemorySpace) a. a ≡ content_of s) (λ _. Unit {0}) (λ _. Unit {0}) l m r P
           → g.is_sound s → IfOk r (λ found. (b : Airspace) → holds_in g (Ahead k) b → P b found)
       list_answers l m (Ok x) h reads sound = λ b seen. subst (λ c. P c x) (sym (seen_listed s l round k h sound b seen)) (reads.answer tt (content_of l) refl)
       list_answers l m (Err e) h reads sound = tt
 
-    list_unbroken : (l m : ListSpace) (n n' : ℕ) (r : Result T SpaceFault) → Tells n n' false false r → g.is_broken s ≡ is_broken_after (g.is_broken s) r
+    list_unbroken : (l m : MemorySpace) (n n' : ℕ) (r : Result T SpaceFault) → Tells n n' false false r → g.is_broken s ≡ is_broken_after (g.is_broken s) r
     list_unbroken l m n n' (Ok x) t = refl
     list_unbroken l m n n' (Err Unchanged) t = refl
     list_unbroken l m n n' (Err Broken) t = absurd (let e = t.breaks in cc)
@@ -108,8 +108,8 @@ module _ {S : Type 0} (g : Ghosts S) where
       store_answers (Err e) answer = tt
 
   -- an answer from the list
-  pub list_reads : {T : Type 0} (s : S) (l m : ListSpace) (n n' k k' : ℕ) (r r' : Result T SpaceFault) (P : Airspace → T → Type 0)
-      → Tells n n' false false r → Reads (λ (s : ListSpace) a. a ≡ content_of s) (λ _. Unit {0}) (λ _. Unit {0}) l m r P
+  pub list_reads : {T : Type 0} (s : S) (l m : MemorySpace) (n n' k k' : ℕ) (r r' : Result T SpaceFault) (P : Airspace → T → Type 0)
+      → Tells n n' false false r → Reads (λ (s : MemorySpace) a. a ≡ content_of s) (λ _. Unit {0}) (λ _. Unit {0}) l m r P
       → r' ≡ r → k' ≡ refusals_after k r → ReadsParts g s s (Some l) (Some m) k k' r' P
   list_reads s l m n n' k k' r r' P tells reads same counted upkeep round h = (
     ahead_same s l m round (list_same l m n n' r P tells reads) h,

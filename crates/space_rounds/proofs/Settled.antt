@@ -9,8 +9,8 @@ use Rattle.space_core.specs.declared.space.SpaceFault.TheVariants.{Unchanged, Br
 use Rattle.space_core.specs.Round.{FitAll, changed_all}
 use Rattle.space_core.specs.Settle.{Settling}
 use Rattle.space_core.specs.Space.{Changes, IsContent, Reads, Tells, refusals_after}
-use Rattle.space_list.specs.declared.list.ListSpace.{ListSpace}
-use Rattle.space_list.specs.List.{content_of}
+use Rattle.space_memory.specs.declared.memory.MemorySpace.{MemorySpace}
+use Rattle.space_memory.specs.Memory.{content_of}
 use Rattle.space_rounds.specs.Grouped.{Agrees, Group, HoldsOne, IsAhead, IsSoundIn, Keeping, ahead_of, group, holds_in, is_lost, is_whole_in, keeps_in, pending, some_wait}
 use Rattle.space_rounds.specs.Laws.{content_of_its_store, seen_is_kept}
 use Rattle.space_rounds.specs.Lists.{Making, Staying}
@@ -19,12 +19,12 @@ use Rattle.space_rounds.proofs.Groups.{one_read}
 
 module _ {S : Type 0} (g : Ghosts S) where
   -- what the space has to make of a round fits
-  pub round_fits : (s : S) (l : Option ListSpace) (p : Upkeep) (round : List RoundChange) → Agrees g s l p round → g.is_sound s → (a : Airspace) → g.holds s a → FitAll round a
+  pub round_fits : (s : S) (l : Option MemorySpace) (p : Upkeep) (round : List RoundChange) → Agrees g s l p round → g.is_sound s → (a : Airspace) → g.holds s a → FitAll round a
   round_fits s None p round none sound a held = subst (λ cs. FitAll cs a) (sym none.0) tt
   round_fits s (Some l) p round h sound a held = let it = h.base sound in subst (λ c. FitAll round c) (sym (it.1.only a held)) it.2
 
   -- the whole is sound where its store is
-  pub whole_sound : (s : S) (l : Option ListSpace) (p : Upkeep) (round : List RoundChange) (n : ℕ) → Agrees g s l p round → g.is_sound s → IsSoundIn g (group s (ahead_of l round) n)
+  pub whole_sound : (s : S) (l : Option MemorySpace) (p : Upkeep) (round : List RoundChange) (n : ℕ) → Agrees g s l p round → g.is_sound s → IsSoundIn g (group s (ahead_of l round) n)
   whole_sound s None p round n none sound = record { store = sound; fits = λ a held. tt; live = λ waits. absurd (let e = waits in cc) }
   whole_sound s (Some l) p round n h sound = record { store = sound; fits = round_fits s (Some l) p round h sound; live = λ waits. h.live }
 
@@ -42,7 +42,7 @@ module _ {S : Type 0} (g : Ghosts S) where
   kept_or_made s t round a b (Err Unchanged) content sound c held = inl ((c.refused sound refl b).1 held)
   kept_or_made s t round a b (Err Broken) content sound c held = made_or_not s t round a b content (c.broken sound refl b held)
 
-  making_by_store : (s t : S) (l : ListSpace) (round : List RoundChange) (r : Result (Unit {0}) SpaceFault) → IsAhead g s l round
+  making_by_store : (s t : S) (l : MemorySpace) (round : List RoundChange) (r : Result (Unit {0}) SpaceFault) → IsAhead g s l round
       → Tells (g.refusals s) (g.refusals t) (g.is_broken s) (g.is_broken t) r → Changes g.holds g.is_sound g.is_whole (g.is_broken s) s t r (changed_all round)
       → Making g s t round r
   making_by_store s t l round r h tells c = record {
@@ -57,7 +57,7 @@ module _ {S : Type 0} (g : Ghosts S) where
         kept_or_made s t round it.0 b r it.1 sound c held;
   }
 
-  pub making_of_listed : (s t : S) (l : Option ListSpace) (p : Upkeep) (round : List RoundChange) (r : Result (Unit {0}) SpaceFault) → Agrees g s l p round → IsSome l
+  pub making_of_listed : (s t : S) (l : Option MemorySpace) (p : Upkeep) (round : List RoundChange) (r : Result (Unit {0}) SpaceFault) → Agrees g s l p round → IsSome l
       → Tells (g.refusals s) (g.refusals t) (g.is_broken s) (g.is_broken t) r → Changes g.holds g.is_sound g.is_whole (g.is_broken s) s t r (changed_all round)
       → Making g s t round r
   making_of_listed s t None p round r h there tells c = absurd (let e = there in cc)
@@ -65,32 +65,32 @@ module _ {S : Type 0} (g : Ghosts S) where
 
   -- ---- the list after it
 
-  ahead_after : (s t : S) (l : ListSpace) (round : List RoundChange) → IsAhead g s l round → Making {T = Unit {0}} g s t round (Ok tt) → IsAhead g t l []
+  ahead_after : (s t : S) (l : MemorySpace) (round : List RoundChange) → IsAhead g s l round → Making {T = Unit {0}} g s t round (Ok tt) → IsAhead g t l []
   ahead_after s t l round h made = record {
     live = made.breaks ∙ h.live;
     base = λ sound. let it = h.base (made.sound sound) in (changed_all round it.0, made.done sound it.0 it.1.held, tt, it.3);
   }
 
   -- after a round that was refused one airspace is held, as before
-  one_left : (s t : S) (l : ListSpace) (round : List RoundChange) → IsAhead g s l round → Making {T = Unit {0}} g s t round (Err Unchanged) → HoldsOne g t
+  one_left : (s t : S) (l : MemorySpace) (round : List RoundChange) → IsAhead g s l round → Making {T = Unit {0}} g s t round (Err Unchanged) → HoldsOne g t
   one_left s t l round h made works sound =
       let it = h.base (made.sound sound) in
       (it.0, record { held = (made.refused sound refl it.0).0 it.1.held; only = λ b now. it.1.only b ((made.refused sound refl b).1 now) })
 
-  pub agrees_none : (t : S) (n : Option ListSpace) (q : Upkeep) → n ≡ None → (is_lost q ≡ true → HoldsOne g t) → Agrees g t n q []
+  pub agrees_none : (t : S) (n : Option MemorySpace) (q : Upkeep) → n ≡ None → (is_lost q ≡ true → HoldsOne g t) → Agrees g t n q []
   agrees_none t n q none lost = subst (λ x. Agrees g t x q []) (sym none) (refl, lost)
 
-  agrees_for_good : (t : S) (n : Option ListSpace) (q : Upkeep) → n ≡ None → is_lost q ≡ false → Agrees g t n q []
+  agrees_for_good : (t : S) (n : Option MemorySpace) (q : Upkeep) → n ≡ None → is_lost q ≡ false → Agrees g t n q []
   agrees_for_good t n q none stays = agrees_none t n q none (λ lost. absurd (let e : true ≡ false = sym lost ∙ stays in cc))
 
-  ahead_kept : (full : Bool) (s t : S) (l : ListSpace) (n : Option ListSpace) (q : Upkeep) (round : List RoundChange) (r : Result (Unit {0}) SpaceFault) → IsAhead g s l round
+  ahead_kept : (full : Bool) (s t : S) (l : MemorySpace) (n : Option MemorySpace) (q : Upkeep) (round : List RoundChange) (r : Result (Unit {0}) SpaceFault) → IsAhead g s l round
       → Making g s t round r → Staying full r (Some l) n (is_lost q) → Agrees g t n q []
   ahead_kept true s t l n q round r h made list = agrees_for_good t n q list.0 list.1
   ahead_kept false s t l n q round (Ok x) h made list = subst (λ y. Agrees g t y q []) (sym list) (ahead_after s t l round h made)
   ahead_kept false s t l n q round (Err Unchanged) h made list = agrees_none t n q list.0 (λ lost. one_left s t l round h made)
   ahead_kept false s t l n q round (Err Broken) h made list = agrees_for_good t n q list.0 list.1
 
-  pub agrees_kept : (full : Bool) (s t : S) (l n : Option ListSpace) (p q : Upkeep) (round : List RoundChange) (r : Result (Unit {0}) SpaceFault) → Agrees g s l p round → IsSome l
+  pub agrees_kept : (full : Bool) (s t : S) (l n : Option MemorySpace) (p q : Upkeep) (round : List RoundChange) (r : Result (Unit {0}) SpaceFault) → Agrees g s l p round → IsSome l
       → Making g s t round r → Staying full r l n (is_lost q) → Agrees g t n q []
   agrees_kept full s t None n p q round r h there made list = absurd (let e = there in cc)
   agrees_kept full s t (Some l) n p q round r h there made list = ahead_kept full s t l n q round r h made list
@@ -149,19 +149,19 @@ module _ {S : Type 0} (g : Ghosts S) where
     made_by_reading r q tells reads is = subst (λ x. Making g s t [] x) (sym is) (making_read r tells reads)
 
   -- where the list that was lost is not made anew
-  pub agrees_checked : {T : Type 0} (s t : S) (n n' : ℕ) (P : Airspace → T → Type 0) (l : Option ListSpace) (p : Upkeep) (r : Result T SpaceFault) → Agrees g s l p [] → l ≡ None
+  pub agrees_checked : {T : Type 0} (s t : S) (n n' : ℕ) (P : Airspace → T → Type 0) (l : Option MemorySpace) (p : Upkeep) (r : Result T SpaceFault) → Agrees g s l p [] → l ≡ None
       → Tells n n' (g.is_broken s) (g.is_broken t) r → Reads g.holds g.is_sound g.is_whole s t r P → Agrees g t l p []
   agrees_checked s t n n' P l p r h none tells reads =
       let before = subst (λ x. Agrees g s x p []) none h in
       agrees_none t l p none (λ lost. one_read g s t n n' r P tells reads (before.1 lost))
 
   -- a list that was lost can be made anew
-  pub one_where_lost : (s : S) (l : Option ListSpace) (p : Upkeep) → Agrees g s l p [] → l ≡ None → is_lost p ≡ true → HoldsOne g s
+  pub one_where_lost : (s : S) (l : Option MemorySpace) (p : Upkeep) → Agrees g s l p [] → l ≡ None → is_lost p ≡ true → HoldsOne g s
   one_where_lost s l p h none lost = (subst (λ x. Agrees g s x p []) none h).1 lost
 
   -- what a store holds that was read whole
-  pub ahead_anew : (s t : S) (c : ListSpace) (n n' : ℕ) → HoldsOne g s → Tells {T = ListSpace} n n' (g.is_broken s) (g.is_broken t) (Ok c)
-      → Reads {T = ListSpace} g.holds g.is_sound g.is_whole s t (Ok c) (λ a list. content_of list ≡ a) → IsAhead g t c []
+  pub ahead_anew : (s t : S) (c : MemorySpace) (n n' : ℕ) → HoldsOne g s → Tells {T = MemorySpace} n n' (g.is_broken s) (g.is_broken t) (Ok c)
+      → Reads {T = MemorySpace} g.holds g.is_sound g.is_whole s t (Ok c) (λ a list. content_of list ≡ a) → IsAhead g t c []
   ahead_anew s t c n n' one tells reads =
       let works = not_broken (g.is_broken s) (λ e. let f = tells.stays_broken e in cc) in
       record {
@@ -172,20 +172,20 @@ module _ {S : Type 0} (g : Ghosts S) where
       }
 
   -- where there is no list, no change waits
-  pub none_waits : (s : S) (l : Option ListSpace) (p : Upkeep) (round : List RoundChange) → l ≡ None → Agrees g s l p round → round ≡ []
+  pub none_waits : (s : S) (l : Option MemorySpace) (p : Upkeep) (round : List RoundChange) → l ≡ None → Agrees g s l p round → round ≡ []
   none_waits s l p round none h = (subst (λ x. Agrees g s x p round) none h).0
 
   -- ---- what is seen then
 
-  calm_after : (n : Option ListSpace) → some_wait (pending (ahead_of n [])) ≡ false
+  calm_after : (n : Option MemorySpace) → some_wait (pending (ahead_of n [])) ≡ false
   calm_after None = refl
   calm_after (Some l) = refl
 
-  pending_is : (s : S) (l : Option ListSpace) (p : Upkeep) (round : List RoundChange) → Agrees g s l p round → pending (ahead_of l round) ≡ round
+  pending_is : (s : S) (l : Option MemorySpace) (p : Upkeep) (round : List RoundChange) → Agrees g s l p round → pending (ahead_of l round) ≡ round
   pending_is s None p round none = sym none.0
   pending_is s (Some l) p round h = refl
 
-  module _ (s u : S) (l n : Option ListSpace) (p : Upkeep) (round : List RoundChange) (k k' : ℕ) (h : Agrees g s l p round) where
+  module _ (s u : S) (l n : Option MemorySpace) (p : Upkeep) (round : List RoundChange) (k k' : ℕ) (h : Agrees g s l p round) where
     abbrev old : Group S
     old = group s (ahead_of l round) k
 
@@ -215,7 +215,7 @@ module _ {S : Type 0} (g : Ghosts S) where
           ];
     }
 
-  pub settled_keeps : (s u : S) (l n : Option ListSpace) (p : Upkeep) (round round' : List RoundChange) (k k' : ℕ) (q q' : Result (Unit {0}) SpaceFault) → Agrees g s l p round
+  pub settled_keeps : (s u : S) (l n : Option MemorySpace) (p : Upkeep) (round round' : List RoundChange) (k k' : ℕ) (q q' : Result (Unit {0}) SpaceFault) → Agrees g s l p round
       → Making g s u round q → round' ≡ [] → q' ≡ q → k' ≡ refusals_after k q
       → Keeping g (group s (ahead_of l round) k) (group u (ahead_of n round') k') q'
   settled_keeps s u l n p round round' k k' q q' h made cleared is counted =

@@ -10,8 +10,8 @@ use Rattle.space_core.specs.declared.space.SpaceFault.{SpaceFault}
 use Rattle.space_core.specs.declared.space.SpaceFault.TheVariants.{Unchanged, Broken}
 use Rattle.space_core.specs.Round.{FitAll, changed_all, changed_once}
 use Rattle.space_core.specs.Space.{Changes, Fits, IsContent, Tells, changed, refusals_after}
-use Rattle.space_list.specs.declared.list.ListSpace.{ListSpace}
-use Rattle.space_list.specs.List.{content_of}
+use Rattle.space_memory.specs.declared.memory.MemorySpace.{MemorySpace}
+use Rattle.space_memory.specs.Memory.{content_of}
 use Rattle.space_rounds.specs.Grouped.{Agrees, Changing, Group, HoldsOne, IsAhead, IsSoundIn, group, holds_in, is_lost}
 use Rattle.space_rounds.specs.declared.upkeep.Upkeep.{Upkeep}
 use Rattle.space_rounds.proofs.Groups.{ahead_same}
@@ -39,7 +39,7 @@ module _ (round : List RoundChange) (w : RoundChange) (change : Change) (told : 
 module _ {S : Type 0} (g : Ghosts S) where
   -- ---- a change that is seen, and waits
 
-  module _ (s : S) (l m : ListSpace) (round : List RoundChange) (k k' : ℕ) (change : Change) (told : List ℕ) (h : IsAhead g s l round) where
+  module _ (s : S) (l m : MemorySpace) (round : List RoundChange) (k k' : ℕ) (change : Change) (told : List ℕ) (h : IsAhead g s l round) where
     abbrev old : Group S
     old = group s (Some round) k
 
@@ -109,13 +109,13 @@ module _ {S : Type 0} (g : Ghosts S) where
           subst (λ cs. Changing {T = Unit {0}} g old (after cs) (Err Unchanged) (changed change told)) (sym stays) (left counted)
       answered (Err Broken) fault more stays counted = absurd (let e = fault in cc)
 
-  pub list_ahead : (s : S) (l m : ListSpace) (round round' : List RoundChange) (k : ℕ) (change : Change) (told : List ℕ) (r : Result (Unit {0}) SpaceFault) → IsAhead g s l round
+  pub list_ahead : (s : S) (l m : MemorySpace) (round round' : List RoundChange) (k : ℕ) (change : Change) (told : List ℕ) (r : Result (Unit {0}) SpaceFault) → IsAhead g s l round
       → (IsSoundIn g (group s (Some round) k) → (a : Airspace) → holds_in g (group s (Some round) k) a → Fits change told a)
       → OnOk r (content_of m ≡ changed change told (content_of l)) → OnOk r ((w : RoundChange) × (w.change ≡ change) × (w.notify.items ≡ told) × (round' ≡ round ++ w ∷ []))
       → OnErr r (content_of m ≡ content_of l) → OnErr r (round' ≡ round) → IsAhead g s m round'
   list_ahead s l m round round' k change told r h fits done more same stays = answered_ahead s l m round k k change told h round' r fits r done more same stays
 
-  pub list_changes : (s : S) (l m : ListSpace) (round round' : List RoundChange) (k k' : ℕ) (change : Change) (told : List ℕ) (r r' : Result (Unit {0}) SpaceFault) → IsAhead g s l round
+  pub list_changes : (s : S) (l m : MemorySpace) (round round' : List RoundChange) (k k' : ℕ) (change : Change) (told : List ℕ) (r r' : Result (Unit {0}) SpaceFault) → IsAhead g s l round
       → (IsSoundIn g (group s (Some round) k) → (a : Airspace) → holds_in g (group s (Some round) k) a → Fits change told a)
       → IfErr r (λ fault. fault ≡ Unchanged) → OnOk r ((w : RoundChange) × (w.change ≡ change) × (w.notify.items ≡ told) × (round' ≡ round ++ w ∷ []))
       → OnErr r (round' ≡ round) → r' ≡ r → k' ≡ refusals_after k r

@@ -9,8 +9,8 @@ use Rattle.space_core.specs.declared.space.SpaceFault.{SpaceFault}
 use Rattle.space_core.specs.Round.{FitAll, changed_all}
 use Rattle.space_core.specs.Settle.{Settling}
 use Rattle.space_core.specs.Space.{Changes, Code, IsContent, Reads, Tells}
-use Rattle.space_list.specs.declared.list.ListSpace.{ListSpace}
-use Rattle.space_list.specs.List.{content_of}
+use Rattle.space_memory.specs.declared.memory.MemorySpace.{MemorySpace}
+use Rattle.space_memory.specs.Memory.{content_of}
 use Rattle.space_rounds.specs.declared.upkeep.Upkeep.{Upkeep}
 use Rattle.space_rounds.specs.declared.upkeep.Upkeep.TheVariants.{Nothing, Full, Lost, Due}
 
@@ -33,7 +33,7 @@ group_code {S} store =
     (λ p. record { store = p.0; ahead = p.1.0; refusals = p.1.1 }) (λ _. refl)
 
 -- how far a list is ahead of its store
-abbrev pub ahead_of : Option ListSpace → List RoundChange → Option (List RoundChange)
+abbrev pub ahead_of : Option MemorySpace → List RoundChange → Option (List RoundChange)
 ahead_of None round = None
 ahead_of (Some l) round = Some round
 
@@ -78,7 +78,7 @@ abbrev pub is_whole_in : {S : Type 0} → Ghosts S → Group S → Type 0
 is_whole_in g k = g.is_whole k.store
 
 -- The space works, and holds one airspace that a round fits; the list has what comes of that.
-pub record IsAhead {S : Type 0} (g : Ghosts S) (s : S) (l : ListSpace) (round : List RoundChange)
+pub record IsAhead {S : Type 0} (g : Ghosts S) (s : S) (l : MemorySpace) (round : List RoundChange)
     : Type 0 where
   pub live : g.is_broken s ≡ false
   pub base : g.is_sound s
@@ -106,7 +106,7 @@ HoldsOne g s =
 
 -- Where there is a list, it is ahead of the space by a round. Where there is none, no change waits;
 -- and where it was lost, it can be made anew of the one airspace that the space holds.
-abbrev pub Agrees : {S : Type 0} → Ghosts S → S → Option ListSpace → Upkeep → List RoundChange
+abbrev pub Agrees : {S : Type 0} → Ghosts S → S → Option MemorySpace → Upkeep → List RoundChange
     → Type 0
 Agrees g s None upkeep round = (round ≡ []) × (is_lost upkeep ≡ true → HoldsOne g s)
 Agrees g s (Some l) upkeep round = IsAhead g s l round
@@ -121,7 +121,7 @@ pub record Reading {S T : Type 0} (g : Ghosts S) (old new : Group S) (result : R
 
 -- the same of a call by parts, whatever they agreed on, and they still agree
 abbrev pub ReadsParts : {S T : Type 0} → Ghosts S → (store store' : S)
-    → (list list' : Option ListSpace) → (refusals refusals' : ℕ) → Result T SpaceFault
+    → (list list' : Option MemorySpace) → (refusals refusals' : ℕ) → Result T SpaceFault
     → (Airspace → T → Type 0) → Type 0
 ReadsParts g store store' list list' refusals refusals' result P =
     (upkeep : Upkeep) (round : List RoundChange) → Agrees g store list upkeep round

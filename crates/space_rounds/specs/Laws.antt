@@ -11,7 +11,7 @@ use Rattle.space_core.specs.declared.round.RoundChange.{RoundChange}
 use Rattle.space_core.specs.declared.space.Space.{Ghosts}
 use Rattle.space_core.specs.Round.{FitAll, changed_all, changed_once}
 use Rattle.space_core.specs.Space.{IsContent}
-use Rattle.space_list.proofs.ListSpaces.{can_follow, proper_changed}
+use Rattle.space_memory.proofs.MemorySpaces.{can_follow, proper_changed}
 use Rattle.space_rounds.specs.Grouped.{Group, IsSoundIn, fixed_by, fixed_in, holds_in, pending, some_wait, waits_in}
 
 pub proper_all : (round : List RoundChange) (a : Airspace) → FitAll round a → IsAirspace a

@@ -7,7 +7,7 @@ use Rattle.space_core.specs.declared.space.SpaceFault.{SpaceFault}
 use Rattle.space_core.specs.declared.space.SpaceFault.TheVariants.{Unchanged, Broken}
 use Rattle.space_core.specs.Round.{changed_all}
 use Rattle.space_core.specs.Space.{IsContent, is_broken_after}
-use Rattle.space_list.specs.declared.list.ListSpace.{ListSpace}
+use Rattle.space_memory.specs.declared.memory.MemorySpace.{MemorySpace}
 
 -- What the making of a round tells of a store and leaves of it: all of the round, or none.
 pub record Making {S T : Type 0} (g : Ghosts S) (old new : S) (round : List RoundChange)
@@ -26,7 +26,7 @@ pub record Making {S T : Type 0} (g : Ghosts S) (old new : S) (round : List Roun
 -- What becomes of a list once its store has answered. It stays after `Ok` where it is not full;
 -- else it goes, and counts as lost only where the store refused the round and it is not full.
 abbrev pub Staying : {T : Type 0} → (full : Bool) → Result T SpaceFault
-    → (list list' : Option ListSpace) → (lost' : Bool) → Type 0
+    → (list list' : Option MemorySpace) → (lost' : Bool) → Type 0
 Staying true answer list list' lost' = (list' ≡ None) × (lost' ≡ false)
 Staying false (Ok x) list list' lost' = list' ≡ list
 Staying false (Err Unchanged) list list' lost' = (list' ≡ None) × (lost' ≡ true)

@@ -6,8 +6,8 @@ use Rattle.space_core.specs.declared.space.Space.{Ghosts}
 use Rattle.space_core.specs.declared.space.SpaceFault.{SpaceFault}
 use Rattle.space_core.specs.declared.space.SpaceFault.TheVariants.{Unchanged, Broken}
 use Rattle.space_core.specs.Space.{Changes, Reads, Tells, is_broken_after}
-use Rattle.space_list.specs.declared.list.ListSpace.{ListSpace}
-use Rattle.space_list.specs.List.{content_of}
+use Rattle.space_memory.specs.declared.memory.MemorySpace.{MemorySpace}
+use Rattle.space_memory.specs.Memory.{content_of}
 use Rattle.space_rounds.specs.Grouped.{Group, IsSoundIn, holds_in, is_whole_in, waits_in}
 
 -- what a call that lets go tells and leaves
@@ -20,15 +20,15 @@ pub record LettingGo {S T : Type 0} (g : Ghosts S) (old new : Group S) (result :
   pub waits : waits_in new ≡ waits_in old
 
 -- A list, where there is one, has let go.
-abbrev pub HasLetGo : List Gone → (list list' : Option ListSpace) → Type 0
+abbrev pub HasLetGo : List Gone → (list list' : Option MemorySpace) → Type 0
 HasLetGo gone None list' = list' ≡ None
 HasLetGo gone (Some l) list' =
-    (m : ListSpace) × (list' ≡ Some m) × (content_of m ≡ less_all gone (content_of l))
+    (m : MemorySpace) × (list' ≡ Some m) × (content_of m ≡ less_all gone (content_of l))
 
 -- What becomes of a list once its store has answered: it lets go after `Ok`, stays after
 -- `Unchanged`, and goes after `Broken`.
 abbrev pub Following : {T : Type 0} → List Gone → Result T SpaceFault
-    → (list list' : Option ListSpace) → Type 0
+    → (list list' : Option MemorySpace) → Type 0
 Following gone (Ok x) list list' = HasLetGo gone list list'
 Following gone (Err Unchanged) list list' = list' ≡ list
 Following gone (Err Broken) list list' = list' ≡ None

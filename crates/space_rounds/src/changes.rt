@@ -5,19 +5,19 @@ ghost use Rattle.entity_core.specs.Airspace.{Airspace};
 ghost use Rattle.space_core.specs.declared.round.RoundChange.{RoundChange};
 ghost use Rattle.space_core.specs.declared.space.SpaceFault.TheVariants.{Unchanged};
 ghost use Rattle.space_core.specs.Space.{Fits, changed};
-ghost use Rattle.space_list.specs.List.{content_of};
+ghost use Rattle.space_memory.specs.Memory.{content_of};
 ghost use Rattle.space_rounds.specs.Grouped.{Agrees, Changing, HoldsOne, IsSoundIn, Keeping};
 ghost use Rattle.space_rounds.specs.Grouped.{ahead_of, group, holds_in, is_full, is_lost};
 ghost use Rattle.space_rounds.specs.Lists.{Making, Staying};
 ghost use Rattle.space_rounds.specs.declared.upkeep.Upkeep.TheVariants.{Nothing};
 
-use crate::reads::counted;
+use crate::reads::count_refusal;
 use crate::upkeep::Upkeep;
 use entity_core::entity_id::EntityId;
 use space_core::round::{RoundChange, Rounds};
 use space_core::space::{Change, Space, SpaceFault};
-use space_list::list::ListSpace;
-use space_list::listing::Listing;
+use space_memory::listing::Listing;
+use space_memory::memory::MemorySpace;
 use std::alloc::{AllocError, Global};
 
 // A copy of a change, for which the round has room.
@@ -42,7 +42,7 @@ fn waiting(
 // The list makes a change that is to wait in the round; or neither is as for want of memory.
 fn wait(
     alloc: Global,
-    list: &mut ListSpace,
+    list: &mut MemorySpace,
     round: &mut Vec<RoundChange>,
     change: Change,
     notify: &[EntityId],
@@ -90,7 +90,7 @@ fn note_made(upkeep: &mut Upkeep, answer: &Result<(), SpaceFault>)
 pub(crate) fn apply<S: Space>(
     alloc: Global,
     store: &mut S,
-    list: &mut Option<ListSpace>,
+    list: &mut Option<MemorySpace>,
     upkeep: &mut Upkeep,
     round: &mut Vec<RoundChange>,
     refusals: &mut u64,
@@ -111,19 +111,19 @@ pub(crate) fn apply<S: Space>(
         Some(list) => {
             let answer = wait(alloc, list, round, change, notify);
             note_full(upkeep, &answer);
-            counted(refusals, answer)
+            count_refusal(refusals, answer)
         }
         None => {
             let answer = store.apply(change, notify);
             note_made(upkeep, &answer);
-            counted(refusals, answer)
+            count_refusal(refusals, answer)
         }
     }
 }
 
 // A list is kept after `Ok` where it is not full. One that is ahead of a store that refused is
 // lost.
-fn kept(list: &mut Option<ListSpace>, upkeep: &mut Upkeep, answer: &Result<(), SpaceFault>)
+fn keep_list(list: &mut Option<MemorySpace>, upkeep: &mut Upkeep, answer: &Result<(), SpaceFault>)
     ensures { Staying (is_full upkeep.old) answer.now list.old list.new (is_lost upkeep.new) }
 {
     *upkeep = match (*upkeep, answer) {
@@ -137,9 +137,9 @@ fn kept(list: &mut Option<ListSpace>, upkeep: &mut Upkeep, answer: &Result<(), S
 
 // The store makes all changes of the round, or none. The list stays where it is what the store
 // holds then.
-fn made<S: Rounds>(
+fn make_round<S: Rounds>(
     store: &mut S,
-    list: &mut Option<ListSpace>,
+    list: &mut Option<MemorySpace>,
     upkeep: &mut Upkeep,
     round: &[RoundChange],
 ) -> Result<(), SpaceFault>
@@ -149,14 +149,14 @@ fn made<S: Rounds>(
     ensures agrees { Agrees S.Space store.new list.new upkeep.new [] }
 {
     let answer = store.apply_all(round);
-    kept(list, upkeep, &answer);
+    keep_list(list, upkeep, &answer);
     answer
 }
 
 // Whether the store is broken, where there is no list.
-fn checked<S: Space>(
+fn check_store<S: Space>(
     store: &mut S,
-    list: &Option<ListSpace>,
+    list: &Option<MemorySpace>,
     upkeep: Upkeep,
 ) -> Result<(), SpaceFault>
     requires agrees { Agrees S.Space store.old list.now upkeep [] }
@@ -172,10 +172,10 @@ fn checked<S: Space>(
 
 // What the store holds, in a list that is made anew where there is memory for it. It says no more
 // than whether the store is broken.
-fn relisted<S: Listing>(
+fn list_anew<S: Listing>(
     alloc: Global,
     store: &mut S,
-    list: &mut Option<ListSpace>,
+    list: &mut Option<MemorySpace>,
 ) -> Result<(), SpaceFault>
     requires none { list.old ≡ None }
     requires one { HoldsOne S.Space store.old }
@@ -193,10 +193,10 @@ fn relisted<S: Listing>(
 }
 
 // Where there is no list no change waits. A list that is due is made anew.
-fn renewed<S: Listing>(
+fn renew_list<S: Listing>(
     alloc: Global,
     store: &mut S,
-    list: &mut Option<ListSpace>,
+    list: &mut Option<MemorySpace>,
     upkeep: &mut Upkeep,
 ) -> Result<(), SpaceFault>
     requires agrees { Agrees S.Space store.old list.old upkeep.old [] }
@@ -207,9 +207,9 @@ fn renewed<S: Listing>(
     match *upkeep {
         Upkeep::Due => {
             *upkeep = Upkeep::Nothing;
-            relisted(alloc, store, list)
+            list_anew(alloc, store, list)
         }
-        _ => checked(store, list, *upkeep),
+        _ => check_store(store, list, *upkeep),
     }
 }
 
@@ -218,7 +218,7 @@ fn renewed<S: Listing>(
 fn seen_to<S: Rounds + Listing>(
     alloc: Global,
     store: &mut S,
-    list: &mut Option<ListSpace>,
+    list: &mut Option<MemorySpace>,
     upkeep: &mut Upkeep,
     round: &[RoundChange],
 ) -> Result<(), SpaceFault>
@@ -227,9 +227,9 @@ fn seen_to<S: Rounds + Listing>(
     ensures agrees { Agrees S.Space store.new list.new upkeep.new [] }
 {
     if list.is_some() {
-        made(store, list, upkeep, round)
+        make_round(store, list, upkeep, round)
     } else {
-        renewed(alloc, store, list, upkeep)
+        renew_list(alloc, store, list, upkeep)
     }
 }
 
@@ -240,7 +240,7 @@ fn seen_to<S: Rounds + Listing>(
 pub(crate) fn settle<S: Rounds + Listing>(
     alloc: Global,
     store: &mut S,
-    list: &mut Option<ListSpace>,
+    list: &mut Option<MemorySpace>,
     upkeep: &mut Upkeep,
     round: &mut Vec<RoundChange>,
     refusals: &mut u64,
@@ -253,5 +253,5 @@ pub(crate) fn settle<S: Rounds + Listing>(
 {
     let answer = seen_to(alloc, store, list, upkeep, round.as_slice());
     round.clear();
-    counted(refusals, answer)
+    count_refusal(refusals, answer)
 }

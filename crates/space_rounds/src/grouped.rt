@@ -17,8 +17,8 @@ use space_core::met::Met;
 use space_core::round::{RoundChange, Rounds};
 use space_core::settle::Settles;
 use space_core::space::{Change, Space, SpaceFault};
-use space_list::list::ListSpace;
-use space_list::listing::Listing;
+use space_memory::listing::Listing;
+use space_memory::memory::MemorySpace;
 use space_shown::shown::{NoCopy, Shown, Shows};
 use space_sweeps::lets_go::LetsGo;
 use space_sweeps::sweeps::Sweeps;
@@ -39,7 +39,7 @@ use std::marker::Model;
 #[derive(Drop)]
 pub struct Grouped<S: Rounds + Listing> {
     store: S,
-    list: Option<ListSpace>,
+    list: Option<MemorySpace>,
     upkeep: Upkeep,
     round: Vec<RoundChange>,
     refusals: u64,
@@ -64,7 +64,7 @@ impl<S: Rounds + Listing> Model for Grouped<S> {
 
 impl<S: Rounds + Listing + Drop> Grouped<S> {
     /// A space with a list that holds the same airspace. It has refused nothing, and nothing waits.
-    pub fn new(alloc: Global, store: S, list: ListSpace) -> Self
+    pub fn new(alloc: Global, store: S, list: MemorySpace) -> Self
         requires { IsAhead S.Space store list [] }
         ensures { result ≡ group store (Some []) 0 }
     {

@@ -16,10 +16,13 @@ use entity_core::uss_id::UssId;
 use grid_core::volume::Area;
 use space_core::met::Met;
 use space_core::space::{Space, SpaceFault};
-use space_list::list::ListSpace;
+use space_memory::memory::MemorySpace;
 
 /// The same answer; where it is `Unchanged`, it is counted.
-pub(crate) fn counted<T>(refusals: &mut u64, answer: Result<T, SpaceFault>) -> Result<T, SpaceFault>
+pub(crate) fn count_refusal<T>(
+    refusals: &mut u64,
+    answer: Result<T, SpaceFault>,
+) -> Result<T, SpaceFault>
     ensures same { result ≡ answer }
     ensures counted { refusals.new ≡ refusals_after refusals.old answer }
 {
@@ -36,7 +39,7 @@ pub(crate) fn counted<T>(refusals: &mut u64, answer: Result<T, SpaceFault>) -> R
 #[tactic(auto, using(crate::proofs::Groups::list_reads, crate::proofs::Groups::store_reads))]
 pub(crate) fn entity<S: Space>(
     store: &mut S,
-    list: &mut Option<ListSpace>,
+    list: &mut Option<MemorySpace>,
     refusals: &mut u64,
     kind: Kind,
     id: EntityId,
@@ -45,15 +48,15 @@ pub(crate) fn entity<S: Space>(
         result (λ a found. found ≡ get a.entities (kind, id)) }
 {
     match list {
-        Some(list) => counted(refusals, list.entity(kind, id)),
-        None => counted(refusals, store.entity(kind, id)),
+        Some(list) => count_refusal(refusals, list.entity(kind, id)),
+        None => count_refusal(refusals, store.entity(kind, id)),
     }
 }
 
 #[tactic(auto, using(crate::proofs::Groups::list_reads, crate::proofs::Groups::store_reads))]
 pub(crate) fn meeting<S: Space>(
     store: &mut S,
-    list: &mut Option<ListSpace>,
+    list: &mut Option<MemorySpace>,
     refusals: &mut u64,
     kind: Kind,
     areas: &[Area],
@@ -63,15 +66,15 @@ pub(crate) fn meeting<S: Space>(
         result (λ a found. found.items ≡ met_in a kind areas.now except) }
 {
     match list {
-        Some(list) => counted(refusals, list.meeting(kind, areas, except)),
-        None => counted(refusals, store.meeting(kind, areas, except)),
+        Some(list) => count_refusal(refusals, list.meeting(kind, areas, except)),
+        None => count_refusal(refusals, store.meeting(kind, areas, except)),
     }
 }
 
 #[tactic(auto, using(crate::proofs::Groups::list_reads, crate::proofs::Groups::store_reads))]
 pub(crate) fn all<S: Space>(
     store: &mut S,
-    list: &mut Option<ListSpace>,
+    list: &mut Option<MemorySpace>,
     refusals: &mut u64,
     kind: Kind,
 ) -> Result<Vec<Entity>, SpaceFault>
@@ -79,15 +82,15 @@ pub(crate) fn all<S: Space>(
         result (λ a found. found.items ≡ all_in a.entities kind) }
 {
     match list {
-        Some(list) => counted(refusals, list.all(kind)),
-        None => counted(refusals, store.all(kind)),
+        Some(list) => count_refusal(refusals, list.all(kind)),
+        None => count_refusal(refusals, store.all(kind)),
     }
 }
 
 #[tactic(auto, using(crate::proofs::Groups::list_reads, crate::proofs::Groups::store_reads))]
 pub(crate) fn availability<S: Space>(
     store: &mut S,
-    list: &mut Option<ListSpace>,
+    list: &mut Option<MemorySpace>,
     refusals: &mut u64,
     uss: &UssId,
 ) -> Result<Option<(Availability, Ovn)>, SpaceFault>
@@ -95,15 +98,15 @@ pub(crate) fn availability<S: Space>(
         result (λ a found. found ≡ get a.availabilities uss.now) }
 {
     match list {
-        Some(list) => counted(refusals, list.availability(uss)),
-        None => counted(refusals, store.availability(uss)),
+        Some(list) => count_refusal(refusals, list.availability(uss)),
+        None => count_refusal(refusals, store.availability(uss)),
     }
 }
 
 #[tactic(auto, using(crate::proofs::Groups::list_reads, crate::proofs::Groups::store_reads))]
 pub(crate) fn subscription<S: Space>(
     store: &mut S,
-    list: &mut Option<ListSpace>,
+    list: &mut Option<MemorySpace>,
     refusals: &mut u64,
     id: EntityId,
 ) -> Result<Option<Sub>, SpaceFault>
@@ -111,15 +114,15 @@ pub(crate) fn subscription<S: Space>(
         result (λ a found. found ≡ get a.subscriptions id) }
 {
     match list {
-        Some(list) => counted(refusals, list.subscription(id)),
-        None => counted(refusals, store.subscription(id)),
+        Some(list) => count_refusal(refusals, list.subscription(id)),
+        None => count_refusal(refusals, store.subscription(id)),
     }
 }
 
 #[tactic(auto, using(crate::proofs::Groups::list_reads, crate::proofs::Groups::store_reads))]
 pub(crate) fn subscriptions_of<S: Space>(
     store: &mut S,
-    list: &mut Option<ListSpace>,
+    list: &mut Option<MemorySpace>,
     refusals: &mut u64,
     uss: &UssId,
     area: &Area,
@@ -128,15 +131,15 @@ pub(crate) fn subscriptions_of<S: Space>(
         result (λ a found. found.items ≡ subscriptions_in a.subscriptions uss.now area.now) }
 {
     match list {
-        Some(list) => counted(refusals, list.subscriptions_of(uss, area)),
-        None => counted(refusals, store.subscriptions_of(uss, area)),
+        Some(list) => count_refusal(refusals, list.subscriptions_of(uss, area)),
+        None => count_refusal(refusals, store.subscriptions_of(uss, area)),
     }
 }
 
 #[tactic(auto, using(crate::proofs::Groups::list_reads, crate::proofs::Groups::store_reads))]
 pub(crate) fn subscribers<S: Space>(
     store: &mut S,
-    list: &mut Option<ListSpace>,
+    list: &mut Option<MemorySpace>,
     refusals: &mut u64,
     kind: Kind,
     areas: &[Area],
@@ -145,15 +148,15 @@ pub(crate) fn subscribers<S: Space>(
         result (λ a found. found.items ≡ subscribers_in a.subscriptions kind areas.now) }
 {
     match list {
-        Some(list) => counted(refusals, list.subscribers(kind, areas)),
-        None => counted(refusals, store.subscribers(kind, areas)),
+        Some(list) => count_refusal(refusals, list.subscribers(kind, areas)),
+        None => count_refusal(refusals, store.subscribers(kind, areas)),
     }
 }
 
 #[tactic(auto, using(crate::proofs::Groups::list_reads, crate::proofs::Groups::store_reads))]
 pub(crate) fn dependents<S: Space>(
     store: &mut S,
-    list: &mut Option<ListSpace>,
+    list: &mut Option<MemorySpace>,
     refusals: &mut u64,
     id: EntityId,
 ) -> Result<Vec<EntityId>, SpaceFault>
@@ -161,22 +164,22 @@ pub(crate) fn dependents<S: Space>(
         result (λ a found. found.items ≡ dependents_in a.entities id) }
 {
     match list {
-        Some(list) => counted(refusals, list.dependents(id)),
-        None => counted(refusals, store.dependents(id)),
+        Some(list) => count_refusal(refusals, list.dependents(id)),
+        None => count_refusal(refusals, store.dependents(id)),
     }
 }
 
 #[tactic(auto, using(crate::proofs::Groups::list_reads, crate::proofs::Groups::store_reads))]
 pub(crate) fn serial<S: Space>(
     store: &mut S,
-    list: &mut Option<ListSpace>,
+    list: &mut Option<MemorySpace>,
     refusals: &mut u64,
 ) -> Result<u64, SpaceFault>
     ensures { ReadsParts S.Space store.old store.new list.old list.new refusals.old refusals.new
         result (λ a serial. serial ≡ a.serial) }
 {
     match list {
-        Some(list) => counted(refusals, list.serial()),
-        None => counted(refusals, store.serial()),
+        Some(list) => count_refusal(refusals, list.serial()),
+        None => count_refusal(refusals, store.serial()),
     }
 }

@@ -1,13 +1,13 @@
 //! What a space with a copy in memory shows.
 ghost use Rattle.std.specs.Prelude.{◌≡◌, IfOk};
 ghost use Rattle.entity_core.specs.Airspace.{Airspace};
-ghost use Rattle.entity_lists.specs.Lists.{airspace_of};
+ghost use Rattle.entity_maps.specs.Lists.{airspace_of};
 ghost use Rattle.space_rounds.specs.Grouped.{Agrees, ahead_of, group, holds_in};
 
 use crate::upkeep::Upkeep;
 use space_core::round::RoundChange;
 use space_core::space::Space;
-use space_list::list::ListSpace;
+use space_memory::memory::MemorySpace;
 use space_shown::shown::{NoCopy, Shown};
 
 // Why there is no list.
@@ -22,7 +22,7 @@ fn why_none(upkeep: Upkeep) -> NoCopy {
 #[tactic(auto, using(crate::proofs::Groups::list_shows))]
 pub(crate) fn shown<'a, S: Space>(
     store: &S,
-    list: &'a Option<ListSpace>,
+    list: &'a Option<MemorySpace>,
     upkeep: Upkeep,
     round: &[RoundChange],
 ) -> Result<Shown<'a>, NoCopy>

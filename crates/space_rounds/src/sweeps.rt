@@ -3,21 +3,21 @@ ghost use Rattle.std.specs.Prelude.{◌≡◌, true, IfErr, IfOk};
 ghost use Rattle.entity_core.specs.Airspace.{Airspace};
 ghost use Rattle.entity_sweep.specs.Gone.{AllCanGo, IsPiece};
 ghost use Rattle.space_core.specs.declared.space.SpaceFault.TheVariants.{Unchanged};
-ghost use Rattle.space_list.specs.List.{content_of};
+ghost use Rattle.space_memory.specs.Memory.{content_of};
 ghost use Rattle.space_rounds.specs.Grouped.{Agrees, IsSoundIn, ReadsParts};
 ghost use Rattle.space_rounds.specs.Grouped.{ahead_of, group, holds_in, is_lost};
 ghost use Rattle.space_rounds.specs.Sweeps.{Following, LettingGo, Untold};
 
-use crate::reads::counted;
+use crate::reads::count_refusal;
 use crate::upkeep::Upkeep;
 use entity_sweep::gone::Gone;
 use space_core::round::RoundChange;
 use space_core::space::{Space, SpaceFault};
-use space_list::list::ListSpace;
+use space_memory::memory::MemorySpace;
 use space_sweeps::lets_go::LetsGo;
 
 // What a list tells, where it has memory for it.
-fn told(list: &ListSpace, until: u64, most: usize) -> Result<Vec<Gone>, SpaceFault>
+fn ended_in(list: &MemorySpace, until: u64, most: usize) -> Result<Vec<Gone>, SpaceFault>
     ensures fault { IfErr result (λ fault. fault ≡ Unchanged) }
     ensures found { IfOk result (λ gone. IsPiece until most gone.items (content_of list.now)) }
 {
@@ -28,7 +28,7 @@ fn told(list: &ListSpace, until: u64, most: usize) -> Result<Vec<Gone>, SpaceFau
 }
 
 // Without a list it cannot be told what has ended, but whether the store is broken.
-fn untold<S: Space>(store: &mut S) -> Result<Vec<Gone>, SpaceFault>
+fn refuse_ended<S: Space>(store: &mut S) -> Result<Vec<Gone>, SpaceFault>
     ensures { Untold S.Space store.old store.new result }
 {
     match store.serial() {
@@ -41,7 +41,7 @@ fn untold<S: Space>(store: &mut S) -> Result<Vec<Gone>, SpaceFault>
 /// that there is no list, is counted as a refusal.
 pub(crate) fn ended<S: Space>(
     store: &mut S,
-    list: &Option<ListSpace>,
+    list: &Option<MemorySpace>,
     refusals: &mut u64,
     until: u64,
     most: usize,
@@ -50,14 +50,14 @@ pub(crate) fn ended<S: Space>(
         result (λ a gone. IsPiece until most gone.items a) }
 {
     match list {
-        Some(list) => counted(refusals, told(list, until, most)),
-        None => counted(refusals, untold(store)),
+        Some(list) => count_refusal(refusals, ended_in(list, until, most)),
+        None => count_refusal(refusals, refuse_ended(store)),
     }
 }
 
 // The list follows a store that has let go. Where the store broke it is dropped.
 fn follow(
-    list: &mut Option<ListSpace>,
+    list: &mut Option<MemorySpace>,
     upkeep: &mut Upkeep,
     gone: &[Gone],
     answer: &Result<(), SpaceFault>,
@@ -82,7 +82,7 @@ fn follow(
 /// The store lets go of these, and the list follows. Where changes wait, that is refused.
 pub(crate) fn let_go<S: LetsGo>(
     store: &mut S,
-    list: &mut Option<ListSpace>,
+    list: &mut Option<MemorySpace>,
     upkeep: &mut Upkeep,
     round: &[RoundChange],
     refusals: &mut u64,
@@ -97,9 +97,9 @@ pub(crate) fn let_go<S: LetsGo>(
         (group store.new (ahead_of list.new round.now) refusals.new) result gone.now }
 {
     if !round.is_empty() {
-        return counted(refusals, Err(SpaceFault::Unchanged));
+        return count_refusal(refusals, Err(SpaceFault::Unchanged));
     }
     let answer = store.let_go(gone);
     follow(list, upkeep, gone, &answer);
-    counted(refusals, answer)
+    count_refusal(refusals, answer)
 }

@@ -33,7 +33,7 @@ pub(crate) fn bounded(cells: Vec<CellId>, row: &VolumeRow) -> Option<Volume>
     with_times(cells, row, row.time_start as u64, row.time_end as u64)
 }
 
-fn is_placed(row: &VolumeRow, num: i64, place: usize) -> bool
+fn is_volume_placed(row: &VolumeRow, num: i64, place: usize) -> bool
     ensures { IsTrue result ↔ ((row.now.entity ≡ num) × (row.now.place ≡ pos place)) }
 {
     row.entity == num && is_at(row.place, place)
@@ -48,7 +48,7 @@ fn volume_of(
 ) -> Result<Option<Volume>, AllocError>
     ensures { IfOk result (λ o. Finds (SpellsVolume num place row.now cells.now) o) }
 {
-    if !is_placed(row, num, place) {
+    if !is_volume_placed(row, num, place) {
         return Ok(None);
     }
     match cells_of(alloc, num, place, cells)? {

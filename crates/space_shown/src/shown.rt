@@ -1,12 +1,12 @@
 //! The trait of spaces that show what they hold.
 ghost use Rattle.std.specs.Prelude.{◌≡◌, IfOk};
 ghost use Rattle.entity_core.specs.Airspace.{Airspace};
-ghost use Rattle.entity_lists.specs.Lists.{airspace_of};
+ghost use Rattle.entity_maps.specs.Lists.{airspace_of};
 
 use crate::counts::Counts;
-use entity_lists::availabilities::Availabilities;
-use entity_lists::entities::Entities;
-use entity_lists::subscriptions::Subscriptions;
+use entity_maps::availabilities::Availabilities;
+use entity_maps::entities::Entities;
+use entity_maps::subscriptions::Subscriptions;
 use space_core::space::Space;
 
 /// What is shown: the lists of a copy in memory, which are lent, its serial, and how many entities

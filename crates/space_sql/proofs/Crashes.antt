@@ -16,10 +16,10 @@ use Rattle.space_tables.specs.declared.format.Format.TheVariants.{One, Two}
 use Rattle.space_tables.specs.Spelling.{Spells, SpellsAs}
 use Rattle.space_tables.specs.Tables.{dss_schema, schema_of}
 use Rattle.space_tables.proofs.OneAirspace.{one_airspace}
-use Rattle.space_opening.specs.Opening.{Refuses}
+use Rattle.space_format.specs.Opening.{Refuses}
 use Rattle.space_sql.specs.Holding.{Keeps, holds_in, is_whole_in, with_tables}
-use Rattle.space_opening.specs.declared.open_fault.OpenFault.{OpenFault}
-use Rattle.space_opening.specs.declared.open_fault.OpenFault.TheVariants.{NotADss, Version, Store}
+use Rattle.space_format.specs.declared.open_fault.OpenFault.{OpenFault}
+use Rattle.space_format.specs.declared.open_fault.OpenFault.TheVariants.{NotADss, Version, Store}
 use Rattle.space_sql.proofs.Outcomes.{one_schema, respell}
 
 pub leaves_held : (s : State) → is_whole_in s → (db : Trees) → s.may_leave db → (a : Airspace) × holds_in s a × Keeps db a

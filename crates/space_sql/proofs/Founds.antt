@@ -21,9 +21,9 @@ use Rattle.space_tables.specs.declared.format.Format.TheVariants.{One, Two}
 use Rattle.space_tables.specs.declared.presence.Presence.TheVariants.{Missing, Whole}
 use Rattle.space_tables.proofs.OneAirspace.{one_airspace_of}
 use Rattle.space_tables.proofs.Presences.{none_stands}
-use Rattle.space_opening.specs.Opening.{Refuses}
-use Rattle.space_opening.specs.declared.open_fault.OpenFault.{OpenFault}
-use Rattle.space_opening.specs.declared.open_fault.OpenFault.TheVariants.{Store}
+use Rattle.space_format.specs.Opening.{Refuses}
+use Rattle.space_format.specs.declared.open_fault.OpenFault.{OpenFault}
+use Rattle.space_format.specs.declared.open_fault.OpenFault.TheVariants.{Store}
 use Rattle.space_sql.specs.Found.{AreUnmade, FilesSpell, FindsSpelt, HasTables, IsOpenedOver, KeepsAs, RefusesFound, tables_of}
 use Rattle.space_sql.specs.Holding.{Kept, Rests}
 use Rattle.space_sql.specs.Opening.{HoldsSpelt, IsDueFault, IsFresh, MayBeOpened, MayBeTaken}

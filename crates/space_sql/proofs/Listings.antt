@@ -7,8 +7,8 @@ use Rattle.sqlite.specs.State.{HasCleanDisk}
 use Rattle.sqlite.specs.declared.error.Error.{Error}
 use Rattle.space_core.specs.declared.space.SpaceFault.{SpaceFault}
 use Rattle.space_core.specs.Space.{is_broken_after}
-use Rattle.space_reading.specs.declared.judgement.Listed.{Listed}
-use Rattle.space_reading.specs.Judging.{listed_airspace}
+use Rattle.space_load.specs.declared.judgement.Listed.{Listed}
+use Rattle.space_load.specs.Judging.{listed_airspace}
 use Rattle.space_tables.specs.Spelling.{Spells}
 use Rattle.space_sql.specs.Holding.{IsKeeping, Kept}
 use Rattle.space_sql.specs.Listed.{IsAllOf}

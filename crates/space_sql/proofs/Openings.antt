@@ -17,8 +17,8 @@ use Rattle.space_tables.specs.declared.presence.Presence.{Presence}
 use Rattle.space_tables.specs.declared.presence.Presence.TheVariants.{Missing, Whole}
 use Rattle.space_tables.proofs.OneAirspace.{one_airspace_of}
 use Rattle.space_tables.proofs.Presences.{first_stands, second_stands}
-use Rattle.space_opening.specs.declared.open_fault.OpenFault.{OpenFault}
-use Rattle.space_opening.specs.declared.open_fault.OpenFault.TheVariants.{Store}
+use Rattle.space_format.specs.declared.open_fault.OpenFault.{OpenFault}
+use Rattle.space_format.specs.declared.open_fault.OpenFault.TheVariants.{Store}
 use Rattle.space_sql.specs.Opening.{MayBeOpened, MayBeTaken}
 
 pub ok_is_no_fault : {X : Type 0} (x : X) (fault : OpenFault) → ◌≢◌ {A = Result X OpenFault} (Ok x) (Err fault)

@@ -10,10 +10,10 @@ use Rattle.entity_core.specs.Airspace.{Airspace}
 use Rattle.space_core.specs.declared.space.SpaceFault.{SpaceFault}
 use Rattle.space_core.specs.declared.space.SpaceFault.TheVariants.{Unchanged, Broken}
 use Rattle.space_core.specs.Space.{Reads, UnlessBroken, is_broken_after}
-use Rattle.space_reading.specs.declared.judgement.Listed.{Listed}
+use Rattle.space_load.specs.declared.judgement.Listed.{Listed}
 use Rattle.space_sql.specs.Holding.{IsKeeping, Kept, holds_of, is_sound_of, is_whole_of}
 use Rattle.space_sql.specs.Settling.{Settles}
-use Rattle.space_reading.specs.Judging.{listed_airspace}
+use Rattle.space_load.specs.Judging.{listed_airspace}
 use Rattle.space_select.specs.Reading.{ReadsTables}
 use Rattle.space_sql.proofs.Outcomes.{clean_before, held_is_spelt, no_other, stays_held, stays_whole}
 

@@ -19,8 +19,8 @@ use Rattle.sqlite.specs.declared.error.ErrorCode.TheVariants.{NotADatabase}
 use Rattle.sqlite.specs.declared.file.Leftover.{Leftover}
 use Rattle.entity_core.specs.Airspace.{Airspace}
 use Rattle.space_tables.specs.declared.format.Format.{Format}
-use Rattle.space_opening.specs.declared.open_fault.OpenFault.{OpenFault}
-use Rattle.space_opening.specs.declared.open_fault.OpenFault.TheVariants.{Store, Version}
+use Rattle.space_format.specs.declared.open_fault.OpenFault.{OpenFault}
+use Rattle.space_format.specs.declared.open_fault.OpenFault.TheVariants.{Store, Version}
 use Rattle.space_sql.specs.Found.{FilesSpell}
 use Rattle.space_sql.specs.Remains.{AreAt, CanBeOpened, IsCleanIn, RefusesFiles, RefusesOpening}
 use Rattle.space_sql.specs.declared.remains.Remains.{Remains}

@@ -8,10 +8,10 @@ use Rattle.entity_core.specs.Airspace.{Airspace}
 use Rattle.space_core.specs.declared.space.SpaceFault.{SpaceFault}
 use Rattle.space_core.specs.declared.space.SpaceFault.TheVariants.{Unchanged, Broken}
 use Rattle.space_core.specs.Space.{Reads, is_broken_after}
-use Rattle.space_list.specs.List.{content_of}
-use Rattle.space_list.specs.declared.list.ListSpace.{ListSpace}
-use Rattle.space_reading.specs.declared.judgement.Listed.{Listed}
-use Rattle.space_reading.specs.Judging.{listed_airspace}
+use Rattle.space_memory.specs.Memory.{content_of}
+use Rattle.space_memory.specs.declared.memory.MemorySpace.{MemorySpace}
+use Rattle.space_load.specs.declared.judgement.Listed.{Listed}
+use Rattle.space_load.specs.Judging.{listed_airspace}
 use Rattle.space_sql.specs.Holding.{Kept, holds_in, holds_of, is_sound_of, is_whole_in, is_whole_of}
 
 -- an answer that is no worse than a refusal breaks nothing
@@ -32,7 +32,7 @@ module _ {S : Type 0} (g : Ghosts S) (old mid new : Kept S) (listed : Listed) (c
   held_after : is_sound_of g new → (a : Airspace) → holds_of g old a → holds_of g new a
   held_after s a h = subst (λ (k : Held S). holds_in (state g k) a) (sym conn) (it.stays (sound_before s) a h)
 
-  reads_found : (r : Result ListSpace SpaceFault) → IfOk r (λ list. content_of list ≡ listed_airspace listed) → IfErr r (λ fault. fault ≡ Unchanged)
+  reads_found : (r : Result MemorySpace SpaceFault) → IfOk r (λ list. content_of list ≡ listed_airspace listed) → IfErr r (λ fault. fault ≡ Unchanged)
       → Reads (holds_of g) (is_sound_of g) (is_whole_of g) old new r (λ a list. content_of list ≡ a)
   reads_found (Ok list) content fault = record {
     sound = λ s. it.sound (sound_before s);
@@ -51,7 +51,7 @@ module _ {S : Type 0} (g : Ghosts S) (old mid new : Kept S) (listed : Listed) (c
   reads_found (Err Broken) content fault = absurd (let no : Broken ≡ Unchanged = fault in cc)
 
 -- the answer of a space that counted it
-pub reads_whole : {S : Type 0} (g : Ghosts S) {old seen mid new : Kept S} {listed : Listed} {r : Result ListSpace SpaceFault} → mid ≡ seen → new.conn ≡ mid.conn → new.broken ≡ is_broken_after mid.broken r
+pub reads_whole : {S : Type 0} (g : Ghosts S) {old seen mid new : Kept S} {listed : Listed} {r : Result MemorySpace SpaceFault} → mid ≡ seen → new.conn ≡ mid.conn → new.broken ≡ is_broken_after mid.broken r
     → Reads (holds_of g) (is_sound_of g) (is_whole_of g) old seen (Ok listed) (λ a found. listed_airspace found ≡ a)
     → IfOk r (λ list. content_of list ≡ listed_airspace listed) → IfErr r (λ fault. fault ≡ Unchanged)
     → Reads (holds_of g) (is_sound_of g) (is_whole_of g) old new r (λ a list. content_of list ≡ a)

@@ -7,9 +7,9 @@ use Rattle.entity_core.specs.Airspace.{Airspace}
 use Rattle.sqlite.specs.State.{HasCleanDisk}
 use Rattle.space_core.specs.Space.{IsContent}
 use Rattle.space_core.specs.declared.space.Space as spaces
-use Rattle.space_reading.specs.declared.judgement.Listed.{Listed}
-use Rattle.space_opening.specs.declared.open_fault.OpenFault.{OpenFault}
-use Rattle.space_opening.specs.declared.open_fault.OpenFault.TheVariants.{Store}
+use Rattle.space_load.specs.declared.judgement.Listed.{Listed}
+use Rattle.space_format.specs.declared.open_fault.OpenFault.{OpenFault}
+use Rattle.space_format.specs.declared.open_fault.OpenFault.TheVariants.{Store}
 use Rattle.space_sql.specs.Opening.{HoldsSpelt, IsDueFault}
 use Rattle.space_sql.specs.Holding.{Keeps, Kept, holds_of, is_whole_of}
 

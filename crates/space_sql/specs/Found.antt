@@ -13,9 +13,9 @@ use Rattle.space_tables.specs.Spelling.{SpellsAs}
 use Rattle.space_tables.specs.Tables.{schema_of}
 use Rattle.space_tables.specs.declared.format.Format.{Format}
 use Rattle.space_tables.specs.declared.format.Format.TheVariants.{One, Two}
-use Rattle.space_opening.specs.Opening.{Refuses}
-use Rattle.space_opening.specs.declared.open_fault.OpenFault.{OpenFault}
-use Rattle.space_opening.specs.declared.open_fault.OpenFault.TheVariants.{Store}
+use Rattle.space_format.specs.Opening.{Refuses}
+use Rattle.space_format.specs.declared.open_fault.OpenFault.{OpenFault}
+use Rattle.space_format.specs.declared.open_fault.OpenFault.TheVariants.{Store}
 use Rattle.space_sql.specs.Holding.{Kept}
 
 -- the tables of a format, with these rows

@@ -2,8 +2,8 @@
 use Rattle.std.specs.Prelude.{◌≡◌, false}
 use Rattle.sqlite_trees.specs.declared.store.Store.{Ghosts}
 use Rattle.space_core.specs.Space.{IsContent}
-use Rattle.space_reading.specs.Judging.{listed_airspace}
-use Rattle.space_reading.specs.declared.judgement.Listed.{Listed}
+use Rattle.space_load.specs.Judging.{listed_airspace}
+use Rattle.space_load.specs.declared.judgement.Listed.{Listed}
 use Rattle.space_sql.specs.Holding.{Kept, holds_of, is_sound_of}
 
 -- the lists are all that a space holds, which works

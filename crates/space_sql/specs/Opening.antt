@@ -17,9 +17,9 @@ use Rattle.space_tables.specs.declared.presence.Presence.TheVariants.{Missing, P
 use Rattle.space_tables.specs.Making.{MayBeMade}
 use Rattle.space_tables.specs.Presence.{presence_in}
 use Rattle.space_select.specs.Reading.{IsAsFound}
-use Rattle.space_opening.specs.Opening.{MayBeMoved, Refuses}
-use Rattle.space_opening.specs.declared.open_fault.OpenFault.{OpenFault}
-use Rattle.space_opening.specs.declared.open_fault.OpenFault.TheVariants.{Store}
+use Rattle.space_format.specs.Opening.{MayBeMoved, Refuses}
+use Rattle.space_format.specs.declared.open_fault.OpenFault.{OpenFault}
+use Rattle.space_format.specs.declared.open_fault.OpenFault.TheVariants.{Store}
 use Rattle.space_sql.specs.Holding.{Kept}
 
 -- a space that was just taken is sound, as long as its disk has returned what was written; it has

@@ -9,8 +9,8 @@ use Rattle.sqlite.specs.Recovery.{Image}
 use Rattle.sqlite.specs.State.{HasCleanDisk}
 use Rattle.sqlite.specs.WalFiles.{outcomes}
 use Rattle.sqlite.specs.declared.file.Leftover.{Leftover}
-use Rattle.space_opening.specs.declared.open_fault.OpenFault.{OpenFault}
-use Rattle.space_opening.specs.declared.open_fault.OpenFault.TheVariants.{Store, Version}
+use Rattle.space_format.specs.declared.open_fault.OpenFault.{OpenFault}
+use Rattle.space_format.specs.declared.open_fault.OpenFault.TheVariants.{Store, Version}
 use Rattle.space_sql.specs.Found.{RefusesFound}
 use Rattle.space_sql.specs.declared.remains.Remains.{Remains}
 use Rattle.space_sql.specs.declared.remains.Remains.TheVariants as of

@@ -18,8 +18,8 @@ use Rattle.space_core.specs.Space.{IsContent}
 use Rattle.space_core.specs.declared.space.Space.{Ghosts}
 use Rattle.space_tables.specs.declared.format.Format.{Format}
 use Rattle.space_tables.specs.declared.format.Format.TheVariants.{Two}
-use Rattle.space_opening.specs.declared.open_fault.OpenFault.{OpenFault}
-use Rattle.space_opening.specs.declared.open_fault.OpenFault.TheVariants.{Store}
+use Rattle.space_format.specs.declared.open_fault.OpenFault.{OpenFault}
+use Rattle.space_format.specs.declared.open_fault.OpenFault.TheVariants.{Store}
 use Rattle.space_sql.specs.Found.{FilesSpell, FindsSpelt, RefusesFound}
 use Rattle.space_sql.specs.Holding.{Kept, holds_of, is_sound_of, is_whole_of}
 use Rattle.space_sql.specs.Remains.{IsCleanIn, RefusesOpening}

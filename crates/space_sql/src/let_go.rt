@@ -1,6 +1,6 @@
 //! A space over tables lets go of what has ended.
+use crate::answers::answer_of;
 use crate::space::SqlSpace;
-use crate::told::settled;
 use entity_sweep::gone::Gone;
 use space_changes::let_go::let_go_all;
 use space_core::space::SpaceFault;
@@ -15,7 +15,7 @@ impl<S: Alter> LetsGo for SqlSpace<S> {
         match gone.split_first() {
             Some((first, rest)) => {
                 let made = let_go_all(self.alloc, &mut self.conn, first, rest);
-                settled(&mut self.conn, &mut self.refusals, &mut self.broken, made)
+                answer_of(&mut self.conn, &mut self.refusals, &mut self.broken, made)
             }
             None => Ok(()),
         }

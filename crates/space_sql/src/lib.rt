@@ -1,6 +1,7 @@
 //! A space over tables of SQLite: made, taken and given back, read and changed.
 #![tactic(auto)]
 
+mod answers;
 pub mod laws;
 pub mod let_go;
 mod listed;
@@ -11,4 +12,3 @@ pub mod remains;
 pub mod round;
 mod schema;
 pub mod space;
-mod told;

@@ -3,20 +3,20 @@ ghost use Rattle.std.specs.Prelude.{◌≡◌, false, IfOk, IsTrue};
 ghost use Rattle.sqlite.specs.Held.{state};
 ghost use Rattle.sqlite.specs.State.{HasCleanDisk};
 ghost use Rattle.space_core.specs.Space.{Reads, Tells};
-ghost use Rattle.space_reading.specs.Judging.{listed_airspace};
+ghost use Rattle.space_load.specs.Judging.{listed_airspace};
 ghost use Rattle.space_select.specs.Reading.{ReadsTables};
 ghost use Rattle.space_sql.specs.Holding.{holds_of, is_sound_of, is_whole_of};
 ghost use Rattle.space_sql.specs.Listed.{IsAllOf};
 ghost use Rattle.space_tables.specs.Spelling.{Spells};
 ghost use Rattle.space_tables.specs.Tables.{dss_schema};
 
+use crate::answers::answer_of;
 use crate::open::memory;
 use crate::reading::read_listed;
 use crate::schema::same_schema;
 use crate::space::SqlSpace;
-use crate::told::settled;
 use space_core::space::SpaceFault;
-use space_reading::judgement::Listed;
+use space_load::judgement::Listed;
 use space_tables::make::make_tables;
 use sqlite::{Alter, Connection, Error, ErrorCode};
 use sqlite_schema::schema::Schema;
@@ -65,6 +65,6 @@ impl<S: Alter> SqlSpace<S> {
             return Err(SpaceFault::Broken);
         }
         let read = read_ours(self.alloc, &mut self.conn);
-        settled(&mut self.conn, &mut self.refusals, &mut self.broken, read)
+        answer_of(&mut self.conn, &mut self.refusals, &mut self.broken, read)
     }
 }

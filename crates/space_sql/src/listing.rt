@@ -1,20 +1,20 @@
 //! A space over tables is read whole into one in memory.
 ghost use Rattle.std.specs.Prelude.{◌≡◌, IfErr, IfOk};
 ghost use Rattle.space_core.specs.declared.space.SpaceFault.TheVariants.{Unchanged};
-ghost use Rattle.space_list.specs.List.{content_of};
-ghost use Rattle.space_reading.specs.Judging.{listed_airspace};
+ghost use Rattle.space_memory.specs.Memory.{content_of};
+ghost use Rattle.space_load.specs.Judging.{listed_airspace};
 
+use crate::answers::note;
 use crate::space::SqlSpace;
-use crate::told::note;
 use space_core::space::SpaceFault;
-use space_list::list::ListSpace;
-use space_list::listing::Listing;
-use space_reading::judgement::Listed;
+use space_load::judgement::Listed;
+use space_memory::listing::Listing;
+use space_memory::memory::MemorySpace;
 use sqlite::Alter;
 use std::alloc::Global;
 
 // The lists as a space in memory, where there is memory for its index.
-fn indexed(alloc: Global, listed: Listed) -> Result<ListSpace, SpaceFault>
+fn indexed(alloc: Global, listed: Listed) -> Result<MemorySpace, SpaceFault>
     ensures content { IfOk result (λ list. content_of list ≡ listed_airspace listed) }
     ensures fault { IfErr result (λ fault. fault ≡ Unchanged) }
 {
@@ -24,14 +24,14 @@ fn indexed(alloc: Global, listed: Listed) -> Result<ListSpace, SpaceFault>
         availabilities,
         serial,
     } = listed;
-    match ListSpace::of(alloc, entities, subscriptions, availabilities, serial) {
+    match MemorySpace::of(alloc, entities, subscriptions, availabilities, serial) {
         Ok(list) => Ok(list),
         Err(_) => Err(SpaceFault::Unchanged),
     }
 }
 
 impl<S: Alter> Listing for SqlSpace<S> {
-    fn listing(&mut self, alloc: Global) -> Result<ListSpace, SpaceFault> {
+    fn listing(&mut self, alloc: Global) -> Result<MemorySpace, SpaceFault> {
         match self.listed() {
             Ok(listed) => {
                 let answer = indexed(alloc, listed);

@@ -17,23 +17,23 @@ ghost use Rattle.space_tables.specs.Tables.{dss_schema, no_schema};
 ghost use Rattle.space_tables.specs.declared.format.Format.{Format};
 ghost use Rattle.space_tables.specs.declared.format.Format.TheVariants.{One, Two};
 ghost use Rattle.space_tables.specs.declared.presence.Presence.TheVariants.{Whole};
-ghost use Rattle.space_opening.specs.Opening.{MayBeMoved};
-ghost use Rattle.space_opening.specs.declared.open_fault.OpenFault.TheVariants.{Store, Version};
+ghost use Rattle.space_format.specs.Opening.{MayBeMoved};
+ghost use Rattle.space_format.specs.declared.open_fault.OpenFault.TheVariants.{Store, Version};
 ghost use Rattle.space_sql.specs.Found.{FindsSpelt, IsOver, RefusesFound};
 ghost use Rattle.space_sql.specs.Remains.{RefusesOpening};
 ghost use Rattle.space_sql.specs.Listed.{IsAllOf};
 ghost use Rattle.space_sql.specs.Opening.{HoldsEmpty, HoldsSpelt, HoldsSpeltAs, IsDueFault, IsDueFaultAs, IsFresh, IsUnwritten, IsUnwrittenAs, MayBeOpened};
 ghost use Rattle.space_sql.specs.Restart.{ClosesFiles};
 
+use crate::answers::at_rest;
 use crate::listed::is_ours;
 use crate::remains::Remains;
 use crate::space::SqlSpace;
-use crate::told::at_rest;
 use space_core::space::{Space, SpaceFault};
-use space_opening::examine::{examined, partial_fault};
-use space_opening::moving::moved;
-use space_opening::open_fault::OpenFault;
-use space_reading::judgement::Listed;
+use space_format::examine::{examine_tables, partial_fault};
+use space_format::moving::move_format;
+use space_format::open_fault::OpenFault;
+use space_load::judgement::Listed;
 use space_tables::format::Format;
 use space_tables::make::make_tables;
 use space_tables::presence::{Presence, presence_of};
@@ -108,7 +108,7 @@ fn take_second<S: Alter>(alloc: Global, mut conn: Connection<S>) -> Taking<S>
     ensures left { IfErr result (λ e.
         Survives (state S.Store conn) (state S.Store e.1) (λ _. ⊥)) }
 {
-    match examined(alloc, &mut conn) {
+    match examine_tables(alloc, &mut conn) {
         Ok(listed) => Ok((space_over(alloc, conn, false), Some(listed))),
         Err(fault) => Err((fault, conn)),
     }
@@ -133,7 +133,7 @@ fn take_first<S: Alter>(alloc: Global, mut conn: Connection<S>) -> Taking<S>
     ensures left { IfErr result (λ e. Survives (state S.Store conn) (state S.Store e.1)
         (λ trees. (e.0 ≡ OpenFault.Store) × MayBeMoved (state S.Store conn) trees)) }
 {
-    match moved(alloc, &mut conn) {
+    match move_format(alloc, &mut conn) {
         Ok(()) => Ok((space_over(alloc, conn, true), None)),
         Err(fault) => Err((fault, conn)),
     }

@@ -3,15 +3,15 @@ ghost use Rattle.std.specs.Prelude.{◌≡◌, false, IfOk};
 ghost use Rattle.sqlite.specs.Held.{state};
 ghost use Rattle.sqlite.specs.State.{HasCleanDisk};
 ghost use Rattle.entity_core.specs.Search.{all_in};
-ghost use Rattle.space_reading.specs.Judging.{listed_airspace};
+ghost use Rattle.space_load.specs.Judging.{listed_airspace};
 ghost use Rattle.space_select.specs.Reading.{ReadsTables};
 ghost use Rattle.space_tables.specs.Spelling.{Spells};
 ghost use Rattle.space_tables.specs.Tables.{dss_schema};
 
 use entity_core::entity::Entity;
 use entity_core::nature::Kind;
-use space_reading::judgement::{Judgement, Listed};
-use space_reading::reading::read_airspace;
+use space_load::judgement::{Judgement, Listed};
+use space_load::reading::read_airspace;
 use sqlite::{Alter, Connection, Error, ErrorCode};
 use std::alloc::Global;
 

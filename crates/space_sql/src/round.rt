@@ -1,6 +1,6 @@
 //! The changes of a round are made together in a space over tables.
+use crate::answers::answer_of;
 use crate::space::SqlSpace;
-use crate::told::settled;
 use space_changes::round::make_changes;
 use space_core::round::{RoundChange, Rounds};
 use space_core::space::SpaceFault;
@@ -14,7 +14,7 @@ impl<S: Alter> Rounds for SqlSpace<S> {
         match round.split_first() {
             Some((first, rest)) => {
                 let made = make_changes(self.alloc, &mut self.conn, first, rest);
-                settled(&mut self.conn, &mut self.refusals, &mut self.broken, made)
+                answer_of(&mut self.conn, &mut self.refusals, &mut self.broken, made)
             }
             None => Ok(()),
         }

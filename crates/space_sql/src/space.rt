@@ -3,8 +3,8 @@ ghost use Rattle.std.specs.Prelude.{◌≡◌, false};
 ghost use Rattle.sqlite.specs.Held.{state};
 ghost use Rattle.space_sql.specs.Holding.{holds_in, is_whole_in, IsSound};
 
+use crate::answers::answer_of;
 use crate::reading::read_all;
-use crate::told::settled;
 use entity_core::availability::Availability;
 use entity_core::entity::Entity;
 use entity_core::entity_id::EntityId;
@@ -16,13 +16,13 @@ use grid_core::volume::Area;
 use space_changes::change::make_change;
 use space_core::met::Met;
 use space_core::space::{Change, Space, SpaceFault};
-use space_finding::meeting::read_meeting;
-use space_finding::subscriptions::{find_subscribers, find_subscriptions_of};
-use space_single::availability::read_availability;
-use space_single::dependents::read_dependents;
-use space_single::entity::read_entity;
-use space_single::serial::read_serial;
-use space_single::subscription::read_subscription;
+use space_lookup::availability::read_availability;
+use space_lookup::dependents::read_dependents;
+use space_lookup::entity::read_entity;
+use space_lookup::serial::read_serial;
+use space_lookup::subscription::read_subscription;
+use space_search::meeting::read_meeting;
+use space_search::subscriptions::{find_subscribers, find_subscriptions_of};
 use sqlite::{Alter, Connection};
 use std::alloc::Global;
 use std::marker::Model;
@@ -94,7 +94,7 @@ impl<S: Alter> Space for SqlSpace<S> {
             return Err(SpaceFault::Broken);
         }
         let read = read_entity(self.alloc, &mut self.conn, kind, id);
-        settled(&mut self.conn, &mut self.refusals, &mut self.broken, read)
+        answer_of(&mut self.conn, &mut self.refusals, &mut self.broken, read)
     }
 
     fn meeting(
@@ -107,7 +107,7 @@ impl<S: Alter> Space for SqlSpace<S> {
             return Err(SpaceFault::Broken);
         }
         let read = read_meeting(self.alloc, &mut self.conn, kind, areas, except);
-        settled(&mut self.conn, &mut self.refusals, &mut self.broken, read)
+        answer_of(&mut self.conn, &mut self.refusals, &mut self.broken, read)
     }
 
     fn all(&mut self, kind: Kind) -> Result<Vec<Entity>, SpaceFault> {
@@ -115,7 +115,7 @@ impl<S: Alter> Space for SqlSpace<S> {
             return Err(SpaceFault::Broken);
         }
         let read = read_all(self.alloc, &mut self.conn, kind);
-        settled(&mut self.conn, &mut self.refusals, &mut self.broken, read)
+        answer_of(&mut self.conn, &mut self.refusals, &mut self.broken, read)
     }
 
     fn availability(&mut self, uss: &UssId) -> Result<Option<(Availability, Ovn)>, SpaceFault> {
@@ -123,7 +123,7 @@ impl<S: Alter> Space for SqlSpace<S> {
             return Err(SpaceFault::Broken);
         }
         let read = read_availability(self.alloc, &mut self.conn, uss);
-        settled(&mut self.conn, &mut self.refusals, &mut self.broken, read)
+        answer_of(&mut self.conn, &mut self.refusals, &mut self.broken, read)
     }
 
     fn subscription(&mut self, id: EntityId) -> Result<Option<Sub>, SpaceFault> {
@@ -131,7 +131,7 @@ impl<S: Alter> Space for SqlSpace<S> {
             return Err(SpaceFault::Broken);
         }
         let read = read_subscription(self.alloc, &mut self.conn, id);
-        settled(&mut self.conn, &mut self.refusals, &mut self.broken, read)
+        answer_of(&mut self.conn, &mut self.refusals, &mut self.broken, read)
     }
 
     fn subscriptions_of(&mut self, uss: &UssId, area: &Area) -> Result<Vec<Sub>, SpaceFault> {
@@ -139,7 +139,7 @@ impl<S: Alter> Space for SqlSpace<S> {
             return Err(SpaceFault::Broken);
         }
         let read = find_subscriptions_of(self.alloc, &mut self.conn, uss, area);
-        settled(&mut self.conn, &mut self.refusals, &mut self.broken, read)
+        answer_of(&mut self.conn, &mut self.refusals, &mut self.broken, read)
     }
 
     fn subscribers(&mut self, kind: Kind, areas: &[Area]) -> Result<Vec<Sub>, SpaceFault> {
@@ -147,7 +147,7 @@ impl<S: Alter> Space for SqlSpace<S> {
             return Err(SpaceFault::Broken);
         }
         let read = find_subscribers(self.alloc, &mut self.conn, kind, areas);
-        settled(&mut self.conn, &mut self.refusals, &mut self.broken, read)
+        answer_of(&mut self.conn, &mut self.refusals, &mut self.broken, read)
     }
 
     fn dependents(&mut self, id: EntityId) -> Result<Vec<EntityId>, SpaceFault> {
@@ -155,7 +155,7 @@ impl<S: Alter> Space for SqlSpace<S> {
             return Err(SpaceFault::Broken);
         }
         let read = read_dependents(self.alloc, &mut self.conn, id);
-        settled(&mut self.conn, &mut self.refusals, &mut self.broken, read)
+        answer_of(&mut self.conn, &mut self.refusals, &mut self.broken, read)
     }
 
     fn serial(&mut self) -> Result<u64, SpaceFault> {
@@ -163,7 +163,7 @@ impl<S: Alter> Space for SqlSpace<S> {
             return Err(SpaceFault::Broken);
         }
         let read = read_serial(&mut self.conn);
-        settled(&mut self.conn, &mut self.refusals, &mut self.broken, read)
+        answer_of(&mut self.conn, &mut self.refusals, &mut self.broken, read)
     }
 
     fn apply(&mut self, change: Change, notify: &[EntityId]) -> Result<(), SpaceFault> {
@@ -171,6 +171,6 @@ impl<S: Alter> Space for SqlSpace<S> {
             return Err(SpaceFault::Broken);
         }
         let made = make_change(self.alloc, &mut self.conn, &change, notify);
-        settled(&mut self.conn, &mut self.refusals, &mut self.broken, made)
+        answer_of(&mut self.conn, &mut self.refusals, &mut self.broken, made)
     }
 }

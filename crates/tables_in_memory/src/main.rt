@@ -11,7 +11,7 @@ use entity_core::entity::Entity;
 use entity_core::nature::Kind;
 use grid_core::token::parse_token;
 use grid_core::volume::Area;
-use service_core::service::Service;
+use service_calls::service::Service;
 use space_core::met::Met;
 use space_core::space::Space;
 use space_sql::space::SqlSpace;

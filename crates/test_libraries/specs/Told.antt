@@ -7,9 +7,9 @@ use Rattle.entity_core.specs.declared.nature.Kind.{Kind}
 use Rattle.policy_core.specs.declared.call.Call.{Call}
 use Rattle.policy_core.specs.Missing.{key_shown, needed}
 use Rattle.service_step.specs.declared.reply.Reply.{Reply}
-use Rattle.service_core.specs.Aware.{Aware}
-use Rattle.service_core.specs.Run.{Timed, airspace_after, answered_calls}
-use Rattle.service_core.specs.Stale.{DifferUpTo, FailsOrIsRefused, IsOfAnother}
+use Rattle.service_calls.specs.Aware.{Aware}
+use Rattle.service_calls.specs.Run.{Timed, airspace_after, answered_calls}
+use Rattle.service_calls.specs.Stale.{DifferUpTo, FailsOrIsRefused, IsOfAnother}
 
 -- the airspace that calls with these replies leave
 abbrev pub airspace_told : List ℕ → List Timed → List Reply → Airspace

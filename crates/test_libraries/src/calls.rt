@@ -10,10 +10,10 @@ use policy_core::call::{Call, OpKind, Operation};
 use policy_core::rule::Rule;
 use policy_core::scope::{Caller, Scope, ScopeSet};
 use policy_core::standing::{Findings, LentFacts, standing};
-use service_core::service::Service;
+use service_calls::service::Service;
 use service_step::reply::{Answer, Reply};
 use space_core::space::Space;
-use space_list::list::ListSpace;
+use space_memory::memory::MemorySpace;
 use std::alloc::Global;
 use wire_body::body::{PathWords, read_body};
 
@@ -150,7 +150,7 @@ fn are_due(replies: &[Reply]) -> bool {
 #[test]
 fn a_run_answers_each_call(rt: HostRuntime) {
     let salt = Salt::read(rt.alloc(), "demo").ok().expect(&rt, "a salt");
-    let mut service = Service::new(ListSpace::new(rt.alloc()), salt);
+    let mut service = Service::new(MemorySpace::new(rt.alloc()), salt);
     let calls = three(rt.alloc()).expect(&rt, "calls");
     let replies = service
         .run(rt.alloc(), calls.as_slice())

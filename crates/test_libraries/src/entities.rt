@@ -122,7 +122,7 @@ fn version_after(number: u32) -> Option<u32> {
     Some(Version::from_number(number)?.next()?.number())
 }
 
-fn serial_after(number: u64) -> Option<u64> {
+fn next_serial(number: u64) -> Option<u64> {
     Some(Serial::after(number)?.number())
 }
 
@@ -141,6 +141,6 @@ fn serials_have_their_limit(rt: HostRuntime) {
         (9_223_372_036_854_775_806, Some(GREATEST_SERIAL)),
         (GREATEST_SERIAL, None),
     ] {
-        assert!(rt; serial_after(*number) == *next, "after {number}");
+        assert!(rt; next_serial(*number) == *next, "after {number}");
     }
 }

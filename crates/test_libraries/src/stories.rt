@@ -7,10 +7,10 @@ use entity_core::nature::Kind;
 use entity_core::salt::Salt;
 use policy_core::call::{Call, OpKind};
 use policy_core::rule::Rule;
-use service_core::service::Service;
+use service_calls::service::Service;
 use service_step::reply::{Answer, Reply};
 use space_core::space::Space;
-use space_list::list::ListSpace;
+use space_memory::memory::MemorySpace;
 use std::alloc::Global;
 use wire_body::body::PathWords;
 
@@ -113,7 +113,7 @@ fn before_the_stop(replies: &[Reply]) -> Option<usize> {
 }
 
 // Whether the story is told as it is due, and a put with the present OVN after it is done.
-fn is_told(alloc: Global) -> Option<bool> {
+fn is_story_told(alloc: Global) -> Option<bool> {
     let salt = Salt::read(alloc, "demo").ok()?;
     let calls = story(alloc)?;
     let next = call(
@@ -129,7 +129,7 @@ fn is_told(alloc: Global) -> Option<bool> {
 
 #[test]
 fn an_old_ovn_is_no_key(rt: HostRuntime) {
-    assert!(rt; is_told(rt.alloc()) == Some(true));
+    assert!(rt; is_story_told(rt.alloc()) == Some(true));
 }
 
 // How many calls of the story a service answers over a space of which so many calls are answered,
@@ -137,7 +137,7 @@ fn an_old_ovn_is_no_key(rt: HostRuntime) {
 fn answered_over(alloc: Global, left: u64) -> Option<(usize, u64)> {
     let salt = Salt::read(alloc, "demo").ok()?;
     let calls = story(alloc)?;
-    let mut service = Service::new(Breaking::after(ListSpace::new(alloc), left), salt);
+    let mut service = Service::new(Breaking::after(MemorySpace::new(alloc), left), salt);
     let replies = service.run(alloc, calls.as_slice()).ok()?;
     if replies.len() != calls.len() {
         return None;

@@ -4,9 +4,9 @@ ghost use Rattle.test_libraries.specs.Told.{ToldAfter};
 
 use entity_core::salt::Salt;
 use policy_core::call::Call;
-use service_core::service::Service;
+use service_calls::service::Service;
 use service_step::reply::Reply;
-use space_list::list::ListSpace;
+use space_memory::memory::MemorySpace;
 use std::alloc::{AllocError, Global};
 
 /// The replies to a list of calls from an empty airspace on, each with its moment, and to one more
@@ -20,7 +20,7 @@ pub fn told_after(
 ) -> Result<(Vec<Reply>, Reply), AllocError>
     ensures { IfOk result (λ told. ToldAfter salt calls.now call.now told.0.items told.1) }
 {
-    let mut service = Service::new(ListSpace::new(alloc), salt);
+    let mut service = Service::new(MemorySpace::new(alloc), salt);
     let replies = service.run(alloc, calls)?;
     let reply = service.call(alloc, now, call);
     Ok((replies, reply))

@@ -17,7 +17,7 @@ pub fn name_of(availability: Availability) -> &'static str
 
 /// The availability of that name, with case. No other text is a name.
 #[tactic(auto, unfolding(crate::specs::Availability::availability_named))]
-pub fn named(name: &str) -> Option<Availability>
+pub fn availability_named(name: &str) -> Option<Availability>
     ensures value { result ≡ availability_named name.now }
     ensures relation { MatchOption result ((a : Availability) → name_of a ≡ name.now → ⊥)
         (λ a. name_of a ≡ name.now) }

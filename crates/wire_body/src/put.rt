@@ -10,7 +10,7 @@ ghost use Rattle.wire_body.specs.Volume.{volume_in};
 use crate::body_fault::BodyFault;
 use crate::member::member;
 use crate::naming::naming_of;
-use crate::state::named;
+use crate::state::state_named;
 use crate::volume::volume_in;
 use entity_core::base_url::BaseUrl;
 use entity_core::id_fault::IdFault;
@@ -151,7 +151,7 @@ fn state_in(value: &Value) -> Option<State>
     ensures { result ≡ state_in (view value.now) }
 {
     match value.as_str() {
-        Some(text) => named(text),
+        Some(text) => state_named(text),
         None => None,
     }
 }

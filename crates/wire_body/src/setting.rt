@@ -4,7 +4,7 @@ ghost use Rattle.serde_json.specs.View.{view};
 ghost use Rattle.wire_body.specs.Body.{short_text_in, availability_of, old_version_of};
 ghost use Rattle.wire_body.specs.Given.{Gives};
 
-use crate::availability::named;
+use crate::availability::availability_named;
 use crate::body_fault::BodyFault;
 use crate::member::member;
 use entity_core::availability::Availability;
@@ -19,7 +19,7 @@ pub(crate) fn availability_of(value: &Value) -> Option<Availability>
 {
     match member(value, "availability") {
         Some(found) => match found.as_str() {
-            Some(name) => named(name),
+            Some(name) => availability_named(name),
             None => None,
         },
         None => None,

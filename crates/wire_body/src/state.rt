@@ -6,7 +6,7 @@ use entity_core::nature::State;
 
 /// The state of that name, with case.
 #[tactic(auto, unfolding(crate::specs::State::state_named))]
-pub(crate) fn named(name: &str) -> Option<State>
+pub(crate) fn state_named(name: &str) -> Option<State>
     ensures { result ≡ state_named name.now }
 {
     match name {

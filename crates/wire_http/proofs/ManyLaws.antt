@@ -5,9 +5,9 @@ use Rattle.std.specs.List.{concat}
 use Rattle.std.proofs.lemmas.List.{append-nil, length-append, take-append-drop}
 use Rattle.std.proofs.lemmas.List.Folds.{concat-append}
 use Rattle.space_core.specs.declared.space.Space.{Ghosts}
-use Rattle.service_core.specs.declared.service.Service.{Service}
-use Rattle.service_core.specs.Run.{Answered, IsReplyTo, Timed}
-use Rattle.service_core.proofs.Runs.{answered, asked_more}
+use Rattle.service_calls.specs.declared.service.Service.{Service}
+use Rattle.service_calls.specs.Run.{Answered, IsReplyTo, Timed}
+use Rattle.service_calls.proofs.Runs.{answered, asked_more}
 use Rattle.service_step.specs.declared.reply.Reply.{Reply}
 use Rattle.token_conf.specs.TokenFile.{Callers}
 use Rattle.wire_http.specs.declared.connection.Connection.{Connection}
@@ -19,7 +19,7 @@ use Rattle.wire_http.specs.Count.{most_requests}
 use Rattle.wire_http.specs.Held.{MayCome}
 use Rattle.wire_http.specs.Many.{AnyMoment, HoldsBackLast, IsNextCall, IsServed, IsServedAfter, IsServedWhole}
 use Rattle.wire_http.specs.Text.{answer_text, end_texts}
-use Rattle.wire_http.specs.Wire.{Asked, Asks, answers, left_after}
+use Rattle.wire_http.specs.Wire.{Asked, AsksCall, answers, left_after}
 use Rattle.wire_http.specs.HeldBack.{text_at}
 use Rattle.wire_http.proofs.HeldBackLaws.{ready_first}
 use Rattle.wire_http.proofs.StreamLaws.{answers_more, concat_more, leads_more}
@@ -100,7 +100,7 @@ none_came came e = sym (e ∙ append-nil came)
 
 -- a request that was asked at one clock, at a moment that is any
 any_moment : {M : Type 0} (Gives : M → ℕ → M → Type 0) (callers : Callers) (rest : List ℕ) (clock clock' : M) (a : Asked) (next : List ℕ)
-    → Asks Gives callers rest clock a next clock' → Asks AnyMoment callers rest tt a next tt
+    → AsksCall Gives callers rest clock a next clock' → AsksCall AnyMoment callers rest tt a next tt
 any_moment Gives callers rest clock clock' a next h = record { body = h.body; request = h.request; call = h.call; moment = tt; next_is = h.next_is }
 
 module _ {S M : Type 0} (g : Ghosts S) (Gives : M → ℕ → M → Type 0) (callers : Callers) (old new : Service S) (clock clock' : M) where
@@ -121,8 +121,8 @@ module _ {S M : Type 0} (g : Ghosts S) (Gives : M → ℕ → M → Type 0) (cal
         served = record {
           one_each = omega (arith, s.one_each, length-append all (asked ∷ []), length-append replies (reply ∷ []));
           spells = λ later.
-              let here : Asks Gives callers (held_of c ++ later) clock asked (held_of c' ++ later) clock' =
-              subst (λ (v : List ℕ). Asks Gives callers (held_of c ++ (v ++ later)) clock asked (held_of c' ++ later) clock') none (asks later) in
+              let here : AsksCall Gives callers (held_of c ++ later) clock asked (held_of c' ++ later) clock' =
+              subst (λ (v : List ℕ). AsksCall Gives callers (held_of c ++ (v ++ later)) clock asked (held_of c' ++ later) clock') none (asks later) in
               rw (left_is, took.n_is) (
               leads_more AnyMoment callers most_requests (came ++ later) tt all (left_of c) k (held_of c ++ later) tt asked (held_of c' ++ later) tt (s.spells later) next
               (any_moment Gives callers (held_of c ++ later) clock clock' asked (held_of c' ++ later) here) closing);

@@ -7,10 +7,10 @@ use Rattle.std.proofs.lemmas.List.{append-nil, length-append, length-map, map-ap
 use Rattle.std.proofs.lemmas.List.Folds.{concat-append}
 use Rattle.std.proofs.Math.Seq.{take-append-add, take-append_seam}
 use Rattle.space_core.specs.declared.space.Space.{Ghosts}
-use Rattle.service_core.specs.declared.service.Service.{Service}
+use Rattle.service_calls.specs.declared.service.Service.{Service}
 use Rattle.service_step.specs.declared.reply.Reply.{Reply}
-use Rattle.service_core.specs.Run.{AskedInOrder, IsReplyTo, Timed}
-use Rattle.service_core.proofs.Runs.{answered, asked_more}
+use Rattle.service_calls.specs.Run.{AskedInOrder, IsReplyTo, Timed}
+use Rattle.service_calls.proofs.Runs.{answered, asked_more}
 use Rattle.token_conf.specs.TokenFile.{Callers}
 use Rattle.wire_http.specs.declared.end.End.{End}
 use Rattle.wire_http.specs.declared.end.End.TheVariants as ends
@@ -21,7 +21,7 @@ use Rattle.wire_http.specs.declared.serve.Turn.TheVariants as turns
 use Rattle.wire_http.specs.Input.{IsInput, known_bytes}
 use Rattle.wire_http.specs.Text.{answer_text, rule_text, end_texts}
 use Rattle.wire_http.specs.Turn.{IsTurn, IsTurnPart, StopsInAnswer, StopsInRule, StopsUnasked}
-use Rattle.wire_http.specs.Wire.{Asked, Asks, Finishes, IsFront, Leads, MayFollow, Serves, ServesPart, answers, left_after, timed}
+use Rattle.wire_http.specs.Wire.{Asked, AsksCall, Finishes, IsFront, Leads, MayFollow, Serves, ServesPart, answers, left_after, timed}
 use Rattle.wire_http.proofs.KnownBytes.{Appends_more, Appends_nil, Consumes_more, Consumes_nil, input_known, input_more}
 
 length_more : {X Y : Type 0} (xs : List X) (ys : List Y) (x : X) (y : Y) → length xs ≡ length ys → length (xs ++ x ∷ []) ≡ length (ys ++ y ∷ [])
@@ -70,11 +70,11 @@ none_follows (suc n) left = inl refl
 module _ {M : Type 0} (Gives : M → ℕ → M → Type 0) (callers : Callers) where
   pub leads_more : (bound : ℕ) (rest : List ℕ) (clock : M) (all : List Asked) (n k : ℕ) (left : List ℕ) (later : M) (a : Asked) (next : List ℕ) (mid : M)
       → Leads Gives callers bound rest clock all n left later → n ≡ suc k
-      → Asks Gives callers left later a next mid → a.closing ≡ (left_after k a.head == 0)
+      → AsksCall Gives callers left later a next mid → a.closing ≡ (left_after k a.head == 0)
       → Leads Gives callers bound rest clock (all ++ a ∷ []) (left_after k a.head) next mid
   leads_more bound rest clock [] n k left later a next mid (m, l, t) e asks closing =
       subst (λ (v : ℕ). Leads Gives callers v rest clock (a ∷ []) (left_after k a.head) next mid) (sym e ∙ m)
-      (next, mid, subst (λ (v : List ℕ). Asks Gives callers v clock a next mid) l (subst (λ (v : M). Asks Gives callers left v a next mid) t asks), closing, (refl, refl, refl))
+      (next, mid, subst (λ (v : List ℕ). AsksCall Gives callers v clock a next mid) l (subst (λ (v : M). AsksCall Gives callers left v a next mid) t asks), closing, (refl, refl, refl))
   leads_more zero rest clock (b ∷ all) n k left later a next mid h e asks closing = absurd h
   leads_more (suc bound) rest clock (b ∷ all) n k left later a next mid (x, y, p, q, h) e asks closing =
       (x, y, p, q, leads_more (left_after bound b.head) x y all n k left later a next mid h e asks closing)

@@ -7,7 +7,7 @@ use Rattle.wire_http.specs.declared.end.End.{End}
 use Rattle.wire_head.specs.Rest.{after}
 use Rattle.wire_http.specs.Asked.{IsCallOf}
 use Rattle.wire_http.specs.Stop.{StopsAs, AreSameEnds}
-use Rattle.wire_http.specs.Wire.{Asked, Asks, Finishes, Leads, left_after}
+use Rattle.wire_http.specs.Wire.{Asked, AsksCall, Finishes, Leads, left_after}
 use Rattle.wire_http.proofs.CallUnique.{one_request, one_call}
 use Rattle.wire_http.proofs.StopLaws.{one_finish, no_stop}
 
@@ -32,7 +32,7 @@ same_asked a b h p m c t = λ i. let s : Asked = record { head = h i; place = p 
 
 module _ {M : Type 0} (Gives : M → ℕ → M → Type 0) (callers : Callers) (one : (c : M) (m n : ℕ) (d e : M) → Gives c m d → Gives c n e → (n ≡ m) × (e ≡ d)) where
   same_asks : (rest : List ℕ) (clock : M) (a b : Asked) (next more : List ℕ) (later following : M)
-      → Asks Gives callers rest clock a next later → Asks Gives callers rest clock b more following → AreSame a b next more later following
+      → AsksCall Gives callers rest clock a next later → AsksCall Gives callers rest clock b more following → AreSame a b next more later following
   same_asks rest clock a b next more later following x y =
       let request : (b.head ≡ a.head) × (y.body ≡ x.body) = one_request rest a.head b.head x.body y.body x.request y.request in
       let at_head : IsCallOf callers a.head y.body b.place b.call = subst (λ (h : RequestHead). IsCallOf callers h y.body b.place b.call) request.0 y.call in

@@ -10,9 +10,9 @@ use Rattle.httparse.specs.Grammar.{RequestHead, print_request}
 use Rattle.httparse.specs.Spans.{header_bytes}
 use Rattle.policy_core.specs.declared.call.Call.{Call}
 use Rattle.space_core.specs.declared.space.Space.{Ghosts}
-use Rattle.service_core.specs.declared.service.Service.{Service}
+use Rattle.service_calls.specs.declared.service.Service.{Service}
 use Rattle.service_step.specs.declared.reply.Reply.{Reply}
-use Rattle.service_core.specs.Run.{IsReplyTo}
+use Rattle.service_calls.specs.Run.{IsReplyTo}
 use Rattle.token_conf.specs.TokenFile.{Callers}
 use Rattle.wire_http.specs.declared.end.End.{End}
 use Rattle.wire_http.specs.declared.end.End.TheVariants as ends
@@ -36,7 +36,7 @@ use Rattle.wire_http.specs.Source.{HasGivenUp}
 use Rattle.wire_http.specs.Stop.{StopsAs}
 use Rattle.wire_http.specs.Text.{end_texts, rule_text}
 use Rattle.wire_http.specs.Turn.{Took, IsTurn, IsTurnPart, MayGoOn, StopsInRule}
-use Rattle.wire_http.specs.Wire.{Asked, Asks, ClockAfter, IsRequest, left_after}
+use Rattle.wire_http.specs.Wire.{Asked, AsksCall, ClockAfter, IsRequest, left_after}
 use Rattle.wire_http.proofs.KnownBytes.{Appends_nil, input_known, input_more, rest_at}
 use Rattle.wire_http.proofs.NextLaws.{body_size}
 
@@ -203,7 +203,7 @@ module _ {S M : Type 0} (sp : Ghosts S) (Gives : M → ℕ → M → Type 0) (ca
   asks : (rest buffer bytes next : List ℕ) (fields : List HeaderSpan) (spans : RequestSpans) (size : ℕ) (place : Option Place) (moment : ℕ) (call : Call) (n : ℕ) (clock later : M) (h : RequestHead)
       → bytes ≡ buffer → IsRequest rest h (body_at buffer spans.len size) → Covers buffer fields spans h → Makes bytes fields spans size place call → Gives clock moment later
       → next ≡ drop (length (body_at buffer spans.len size)) (after h rest)
-      → Asks Gives callers rest clock (record { head = h; place = place; moment = moment; call = call; closing = n == 0 }) next later
+      → AsksCall Gives callers rest clock (record { head = h; place = place; moment = moment; call = call; closing = n == 0 }) next later
   asks rest buffer bytes next fields spans size place moment call n clock later h g x c made gives after_it = record {
     body = body_at buffer spans.len size;
     request = x;
@@ -230,7 +230,7 @@ module _ {S M : Type 0} (sp : Ghosts S) (Gives : M → ℕ → M → Type 0) (ca
           came,
           took buffer bytes fields spans place moment call n old new clock clock' before text r.reply x.0 g x.2 leaves r.is_reply,
           p,
-          λ later. subst (λ (rest : List ℕ). Asks Gives callers rest clock asked (left ++ later) clock') (rest_at front buffer came later grown)
+          λ later. subst (λ (rest : List ℕ). AsksCall Gives callers rest clock asked (left ++ later) clock') (rest_at front buffer came later grown)
               (asks (buffer ++ later) buffer bytes (left ++ later) fields spans size place moment call n clock clock' x.0 g (x.1 later) x.2 made gives
               (unread_next later buffer (buffer ++ later) left x.0 spans.len size refl x.2.len fits d)),
           r.written,
@@ -272,7 +272,7 @@ module _ {S M : Type 0} (sp : Ghosts S) (Gives : M → ℕ → M → Type 0) (ca
           n = n;
           next = next;
           took = took buffer bytes fields spans place moment call n old new clock clock' before text r.reply x.0 g x.2 leaves r.is_reply;
-          asks = subst (λ (v : List ℕ). Asks Gives callers v clock asked next clock') (rest_at front buffer came (known_bytes b) grown)
+          asks = subst (λ (v : List ℕ). AsksCall Gives callers v clock asked next clock') (rest_at front buffer came (known_bytes b) grown)
               (asks rest buffer bytes next fields spans size place moment call n clock clock' x.0 g (x.1 (known_bytes b)) x.2 made gives refl);
           size = r.size;
           short = r.short;

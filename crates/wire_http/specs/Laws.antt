@@ -1,8 +1,8 @@
 -- Laws of what a stream spells, and of what is served of many connections.
 use Rattle.std.specs.Prelude.{◌≡◌, ◌≤◌, ℕ, List, [], ◌∷◌, ◌++◌, length, take, drop, false, true}
 use Rattle.space_core.specs.declared.space.Space.{Ghosts}
-use Rattle.service_core.specs.declared.service.Service.{Service}
-use Rattle.service_core.specs.Run.{Answered, IsReplyTo, Timed}
+use Rattle.service_calls.specs.declared.service.Service.{Service}
+use Rattle.service_calls.specs.Run.{Answered, IsReplyTo, Timed}
 use Rattle.service_step.specs.declared.reply.Reply.{Reply}
 use Rattle.token_conf.specs.TokenFile.{Callers}
 use Rattle.wire_http.specs.declared.connection.Connection.{Connection}

@@ -33,7 +33,7 @@ pub record HasGivenUp {R : Type 0} (old new : Source R) (fault : StreamFault) : 
   pub why : GaveUpReading old new fault
 
 -- what reading did, by its result
-abbrev pub Reads : {R A : Type 0} → (R → Option (List ℕ)) → Source R → Source R
+abbrev pub ReadsSource : {R A : Type 0} → (R → Option (List ℕ)) → Source R → Source R
     → Result A StreamFault → Type 0
-Reads remaining old new (Ok a) = HasRead remaining old new
-Reads remaining old new (Err fault) = HasGivenUp old new fault
+ReadsSource remaining old new (Ok a) = HasRead remaining old new
+ReadsSource remaining old new (Err fault) = HasGivenUp old new fault

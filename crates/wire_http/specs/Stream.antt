@@ -1,7 +1,7 @@
 -- What is served of a stream that a reader gives, of at most 100 requests.
 use Rattle.std.specs.Prelude.{ℕ, List, Option}
 use Rattle.space_core.specs.declared.space.Space.{Ghosts}
-use Rattle.service_core.specs.declared.service.Service.{Service}
+use Rattle.service_calls.specs.declared.service.Service.{Service}
 use Rattle.token_conf.specs.TokenFile.{TokenFile, callers_of}
 use Rattle.wire_http.specs.declared.end.Served.{Served}
 use Rattle.wire_http.specs.declared.fault.StreamFault.{StreamFault}

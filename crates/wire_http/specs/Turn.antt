@@ -3,9 +3,9 @@ use Rattle.std.specs.Prelude.{◌≡◌, ◌<◌, ◌==◌, ◌⊎◌, ℕ, List
 use Rattle.std.specs.List.{concat}
 use Rattle.std.specs.Io.KnownBytes.{Appends, Consumes}
 use Rattle.space_core.specs.declared.space.Space.{Ghosts}
-use Rattle.service_core.specs.declared.service.Service.{Service}
+use Rattle.service_calls.specs.declared.service.Service.{Service}
 use Rattle.service_step.specs.declared.reply.Reply.{Reply}
-use Rattle.service_core.specs.Run.{IsReplyTo}
+use Rattle.service_calls.specs.Run.{IsReplyTo}
 use Rattle.token_conf.specs.TokenFile.{Callers}
 use Rattle.wire_head.specs.declared.rule.WireRule.{WireRule}
 use Rattle.wire_http.specs.declared.fault.StreamFault.{StreamFault}
@@ -15,7 +15,7 @@ use Rattle.wire_http.specs.Fault.{IsOfAnswering, IsOfAsking}
 use Rattle.wire_http.specs.Input.{IsInput}
 use Rattle.wire_http.specs.Stop.{Breaks, StopsAs}
 use Rattle.wire_http.specs.Text.{answer_text, end_texts, rule_text}
-use Rattle.wire_http.specs.Wire.{Asked, Asks, ClockAfter, left_after}
+use Rattle.wire_http.specs.Wire.{Asked, AsksCall, ClockAfter, left_after}
 
 -- after an answer fewer requests may follow
 abbrev pub MayGoOn : ℕ → Turn → Type 0
@@ -36,7 +36,7 @@ module _ {S M : Type 0} (g : Ghosts S) (Gives : M → ℕ → M → Type 0) (cal
   IsTurn remaining remaining' buffer buffer' (Answered n) =
       (asked : Asked) × (reply : Reply) × (came : List ℕ)
       × Took asked reply n × Consumes remaining remaining' came
-      × ((later : List ℕ) → Asks Gives callers (buffer ++ (came ++ later)) clock asked
+      × ((later : List ℕ) → AsksCall Gives callers (buffer ++ (came ++ later)) clock asked
       (buffer' ++ later) clock')
       × Appends before text (answer_text asked.place asked.closing reply)
   IsTurn remaining remaining' buffer buffer' (Ended end) =
@@ -58,7 +58,7 @@ module _ {S M : Type 0} (g : Ghosts S) (Gives : M → ℕ → M → Type 0) (cal
     pub n : ℕ
     pub next : List ℕ
     pub took : Took asked reply n
-    pub asks : Asks Gives callers rest clock asked next clock'
+    pub asks : AsksCall Gives callers rest clock asked next clock'
     pub size : ℕ
     pub short : size < length (answer_text asked.place asked.closing reply)
     pub written : Appends before text (take size (answer_text asked.place asked.closing reply))

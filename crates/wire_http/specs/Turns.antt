@@ -1,8 +1,8 @@
 -- Many connections on one service: whose turn each call was.
 use Rattle.std.specs.Prelude.{◌≡◌, ◌==◌, if◌then◌else◌, ℕ, false, List, [], ◌∷◌, ◌++◌, All, map}
 use Rattle.space_core.specs.declared.space.Space.{Ghosts}
-use Rattle.service_core.specs.declared.service.Service.{Service}
-use Rattle.service_core.specs.Run.{Answered}
+use Rattle.service_calls.specs.declared.service.Service.{Service}
+use Rattle.service_calls.specs.Run.{Answered}
 use Rattle.service_step.specs.declared.reply.Reply.{Reply}
 use Rattle.token_conf.specs.TokenFile.{Callers}
 use Rattle.wire_http.specs.declared.connection.Connection.{Connection}

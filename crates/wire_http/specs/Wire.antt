@@ -5,9 +5,9 @@ use Rattle.std.specs.Io.KnownBytes.{Appends}
 use Rattle.httparse.specs.Grammar.{RequestHead}
 use Rattle.policy_core.specs.declared.call.Call.{Call}
 use Rattle.space_core.specs.declared.space.Space.{Ghosts}
-use Rattle.service_core.specs.declared.service.Service.{Service}
+use Rattle.service_calls.specs.declared.service.Service.{Service}
 use Rattle.service_step.specs.declared.reply.Reply.{Reply}
-use Rattle.service_core.specs.Run.{Answered, Timed}
+use Rattle.service_calls.specs.Run.{Answered, Timed}
 use Rattle.wire_http.specs.declared.fault.StreamFault.{StreamFault}
 use Rattle.wire_http.specs.declared.fault.StreamFault.TheVariants as faults
 use Rattle.wire_head.specs.declared.rule.WireRule.{WireRule}
@@ -53,7 +53,7 @@ timed asked = (asked.moment, asked.call)
 module _ {M : Type 0} (Gives : M → ℕ → M → Type 0) (callers : Callers) where
   -- The rest begins with a request that asks this call, at the next moment of the clock. After it
   -- stands next.
-  pub record Asks (rest : List ℕ) (clock : M) (asked : Asked) (next : List ℕ) (clock' : M)
+  pub record AsksCall (rest : List ℕ) (clock : M) (asked : Asked) (next : List ℕ) (clock' : M)
       : Type 0 where
     pub body : List ℕ
     pub request : IsRequest rest asked.head body
@@ -67,7 +67,7 @@ module _ {M : Type 0} (Gives : M → ℕ → M → Type 0) (callers : Callers) w
   Leads bound rest clock [] n left later = (n ≡ bound) × (left ≡ rest) × (later ≡ clock)
   Leads zero rest clock (asked ∷ more) n left later = ⊥
   Leads (suc bound) rest clock (asked ∷ more) n left later =
-      (next : List ℕ) × (mid : M) × Asks rest clock asked next mid
+      (next : List ℕ) × (mid : M) × AsksCall rest clock asked next mid
       × (asked.closing ≡ (left_after bound asked.head == 0))
       × Leads (left_after bound asked.head) next mid more n left later
 

@@ -3,7 +3,7 @@ ghost use Rattle.std.specs.Prelude.{◌≡◌, ◌<◌, ◌≤◌, ◌+◌, ◌-
 ghost use Rattle.std.specs.Prelude.{◌++◌, IfOk, OnOk, OnErr, vec_len, vec_capacity};
 ghost use Rattle.std.specs.List.{concat};
 ghost use Rattle.std.specs.Option.{ForSome};
-ghost use Rattle.service_core.specs.Held.{Stays};
+ghost use Rattle.service_calls.specs.Held.{Stays};
 ghost use Rattle.wire_http.specs.Held.{HasNoneBelow, HeldFits, IsHeld, IsLight, most_held};
 ghost use Rattle.wire_http.specs.HeldBack.{StandsWithin};
 ghost use Rattle.wire_http.specs.Noted.{outcome_of};
@@ -21,7 +21,7 @@ use crate::serve::REQUESTS;
 use crate::source::shift;
 use crate::text::{answer_text, rule_text};
 use httparse::spans::{EMPTY_HEADER_SPAN, HeaderSpan, RequestSpans};
-use service_core::service::Service;
+use service_calls::service::Service;
 use service_step::reply::Reply;
 use space_core::space::Space;
 use std::alloc::{AllocError, Global};

@@ -3,7 +3,7 @@ ghost use Rattle.std.specs.Prelude.{◌≡◌, length, true, IfOk};
 ghost use Rattle.wire_http.specs.Held.{HeldFits, IsHeld};
 ghost use Rattle.wire_http.specs.Input.{known_bytes};
 ghost use Rattle.wire_http.specs.Next.{IsNext, NextFits};
-ghost use Rattle.wire_http.specs.Source.{Reads, ahead_of, bytes_of};
+ghost use Rattle.wire_http.specs.Source.{ReadsSource, ahead_of, bytes_of};
 
 use crate::end::End;
 use crate::fault::StreamFault;
@@ -40,7 +40,7 @@ pub(crate) fn next_request<R: Read>(
     fields: &mut [HeaderSpan],
 ) -> Result<Next, StreamFault>
     requires room { length fields.old ≡ FIELD_LIMIT }
-    ensures reads { Reads R.remaining source.old source.new result }
+    ensures reads { ReadsSource R.remaining source.old source.new result }
     // Whatever the pieces were in which the input came.
     ensures next { IfOk result (IsNext (known_bytes (ahead_of R.remaining source.new))
         (bytes_of source.new) fields.new) }

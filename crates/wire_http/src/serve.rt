@@ -4,7 +4,7 @@ ghost use Rattle.std.specs.Prelude.{length, take, Err, OnErr, OnOk, IfErr, IfOk}
 ghost use Rattle.std.specs.List.{concat};
 ghost use Rattle.std.specs.Io.KnownBytes.{Appends};
 ghost use Rattle.token_conf.specs.TokenFile.{callers_of};
-ghost use Rattle.service_core.specs.Held.{Stays};
+ghost use Rattle.service_calls.specs.Held.{Stays};
 ghost use Rattle.wire_http.specs.Counted.{inner_of, calls_of, failures_of, has_failed};
 ghost use Rattle.wire_http.specs.Count.{FailsLast, IsGreatest, one_more};
 ghost use Rattle.wire_http.specs.Count.{most_reads, most_requests};
@@ -25,7 +25,7 @@ use crate::source::{Source, shift};
 use crate::text::{answer_text, rule_text};
 use crate::write::write_whole;
 use httparse::spans::EMPTY_HEADER_SPAN;
-use service_core::service::Service;
+use service_calls::service::Service;
 use space_core::space::Space;
 use std::alloc::Global;
 use std::io::{Read, Write};

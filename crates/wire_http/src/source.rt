@@ -1,7 +1,7 @@
 //! The input of a stream, read within its turns.
 ghost use Rattle.std.specs.Prelude.{◌≡◌, ◌<◌, ◌≤◌, ◌+◌, max, length, drop, true, false, OnOk, IfOk};
 ghost use Rattle.std.specs.Io.KnownBytes.{IsAtEnd};
-ghost use Rattle.wire_http.specs.Source.{Reads, ahead_of, bytes_of};
+ghost use Rattle.wire_http.specs.Source.{ReadsSource, ahead_of, bytes_of};
 
 use crate::counted::Counted;
 use crate::fault::StreamFault;
@@ -28,7 +28,7 @@ impl<R: Read> Source<'_, R> {
     // `false` is the end of the input.
     fn read_more(&mut self, piece: &mut [u8; PIECE], room: usize) -> Result<bool, StreamFault>
         requires { 0 < room }
-        ensures reads { Reads R.remaining self.old self.new result }
+        ensures reads { ReadsSource R.remaining self.old self.new result }
         ensures short { OnOk result
             (length (bytes_of self.new) ≤ length (bytes_of self.old) + room) }
         ensures end { IfOk result (λ came. came ≡ false
@@ -53,7 +53,7 @@ impl<R: Read> Source<'_, R> {
     /// Reads until the buffer holds `count` bytes, and at most as many as a head may have where
     /// they are fewer. `false`: the input ended before.
     pub(crate) fn fill(&mut self, count: usize) -> Result<bool, StreamFault>
-        ensures reads { Reads R.remaining self.old self.new result }
+        ensures reads { ReadsSource R.remaining self.old self.new result }
         ensures short { OnOk result (length (bytes_of self.new)
             ≤ max (length (bytes_of self.old)) (max count HEAD_LIMIT)) }
         ensures whole { IfOk result (λ whole. whole ≡ true → count ≤ length (bytes_of self.new)) }

@@ -1,5 +1,5 @@
 use Rattle.std.proofs.Common.{◌∙◌, ap, inl, inr}
-use Rattle.service_core.specs.Held.{space_of}
+use Rattle.service_calls.specs.Held.{space_of}
 use Rattle.wire_http.specs.Counted.{inner_of}
 use Rattle.dss_command.proofs.stream.serve_stream_over.Goals as goal
 

@@ -4,11 +4,11 @@ use Rattle.dss_files.proofs.files.report.Goals as goal
 
 pub returns-clause-reported : goal.returns-clause-reported
 returns-clause-reported g c =
-    report_told _ (image_at g.F.Start) _ _ c.args.places _ c.reported-done.new.space c.reported-done.result c.closed.result c.in_ok-space.ensures.finds c.reported-done.ensures c.closed.ensures record {
+    report_told _ (image_at g.F.Start) _ _ c.args.places _ c.report_tables-done.new.space c.report_tables-done.result c.close_database.result c.in_ok-space.ensures.finds c.report_tables-done.ensures c.close_database.ensures record {
       sound = λ k is. is;
       whole = λ k is. is;
       holds = λ k a held. held;
     }
 
 pub returns-clause-told : goal.returns-clause-told
-returns-clause-told g c = why_unreported c.reported-done.new.space c.reported-done.result c.closed.result c.reported-done.ensures.fault c.closed.ensures
+returns-clause-told g c = why_unreported c.report_tables-done.new.space c.report_tables-done.result c.close_database.result c.report_tables-done.ensures.fault c.close_database.ensures

@@ -6,5 +6,5 @@ returns g c = record {
   done = c.served-done.result.0;
   served = c.served-done.ensures.served;
   part = c.served-done.ensures.part;
-  closed = c.closed.ensures;
+  closed = c.close_database.ensures;
 }

@@ -1,7 +1,7 @@
 use Rattle.std.specs.Prelude.{◌≡◌, false}
 use Rattle.std.proofs.Common.{ap, sym, subst, ◌∙◌}
 use Rattle.space_core.specs.Space.{Reads}
-use Rattle.space_reading.specs.Judging.{listed_airspace}
+use Rattle.space_load.specs.Judging.{listed_airspace}
 use Rattle.space_rounds.specs.Grouped.{Group, IsSoundIn, waits_in}
 use Rattle.space_sql.specs.Holding.{holds_of, is_sound_of, is_whole_of}
 use Rattle.service_tables.proofs.Crashes.{words_of}

@@ -1,4 +1,4 @@
-use Rattle.space_reading.specs.Judging.{listed_airspace}
+use Rattle.space_load.specs.Judging.{listed_airspace}
 use Rattle.dss_files.proofs.mirrored.with_lists.Goals as goal
 
 pub new-requires : goal.new-requires

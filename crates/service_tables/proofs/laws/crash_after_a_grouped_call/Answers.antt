@@ -1,6 +1,6 @@
 use Rattle.space_rounds.specs.Laws.{same_store}
 use Rattle.space_sql.specs.Holding.{kept_code}
-use Rattle.service_core.specs.Held.{space_of}
+use Rattle.service_calls.specs.Held.{space_of}
 use Rattle.service_tables.proofs.Grouping.{crash_leaves_grouped, grouped_over}
 use Rattle.service_tables.proofs.laws.crash_after_a_grouped_call.Goals as goal
 

@@ -1,6 +1,6 @@
 use Rattle.std.specs.Prelude.{List}
 use Rattle.std.proofs.Common.{subst}
-use Rattle.service_core.specs.Swept.{MayHaveKeptSwept, Segment}
+use Rattle.service_calls.specs.Swept.{MayHaveKeptSwept, Segment}
 use Rattle.service_tables.proofs.Keeping.{due_swept, due_unstopped}
 use Rattle.service_tables.proofs.laws.unstopped_is_due.Goals as goal
 

@@ -15,7 +15,7 @@ pub returns-in-Some-clause-changes : goal.returns-in-Some-clause-changes
 returns-in-Some-clause-changes g c =
     let ahead = subst (λ l. Agrees g.S.Space c.args.store.now l c.args.upkeep.now c.args.round.now.items) c.in-Some.is c.requires.agrees in
     let fits = subst (λ l. let old = group c.args.store.now (ahead_of l c.args.round.now.items) c.args.refusals.now in IsSoundIn g.S.Space old → (a : Airspace) → holds_in g.S.Space old a → Fits c.args.change c.args.notify.now a) c.in-Some.is c.requires.fits in
-    rw c.in-Some.is (list_changes g.S.Space c.args.store.now c.in-Some.list c.wait-answer.new.list c.args.round.now.items c.wait-answer.new.round.items c.args.refusals.now c.counted.new.refusals c.args.change c.args.notify.now c.wait-answer.result c.counted.result ahead fits c.wait-answer.ensures.fault c.wait-answer.ensures.round c.wait-answer.ensures.round_left c.counted.ensures.same c.counted.ensures.counted)
+    rw c.in-Some.is (list_changes g.S.Space c.args.store.now c.in-Some.list c.wait-answer.new.list c.args.round.now.items c.wait-answer.new.round.items c.args.refusals.now c.count_refusal.new.refusals c.args.change c.args.notify.now c.wait-answer.result c.count_refusal.result ahead fits c.wait-answer.ensures.fault c.wait-answer.ensures.round c.wait-answer.ensures.round_left c.count_refusal.ensures.same c.count_refusal.ensures.counted)
 
 pub apply-answer-requires : goal.apply-answer-requires
 apply-answer-requires g c =
@@ -24,7 +24,7 @@ apply-answer-requires g c =
 
 pub returns-in-None-clause-changes : goal.returns-in-None-clause-changes
 returns-in-None-clause-changes g c =
-    rw c.in-None.is (store_changes g.S.Space c.args.store.now c.apply-answer.new.self c.args.refusals.now c.counted-in-None.new.refusals _ c.apply-answer.result c.counted-in-None.result c.apply-answer.ensures.tells c.apply-answer.ensures.changes c.counted-in-None.ensures.same c.counted-in-None.ensures.counted)
+    rw c.in-None.is (store_changes g.S.Space c.args.store.now c.apply-answer.new.self c.args.refusals.now c.count_refusal-in-None.new.refusals _ c.apply-answer.result c.count_refusal-in-None.result c.apply-answer.ensures.tells c.apply-answer.ensures.changes c.count_refusal-in-None.ensures.same c.count_refusal-in-None.ensures.counted)
 
 pub returns-in-None-clause-agrees : goal.returns-in-None-clause-agrees
 returns-in-None-clause-agrees g c =

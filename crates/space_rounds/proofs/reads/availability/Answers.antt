@@ -6,7 +6,7 @@ use Rattle.space_rounds.proofs.reads.availability.Goals as goal
 pub returns-in-Some : goal.returns-in-Some
 returns-in-Some g c =
     let reads = reads_kept c.in-Some.list c.availability.new.self c.availability.result (λ a found. found ≡ get a.availabilities c.args.uss.now) c.availability.ensures.kept c.availability.ensures.found in
-    rw c.in-Some.is (list_reads g.S.Space c.args.store.now _ _ _ _ _ _ _ _ _ c.availability.ensures.tells reads c.counted.ensures.same c.counted.ensures.counted)
+    rw c.in-Some.is (list_reads g.S.Space c.args.store.now _ _ _ _ _ _ _ _ _ c.availability.ensures.tells reads c.count_refusal.ensures.same c.count_refusal.ensures.counted)
 
 pub returns-in-None : goal.returns-in-None
-returns-in-None g c = rw c.in-None.is (store_reads g.S.Space c.args.store.now _ _ _ _ _ _ c.availability-in-None.ensures.tells c.availability-in-None.ensures.reads c.counted-in-None.ensures.same c.counted-in-None.ensures.counted)
+returns-in-None g c = rw c.in-None.is (store_reads g.S.Space c.args.store.now _ _ _ _ _ _ c.availability-in-None.ensures.tells c.availability-in-None.ensures.reads c.count_refusal-in-None.ensures.same c.count_refusal-in-None.ensures.counted)

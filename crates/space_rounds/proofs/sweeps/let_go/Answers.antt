@@ -14,4 +14,4 @@ returns-clause-agrees g c =
 pub returns-clause-going : goal.returns-clause-going
 returns-clause-going g c =
     let none = none_of c.args.round.now c.is_empty.result c.is_empty.ensures c.if-not-is_empty.false in
-    goes g.S.Space c.args.store.now c.let_go-answer.new.self c.args.gone.now c.args.list.now c.follow.new.list c.args.round.now c.args.refusals.now c.counted-2.new.refusals c.let_go-answer.result c.counted-2.result none c.let_go-answer.ensures.tells c.let_go-answer.ensures.changes c.counted-2.ensures.same c.counted-2.ensures.counted
+    goes g.S.Space c.args.store.now c.let_go-answer.new.self c.args.gone.now c.args.list.now c.follow.new.list c.args.round.now c.args.refusals.now c.count_refusal-2.new.refusals c.let_go-answer.result c.count_refusal-2.result none c.let_go-answer.ensures.tells c.let_go-answer.ensures.changes c.count_refusal-2.ensures.same c.count_refusal-2.ensures.counted

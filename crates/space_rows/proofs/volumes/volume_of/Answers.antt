@@ -10,7 +10,7 @@ pub returns-in-Some : goal.returns-in-Some
 returns-in-Some c =
     let n : ℤ = to_z w64 (of_z w64 c.args.num) in
     subst (λ (k : ℤ). Finds (SpellsVolume k c.args.place c.args.row.now c.args.cells.now) c.bounded.result) (to_z-of_z w64 c.args.num c.ranges.num)
-    (found_bounds n c.args.place c.args.row.now c.args.cells.now c.in-Some.list.items c.bounded.result (c.is_placed.ensures.0 c.if-not-is_placed.false) (rw c.in-Some.is at c.in_ok-list.ensures) c.bounded.ensures)
+    (found_bounds n c.args.place c.args.row.now c.args.cells.now c.in-Some.list.items c.bounded.result (c.is_volume_placed.ensures.0 c.if-not-is_volume_placed.false) (rw c.in-Some.is at c.in_ok-list.ensures) c.bounded.ensures)
 
 pub returns-in-None : goal.returns-in-None
 returns-in-None c =

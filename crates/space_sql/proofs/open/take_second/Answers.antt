@@ -1,7 +1,7 @@
 use Rattle.std.proofs.Common.{sym, subst}
 use Rattle.sqlite.specs.Held.{state}
 use Rattle.sqlite.specs.State.{HasCleanDisk}
-use Rattle.space_reading.specs.Judging.{listed_airspace}
+use Rattle.space_load.specs.Judging.{listed_airspace}
 use Rattle.space_tables.specs.Spelling.{Spells}
 use Rattle.space_sql.proofs.Openings.{ok_is_no_fault}
 use Rattle.space_sql.proofs.open.take_second.Goals as goal

@@ -3,7 +3,7 @@ use Rattle.sqlite.specs.Effect.{Database}
 use Rattle.sqlite.specs.Held.{state}
 use Rattle.space_tables.specs.Spelling.{Spells}
 use Rattle.space_tables.proofs.OneAirspace.{one_airspace}
-use Rattle.space_reading.specs.Judging.{listed_airspace}
+use Rattle.space_load.specs.Judging.{listed_airspace}
 use Rattle.space_sql.proofs.reading.read_listed.Goals as goal
 
 pub returns-in-Ok-Spelt-clause-reads : goal.returns-in-Ok-Spelt-clause-reads

@@ -1,7 +1,7 @@
 use Rattle.std.proofs.Common.{◌≡◌, ◌∙◌, ◌-◌, suc, arith, rules}
 use Rattle.std.proofs.lemmas.Grind.{common_steps}
 use Rattle.std.proofs.lemmas.Result.{err_from_is_err_and}
-use Rattle.service_core.proofs.Runs.{stays_same, stays_then}
+use Rattle.service_calls.proofs.Runs.{stays_same, stays_then}
 use Rattle.token_conf.specs.TokenFile.{callers_of}
 use Rattle.wire_http.specs.Count.{most_requests}
 use Rattle.wire_http.specs.Source.{bytes_of}

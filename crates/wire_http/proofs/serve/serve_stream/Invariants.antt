@@ -1,6 +1,6 @@
 use Rattle.std.proofs.Common.{◌≡◌, ◌+◌, ◌≤◌}
 use Rattle.token_conf.specs.TokenFile.{callers_of}
-use Rattle.service_core.specs.Held.{Stays}
+use Rattle.service_calls.specs.Held.{Stays}
 use Rattle.wire_http.specs.Counted.{inner_of, calls_of, failures_of}
 use Rattle.wire_http.specs.Count.{Spends, most_reads, most_requests}
 use Rattle.wire_http.specs.Source.{ahead_of, bytes_of}

@@ -1,7 +1,7 @@
 use Rattle.std.proofs.Common.{subst}
 use Rattle.std.specs.Prelude.{◌≡◌, IfOk}
 use Rattle.entity_core.specs.Airspace.{Airspace}
-use Rattle.entity_lists.specs.Lists.{airspace_of}
+use Rattle.entity_maps.specs.Lists.{airspace_of}
 use Rattle.space_rounds.specs.Grouped.{Group, IsSoundIn, ahead_of, group, holds_in}
 use Rattle.space_rounds.proofs.grouped.GroupedShows.shown.Goals as goal
 

@@ -6,8 +6,8 @@ use Rattle.space_core.specs.Space.{IsContent}
 use Rattle.space_tables.specs.Spelling.{SpellsAs}
 use Rattle.space_tables.specs.declared.format.Format.TheVariants.{One, Two}
 use Rattle.space_tables.specs.declared.presence.Presence.TheVariants.{Whole}
-use Rattle.space_opening.specs.Opening.{MayBeMoved, Refuses}
-use Rattle.space_opening.specs.declared.open_fault.OpenFault.TheVariants.{Store}
+use Rattle.space_format.specs.Opening.{MayBeMoved, Refuses}
+use Rattle.space_format.specs.declared.open_fault.OpenFault.TheVariants.{Store}
 use Rattle.space_sql.specs.Holding.{holds_of}
 use Rattle.space_sql.proofs.Openings.{left_as, left_made, of_format, stands_seen}
 use Rattle.space_sql.proofs.space.SqlSpace.adopt.Goals as goal

@@ -1,8 +1,0 @@
-use Rattle.entity_lists.proofs.EntityTrees.{found_whole, order_kept}
-use Rattle.entity_lists.proofs.entities.Entities.entries.Goals as goal
-
-pub returns-clause-items : goal.returns-clause-items
-returns-clause-items c = found_whole c.self.inside.tree c.args.self.now c.self.view_is c.self.invariant c.range.ensures.ordered c.range.result (c.range.ensures.between tt)
-
-pub returns-clause-order : goal.returns-clause-order
-returns-clause-order c = order_kept c.self.inside.tree c.args.self.now c.self.view_is c.self.invariant c.range.ensures.ordered

@@ -1,5 +1,0 @@
-use Rattle.entity_lists.proofs.EntityTrees.{order_kept}
-use Rattle.entity_lists.proofs.entities.Entities.iter.Goals as goal
-
-pub returns-clause-order : goal.returns-clause-order
-returns-clause-order c = order_kept c.self.inside.tree c.args.self.now c.self.view_is c.self.invariant c.values.ensures.ordered

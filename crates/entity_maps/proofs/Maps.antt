@@ -1,0 +1,206 @@
+-- Lists in the order of their keys, and the maps that they are.
+use Rattle.std.specs.Prelude.{◌≡◌, Bool, true, false, cond, not, ◌&&◌, T, List, [], ◌∷◌, ◌++◌, map, filter, length, Some, None, refl}
+use Rattle.std.specs.Ordering.{eq_by_cmp, is_eq, is_lt, ordering_reverse}
+use Rattle.std.specs.declared.cmp.Ordering.{Ordering}
+use Rattle.std.specs.declared.cmp.Ordering.TheVariants.{Less, Equal, Greater}
+use Rattle.std.specs.Cmp.{IsTotalOrder}
+use Rattle.std.specs.FinMap.{IsAntisymmetric, get, insert, remove, empty, find, entries, entries-insert, get-from_entries, from_entries, len-empty, same_entries_map, len-entries}
+use Rattle.std.specs.FinMap.Entries.{put, where_key, by_order, below_all, is_sorted, is_sorted-put, is_sorted-where_key}
+use Rattle.std.proofs.lemmas.Cmp.{alike_right}
+use Rattle.std.proofs.lemmas.List.{nil_from_length}
+use Rattle.entity_maps.specs.Sorted.{keyed, Rise, map_of, AllBelow, StartsAbove}
+use Rattle.entity_core.proofs.Entries.{first, second, less, entries-remove}
+use Rattle.std.proofs.Common.{ℕ, suc, zero, ◌<◌, ◌≤◌, get_or, take, drop, arith, sym, ap, ◌∙◌, subst}
+
+-- an entry below all others is put first
+put_first : {K X : Type 0} (R : K → K → Ordering) (k : K) (x : X) (es : List (K × X)) → T (below_all R k es) → put R k x es ≡ (k, x) ∷ es
+put_first R k x [] h = refl
+put_first R k x (e ∷ es) h = ap (λ (r : Ordering). by_order r ((k, x) ∷ e ∷ es) ((e.0, x) ∷ es) (e ∷ put R k x es)) (less (R k e.0) (first _ _ h))
+
+-- the entries of the map of a list in order
+entries-from_entries : {K X : Type 0} {R : K → K → Ordering} → IsTotalOrder R → (es : List (K × X)) → T (is_sorted R es) → entries (from_entries {R = R} es) ≡ es
+entries-from_entries {R = R} o [] s = nil_from_length (entries (empty {R = R})) (sym (len-entries (empty {R = R})) ∙ len-empty R _)
+entries-from_entries {R = R} o (e ∷ es) s =
+    entries-insert o (from_entries {R = R} es) e.0 e.1
+    ∙ (ap (put R e.0 e.1) (entries-from_entries o es (second (below_all R e.0 es) _ s)) ∙ put_first R e.0 e.1 es (first _ _ s))
+
+module _ {A K X : Type 0} (R : K → K → Ordering) (pair : A → K × X) where
+  abbrev key : A → K
+  key x = (pair x).0
+
+  abbrev val : A → X
+  val x = (pair x).1
+
+  -- the values of the pairs that pass a test
+  pub kept_values : (p : K × X → Bool) (xs : List A) → map (λ e. e.1) (filter p (keyed pair xs)) ≡ map val (filter (λ x. p (pair x)) xs)
+  kept_values p [] = refl
+  kept_values p (x ∷ xs) = elim (p (pair x)) as (λ b. map (λ e. e.1) (cond b (pair x ∷ filter p (keyed pair xs)) (filter p (keyed pair xs))) ≡ map val (cond b (x ∷ filter (λ y. p (pair y)) xs) (filter (λ y. p (pair y)) xs))) [
+    | true ↦ ap (λ (ys : List X). val x ∷ ys) (kept_values p xs)
+    | false ↦ kept_values p xs
+  ]
+
+  -- the pairs of the elements whose keys pass a test
+  pub kept_keyed : (p : K → Bool) (xs : List A) → keyed pair (filter (λ x. p (key x)) xs) ≡ where_key R p (keyed pair xs)
+  kept_keyed p [] = refl
+  kept_keyed p (x ∷ xs) = elim (p (key x)) as (λ b. keyed pair (cond b (x ∷ filter (λ y. p (key y)) xs) (filter (λ y. p (key y)) xs)) ≡ cond b (pair x ∷ where_key R p (keyed pair xs)) (where_key R p (keyed pair xs))) [
+    | true ↦ ap (λ (es : List (K × X)). pair x ∷ es) (kept_keyed p xs)
+    | false ↦ kept_keyed p xs
+  ]
+
+  pub Rise_rest : (xs ys : List A) → Rise R pair (xs ++ ys) → Rise R pair ys
+  Rise_rest [] ys s = s
+  Rise_rest (x ∷ xs) ys s = Rise_rest xs ys (second (below_all R (key x) (keyed pair (xs ++ ys))) _ s)
+
+  -- ---- by places
+
+  pub below_from : (k : K) (xs : List A) (i : ℕ) → i ≤ length xs → ((j : ℕ) (d : A) → j < i → R (key (get_or xs j d)) k ≡ Less) → AllBelow R pair k (take i xs)
+  below_from k xs zero h p = tt
+  below_from k [] (suc i) h p = tt
+  below_from k (x ∷ xs) (suc i) h p = (p zero x (omega arith), below_from k xs i (omega arith) (λ j d l. p (suc j) d (omega arith)))
+
+  pub starts_from : (k : K) (xs : List A) (i : ℕ) → ((d : A) → i < length xs → R (key (get_or xs i d)) k ≡ Greater) → StartsAbove R pair k (drop i xs)
+  starts_from k [] zero p = tt
+  starts_from k [] (suc i) p = tt
+  starts_from k (x ∷ xs) zero p = p x (omega arith)
+  starts_from k (x ∷ xs) (suc i) p = starts_from k xs i (λ d l. p d (omega arith))
+
+  under : (q : K) (xs ys : List A) (w : A) → T (below_all R q (keyed pair (xs ++ w ∷ ys))) → R q (key w) ≡ Less
+  under q [] ys w h = less (R q (key w)) (first _ _ h)
+  under q (x ∷ xs) ys w h = under q xs ys w (second (is_lt (R q (key x))) _ h)
+
+  pub below_hit : IsTotalOrder R → (k : K) (xs ys : List A) (w : A) → Rise R pair (xs ++ w ∷ ys) → R (key w) k ≡ Equal → AllBelow R pair k xs
+  below_hit o k [] ys w s e = tt
+  below_hit o k (x ∷ xs) ys w s e = (
+    sym (alike_right o (key w) k (key x) e) ∙ under (key x) xs ys w (first _ _ s),
+    below_hit o k xs ys w (second (below_all R (key x) (keyed pair (xs ++ w ∷ ys))) _ s) e,
+  )
+
+  not_after : IsTotalOrder R → (x y : K) → R x y ≡ Less → is_lt (R y x) ≡ false
+  not_after o x y e = ap is_lt (o.antisymm y x ∙ ap ordering_reverse e)
+
+  -- neighbours are in order
+  pub neighbours : IsTotalOrder R → (xs : List A) (i : ℕ) (d : A) → suc i < length xs → Rise R pair xs → is_lt (R (key (get_or xs (suc i) d)) (key (get_or xs i d))) ≡ false
+  neighbours o [] i d h s = absurd (omega arith)
+  neighbours o (x ∷ []) i d h s = absurd (omega arith)
+  neighbours o (x ∷ y ∷ xs) zero d h s = not_after o (key x) (key y) (less (R (key x) (key y)) (first _ _ (first _ _ s)))
+  neighbours o (x ∷ y ∷ xs) (suc i) d h s = neighbours o (y ∷ xs) i d (omega arith) (second (below_all R (key x) (keyed pair (y ∷ xs))) _ s)
+
+  module _ (o : IsTotalOrder R) where
+    above : (x : A) (k : K) → R (key x) k ≡ Less → R k (key x) ≡ Greater
+    above x k e = o.antisymm k (key x) ∙ ap ordering_reverse e
+
+    below : (x : A) (k : K) → R (key x) k ≡ Greater → R k (key x) ≡ Less
+    below x k e = o.antisymm k (key x) ∙ ap ordering_reverse e
+
+    level : (x : A) (k : K) → R (key x) k ≡ Equal → R k (key x) ≡ Equal
+    level x k e = o.antisymm k (key x) ∙ ap ordering_reverse e
+
+    -- a new value between those below it and those above it
+    pub put_between : (v : A) (xs ys : List A) → AllBelow R pair (key v) xs → StartsAbove R pair (key v) ys → keyed pair (xs ++ v ∷ ys) ≡ put R (key v) (val v) (keyed pair (xs ++ ys))
+    put_between v [] [] a b = refl
+    put_between v [] (y ∷ ys) a b = ap (λ (r : Ordering). by_order r (pair v ∷ pair y ∷ keyed pair ys) ((key y, val v) ∷ keyed pair ys) (pair y ∷ put R (key v) (val v) (keyed pair ys))) (sym (below y (key v) b))
+    put_between v (x ∷ xs) ys a b =
+        ap (λ (es : List (K × X)). pair x ∷ es) (put_between v xs ys a.1 b)
+        ∙ ap (λ (r : Ordering). by_order r (pair v ∷ pair x ∷ keyed pair (xs ++ ys)) ((key x, val v) ∷ keyed pair (xs ++ ys)) (pair x ∷ put R (key v) (val v) (keyed pair (xs ++ ys)))) (sym (above x (key v) a.0))
+
+    -- a new value in the place of another of its key
+    pub put_over : IsAntisymmetric R → (v w : A) (xs ys : List A) → AllBelow R pair (key v) xs → R (key w) (key v) ≡ Equal → keyed pair (xs ++ v ∷ ys) ≡ put R (key v) (val v) (keyed pair (xs ++ w ∷ ys))
+    put_over same v w [] ys a e =
+        ap (λ (k : K). (k, val v) ∷ keyed pair ys) (sym (same (key w) (key v) e))
+        ∙ ap (λ (r : Ordering). by_order r (pair v ∷ pair w ∷ keyed pair ys) ((key w, val v) ∷ keyed pair ys) (pair w ∷ put R (key v) (val v) (keyed pair ys))) (sym (level w (key v) e))
+    put_over same v w (x ∷ xs) ys a e =
+        ap (λ (es : List (K × X)). pair x ∷ es) (put_over same v w xs ys a.1 e)
+        ∙ ap (λ (r : Ordering). by_order r (pair v ∷ pair x ∷ keyed pair (xs ++ w ∷ ys)) ((key x, val v) ∷ keyed pair (xs ++ w ∷ ys)) (pair x ∷ put R (key v) (val v) (keyed pair (xs ++ w ∷ ys)))) (sym (above x (key v) a.0))
+
+    -- ---- look-ups
+
+    pub find_past : (k : K) (xs ys : List A) → AllBelow R pair k xs → find R k (keyed pair (xs ++ ys)) ≡ find R k (keyed pair ys)
+    find_past k [] ys a = refl
+    find_past k (x ∷ xs) ys a = ap (λ (r : Ordering). cond (is_eq r) (Some (val x)) (find R k (keyed pair (xs ++ ys)))) (above x k a.0) ∙ find_past k xs ys a.1
+
+    pub find_here : (k : K) (x : A) (ys : List A) → R (key x) k ≡ Equal → find R k (keyed pair (x ∷ ys)) ≡ Some (val x)
+    find_here k x ys e = ap (λ (r : Ordering). cond (is_eq r) (Some (val x)) (find R k (keyed pair ys))) (level x k e)
+
+    find_below : (k : K) (ys : List A) → T (below_all R k (keyed pair ys)) → find R k (keyed pair ys) ≡ None
+    find_below k [] h = refl
+    find_below k (y ∷ ys) h = ap (λ (r : Ordering). cond (is_eq r) (Some (val y)) (find R k (keyed pair ys))) (less (R k (key y)) (first _ _ h)) ∙ find_below k ys (second (is_lt (R k (key y))) _ h)
+
+    lower : (k l : K) (ys : List A) → R k l ≡ Less → T (below_all R l (keyed pair ys)) → T (below_all R k (keyed pair ys))
+    lower k l [] e h = tt
+    lower k l (y ∷ ys) e h =
+        let here : R k (key y) ≡ Less = o.trans k l (key y) e (less (R l (key y)) (first _ _ h)) in
+        subst (λ (r : Ordering). T (is_lt r && below_all R k (keyed pair ys))) (sym here) (lower k l ys e (second (is_lt (R l (key y))) _ h))
+
+    pub find_missed : (k : K) (ys : List A) → Rise R pair ys → StartsAbove R pair k ys → find R k (keyed pair ys) ≡ None
+    find_missed k [] s a = refl
+    find_missed k (y ∷ ys) s a =
+        ap (λ (r : Ordering). cond (is_eq r) (Some (val y)) (find R k (keyed pair ys))) (below y k a)
+        ∙ find_below k ys (lower k (key y) ys (below y k a) (first _ _ s))
+
+    -- ---- removal
+
+    keep_below : (k : K) (ys : List A) → T (below_all R k (keyed pair ys)) → filter (λ y. not (eq_by_cmp R k (key y))) ys ≡ ys
+    keep_below k [] h = refl
+    keep_below k (y ∷ ys) h =
+        ap (λ (r : Ordering). cond (not (is_eq r)) (y ∷ filter (λ z. not (eq_by_cmp R k (key z))) ys) (filter (λ z. not (eq_by_cmp R k (key z))) ys)) (less (R k (key y)) (first _ _ h))
+        ∙ ap (λ (zs : List A). y ∷ zs) (keep_below k ys (second (is_lt (R k (key y))) _ h))
+
+    tied_below : (k l : K) (ys : List A) → R k l ≡ Equal → T (below_all R l (keyed pair ys)) → T (below_all R k (keyed pair ys))
+    tied_below k l [] e h = tt
+    tied_below k l (y ∷ ys) e h = subst (λ (r : Ordering). T (is_lt r && below_all R k (keyed pair ys))) (sym (o.congr k l (key y) e)) (
+        let rest = tied_below k l ys e (second (is_lt (R l (key y))) _ h) in
+        subst (λ (r : Ordering). T (is_lt r && below_all R k (keyed pair ys))) (sym (less (R l (key y)) (first _ _ h))) rest)
+
+    -- without the value of a key
+    pub removed_here : (k : K) (xs : List A) (w : A) (ys : List A) → Rise R pair (w ∷ ys) → AllBelow R pair k xs → R (key w) k ≡ Equal → filter (λ y. not (eq_by_cmp R k (key y))) (xs ++ w ∷ ys) ≡ xs ++ ys
+    removed_here k [] w ys s a e =
+        ap (λ (r : Ordering). cond (not (is_eq r)) (w ∷ filter (λ z. not (eq_by_cmp R k (key z))) ys) (filter (λ z. not (eq_by_cmp R k (key z))) ys)) (level w k e)
+        ∙ keep_below k ys (tied_below k (key w) ys (level w k e) (first _ _ s))
+    removed_here k (x ∷ xs) w ys s a e =
+        ap (λ (r : Ordering). cond (not (is_eq r)) (x ∷ filter (λ z. not (eq_by_cmp R k (key z))) (xs ++ w ∷ ys)) (filter (λ z. not (eq_by_cmp R k (key z))) (xs ++ w ∷ ys))) (above x k a.0)
+        ∙ ap (λ (zs : List A). x ∷ zs) (removed_here k xs w ys s a.1 e)
+
+    -- a key that no value has
+    pub removed_nowhere : (k : K) (xs ys : List A) → Rise R pair ys → AllBelow R pair k xs → StartsAbove R pair k ys → filter (λ y. not (eq_by_cmp R k (key y))) (xs ++ ys) ≡ xs ++ ys
+    removed_nowhere k [] [] s a b = refl
+    removed_nowhere k [] (y ∷ ys) s a b =
+        ap (λ (r : Ordering). cond (not (is_eq r)) (y ∷ filter (λ z. not (eq_by_cmp R k (key z))) ys) (filter (λ z. not (eq_by_cmp R k (key z))) ys)) (below y k b)
+        ∙ ap (λ (zs : List A). y ∷ zs) (keep_below k ys (lower k (key y) ys (below y k b) (first _ _ s)))
+    removed_nowhere k (x ∷ xs) ys s a b =
+        ap (λ (r : Ordering). cond (not (is_eq r)) (x ∷ filter (λ z. not (eq_by_cmp R k (key z))) (xs ++ ys)) (filter (λ z. not (eq_by_cmp R k (key z))) (xs ++ ys))) (above x k a.0)
+        ∙ ap (λ (zs : List A). x ∷ zs) (removed_nowhere k xs ys s a.1 b)
+
+    -- ---- the maps
+
+    pub get_of : (k : K) (xs : List A) → get (map_of R pair xs) k ≡ find R k (keyed pair xs)
+    get_of k xs = get-from_entries o (keyed pair xs) k
+
+    pub entries_of : (xs : List A) → Rise R pair xs → entries (map_of R pair xs) ≡ keyed pair xs
+    entries_of xs s = entries-from_entries o (keyed pair xs) s
+
+    -- the values that pass a test, in order
+    pub values_of_kept : (p : K × X → Bool) (xs : List A) → Rise R pair xs → map (λ e. e.1) (filter p (entries (map_of R pair xs))) ≡ map val (filter (λ x. p (pair x)) xs)
+    values_of_kept p xs s = ap (λ (es : List (K × X)). map (λ e. e.1) (filter p es)) (entries_of xs s) ∙ kept_values p xs
+
+    pub Rise_put : (v : A) (xs zs : List A) → Rise R pair xs → keyed pair zs ≡ put R (key v) (val v) (keyed pair xs) → Rise R pair zs
+    Rise_put v xs zs s e = subst (λ (es : List (K × X)). T (is_sorted R es)) (sym e) (is_sorted-put R o (key v) (val v) (keyed pair xs) s)
+
+    pub map_put : (v : A) (xs zs : List A) → Rise R pair xs → keyed pair zs ≡ put R (key v) (val v) (keyed pair xs) → map_of R pair zs ≡ insert (map_of R pair xs) (key v) (val v)
+    map_put v xs zs s e = same_entries_map (map_of R pair zs) (insert (map_of R pair xs) (key v) (val v)) (
+        entries_of zs (Rise_put v xs zs s e) ∙ (e ∙ (ap (put R (key v) (val v)) (sym (entries_of xs s)) ∙ sym (entries-insert o (map_of R pair xs) (key v) (val v)))))
+
+    pub Rise_kept : (k : K) (xs zs : List A) → Rise R pair xs → filter (λ y. not (eq_by_cmp R k (key y))) xs ≡ zs → Rise R pair zs
+    Rise_kept k xs zs s e =
+        subst (λ (ys : List A). Rise R pair ys) e (
+        subst (λ (es : List (K × X)). T (is_sorted R es)) (sym (kept_keyed (λ q. not (eq_by_cmp R k q)) xs)) (is_sorted-where_key R (λ q. not (eq_by_cmp R k q)) (keyed pair xs) s))
+
+pub map_of_none : {A K X : Type 0} (R : K → K → Ordering) (pair : A → K × X) → map_of R pair [] ≡ empty
+map_of_none R pair = refl
+
+pub map_removed : {A K X : Type 0} (R : K → K → Ordering) (pair : A → K × X) → IsTotalOrder R → IsAntisymmetric R → (k : K) (xs zs : List A) → Rise R pair xs → filter (λ y. not (eq_by_cmp R k (pair y).0)) xs ≡ zs → map_of R pair zs ≡ remove (map_of R pair xs) k
+map_removed R pair o same k xs zs s e = same_entries_map (map_of R pair zs) (remove (map_of R pair xs) k) (
+    entries_of R pair o zs (Rise_kept R pair o k xs zs s e)
+    ∙ (ap (keyed pair) (sym e)
+    ∙ (kept_keyed R pair (λ q. not (eq_by_cmp R k q)) xs
+    ∙ (ap (where_key R (λ q. not (eq_by_cmp R k q))) (sym (entries_of R pair o xs s))
+    ∙ sym (entries-remove o same (map_of R pair xs) k)))))

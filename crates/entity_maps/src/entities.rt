@@ -1,0 +1,271 @@
+//! Entities in the order of their kinds and ids.
+ghost use Rattle.std.specs.Prelude.{◌≡◌, [], filter, OnOk, OnErr, IfOk, IfErr, IsOk, IsNone};
+ghost use Rattle.std.specs.Map.{values_of};
+ghost use Rattle.std.specs.Option.{option_copied};
+ghost use Rattle.std.specs.FinMap.{get, insert, remove};
+ghost use Rattle.entity_core.specs.Airspace.{key_of};
+ghost use Rattle.entity_core.specs.Entity.{kind_index};
+ghost use Rattle.entity_core.specs.Search.{is_naming, is_not, is_sought, meeting_in, all_in, dependents_in};
+ghost use Rattle.entity_maps.specs.Entities.{comes_from, numbers_of, pair_of, entity_map, was_put_at, InOrder};
+
+use entity_core::entity::Entity;
+use entity_core::entity_id::EntityId;
+use entity_core::nature::Kind;
+use grid_core::sorted_area::{SortedArea, sorted};
+use grid_core::volume::Area;
+use std::alloc::{AllocError, AllocFailed, Global};
+use std::collections::BTreeMap;
+use std::collections::btree_map::{Range, Values};
+use std::marker::Model;
+
+/// The place of a kind in the order of kinds, and the number of an id.
+pub type Key = (u8, u128);
+
+/// Entities in the order of their kinds and ids, each kind and id once. They stand in a tree, where
+/// none is moved as another comes or goes. Contracts see their list.
+#[derive(Debug, Drop)]
+pub struct Entities {
+    tree: BTreeMap<Key, Entity>,
+}
+
+impl Model for Entities {
+    ghost use Rattle.std.specs.Prelude.{List};
+    ghost use Rattle.std.specs.BTreeMap.{values};
+    ghost use Rattle.entity_core.specs.declared.entity.Entity.{Entity};
+    ghost use Rattle.entity_maps.specs.Entities.{AreKeyed};
+
+    ghost Value = { List Entity };
+
+    ghost view = { λ a. values a.tree };
+
+    ghost invariant = { λ a. AreKeyed a.tree.entries };
+}
+
+/// The place of a kind in the order of kinds.
+pub fn kind_index(kind: Kind) -> u8
+    ensures { result ≡ kind_index kind }
+{
+    match kind {
+        Kind::Intent => 0,
+        Kind::Constraint => 1,
+    }
+}
+
+fn key(kind: Kind, number: u128) -> Key
+    ensures { result ≡ numbers_of (kind, number) }
+{
+    (kind_index(kind), number)
+}
+
+fn own_key(entity: &Entity) -> Key
+    ensures { result ≡ numbers_of (key_of entity.now) }
+{
+    key(entity.nature.kind(), entity.id.number())
+}
+
+/// Whether an id is not the one to leave out, if there is one.
+pub fn is_other(except: Option<EntityId>, kind: Kind, id: EntityId) -> bool
+    ensures { result ≡ is_not except (kind, id) }
+{
+    match except {
+        None => true,
+        Some(other) => !id.is(other),
+    }
+}
+
+fn is_wanted(entity: &Entity, kind: Kind, areas: &[SortedArea], except: Option<EntityId>) -> bool
+    ensures { result ≡ is_sought kind areas.now except (pair_of entity.now) }
+{
+    let own = entity.nature.kind();
+    own.is(kind) && (is_other(except, own, entity.id) && entity.volumes.meet_sorted(areas))
+}
+
+fn is_naming(entity: &Entity, id: EntityId) -> bool
+    ensures { result ≡ is_naming id (pair_of entity.now) }
+{
+    match entity.nature.subscription() {
+        Some(named) => named.is(id),
+        None => false,
+    }
+}
+
+impl Entities {
+    /// No entities. It takes no memory.
+    pub fn new(alloc: Global) -> Entities
+        ensures { result ≡ [] }
+    {
+        Entities {
+            tree: BTreeMap::new(alloc),
+        }
+    }
+
+    /// The entities, in their order.
+    pub fn iter(&self) -> Values<'_, Key, Entity>
+        ensures items { result ≡ self.now }
+        ensures order { InOrder self.now }
+    {
+        self.tree.values()
+    }
+
+    /// The same, each under its key.
+    pub fn entries(&self) -> Range<'_, Key, Entity>
+        ensures items { values_of result ≡ self.now }
+        ensures order { InOrder self.now }
+    {
+        self.tree.range(..)
+    }
+
+    /// The entity of a kind and an id and those behind it, in their order, each under its key.
+    pub fn from(&self, kind: Kind, id: EntityId) -> Range<'_, Key, Entity>
+        ensures items { values_of result ≡ filter (comes_from (kind, id)) self.now }
+        ensures order { InOrder self.now }
+    {
+        self.tree.range(key(kind, id.number())..)
+    }
+
+    /// The entity of a kind and the number of an id, which is all that an index has of it.
+    pub fn at(&self, kind: Kind, number: u128) -> Option<&Entity>
+        ensures { option_copied result ≡ get (entity_map self.now) (kind, number) }
+    {
+        self.tree.get(&key(kind, number))
+    }
+
+    /// A copy of the entity of a kind and an id, if there is one. That there is none takes no
+    /// memory to tell.
+    pub fn entity(
+        &self,
+        alloc: Global,
+        kind: Kind,
+        id: EntityId,
+    ) -> Result<Option<Entity>, AllocError>
+        ensures found { IfOk result (λ found. found ≡ get (entity_map self.now) (kind, id)) }
+        ensures none { IsNone (get (entity_map self.now) (kind, id)) → IsOk result }
+    {
+        match self.at(kind, id.number()) {
+            Some(entity) => Ok(Some(entity.clone(alloc)?)),
+            None => Ok(None),
+        }
+    }
+
+    /// Copies of the entities of a kind, by rising ids.
+    pub fn all(&self, alloc: Global, kind: Kind) -> Result<Vec<Entity>, AllocError>
+        ensures { IfOk result (λ found. found.items ≡ all_in (entity_map self.now) kind) }
+    {
+        let index = kind_index(kind);
+        let mut found = Vec::new(alloc);
+        for (_, entity) in self.tree.range((index, 0)..(index + 1, 0)) {
+            found.push(entity.clone(alloc)?)?;
+        }
+        Ok(found)
+    }
+
+    /// Copies of the entities of a kind, but the one of an id, of which some volume meets some
+    /// area, by rising ids.
+    pub fn meeting(
+        &self,
+        alloc: Global,
+        kind: Kind,
+        areas: &[Area],
+        except: Option<EntityId>,
+    ) -> Result<Vec<Entity>, AllocError>
+        ensures { IfOk result (λ found. found.items
+            ≡ meeting_in (entity_map self.now) kind areas.now except) }
+    {
+        let sorted_areas = sorted(alloc, areas)?;
+        self.meeting_sorted(alloc, kind, &sorted_areas, except)
+    }
+
+    fn meeting_sorted(
+        &self,
+        alloc: Global,
+        kind: Kind,
+        areas: &[SortedArea],
+        except: Option<EntityId>,
+    ) -> Result<Vec<Entity>, AllocError>
+        ensures { IfOk result (λ found. found.items
+            ≡ meeting_in (entity_map self.now) kind areas.now except) }
+    {
+        let mut found = Vec::new(alloc);
+        for entity in self.tree.values() {
+            if is_wanted(entity, kind, areas, except) {
+                found.push(entity.clone(alloc)?)?;
+            }
+        }
+        Ok(found)
+    }
+
+    /// The ids of the intents that name a subscription, rising.
+    pub fn dependents(&self, alloc: Global, id: EntityId) -> Result<Vec<EntityId>, AllocError>
+        ensures { IfOk result (λ found. found.items ≡ dependents_in (entity_map self.now) id) }
+    {
+        let mut found = Vec::new(alloc);
+        for entity in self.tree.values() {
+            if is_naming(entity, id) {
+                found.push(entity.id)?;
+            }
+        }
+        Ok(found)
+    }
+
+    /// Whether an entity of the same kind, id and serial is among them.
+    pub fn has_put(&self, entity: &Entity) -> bool
+        ensures { result ≡ was_put_at entity.now.serial
+            (get (entity_map self.now) (key_of entity.now)) }
+    {
+        match self.at(entity.nature.kind(), entity.id.number()) {
+            Some(kept) => kept.serial.number() == entity.serial.number(),
+            None => false,
+        }
+    }
+
+    /// Puts an entity in the place of the one that has its kind and id, which it gives, or among
+    /// the others where its place is. On an error nothing is changed, and the entity comes back.
+    pub fn replace(&mut self, entity: Entity) -> Result<Option<Entity>, AllocFailed<Entity>>
+        ensures was { IfOk result (λ was. was ≡ get (entity_map self.old) (key_of entity)) }
+        ensures ok { OnOk result (entity_map self.new
+            ≡ insert (entity_map self.old) (key_of entity) entity) }
+        ensures err { OnErr result (self.new ≡ self.old) }
+        ensures given_back { IfErr result (λ failed. failed.value ≡ entity) }
+    {
+        match self.tree.insert(own_key(&entity), entity) {
+            Ok(was) => Ok(was),
+            Err(failed) => Err(AllocFailed {
+                value: failed.value.1,
+            }),
+        }
+    }
+
+    /// The same, and lets go what had its kind and id. On an error nothing is changed.
+    pub fn put(&mut self, entity: Entity) -> Result<(), AllocError>
+        ensures ok { OnOk result (entity_map self.new
+            ≡ insert (entity_map self.old) (key_of entity) entity) }
+        ensures err { OnErr result (self.new ≡ self.old) }
+    {
+        match self.replace(entity) {
+            Ok(_) => Ok(()),
+            Err(failed) => Err(AllocError::from(failed)),
+        }
+    }
+
+    /// Removes the entity of a kind and an id, and gives it; where there is none, nothing is
+    /// changed.
+    pub fn take(&mut self, kind: Kind, id: EntityId) -> Option<Entity>
+        ensures was { result ≡ get (entity_map self.old) (kind, id) }
+        ensures left { entity_map self.new ≡ remove (entity_map self.old) (kind, id) }
+    {
+        self.tree.remove(&key(kind, id.number()))
+    }
+
+    /// The entities themselves, in their order.
+    pub fn into_vec(self, alloc: Global) -> Result<Vec<Entity>, AllocError>
+        ensures items { IfOk result (λ items. items.items ≡ self) }
+        ensures order { IfOk result (λ _. InOrder self) }
+    {
+        let Entities { tree } = self;
+        let mut items = Vec::new(alloc);
+        for (_, entity) in tree {
+            items.push(entity)?;
+        }
+        Ok(items)
+    }
+}

@@ -1,5 +1,0 @@
-use Rattle.service_core.proofs.Stales.{stale_step}
-use Rattle.service_core.proofs.laws.stale_is_refused.Goals as goal
-
-pub returns : goal.returns
-returns g = stale_step

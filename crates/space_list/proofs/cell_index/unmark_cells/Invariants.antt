@@ -1,5 +1,0 @@
-use Rattle.space_list.specs.CellIndex.{KeepsOthers}
-use Rattle.space_list.proofs.cell_index.unmark_cells.Given as goal
-
-abbrev pub invariant-loop-cell : goal.invariant-loop-cell
-invariant-loop-cell l = KeepsOthers l.holder l.initial.marks l.marks

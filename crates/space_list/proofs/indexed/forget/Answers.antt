@@ -1,6 +1,0 @@
-use Rattle.std.proofs.Common.{sym, ◌∙◌}
-use Rattle.space_list.proofs.IndexedMaps.{forgotten_indexed}
-use Rattle.space_list.proofs.indexed.forget.Goals as goal
-
-pub returns-then-not-has_put : goal.returns-then-not-has_put
-returns-then-not-has_put c = forgotten_indexed c.args.entities.now c.args.gone.now c.args.marks.now c.unmark_entity.new.marks c.unmark_entity.ensures (sym c.has_put.ensures ∙ c.if-not-has_put.true)

@@ -1,4 +1,0 @@
-use Rattle.space_list.proofs.list.ListSpaceSpace.TheImpl.Goals as goal
-
-pub apply-asks : goal.apply-asks
-apply-asks c = record { fits = λ a is. c.requires.fits tt a is }

@@ -1,7 +1,0 @@
-use Rattle.std.proofs.Common.{refl}
-use Rattle.space_list.specs.List.{content_of}
-use Rattle.space_list.proofs.ListSpaces.{can_follow}
-use Rattle.space_list.proofs.list.ListSpaceSpace.apply.Goals as goal
-
-pub go_on-requires : goal.go_on-requires
-go_on-requires c = can_follow c.args.change c.args.notify.now _ (c.requires.fits (content_of c.args.self.now) refl)

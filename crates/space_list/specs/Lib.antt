@@ -1,8 +1,0 @@
-pub mod List
-pub mod Proper
-pub mod Settled
-pub mod CellIndex
-pub mod Near
-pub mod Found
-pub mod IndexedSubscriptions
-pub mod Swept

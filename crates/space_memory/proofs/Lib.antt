@@ -1,0 +1,11 @@
+pub mod MemorySpaces
+pub mod CellSets
+pub mod Bits
+pub mod CellMeetings
+pub mod FoundIds
+pub mod KeptEntries
+pub mod Named
+pub mod IndexedMaps
+pub mod SubscriptionIndexes
+pub mod SoughtMaps
+pub mod EndedPieces

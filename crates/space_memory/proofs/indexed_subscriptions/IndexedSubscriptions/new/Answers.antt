@@ -1,0 +1,5 @@
+use Rattle.space_memory.proofs.SubscriptionIndexes.{none_indexed}
+use Rattle.space_memory.proofs.indexed_subscriptions.IndexedSubscriptions.new.Goals as goal
+
+pub invariant_of-result : goal.invariant_of-result
+invariant_of-result c = none_indexed c.new.result c.new-2.result c.new.ensures

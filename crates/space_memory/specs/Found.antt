@@ -1,0 +1,58 @@
+-- What is found of what is near.
+use Rattle.std.specs.Prelude.{◌≡◌, ℕ, ◌%◌, ◌&&◌, ◌⊎◌, Bool, true, List, Option, Some}
+use Rattle.std.specs.Int.{bit_at}
+use Rattle.std.specs.Ordering.{nat_cmp}
+use Rattle.std.specs.BTreeMap.{BTreeMap}
+use Rattle.std.specs.BTreeSet.{BTreeSet, contains}
+use Rattle.std.specs.FinMap.{get}
+use Rattle.grid_core.specs.Extent.{Extent, Region, meets, region_of}
+use Rattle.grid_core.specs.Volumes.{meets_some}
+use Rattle.entity_core.specs.Airspace.{Entities}
+use Rattle.entity_core.specs.IdTexts.{same_text}
+use Rattle.entity_core.specs.Search.{is_sought}
+use Rattle.entity_core.specs.declared.entity.Entity.{Entity}
+use Rattle.entity_core.specs.declared.nature.Kind.{Kind}
+use Rattle.entity_core.specs.declared.subscription.Sub.{Sub}
+use Rattle.space_memory.specs.Near.{HasBit, IsAt, Part}
+
+-- Of what is looked up under the id of a part, an answer is yes only where it passes a test; and
+-- where it does, and the volume of that number meets an area whose bit is there.
+pub record Judges {X : Type 0} (look : ℕ → Option X) (volumes : X → List Extent)
+    (test : ℕ × X → Bool) (areas : List Region) (part : Part) (bits : ℕ) (answer : Bool)
+    : Type 0 where
+  pub sound : (x : X) → look part.0 ≡ Some x → answer ≡ true → test (part.0, x) ≡ true
+  pub whole : (x : X) (v : Extent) (j : ℕ) (a : Region) → look part.0 ≡ Some x
+      → test (part.0, x) ≡ true → IsAt (volumes x) part.1 v → IsAt areas j a
+      → bit_at bits (j % 64) ≡ 1 → meets (region_of v) a ≡ true → answer ≡ true
+
+-- an id is added to some at yes
+pub record AddsAt (answer : Bool) (id : ℕ) (old new : BTreeSet ℕ) : Type 0 where
+  pub there : answer ≡ true → contains nat_cmp new id ≡ true
+  pub kept : (q : ℕ) → contains nat_cmp old q ≡ true → contains nat_cmp new q ≡ true
+  pub only : (q : ℕ) → contains nat_cmp new q ≡ true
+      → (contains nat_cmp old q ≡ true) ⊎ ((answer ≡ true) × (q ≡ id))
+
+-- what is looked up under some ids passes a test
+abbrev pub OnlyPassing : {X : Type 0} → (ℕ → Option X) → (ℕ × X → Bool) → BTreeSet ℕ → Type 0
+OnlyPassing {X} look test ids = (id : ℕ) (x : X) → contains nat_cmp ids id ≡ true
+    → look id ≡ Some x → test (id, x) ≡ true
+
+-- the ids of all that passes and has a volume which meets an area near it are there
+abbrev pub AllPassing : {X : Type 0} → (ℕ → Option X) → (X → List Extent) → (ℕ × X → Bool)
+    → List Region → BTreeMap Part ℕ → BTreeSet ℕ → Type 0
+AllPassing {X} look volumes test areas near ids = (part : Part) (x : X) (v : Extent) (j : ℕ)
+    (a : Region) → look part.0 ≡ Some x → test (part.0, x) ≡ true → IsAt (volumes x) part.1 v
+    → IsAt areas j a → HasBit near part (j % 64) → meets (region_of v) a ≡ true
+    → contains nat_cmp ids part.0 ≡ true
+
+-- the entity of a kind and an id
+abbrev pub entity_of : Entities → Kind → ℕ → Option Entity
+entity_of m kind id = get m (kind, id)
+
+-- it is sought
+abbrev pub is_sought_of : Kind → List Region → Option ℕ → ℕ × Entity → Bool
+is_sought_of kind areas except e = is_sought kind areas except ((kind, e.0), e.1)
+
+-- a subscription is a supplier's, and meets some area
+abbrev pub is_own_of : List ℕ → List Region → ℕ × Sub → Bool
+is_own_of uss areas s = same_text s.1.manager uss && meets_some s.1.volume areas

@@ -1,0 +1,16 @@
+//! An airspace in memory: its entities in a tree and its lists, with an index of the entities and
+//! one of the subscriptions by their cells.
+#![tactic(auto)]
+
+mod cell_index;
+mod filled;
+mod found;
+mod indexed;
+mod indexed_subscriptions;
+pub mod listing;
+mod maps;
+pub mod memory;
+mod near;
+pub mod settled;
+mod shown;
+mod swept;

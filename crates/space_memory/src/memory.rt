@@ -1,0 +1,262 @@
+//! A space in memory: a tree of the entities, and sorted lists of the subscriptions and of what
+//! suppliers have set; entities and subscriptions are found by their cells.
+ghost use Rattle.std.specs.Prelude.{◌≡◌, ◌≤◌, ℕ, false, ◌+◌, Ok, OnOk, OnErr, min, IfOk, IsOk, IsNone, IsTrue};
+ghost use Rattle.std.specs.FinMap.{get};
+ghost use Rattle.entity_core.specs.Airspace.{Airspace, IsAirspace, empty_at};
+ghost use Rattle.entity_core.specs.Serial.{greatest_serial};
+ghost use Rattle.space_core.specs.Space.{Fits, IsRemoval, Tells, changed, greatest_count, nothing_fixed};
+ghost use Rattle.entity_maps.specs.Subscriptions.{AllTold};
+ghost use Rattle.space_core.specs.declared.space.SpaceFault.TheVariants.{Unchanged};
+ghost use Rattle.std.proofs.Common.{sym, ◌∙◌, refl, subst};
+
+use crate::indexed::IndexedEntities;
+use crate::indexed_subscriptions::IndexedSubscriptions;
+use crate::maps::{make, met_among};
+use entity_core::availability::Availability;
+use entity_core::entity::Entity;
+use entity_core::entity_id::EntityId;
+use entity_core::nature::Kind;
+use entity_core::ovn::Ovn;
+use entity_core::serial::GREATEST_SERIAL;
+use entity_core::subscription::Sub;
+use entity_core::uss_id::UssId;
+use entity_maps::availabilities::Availabilities;
+use grid_core::volume::Area;
+use space_core::met::Met;
+use space_core::space::{Change, Space, SpaceFault};
+use std::alloc::Global;
+
+/// An airspace in memory. It answers `Unchanged` for want of memory alone, and never `Broken`.
+#[derive(Debug, Drop)]
+pub struct MemorySpace {
+    pub(crate) alloc: Global,
+    pub(crate) entities: IndexedEntities,
+    pub(crate) subscriptions: IndexedSubscriptions,
+    pub(crate) availabilities: Availabilities,
+    pub(crate) serial: u64,
+    pub(crate) refusals: u64,
+    // the entity that was let go of last: where the next that has ended is looked for
+    pub(crate) last_gone: Option<(Kind, EntityId)>,
+    ghost told: { AllTold subscriptions serial },
+}
+
+impl MemorySpace {
+    ghost use Rattle.space_memory.specs.Memory.{CanFollow, IsOver, content_of, refusals_of};
+    ghost use Rattle.space_core.specs.Space.{IsContent};
+
+    /// An empty airspace, in a space that has refused nothing.
+    pub fn new(alloc: Global) -> Self
+        ensures content { IsContent ⟦<MemorySpace as Space>⟧.holds result (empty_at 0) }
+        ensures fresh { ⟦<MemorySpace as Space>⟧.refusals result ≡ 0 }
+    {
+        MemorySpace::at_serial(alloc, 0)
+    }
+
+    /// An empty airspace whose serial has gone on so far, in a space that has refused nothing.
+    pub fn at_serial(alloc: Global, serial: u64) -> Self
+        requires { serial ≤ greatest_serial }
+        ensures content { IsContent ⟦<MemorySpace as Space>⟧.holds result (empty_at serial) }
+        ensures fresh { ⟦<MemorySpace as Space>⟧.refusals result ≡ 0 }
+    {
+        MemorySpace {
+            alloc,
+            entities: IndexedEntities::new(alloc),
+            subscriptions: IndexedSubscriptions::new(alloc),
+            availabilities: Availabilities::new(alloc),
+            serial,
+            refusals: 0,
+            last_gone: None,
+        }
+    }
+
+    // Counts a refusal, and changes nothing else.
+    fn refuse(&mut self) -> SpaceFault
+        ensures fault { result ≡ Unchanged }
+        ensures content { content_of self.new ≡ content_of self.old }
+        ensures counted { self.new.refusals ≡ min (self.old.refusals + 1) greatest_count }
+    {
+        self.refusals = self.refusals.saturating_add(1);
+        SpaceFault::Unchanged
+    }
+
+    // Whether the serial can go on, and no index would be over it.
+    fn can_follow(&self, change: &Change) -> bool
+        ensures { IsTrue result → CanFollow change.now (content_of self.now) }
+    {
+        if self.serial >= GREATEST_SERIAL {
+            return false;
+        }
+        match change {
+            Change::PutSub(sub) => sub.index.number() <= self.serial + 1,
+            _ => true,
+        }
+    }
+
+    // Makes a change, and the serial goes on by one; or counts a refusal for want of memory.
+    fn go_on(&mut self, change: Change, notify: &[EntityId]) -> Result<(), SpaceFault>
+        requires { CanFollow change (content_of self.old) }
+        ensures done { OnOk result
+            (content_of self.new ≡ changed change notify.now (content_of self.old)) }
+        ensures refused { OnErr result (content_of self.new ≡ content_of self.old) }
+        ensures tells { Tells (refusals_of self.old) (refusals_of self.new) false false result }
+        ensures removed { IsRemoval change → IsOk result }
+        ensures over { IsOver change (content_of self.old) → IsOk result }
+    {
+        match make(
+            &mut self.entities,
+            &mut self.subscriptions,
+            &mut self.availabilities,
+            change,
+            notify,
+        ) {
+            Ok(()) => {
+                self.serial += 1;
+                Ok(())
+            }
+            Err(_) => Err(self.refuse()),
+        }
+    }
+
+    /// Makes a change that another space has made, which told these subscriptions of it. Where the
+    /// serial cannot go on, an index would be over it or memory lacks, it answers `Unchanged`.
+    pub fn follow(&mut self, change: Change, notify: &[EntityId]) -> Result<(), SpaceFault>
+        ensures done { OnOk result
+            (content_of self.new ≡ changed change notify.now (content_of self.old)) }
+        ensures refused { OnErr result (content_of self.new ≡ content_of self.old) }
+    {
+        if !self.can_follow(&change) {
+            return Err(self.refuse());
+        }
+        self.go_on(change, notify)
+    }
+}
+
+impl Space for MemorySpace {
+    ghost use Rattle.space_memory.specs.Memory.{content_of, refusals_of, IsOver};
+    ghost use Rattle.space_memory.specs.Proper.{content_is_proper};
+
+    ghost holds = { λ s a. a ≡ content_of s };
+
+    ghost is_sound = { λ _. Unit {0} };
+
+    ghost is_whole = { λ _. Unit {0} };
+
+    ghost refusals = { refusals_of };
+
+    ghost is_broken = { λ _. false };
+
+    ghost fixed = { λ _. nothing_fixed };
+
+    ghost one = { λ s a b sound unbroken h k. h ∙ sym k };
+
+    ghost certain = { λ s a sound unbroken h. tt };
+
+    ghost some = { λ s sound whole. ∣ (content_of s, refl) ∣₁ };
+
+    ghost proper = { λ s a sound h. subst IsAirspace (sym h) (content_is_proper s) };
+
+    fn entity(&mut self, kind: Kind, id: EntityId) -> Result<Option<Entity>, SpaceFault>
+        ensures tells { Tells (refusals_of self.old) (refusals_of self.new) false false result }
+        ensures kept { content_of self.new ≡ content_of self.old }
+        ensures found { IfOk result (λ found.
+            found ≡ get (content_of self.old).entities (kind, id)) }
+        ensures none { IsNone (get (content_of self.old).entities (kind, id)) → IsOk result }
+    {
+        match self.entities.entity(self.alloc, kind, id) {
+            Ok(found) => Ok(found),
+            Err(_) => Err(self.refuse()),
+        }
+    }
+
+    fn meeting(
+        &mut self,
+        kind: Kind,
+        areas: &[Area],
+        except: Option<EntityId>,
+    ) -> Result<Vec<Met>, SpaceFault> {
+        match met_among(
+            self.alloc,
+            &self.entities,
+            &self.availabilities,
+            kind,
+            areas,
+            except,
+        ) {
+            Ok(found) => Ok(found),
+            Err(_) => Err(self.refuse()),
+        }
+    }
+
+    fn all(&mut self, kind: Kind) -> Result<Vec<Entity>, SpaceFault> {
+        match self.entities.all(self.alloc, kind) {
+            Ok(found) => Ok(found),
+            Err(_) => Err(self.refuse()),
+        }
+    }
+
+    fn availability(&mut self, uss: &UssId) -> Result<Option<(Availability, Ovn)>, SpaceFault>
+        ensures tells { Tells (refusals_of self.old) (refusals_of self.new) false false result }
+        ensures kept { content_of self.new ≡ content_of self.old }
+        ensures found { IfOk result (λ found.
+            found ≡ get (content_of self.old).availabilities uss.now) }
+        ensures none { IsNone (get (content_of self.old).availabilities uss.now) → IsOk result }
+    {
+        match self.availabilities.availability(uss) {
+            Ok(found) => Ok(found),
+            Err(_) => Err(self.refuse()),
+        }
+    }
+
+    fn subscription(&mut self, id: EntityId) -> Result<Option<Sub>, SpaceFault>
+        ensures tells { Tells (refusals_of self.old) (refusals_of self.new) false false result }
+        ensures kept { content_of self.new ≡ content_of self.old }
+        ensures found { IfOk result (λ found.
+            found ≡ get (content_of self.old).subscriptions id) }
+        ensures none { IsNone (get (content_of self.old).subscriptions id) → IsOk result }
+    {
+        match self.subscriptions.subscription(id) {
+            Ok(found) => Ok(found),
+            Err(_) => Err(self.refuse()),
+        }
+    }
+
+    fn subscriptions_of(&mut self, uss: &UssId, area: &Area) -> Result<Vec<Sub>, SpaceFault> {
+        match self.subscriptions.own(self.alloc, uss, area) {
+            Ok(found) => Ok(found),
+            Err(_) => Err(self.refuse()),
+        }
+    }
+
+    fn subscribers(&mut self, kind: Kind, areas: &[Area]) -> Result<Vec<Sub>, SpaceFault> {
+        match self.subscriptions.for_kind(self.alloc, kind, areas) {
+            Ok(found) => Ok(found),
+            Err(_) => Err(self.refuse()),
+        }
+    }
+
+    fn dependents(&mut self, id: EntityId) -> Result<Vec<EntityId>, SpaceFault> {
+        match self.entities.dependents(self.alloc, id) {
+            Ok(found) => Ok(found),
+            Err(_) => Err(self.refuse()),
+        }
+    }
+
+    fn serial(&mut self) -> Result<u64, SpaceFault>
+        ensures done { result ≡ Ok (content_of self.old).serial }
+        ensures same { self.new ≡ self.old }
+    {
+        Ok(self.serial)
+    }
+
+    fn apply(&mut self, change: Change, notify: &[EntityId]) -> Result<(), SpaceFault>
+        requires fits { (a : Airspace) → a ≡ content_of self.old → Fits change notify.now a }
+        ensures done { OnOk result
+            (content_of self.new ≡ changed change notify.now (content_of self.old)) }
+        ensures refused { OnErr result (content_of self.new ≡ content_of self.old) }
+        ensures tells { Tells (refusals_of self.old) (refusals_of self.new) false false result }
+        ensures removed { IsRemoval change → IsOk result }
+        ensures over { IsOver change (content_of self.old) → IsOk result }
+    {
+        self.go_on(change, notify)
+    }
+}
