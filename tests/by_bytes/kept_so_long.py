@@ -26,7 +26,7 @@ NEAR = ("00000004", 0, 0)
 # growths of memory after those of a start that are refused, some of them
 GROWTHS = 240
 # calls on files after the first of a start, from which on the disk is full
-ROOM = 40
+ROOM = 61
 SWEPT, FAULTS = "dss_swept_total", "dss_sweep_faults_total"
 
 

@@ -24,8 +24,8 @@ NO_SUBSCRIPTION = "00000000-0000-4000-8000-000000000000"
 STATES = ("Accepted", "Activated", "Nonconforming", "Contingent")
 AVAILABILITIES = ("Unknown", "Normal", "Down")
 NAMES = ("operational_intent_reference", "constraint_reference")
-# of the growths of memory as a service starts, one in so many is refused
-STEP = 11
+# of so many growths of memory that come last as a service starts, one in so many is refused
+LAST, STEP = 1_500, 5
 
 
 # ---- what the tables say
@@ -234,27 +234,40 @@ def cut_by_cells():
         return found + difference("all of it", whole(pages), airspace_in(started.folder / "dss.db"))
 
 
+def started_without(device, mark, at):
+    """What a service says whose growth of that number is refused: why it does not listen, or its airspace and an answer to a client."""
+    mark.unlink(missing_ok=True)
+    service = Shown(drawn_calls.ALL_TOKENS)
+    service.fill(SEEDS[0])
+    service.environment = {**os.environ, "LD_PRELOAD": device, "REFUSE_AT": f"{at}", "REFUSED": f"{mark}"}
+    try:
+        with service as started:
+            came = started.asked(asks("GET", "/airspace"))
+            known = started.ask([wire.request("GET", f"{wire.AVAILABILITY}/uss-a", "Bearer tok-a")])
+            return came, known[0] if known else b""
+    except (OSError, ValueError) as fault:
+        return f"{fault}", None
+
+
 def without_copy():
     """Where memory lacks for the copy as a service starts, it says so, and answers its clients all the same."""
     met = 0
     with tempfile.TemporaryDirectory() as room:
         device, mark = library("refuse_memory", room), pathlib.Path(room, "refused")
-        for at in range(1, 20_000, STEP):
-            mark.unlink(missing_ok=True)
-            service = Shown(drawn_calls.ALL_TOKENS)
-            service.fill(SEEDS[0])
-            service.environment = {**os.environ, "LD_PRELOAD": device, "REFUSE_AT": f"{at}", "REFUSED": f"{mark}"}
-            try:
-                with service as started:
-                    came = started.asked(asks("GET", "/airspace"))
-                    known = started.ask([wire.request("GET", f"{wire.AVAILABILITY}/uss-a", "Bearer tok-a")])
-            except (OSError, ValueError):
-                continue
+
+        # the last growth of a start; those of the copy come before those of the port, which are the last
+        low, high = 1, 40_000
+        while high - low > 1:
+            middle = (low + high) // 2
+            started_without(device, mark, middle)
+            low, high = (middle, high) if mark.exists() else (low, middle)
+        for at in range(low, max(low - LAST, 0), -STEP):
+            came, known = started_without(device, mark, at)
             if came == NO_MEMORY:
                 met += 1
-                if not known[0].startswith(b"HTTP/1.1 200"):
+                if not known.startswith(b"HTTP/1.1 200"):
                     return [f"growth {at} refused: {known!r}"]
-            if met == 3 or not mark.exists():
+            elif met:
                 break
     return [] if met else ["no growth of memory was that of a copy"]
 
