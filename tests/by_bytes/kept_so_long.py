@@ -25,7 +25,8 @@ WENT, CALLS, SEEDS = 1_500, 120, range(70, 74)
 NEAR = ("00000004", 0, 0)
 # growths of memory after those of a start that are refused, some of them
 GROWTHS = 240
-# calls on files after the first of a start, from which on the disk is full
+# calls on files after the first of a start, from which on the disk is full: at a place where the write of a piece fails and the service goes on.
+# At most places it stops with pieces of 16: of 20, 30, 40, 50, 61, 67, 73, 80 and 90 it goes on at 61 and 73 alone (with pieces of 64 at all but 50 and 80)
 ROOM = 61
 SWEPT, FAULTS = "dss_swept_total", "dss_sweep_faults_total"
 
