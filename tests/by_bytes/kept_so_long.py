@@ -8,7 +8,7 @@ import drawn_calls
 import plain_policy
 import tables
 import wire
-from devices import SIZES, WRITES, Page, library
+from devices import GROWTHS, SIZES, WRITES, Page, library
 from figures import FullAndVerbose
 from operators import HEALTH, SERVING, STOP, Operated, said, until_counted
 from plain_policy import INTENT, SUBSCRIPTION, has_ended, some_meet
@@ -16,6 +16,7 @@ from program import SECONDS
 from served_calls import AHEAD
 from sockets import difference
 from sweeps import ID, STAYING, UNTIL, gone, made_of, many, put_intent, swept_rows, wrong_part
+from without_memory import STOPPED
 
 # seconds that what has ended is kept: what the scenes have ended long before, or half an hour after that
 DAY, HALF_AN_HOUR, MINUTE = 86_400, 1_800, 60
@@ -25,9 +26,8 @@ WENT, CALLS, SEEDS = 1_500, 120, range(70, 74)
 NEAR = ("00000004", 0, 0)
 # growths of memory after those of a start that are refused, some of them
 GROWTHS = 240
-# calls on files after the first of a start, from which on the disk is full: at a place where the write of a piece fails and the service goes on.
-# At most places it stops with pieces of 16: of 20, 30, 40, 50, 61, 67, 73, 80 and 90 it goes on at 61 and 73 alone (with pieces of 64 at all but 50 and 80)
-ROOM = 61
+# growths of a file, and writes, after those of a start: from each of them on the disk is full, or takes no write at all
+FULL, REFUSED = range(1, 32, 5), (20, 40, 61, 73)
 SWEPT, FAULTS = "dss_swept_total", "dss_sweep_faults_total"
 
 
@@ -272,34 +272,76 @@ def killed():
     return found
 
 
+class Refusing(Keeping):
+    """Such a service whose files take no more from some call of these kinds on, after those of a start."""
+
+    def __init__(self):
+        super().__init__(far(many(WENT, STAYING)), None)
+        self.page, self.saved = Page(self.folder), self.database.read_bytes()
+        self.environment |= self.page.environment(library("fail_files", self.folder))
+
+    def refuse(self, at, kinds):
+        """Starts it anew over what it had; what is counted once that call was made as it let go, or no client is answered any more."""
+        self.kill()
+        self.database.write_bytes(self.saved)
+        self.database.with_name("dss.db-wal").unlink(missing_ok=True)
+        self.options = ()
+        self.page.set(kinds=kinds)
+        self.start()
+        opening = self.page.get("calls")
+        self.kill()
+        self.options = ("--keep", f"{DAY}")
+        self.page.set(at=opening + at, row=1_000_000, error=errno.ENOSPC, kinds=kinds)
+        self.start()
+        return until_counted(self, FAULTS, "1")
+
+    def left(self, went):
+        """What is wrong with what it left, once it was killed and can write again: so much went, and the next start makes the rest."""
+        count, after = due(self)
+        self.page.set()
+        self.kill()
+        found = wrong_part(self.before, self.database, UNTIL)
+        found += difference("what went", sum(gone(self.before, tables.rows_in(self.database))), went)
+        self.start()
+        found += difference("the rest", self.wait(count - went)[SWEPT], f"{count - went}")
+        return found + difference("rows", self.rows() == after, True)
+
+
 def full_disk():
-    """A disk that is full in the middle of the sweep: what went stays gone, the fault is counted, clients are answered, and the next
-    start makes the rest."""
-    with Keeping(far(many(WENT, STAYING)), None) as started:
-        page = Page(started.folder)
-        started.environment |= page.environment(library("fail_files", started.folder))
-        started.kill()
-        page.set(kinds=WRITES | SIZES)
-        started.start()
-        opening = page.get("calls")
-        started.kill()
-        started.options = ("--keep", f"{DAY}")
-        page.set(at=opening + ROOM, row=1_000_000, error=errno.ENOSPC, kinds=WRITES | SIZES)
-        started.start()
-        counted = until_counted(started, FAULTS, "1")
-        count, after = due(started)
-        went = int(counted[SWEPT])
-        found = difference("faults", counted[FAULTS], "1") + ([] if 0 < went < count else [f"{went} of {count} went"])
-        found += difference("health", started.asked(HEALTH), said(200, SERVING))
-        reading = wire.request("GET", f"{wire.INTENTS}/{ID(WENT)}", "Bearer tok-a")
-        found += difference("a reading", started.ask([reading])[0][:12], b"HTTP/1.1 200")
-        page.set()
-        started.kill()
-        found += wrong_part(started.before, started.database, UNTIL)
-        found += difference("what went", sum(gone(started.before, tables.rows_in(started.database))), went)
-        started.start()
-        found += difference("the rest", started.wait(count - went)[SWEPT], f"{count - went}")
-        return found + difference("rows", started.rows() == after, True)
+    """A disk that is full from some growth of a file on, as it refuses no write into what a file has: what went stays gone, a fault is
+    counted, the service goes on wherever that comes, and the next start makes the rest."""
+    found, parts = [], collections.Counter()
+    reading = wire.request("GET", f"{wire.INTENTS}/{ID(WENT)}", "Bearer tok-a")
+    with Refusing() as started:
+        for at in FULL:
+            counted = started.refuse(at, GROWTHS)
+            went = int(counted[SWEPT])
+            parts[went] += 1
+            found += difference(f"{at}: faults", counted[FAULTS], "1")
+            found += [] if 0 <= went < due(started)[0] else [f"{at}: {went} went"]
+            found += difference(f"{at}: health", started.asked(HEALTH), said(200, SERVING))
+            found += difference(f"{at}: a reading", started.ask([reading])[0][:12], b"HTTP/1.1 200")
+            found += [f"{at}: {it}" for it in started.left(went)]
+    print(f"a disk that was full as it let go left so much swept: {dict(sorted(parts.items()))}")
+    return found
+
+
+def refused_writes():
+    """Files that take no write at all any more: where the database can tell that nothing was changed it goes on, and else stops; what went
+    stays gone, and the next start makes the rest."""
+    found, ends = [], collections.Counter()
+    reading = wire.request("GET", f"{wire.INTENTS}/{ID(WENT)}", "Bearer tok-a")
+    with Refusing() as started:
+        for at in REFUSED:
+            counted = started.refuse(at, WRITES | SIZES)
+            went, answer = int(counted[SWEPT]), started.ask([reading])[0]
+            ends[answer[:12]] += 1
+            goes_on = answer.startswith(b"HTTP/1.1 200")
+            found += [] if goes_on or answer == wire.answer(*STOPPED) else [f"{at}: {answer!r}"]
+            found += difference(f"{at}: faults", counted[FAULTS], "1")
+            found += [f"{at}: {it}" for it in started.left(went)]
+    print(f"no write was taken as it let go: {dict(ends)}")
+    return found
 
 
 def without_memory():
@@ -366,6 +408,7 @@ CASES = {
     "keep-is-told-nowhere": told_nowhere,
     "keep-and-kills": killed,
     "keep-on-a-full-disk": full_disk,
+    "keep-while-no-write-is-taken": refused_writes,
     "keep-without-memory": without_memory,
     "keep-without-a-copy": without_copy,
 }

@@ -1,21 +1,30 @@
 /* Makes calls on files fail: the one whose number stands in FAIL_AT, and as many in a row as FAIL_ROW says, if it is there; or by the
-   numbers of a page (page.h). Reads, writes, changes of size and syncs are counted, but for those of standard streams. The number of
-   calls goes to the file that FAIL_CALLS names. To be loaded before the C library. */
+   numbers of a page (page.h). Reads, writes, changes of size and syncs are counted, but for those of standard streams; by a page also
+   those writes and changes of size alone by which a file grows, which are what a full disk refuses. The number of calls goes to the
+   file that FAIL_CALLS names. To be loaded before the C library. */
 #define _GNU_SOURCE
 #include "page.h"
 #include <stdio.h>
+#include <sys/stat.h>
 #include <sys/syscall.h>
 
-enum { READS = 1, WRITES = 2, SIZES = 4, SYNCS = 8 };
+enum { READS = 1, WRITES = 2, SIZES = 4, SYNCS = 8, GROWTHS = 16 };
 
 static struct page *told(void) { return page("FAIL_AT", "FAIL_ROW"); }
 
-static int fails(int kind) {
+/* Whether a call fails that is of any of these kinds. */
+static int fails(int kinds) {
     struct page *it = told();
-    if ((it->kinds && !(it->kinds & kind)) || !is_hit(it))
+    if ((it->kinds && !(it->kinds & kinds)) || !is_hit(it))
         return 0;
     errno = (int)it->error;
     return 1;
+}
+
+/* What a call is beside its kind that makes a file as long as this, at least. */
+static int growth(int file, off_t length) {
+    struct stat found;
+    return fstat(file, &found) == 0 && length > found.st_size ? GROWTHS : 0;
 }
 
 ssize_t pread(int file, void *bytes, size_t count, off_t at) {
@@ -25,12 +34,12 @@ ssize_t pread(int file, void *bytes, size_t count, off_t at) {
 ssize_t pread64(int file, void *bytes, size_t count, off_t at) { return pread(file, bytes, count, at); }
 
 ssize_t pwrite(int file, const void *bytes, size_t count, off_t at) {
-    return fails(WRITES) ? -1 : syscall(SYS_pwrite64, file, bytes, count, at);
+    return fails(WRITES | growth(file, at + (off_t)count)) ? -1 : syscall(SYS_pwrite64, file, bytes, count, at);
 }
 
 ssize_t pwrite64(int file, const void *bytes, size_t count, off_t at) { return pwrite(file, bytes, count, at); }
 
-int ftruncate(int file, off_t size) { return fails(SIZES) ? -1 : syscall(SYS_ftruncate, file, size); }
+int ftruncate(int file, off_t size) { return fails(SIZES | growth(file, size)) ? -1 : syscall(SYS_ftruncate, file, size); }
 
 int ftruncate64(int file, off_t size) { return ftruncate(file, size); }
 

@@ -7,7 +7,8 @@ from program import TOP, run
 
 # the numbers of a page, as tests/devices/page.h has them
 NUMBERS = ("calls", "at", "row", "error", "kinds", "syncs", "waits", "lies")
-READS, WRITES, SIZES, SYNCS = 1, 2, 4, 8
+# kinds of calls on files; growths are the writes and changes of size that make a file larger
+READS, WRITES, SIZES, SYNCS, GROWTHS = 1, 2, 4, 8, 16
 
 
 def library(name, folder):
