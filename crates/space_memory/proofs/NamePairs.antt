@@ -4,7 +4,6 @@ use Rattle.std.proofs.Common.{arith, sym, ap, ◌∙◌, subst}
 use Rattle.std.proofs.lemmas.Bool.Decides.{nat_tests}
 use Rattle.std.proofs.lemmas.List.Kept.{IsStrictlySortedBy-filter}
 use Rattle.std.proofs.lemmas.Map.Lookups.{CmpEqualImpliesEq, exact_pairs, exact_unsigned}
-use Rattle.std.proofs.lemmas.Option.{same_Some}
 use Rattle.std.specs.BTreeMap.Range.{range_contains}
 use Rattle.std.specs.BTreeSet.{BTreeSet, Updates, contains}
 use Rattle.std.specs.FinMap.{entries, get}
@@ -35,13 +34,6 @@ naming_exact = exact_pairs nat_cmp nat_cmp exact_unsigned exact_unsigned
 
 pub inserted_more : (old new : BTreeSet Naming) (k : Naming) → Updates naming_cmp old new k true → NamesMore old new
 inserted_more old new k u = λ q h. u.0 q ∙ either (is_eq (naming_cmp k q)) (contains naming_cmp old q) h
-
--- one that names another subscription has no pair of this one
-pub entered : (names : BTreeSet Naming) (e : Entity) (id : ℕ) → subscription_of e.nature ≡ Some id → HasPair names id e.id → IsEntered names e
-entered names e id is has = λ other at. subst (λ (n : ℕ). HasPair names n e.id) (same_Some id other (sym is ∙ at)) has
-
-pub entered_none : (names : BTreeSet Naming) (e : Entity) → subscription_of e.nature ≡ None → IsEntered names e
-entered_none names e is = λ other at. let no : None ≡ Some other = sym is ∙ at in cc
 
 pub entered_more : (old new : BTreeSet Naming) → NamesMore old new → (e : Entity) → IsEntered old e → IsEntered new e
 entered_more old new more e h = λ id at. record { small = (h id at).small; there = more (id, e.id) (h id at).there }

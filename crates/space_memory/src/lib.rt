@@ -1,5 +1,5 @@
-//! An airspace in memory: its entities in a tree and its lists, with an index of the entities and
-//! one of the subscriptions by their cells, and one of what intents name.
+//! An airspace in memory: its entities and its subscriptions in trees, and a list, with an index of
+//! the entities and one of the subscriptions by their cells, and one of what intents name.
 #![tactic(auto)]
 
 mod cell_index;
