@@ -33,7 +33,7 @@ impl Kept {
                 numbers: Some(Numbers {
                     intents: shown.counts.of(nature::Kind::Intent),
                     constraints: shown.counts.of(nature::Kind::Constraint),
-                    subscriptions: wide(shown.subscriptions.items().len()),
+                    subscriptions: wide(shown.subscriptions.len()),
                     serial: shown.serial,
                 }),
             },

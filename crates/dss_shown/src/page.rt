@@ -9,6 +9,7 @@ use crate::volume::cells_of;
 use entity_core::entity::Entity;
 use entity_core::subscription::Sub;
 use entity_maps::entities::Entities;
+use entity_maps::subscriptions::Subscriptions;
 use std::alloc::{AllocError, Global};
 
 // About how many cells all that a page shows has at most: it ends after the one that comes to them.
@@ -89,15 +90,15 @@ pub(crate) fn first_entities<'a>(
 /// The first subscriptions after a key, as far as there is room.
 pub(crate) fn first_subs<'a>(
     alloc: Global,
-    subs: &'a [Sub],
+    subscriptions: &'a Subscriptions,
     after: Option<Key>,
     room: &mut Room,
 ) -> Result<First<'a, Sub>, AllocError>
-    ensures { IfOk result (λ first. AreFirst (subs_past after subs.now)
+    ensures { IfOk result (λ first. AreFirst (subs_past after subscriptions.now)
         (map (λ s. s.now) first.found.items) first.are_all) }
 {
     let mut found = Vec::new(alloc);
-    for sub in subs {
+    for sub in subscriptions.iter() {
         if is_past(after, Key::of_sub(sub)) {
             if room.is_full() {
                 return Ok(First {

@@ -156,7 +156,7 @@ fn page_json(alloc: Global, shown: Shown<'_>, query: Query) -> Result<Value, All
 {
     let mut room = Room::of(&query);
     let entities = first_entities(alloc, shown.entities, query.after, &mut room)?;
-    let subs = first_subs(alloc, shown.subscriptions.items(), query.after, &mut room)?;
+    let subs = first_subs(alloc, shown.subscriptions, query.after, &mut room)?;
     let next = next_of(alloc, &entities, &subs)?;
     let entity_values = entities_json(alloc, &entities.found, shown.availabilities)?;
     let sub_values = subs_json(alloc, &subs.found, shown.availabilities)?;

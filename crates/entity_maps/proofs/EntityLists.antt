@@ -1,5 +1,5 @@
 -- What is found in lists of entities and of subscriptions.
-use Rattle.std.specs.Prelude.{◌≡◌, ℕ, List, map, filter, Option, Result, Ok, Err, IfOk}
+use Rattle.std.specs.Prelude.{◌≡◌, ℕ, List, map, filter, Option}
 use Rattle.std.proofs.Common.{sym, ap, ◌∙◌}
 use Rattle.std.proofs.lemmas.List.{map-id}
 use Rattle.grid_core.specs.Extent.{Region}
@@ -36,24 +36,14 @@ dependents_answer ids d es id e s h =
 
 -- ---- subscriptions
 
-own_answer : (xs d ss : List Sub) (uss : List ℕ) (area : Region) → d ≡ ss → subs.InOrder ss → xs ≡ filter (λ s. is_own_near uss area (subs.pair_of s)) d → xs ≡ subscriptions_in (subs.subscription_map ss) uss area
+pub own_answer : (xs d ss : List Sub) (uss : List ℕ) (area : Region) → d ≡ ss → subs.InOrder ss → xs ≡ filter (λ s. is_own_near uss area (subs.pair_of s)) d → xs ≡ subscriptions_in (subs.subscription_map ss) uss area
 unfolding subscriptions_in
 own_answer xs d ss uss area e s h =
     h ∙ (ap (filter (λ x. is_own_near uss area (subs.pair_of x))) e
     ∙ sym (values_of_kept nat_cmp subs.pair_of nat_cmp_total (is_own_near uss area) ss s ∙ map-id (filter (λ x. is_own_near uss area (subs.pair_of x)) ss)))
 
-pub own_answers : {E V : Type 0} (items : V → List Sub) (r : Result V E) (d ss : List Sub) (uss : List ℕ) (area : Region) → d ≡ ss → subs.InOrder ss
-    → IfOk r (λ f. items f ≡ filter (λ s. is_own_near uss area (subs.pair_of s)) d) → IfOk r (λ f. items f ≡ subscriptions_in (subs.subscription_map ss) uss area)
-own_answers items (Ok f) d ss uss area e s h = own_answer (items f) d ss uss area e s h
-own_answers items (Err x) d ss uss area e s h = tt
-
-wanted_answer : (xs d ss : List Sub) (kind : Kind) (areas : List Region) → d ≡ ss → subs.InOrder ss → xs ≡ filter (λ s. is_for_near kind areas (subs.pair_of s)) d → xs ≡ subscribers_in (subs.subscription_map ss) kind areas
+pub wanted_answer : (xs d ss : List Sub) (kind : Kind) (areas : List Region) → d ≡ ss → subs.InOrder ss → xs ≡ filter (λ s. is_for_near kind areas (subs.pair_of s)) d → xs ≡ subscribers_in (subs.subscription_map ss) kind areas
 unfolding subscribers_in
 wanted_answer xs d ss kind areas e s h =
     h ∙ (ap (filter (λ x. is_for_near kind areas (subs.pair_of x))) e
     ∙ sym (values_of_kept nat_cmp subs.pair_of nat_cmp_total (is_for_near kind areas) ss s ∙ map-id (filter (λ x. is_for_near kind areas (subs.pair_of x)) ss)))
-
-pub wanted_answers : {E V : Type 0} (items : V → List Sub) (r : Result V E) (d ss : List Sub) (kind : Kind) (areas : List Region) → d ≡ ss → subs.InOrder ss
-    → IfOk r (λ f. items f ≡ filter (λ s. is_for_near kind areas (subs.pair_of s)) d) → IfOk r (λ f. items f ≡ subscribers_in (subs.subscription_map ss) kind areas)
-wanted_answers items (Ok f) d ss kind areas e s h = wanted_answer (items f) d ss kind areas e s h
-wanted_answers items (Err x) d ss kind areas e s h = tt

@@ -2,6 +2,7 @@ pub mod Keys
 pub mod Maps
 pub mod Places
 pub mod EntityLists
-pub mod Tellings
 pub mod Told
+pub mod Trees
 pub mod EntityTrees
+pub mod SubscriptionTrees

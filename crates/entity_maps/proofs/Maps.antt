@@ -1,15 +1,15 @@
 -- Lists in the order of their keys, and the maps that they are.
-use Rattle.std.specs.Prelude.{◌≡◌, Bool, true, false, cond, not, ◌&&◌, T, List, [], ◌∷◌, ◌++◌, map, filter, length, Some, None, refl}
-use Rattle.std.specs.Ordering.{eq_by_cmp, is_eq, is_lt, ordering_reverse}
+use Rattle.std.specs.Prelude.{◌≡◌, Bool, true, false, cond, ◌&&◌, T, List, [], ◌∷◌, ◌++◌, map, filter, length, Some, None, refl}
+use Rattle.std.specs.Ordering.{is_eq, is_lt, ordering_reverse}
 use Rattle.std.specs.declared.cmp.Ordering.{Ordering}
 use Rattle.std.specs.declared.cmp.Ordering.TheVariants.{Less, Equal, Greater}
 use Rattle.std.specs.Cmp.{IsTotalOrder}
-use Rattle.std.specs.FinMap.{IsAntisymmetric, get, insert, remove, empty, find, entries, entries-insert, get-from_entries, from_entries, len-empty, same_entries_map, len-entries}
-use Rattle.std.specs.FinMap.Entries.{put, where_key, by_order, below_all, is_sorted, is_sorted-put, is_sorted-where_key}
+use Rattle.std.specs.FinMap.{IsAntisymmetric, get, insert, empty, find, entries, entries-insert, get-from_entries, from_entries, len-empty, same_entries_map, len-entries}
+use Rattle.std.specs.FinMap.Entries.{put, by_order, below_all, is_sorted, is_sorted-put}
 use Rattle.std.proofs.lemmas.Cmp.{alike_right}
 use Rattle.std.proofs.lemmas.List.{nil_from_length}
 use Rattle.entity_maps.specs.Sorted.{keyed, Rise, map_of, AllBelow, StartsAbove}
-use Rattle.entity_core.proofs.Entries.{first, second, less, entries-remove}
+use Rattle.entity_core.proofs.Entries.{first, second, less}
 use Rattle.std.proofs.Common.{ℕ, suc, zero, ◌<◌, ◌≤◌, get_or, take, drop, arith, sym, ap, ◌∙◌, subst}
 
 -- an entry below all others is put first
@@ -37,14 +37,6 @@ module _ {A K X : Type 0} (R : K → K → Ordering) (pair : A → K × X) where
   kept_values p (x ∷ xs) = elim (p (pair x)) as (λ b. map (λ e. e.1) (cond b (pair x ∷ filter p (keyed pair xs)) (filter p (keyed pair xs))) ≡ map val (cond b (x ∷ filter (λ y. p (pair y)) xs) (filter (λ y. p (pair y)) xs))) [
     | true ↦ ap (λ (ys : List X). val x ∷ ys) (kept_values p xs)
     | false ↦ kept_values p xs
-  ]
-
-  -- the pairs of the elements whose keys pass a test
-  pub kept_keyed : (p : K → Bool) (xs : List A) → keyed pair (filter (λ x. p (key x)) xs) ≡ where_key R p (keyed pair xs)
-  kept_keyed p [] = refl
-  kept_keyed p (x ∷ xs) = elim (p (key x)) as (λ b. keyed pair (cond b (x ∷ filter (λ y. p (key y)) xs) (filter (λ y. p (key y)) xs)) ≡ cond b (pair x ∷ where_key R p (keyed pair xs)) (where_key R p (keyed pair xs))) [
-    | true ↦ ap (λ (es : List (K × X)). pair x ∷ es) (kept_keyed p xs)
-    | false ↦ kept_keyed p xs
   ]
 
   pub Rise_rest : (xs ys : List A) → Rise R pair (xs ++ ys) → Rise R pair ys
@@ -137,39 +129,6 @@ module _ {A K X : Type 0} (R : K → K → Ordering) (pair : A → K × X) where
         ap (λ (r : Ordering). cond (is_eq r) (Some (val y)) (find R k (keyed pair ys))) (below y k a)
         ∙ find_below k ys (lower k (key y) ys (below y k a) (first _ _ s))
 
-    -- ---- removal
-
-    keep_below : (k : K) (ys : List A) → T (below_all R k (keyed pair ys)) → filter (λ y. not (eq_by_cmp R k (key y))) ys ≡ ys
-    keep_below k [] h = refl
-    keep_below k (y ∷ ys) h =
-        ap (λ (r : Ordering). cond (not (is_eq r)) (y ∷ filter (λ z. not (eq_by_cmp R k (key z))) ys) (filter (λ z. not (eq_by_cmp R k (key z))) ys)) (less (R k (key y)) (first _ _ h))
-        ∙ ap (λ (zs : List A). y ∷ zs) (keep_below k ys (second (is_lt (R k (key y))) _ h))
-
-    tied_below : (k l : K) (ys : List A) → R k l ≡ Equal → T (below_all R l (keyed pair ys)) → T (below_all R k (keyed pair ys))
-    tied_below k l [] e h = tt
-    tied_below k l (y ∷ ys) e h = subst (λ (r : Ordering). T (is_lt r && below_all R k (keyed pair ys))) (sym (o.congr k l (key y) e)) (
-        let rest = tied_below k l ys e (second (is_lt (R l (key y))) _ h) in
-        subst (λ (r : Ordering). T (is_lt r && below_all R k (keyed pair ys))) (sym (less (R l (key y)) (first _ _ h))) rest)
-
-    -- without the value of a key
-    pub removed_here : (k : K) (xs : List A) (w : A) (ys : List A) → Rise R pair (w ∷ ys) → AllBelow R pair k xs → R (key w) k ≡ Equal → filter (λ y. not (eq_by_cmp R k (key y))) (xs ++ w ∷ ys) ≡ xs ++ ys
-    removed_here k [] w ys s a e =
-        ap (λ (r : Ordering). cond (not (is_eq r)) (w ∷ filter (λ z. not (eq_by_cmp R k (key z))) ys) (filter (λ z. not (eq_by_cmp R k (key z))) ys)) (level w k e)
-        ∙ keep_below k ys (tied_below k (key w) ys (level w k e) (first _ _ s))
-    removed_here k (x ∷ xs) w ys s a e =
-        ap (λ (r : Ordering). cond (not (is_eq r)) (x ∷ filter (λ z. not (eq_by_cmp R k (key z))) (xs ++ w ∷ ys)) (filter (λ z. not (eq_by_cmp R k (key z))) (xs ++ w ∷ ys))) (above x k a.0)
-        ∙ ap (λ (zs : List A). x ∷ zs) (removed_here k xs w ys s a.1 e)
-
-    -- a key that no value has
-    pub removed_nowhere : (k : K) (xs ys : List A) → Rise R pair ys → AllBelow R pair k xs → StartsAbove R pair k ys → filter (λ y. not (eq_by_cmp R k (key y))) (xs ++ ys) ≡ xs ++ ys
-    removed_nowhere k [] [] s a b = refl
-    removed_nowhere k [] (y ∷ ys) s a b =
-        ap (λ (r : Ordering). cond (not (is_eq r)) (y ∷ filter (λ z. not (eq_by_cmp R k (key z))) ys) (filter (λ z. not (eq_by_cmp R k (key z))) ys)) (below y k b)
-        ∙ ap (λ (zs : List A). y ∷ zs) (keep_below k ys (lower k (key y) ys (below y k b) (first _ _ s)))
-    removed_nowhere k (x ∷ xs) ys s a b =
-        ap (λ (r : Ordering). cond (not (is_eq r)) (x ∷ filter (λ z. not (eq_by_cmp R k (key z))) (xs ++ ys)) (filter (λ z. not (eq_by_cmp R k (key z))) (xs ++ ys))) (above x k a.0)
-        ∙ ap (λ (zs : List A). x ∷ zs) (removed_nowhere k xs ys s a.1 b)
-
     -- ---- the maps
 
     pub get_of : (k : K) (xs : List A) → get (map_of R pair xs) k ≡ find R k (keyed pair xs)
@@ -189,18 +148,5 @@ module _ {A K X : Type 0} (R : K → K → Ordering) (pair : A → K × X) where
     map_put v xs zs s e = same_entries_map (map_of R pair zs) (insert (map_of R pair xs) (key v) (val v)) (
         entries_of zs (Rise_put v xs zs s e) ∙ (e ∙ (ap (put R (key v) (val v)) (sym (entries_of xs s)) ∙ sym (entries-insert o (map_of R pair xs) (key v) (val v)))))
 
-    pub Rise_kept : (k : K) (xs zs : List A) → Rise R pair xs → filter (λ y. not (eq_by_cmp R k (key y))) xs ≡ zs → Rise R pair zs
-    Rise_kept k xs zs s e =
-        subst (λ (ys : List A). Rise R pair ys) e (
-        subst (λ (es : List (K × X)). T (is_sorted R es)) (sym (kept_keyed (λ q. not (eq_by_cmp R k q)) xs)) (is_sorted-where_key R (λ q. not (eq_by_cmp R k q)) (keyed pair xs) s))
-
 pub map_of_none : {A K X : Type 0} (R : K → K → Ordering) (pair : A → K × X) → map_of R pair [] ≡ empty
 map_of_none R pair = refl
-
-pub map_removed : {A K X : Type 0} (R : K → K → Ordering) (pair : A → K × X) → IsTotalOrder R → IsAntisymmetric R → (k : K) (xs zs : List A) → Rise R pair xs → filter (λ y. not (eq_by_cmp R k (pair y).0)) xs ≡ zs → map_of R pair zs ≡ remove (map_of R pair xs) k
-map_removed R pair o same k xs zs s e = same_entries_map (map_of R pair zs) (remove (map_of R pair xs) k) (
-    entries_of R pair o zs (Rise_kept R pair o k xs zs s e)
-    ∙ (ap (keyed pair) (sym e)
-    ∙ (kept_keyed R pair (λ q. not (eq_by_cmp R k q)) xs
-    ∙ (ap (where_key R (λ q. not (eq_by_cmp R k q))) (sym (entries_of R pair o xs s))
-    ∙ sym (entries-remove o same (map_of R pair xs) k)))))

@@ -1,10 +1,10 @@
 -- Lists in the order of their keys, by where a search ends.
-use Rattle.std.specs.Prelude.{◌≡◌, ℕ, suc, ◌<◌, ◌≤◌, ◌+◌, not, true, false, List, [], ◌∷◌, ◌++◌, length, take, drop, filter, Option, Some, None, Result, Ok, Err, IfOk, IfErr, OnOk, OnErr, IsSome, IsNone}
-use Rattle.std.specs.Ordering.{eq_by_cmp, is_lt}
+use Rattle.std.specs.Prelude.{◌≡◌, ℕ, suc, ◌<◌, ◌≤◌, ◌+◌, true, false, List, [], ◌∷◌, ◌++◌, length, take, drop, Option, Some, None, Result, Ok, Err, IfOk, IfErr, OnOk, OnErr, IsSome, IsNone}
+use Rattle.std.specs.Ordering.{is_lt}
 use Rattle.std.specs.declared.cmp.Ordering.{Ordering}
 use Rattle.std.specs.declared.cmp.Ordering.TheVariants.{Less, Equal, Greater}
 use Rattle.std.specs.Cmp.{IsTotalOrder}
-use Rattle.std.specs.FinMap.{IsAntisymmetric, find, get, insert, remove}
+use Rattle.std.specs.FinMap.{IsAntisymmetric, find, get, insert}
 use Rattle.std.specs.FinMap.Entries.{put}
 use Rattle.std.specs.List.Sorted.{IsSortedBy, IsPartitionPoint, IsBinarySearchResult, IsSearchInRange}
 use Rattle.std.proofs.Common.{arith, sym, ap, ◌∙◌, subst, get_or, set}
@@ -13,7 +13,7 @@ use Rattle.std.proofs.lemmas.List.Sorted.{searchable_from_sorted}
 use Rattle.std.proofs.lemmas.Option.{get_or_from_slice_get, slice_get-get_or}
 use Rattle.std.proofs.Math.Seq.{drop-cons}
 use Rattle.entity_maps.specs.Sorted.{keyed, Rise, map_of, Hit, Gap}
-use Rattle.entity_maps.proofs.Maps.{below_from, starts_from, below_hit, neighbours, Rise_rest, Rise_put, Rise_kept, find_past, find_here, find_missed, put_over, put_between, removed_here, removed_nowhere, get_of, map_put, map_removed}
+use Rattle.entity_maps.proofs.Maps.{below_from, starts_from, below_hit, neighbours, Rise_rest, Rise_put, find_past, find_here, find_missed, put_over, put_between, get_of, map_put}
 
 if_ok : {T E : Type 0} (r : Result T E) (P Q : T → Type 0) → ((x : T) → P x → Q x) → IfOk r P → IfOk r Q
 if_ok (Ok x) P Q f h = f x h
@@ -28,10 +28,6 @@ module _ {A K X : Type 0} (R : K → K → Ordering) (pair : A → K × X) where
 
   abbrev val : A → X
   val x = (pair x).1
-
-  -- the elements of other keys
-  abbrev pub without : K → List A → List A
-  without k xs = filter (λ x. not (eq_by_cmp R k (key x))) xs
 
   pub read_hit : (xs : List A) (k : K) (i : ℕ) (h : Hit R pair xs k i) (d : A) → d ≡ get_or xs i d → d ≡ h.element
   read_hit xs k i h d is = is ∙ get_or_from_slice_get xs i h.element d h.at
@@ -124,28 +120,9 @@ module _ {A K X : Type 0} (R : K → K → Ordering) (pair : A → K × X) where
     put_map (Ok x) xs zs old v e s ok = map_put R pair o v xs zs s ok ∙ ap (λ (ys : List A). insert (map_of R pair ys) (key v) (val v)) e
     put_map (Err x) xs zs old v e s ok = tt
 
-    -- ---- removals
-
-    pub removed_hit : (xs : List A) (k : K) (i : ℕ) → Hit R pair xs k i → Rise R pair xs → without k xs ≡ take i xs ++ drop (suc i) xs
-    removed_hit xs k i h s =
-        ap (without k) h.split
-        ∙ removed_here R pair o k (take i xs) h.element (drop (suc i) xs) (Rise_rest R pair (take i xs) (h.element ∷ drop (suc i) xs) (subst (Rise R pair) h.split s)) h.below h.level
-
-    pub removed_gap : (xs : List A) (k : K) (i : ℕ) → Gap R pair xs k i → Rise R pair xs → without k xs ≡ xs
-    removed_gap xs k i g s =
-        let parts : xs ≡ take i xs ++ drop i xs = sym (take-append-drop i xs) in
-        ap (without k) parts
-        ∙ (removed_nowhere R pair o k (take i xs) (drop i xs) (Rise_rest R pair (take i xs) (drop i xs) (subst (Rise R pair) parts s)) g.below g.above ∙ sym parts)
-
-    pub remove_order : (xs zs : List A) (k : K) → Rise R pair xs → without k xs ≡ zs → Rise R pair zs
-    remove_order xs zs k s h = Rise_kept R pair o k xs zs s h
-
     module _ (exact : IsAntisymmetric R) where
       pub put_hit : (xs : List A) (v : A) (i : ℕ) → Hit R pair xs (key v) i → keyed pair (set xs i v) ≡ put R (key v) (val v) (keyed pair xs)
       put_hit xs v i h =
           ap (keyed pair) (set_split xs i v h.within)
           ∙ (put_over R pair o exact v h.element (take i xs) (drop (suc i) xs) h.below h.level
           ∙ ap (λ (x : List A). put R (key v) (val v) (keyed pair x)) (sym h.split))
-
-      pub remove_map : (xs zs old : List A) (k : K) → xs ≡ old → Rise R pair xs → without k xs ≡ zs → map_of R pair zs ≡ remove (map_of R pair old) k
-      remove_map xs zs old k e s h = map_removed R pair o exact k xs zs s h ∙ ap (λ (ys : List A). remove (map_of R pair ys) k) e

@@ -1,137 +1,137 @@
--- Subscriptions of a list are told by their ids, one id after another.
-use Rattle.std.specs.Prelude.{◌≡◌, ℕ, suc, ◌+◌, ◌<◌, ◌||◌, ◌↔◌, nat_eq, Bool, true, false, cond, IsTrue, List, [], ◌∷◌, ◌++◌, length, map, take, drop, Some, None, refl}
-use Rattle.std.proofs.Common.{arith, get_or, set, sym, ap, ◌∙◌, subst, true≢false, ltb}
+-- Subscriptions of a tree are told by their ids, one id after another.
+use Rattle.std.specs.Prelude.{◌≡◌, ℕ, ◌+◌, ◌<◌, ◌||◌, ◌↔◌, nat_eq, Bool, true, false, cond, IsTrue, IfSome, List, [], ◌∷◌, ◌++◌, length, take, Option, Some, None, refl}
+use Rattle.std.proofs.Common.{arith, get_or, sym, ap, ◌∙◌, subst, true≢false, ltb, length-take}
 use Rattle.std.proofs.lemmas.Bool.{ltb-true}
-use Rattle.std.specs.List.{AllByRecursion, IsAllAdjacentAnswer, list_any}
+use Rattle.std.specs.BTreeMap as tree
+use Rattle.std.specs.BTreeMap.{BTreeMap, is_at}
+use Rattle.std.specs.List.{IsAllAdjacentAnswer, list_any}
 use Rattle.std.specs.List.Sorted.{IsStrictlyIncreasing}
+use Rattle.std.specs.Option.{option_map}
 use Rattle.std.specs.Ordering.{eq_by_cmp, nat_cmp}
-use Rattle.std.specs.declared.cmp.Ordering.TheVariants.{Less}
-use Rattle.std.specs.FinMap as maps
-use Rattle.std.specs.FinMap.{nat_cmp-IsAntisymmetric}
 use Rattle.std.proofs.Math.Bool.{or-false}
 use Rattle.std.proofs.lemmas.Bool.Decides.{nat_tests}
-use Rattle.std.proofs.lemmas.Cmp.{nat_cmp_total}
-use Rattle.std.proofs.lemmas.List.{map-append, set_split, get_or-take, get_or_default}
-use Rattle.std.proofs.Common.{length-take}
-use Rattle.std.proofs.lemmas.List.Elements.{All-from_recursion}
+use Rattle.std.proofs.lemmas.List.{get_or_default, get_or-take, take_more}
 use Rattle.std.proofs.lemmas.List.Folds.{list_any-append, list_any_none}
 use Rattle.std.proofs.lemmas.List.Kept.{AllPairs-from_increasing}
-use Rattle.entity_core.specs.Airspace.{is_one_of, told_again}
+use Rattle.entity_core.specs.Airspace.{told_again}
 use Rattle.entity_core.specs.declared.subscription.Sub.{Sub}
 use Rattle.entity_core.specs.Serial.{greatest_serial}
-use Rattle.entity_core.proofs.Changes.{no_sub_below}
-use Rattle.entity_core.proofs.Entries.{first}
-use Rattle.entity_maps.specs.Sorted.{keyed, AllBelow, Hit, Gap}
-use Rattle.entity_maps.specs.Subscriptions.{InOrder, pair_of, told_of}
-use Rattle.entity_maps.proofs.Maps.{Rise_rest}
-use Rattle.entity_maps.proofs.Places.{found_gap, read_hit}
-use Rattle.entity_maps.proofs.Tellings.{told_id}
+use Rattle.entity_core.proofs.Changes.{one_id}
+use Rattle.entity_maps.specs.Subscriptions.{Tells, TreeCanRise, told_at}
 
--- ---- one subscription
+-- whether an id is among these
+abbrev pub has : List ℕ → ℕ → Bool
+has ids id = list_any (λ j. nat_eq j id) ids
 
--- none is told twice
-untold : (ids : List ℕ) (s : Sub) → list_any (λ id. nat_eq id s.id) ids ≡ false → told_of ids s ≡ s
-untold ids s e = ap (λ (b : Bool). cond b (told_again s) s) e
-
-told : (ids : List ℕ) (s : Sub) → list_any (λ id. nat_eq id s.id) ids ≡ true → told_of ids s ≡ told_again s
-told ids s e = ap (λ (b : Bool). cond b (told_again s) s) e
-
-other_id : (id : ℕ) (s : Sub) → nat_eq id s.id ≡ false → told_of (id ∷ []) s ≡ s
-other_id id s e = untold (id ∷ []) s (or-false (nat_eq id s.id) ∙ e)
-
-own_id : (id : ℕ) (s : Sub) → s.id ≡ id → told_of (id ∷ []) s ≡ told_again s
-own_id id s e = let t : nat_eq id s.id ≡ true = grind (arith, nat_tests) in told (id ∷ []) s (or-false (nat_eq id s.id) ∙ t)
+same : (k l : ℕ) → eq_by_cmp nat_cmp k l ≡ true → nat_eq k l ≡ true
+same k l e = grind (arith, nat_tests, e)
 
 differs : (k l : ℕ) → eq_by_cmp nat_cmp k l ≡ false → nat_eq k l ≡ false
 differs k l e = grind (arith, nat_tests, e)
 
-not_less : (k l : ℕ) → nat_cmp k l ≡ Less → nat_eq l k ≡ false
-not_less k l e = grind (arith, nat_tests, e)
+equal : (k l : ℕ) → nat_eq k l ≡ true → k ≡ l
+equal k l e = grind (arith, nat_tests, e)
 
--- ---- a list in which one is told
+-- ---- one subscription
 
-stay_none : (id : ℕ) (ss : List Sub) → maps.find nat_cmp id (keyed pair_of ss) ≡ None → map (told_of (id ∷ [])) ss ≡ ss
-stay_none id [] h = refl
-stay_none id (s ∷ ss) h =
-    elim (eq_by_cmp nat_cmp id s.id) as (λ b. eq_by_cmp nat_cmp id s.id ≡ b → cond b (Some s) (maps.find nat_cmp id (keyed pair_of ss)) ≡ None → map (told_of (id ∷ [])) (s ∷ ss) ≡ s ∷ ss) [
-      | true ↦ λ t n. cc
-      | false ↦ λ t n. λ i. other_id id s (differs id s.id t) i ∷ stay_none id ss n i
-    ] refl h
+-- that of another id stays
+other : (id q : ℕ) (o : Option Sub) → nat_eq id q ≡ false → o ≡ option_map (told_at (id ∷ []) q) o
+other id q None e = refl
+other id q (Some s) e = λ i. Some (cond (sym e i || false) (told_again s) s)
 
-stay_below : (id : ℕ) (ss : List Sub) → AllBelow nat_cmp pair_of id ss → map (told_of (id ∷ [])) ss ≡ ss
-stay_below id [] a = refl
-stay_below id (s ∷ ss) a = λ i. other_id id s (not_less s.id id a.0) i ∷ stay_below id ss a.1 i
+-- the one of an id is told
+pub told_written : (id : ℕ) (m n : BTreeMap ℕ Sub) (s w : Sub) → tree.get nat_cmp m id ≡ Some s → w ≡ told_again s → ((q : ℕ) → tree.get nat_cmp n q ≡ cond (is_at (nat_cmp id) q) (Some w) (tree.get nat_cmp m q)) → Tells (id ∷ []) m n
+told_written id m n s w found new u = λ q. u q ∙ elim (eq_by_cmp nat_cmp id q) as (λ b. eq_by_cmp nat_cmp id q ≡ b → cond b (Some w) (tree.get nat_cmp m q) ≡ option_map (told_at (id ∷ []) q) (tree.get nat_cmp m q)) [
+  | true ↦ λ t.
+      let here : tree.get nat_cmp m q ≡ Some s = ap (tree.get nat_cmp m) (sym (one_id id q t)) ∙ found in
+      ap (λ (x : Sub). Some x) new
+      ∙ ((λ i. Some (cond (sym (same id q t) i || false) (told_again s) s))
+      ∙ ap (option_map (told_at (id ∷ []) q)) (sym here))
+  | false ↦ λ t. other id q (tree.get nat_cmp m q) (differs id q t)
+] refl
 
--- what stands where one is found
-there : (xs : List Sub) (id i : ℕ) (h : Hit nat_cmp pair_of xs id i) (d : Sub) → get_or xs i d ≡ h.element
-there xs id i h d = read_hit nat_cmp pair_of xs id i h (get_or xs i d) (get_or_default xs i d (get_or xs i d) h.within)
-
-pub tell_hit : (xs : List Sub) (id i : ℕ) → Hit nat_cmp pair_of xs id i → InOrder xs → (d y : Sub) → y ≡ told_again (get_or xs i d) → set xs i y ≡ map (told_of (id ∷ [])) xs
-tell_hit xs id i h order d y new =
-    let f = told_of (id ∷ []) in
-    let before = take i xs in
-    let after = drop (suc i) xs in
-    let own : h.element.id ≡ id = nat_cmp-IsAntisymmetric h.element.id id h.level in
-    let from : InOrder (h.element ∷ after) = Rise_rest nat_cmp pair_of before (h.element ∷ after) (subst InOrder h.split order) in
-    let none : maps.find nat_cmp id (keyed pair_of after) ≡ None = ap (λ (q : ℕ). maps.find nat_cmp q (keyed pair_of after)) (sym own) ∙ no_sub_below h.element.id (keyed pair_of after) (first _ _ from) in
-    let here : y ≡ f h.element = new ∙ (ap told_again (there xs id i h d) ∙ sym (own_id id h.element own)) in
-    set_split xs i y h.within
-    ∙ ((λ j. sym (stay_below id before h.below) j ++ here j ∷ sym (stay_none id after none) j)
-    ∙ (sym (map-append f before (h.element ∷ after)) ∙ ap (map f) (sym h.split)))
-
-pub tell_gap : (xs : List Sub) (id i : ℕ) → Gap nat_cmp pair_of xs id i → InOrder xs → xs ≡ map (told_of (id ∷ [])) xs
-tell_gap xs id i g order = sym (stay_none id xs (sym (found_gap nat_cmp pair_of nat_cmp_total xs id i g order)))
+-- none is told where there is none
+pub told_missed : (id : ℕ) (m n : BTreeMap ℕ Sub) → tree.get nat_cmp m id ≡ None → n ≡ m → Tells (id ∷ []) m n
+told_missed id m n none e = λ q. ap (λ (x : BTreeMap ℕ Sub). tree.get nat_cmp x q) e ∙ elim (eq_by_cmp nat_cmp id q) as (λ b. eq_by_cmp nat_cmp id q ≡ b → tree.get nat_cmp m q ≡ option_map (told_at (id ∷ []) q) (tree.get nat_cmp m q)) [
+  | true ↦ λ t.
+      let here : tree.get nat_cmp m q ≡ None = ap (tree.get nat_cmp m) (sym (one_id id q t)) ∙ none in
+      here ∙ ap (option_map (told_at (id ∷ []) q)) (sym here)
+  | false ↦ λ t. other id q (tree.get nat_cmp m q) (differs id q t)
+] refl
 
 -- ---- one after another
 
-pub tell_none : (xs : List Sub) → xs ≡ map (told_of []) xs
-tell_none [] = refl
-tell_none (s ∷ xs) = ap (λ (ss : List Sub). s ∷ ss) (tell_none xs)
+unchanged : (q : ℕ) (o : Option Sub) → o ≡ option_map (told_at [] q) o
+unchanged q None = refl
+unchanged q (Some s) = refl
 
-told_next : (ids : List ℕ) (id : ℕ) (s : Sub) → list_any (λ j. nat_eq j id) ids ≡ false → told_of (id ∷ []) (told_of ids s) ≡ told_of (ids ++ id ∷ []) s
-told_next ids id s new =
-    let test = list_any-append (λ j. nat_eq j s.id) ids (id ∷ []) in
-    let same : (told_of ids s).id ≡ s.id = told_id (is_one_of ids (pair_of s)) s in
-    elim (nat_eq id s.id) as (λ b. nat_eq id s.id ≡ b → told_of (id ∷ []) (told_of ids s) ≡ told_of (ids ++ id ∷ []) s) [
+pub tell_none : (m : BTreeMap ℕ Sub) → Tells [] m m
+tell_none m = λ q. unchanged q (tree.get nat_cmp m q)
+
+told_next : (ids : List ℕ) (id q : ℕ) (s : Sub) → has ids id ≡ false → told_at (id ∷ []) q (told_at ids q s) ≡ told_at (ids ++ id ∷ []) q s
+told_next ids id q s new =
+    let test = list_any-append (λ j. nat_eq j q) ids (id ∷ []) in
+    let once : Sub = told_at ids q s in
+    elim (nat_eq id q) as (λ b. nat_eq id q ≡ b → told_at (id ∷ []) q once ≡ told_at (ids ++ id ∷ []) q s) [
       | true ↦ λ t.
-          let own : s.id ≡ id = grind (arith, nat_tests, t) in
-          let not_yet : list_any (λ j. nat_eq j s.id) ids ≡ false = subst (λ (q : ℕ). list_any (λ j. nat_eq j q) ids ≡ false) (sym own) new in
-          let found : list_any (λ j. nat_eq j s.id) (ids ++ id ∷ []) ≡ true = test ∙ (λ i. not_yet i || (t i || false)) in
-          ap (told_of (id ∷ [])) (untold ids s not_yet) ∙ (own_id id s own ∙ sym (told (ids ++ id ∷ []) s found))
+          let not_yet : has ids q ≡ false = subst (λ (j : ℕ). has ids j ≡ false) (equal id q t) new in
+          let found : has (ids ++ id ∷ []) q ≡ true = test ∙ (λ i. not_yet i || (t i || false)) in
+          (λ i. cond (t i || false) (told_again once) once)
+          ∙ ((λ i. told_again (cond (not_yet i) (told_again s) s)) ∙ (λ i. cond (sym found i) (told_again s) s))
       | false ↦ λ t.
-          let other : nat_eq id (told_of ids s).id ≡ false = ap (nat_eq id) same ∙ t in
-          let as_before : list_any (λ j. nat_eq j s.id) (ids ++ id ∷ []) ≡ list_any (λ j. nat_eq j s.id) ids = test ∙ (ap (λ (b : Bool). list_any (λ j. nat_eq j s.id) ids || (b || false)) t ∙ or-false (list_any (λ j. nat_eq j s.id) ids)) in
-          other_id id (told_of ids s) other ∙ ap (λ (b : Bool). cond b (told_again s) s) (sym as_before)
+          let as_before : has (ids ++ id ∷ []) q ≡ has ids q = test ∙ (ap (λ (b : Bool). has ids q || (b || false)) t ∙ or-false (has ids q)) in
+          (λ i. cond (t i || false) (told_again once) once) ∙ (λ i. cond (sym as_before i) (told_again s) s)
     ] refl
 
-pub tell_next : (ids : List ℕ) (id : ℕ) (xs : List Sub) → list_any (λ j. nat_eq j id) ids ≡ false → map (told_of (id ∷ [])) (map (told_of ids) xs) ≡ map (told_of (ids ++ id ∷ [])) xs
-tell_next ids id [] new = refl
-tell_next ids id (s ∷ xs) new = λ i. told_next ids id s new i ∷ tell_next ids id xs new i
+twice : (ids : List ℕ) (id q : ℕ) (o : Option Sub) → has ids id ≡ false → option_map (told_at (id ∷ []) q) (option_map (told_at ids q) o) ≡ option_map (told_at (ids ++ id ∷ []) q) o
+twice ids id q None new = refl
+twice ids id q (Some s) new = ap (λ (x : Sub). Some x) (told_next ids id q s new)
+
+tell_next : (ids : List ℕ) (id : ℕ) (m n o : BTreeMap ℕ Sub) → has ids id ≡ false → Tells ids m n → Tells (id ∷ []) n o → Tells (ids ++ id ∷ []) m o
+tell_next ids id m n o new before now = λ q. now q ∙ (ap (option_map (told_at (id ∷ []) q)) (before q) ∙ twice ids id q (tree.get nat_cmp m q) new)
+
+-- an id that was among them adds nothing
+had : (ids : List ℕ) (id q : ℕ) → has ids id ≡ true → has ids q ≡ has (ids ++ id ∷ []) q
+had ids id q old =
+    let test = list_any-append (λ j. nat_eq j q) ids (id ∷ []) in
+    elim (nat_eq id q) as (λ b. nat_eq id q ≡ b → has ids q ≡ has (ids ++ id ∷ []) q) [
+      | true ↦ λ t.
+          let yet : has ids q ≡ true = subst (λ (j : ℕ). has ids j ≡ true) (equal id q t) old in
+          sym (test ∙ ((λ i. yet i || (t i || false)) ∙ sym yet))
+      | false ↦ λ t. sym (test ∙ (ap (λ (b : Bool). has ids q || (b || false)) t ∙ or-false (has ids q)))
+    ] refl
+
+tell_again : (ids : List ℕ) (id : ℕ) (m n : BTreeMap ℕ Sub) → has ids id ≡ true → Tells ids m n → Tells (ids ++ id ∷ []) m n
+tell_again ids id m n old before = λ q. before q ∙ ap (λ (b : Bool). option_map (λ (s : Sub). cond b (told_again s) s) (tree.get nat_cmp m q)) (had ids id q old)
+
+next : (ids : List ℕ) (k id : ℕ) → k < length ids → id ≡ get_or ids k id → take k ids ++ id ∷ [] ≡ take (k + 1) ids
+next ids k id lt at = ap (λ (x : ℕ). take k ids ++ x ∷ []) at ∙ sym (take_more ids k id lt)
+
+-- one more of ids, which was told now or was among those before it
+pub tell_more : (ids : List ℕ) (k id : ℕ) (m n o : BTreeMap ℕ Sub) → k < length ids → id ≡ get_or ids k id → has (take k ids) id ≡ false → Tells (take k ids) m n → Tells (id ∷ []) n o → Tells (take (k + 1) ids) m o
+tell_more ids k id m n o lt at new before now = subst (λ (all : List ℕ). Tells all m o) (next ids k id lt at) (tell_next (take k ids) id m n o new before now)
+
+pub tell_same : (ids : List ℕ) (k id : ℕ) (m n : BTreeMap ℕ Sub) → k < length ids → id ≡ get_or ids k id → has (take k ids) id ≡ true → Tells (take k ids) m n → Tells (take (k + 1) ids) m n
+tell_same ids k id m n lt at old before = subst (λ (all : List ℕ). Tells all m n) (next ids k id lt at) (tell_again (take k ids) id m n old before)
+
+rises_in : (ids : List ℕ) (id : ℕ) (o : Option Sub) → has ids id ≡ false → ((s : Sub) → o ≡ Some s → s.index < greatest_serial) → IfSome (option_map (told_at ids id) o) (λ s. s.index < greatest_serial)
+rises_in ids id None new h = tt
+rises_in ids id (Some s) new h = subst (λ (b : Bool). (cond b (told_again s) s).index < greatest_serial) (sym new) (h s refl)
 
 -- the index of the next one can rise, since it was not yet told
-pub rises_next : (ids : List ℕ) (id : ℕ) (xs : List Sub) → list_any (λ j. nat_eq j id) ids ≡ false → AllByRecursion (λ s. s.index < greatest_serial) xs → AllByRecursion (λ s. s.id ≡ id → s.index < greatest_serial) (map (told_of ids) xs)
-rises_next ids id [] new a = tt
-rises_next ids id (s ∷ xs) new a = (
-  λ e.
-      let own : s.id ≡ id = sym (told_id (is_one_of ids (pair_of s)) s) ∙ e in
-      subst (λ (x : Sub). x.index < greatest_serial) (sym (untold ids s (subst (λ (q : ℕ). list_any (λ j. nat_eq j q) ids ≡ false) (sym own) new))) a.0,
-  rises_next ids id xs new a.1,
-)
+pub rises_next : (ids : List ℕ) (id : ℕ) (m n : BTreeMap ℕ Sub) → has ids id ≡ false → TreeCanRise m → Tells ids m n → IfSome (tree.get nat_cmp n id) (λ s. s.index < greatest_serial)
+rises_next ids id m n new can before = subst (λ (o : Option Sub). IfSome o (λ s. s.index < greatest_serial)) (sym (before id)) (rises_in ids id (tree.get nat_cmp m id) new (can id))
 
 lower : (a b : ℕ) → a < b → nat_eq a b ≡ false
 lower a b h = grind (arith, nat_tests)
 
 -- the next one of ids that rise is none of those before it
-pub not_among : (ids : List ℕ) (k id : ℕ) → k < length ids → id ≡ get_or ids k id → IsStrictlyIncreasing ids → list_any (λ j. nat_eq j id) (take k ids) ≡ false
+pub not_among : (ids : List ℕ) (k id : ℕ) → k < length ids → id ≡ get_or ids k id → IsStrictlyIncreasing ids → has (take k ids) id ≡ false
 not_among ids k id lt at up = list_any_none (λ j. nat_eq j id) (take k ids) (λ j d in_range.
     let less : j < k = omega (arith, length-take k ids, in_range) in
     let rise : get_or ids j d < get_or ids k d = AllPairs-from_increasing ids up j k d less lt in
     let here : get_or ids k d ≡ id = get_or_default ids k d id lt ∙ sym at in
     ap (λ (x : ℕ). nat_eq x id) (get_or-take k ids j d less) ∙ lower (get_or ids j d) id (omega (arith, rise, here)))
-
--- the index of the one that is found can rise
-pub hit_rises : (xs : List Sub) (id i : ℕ) → Hit nat_cmp pair_of xs id i → AllByRecursion (λ s. s.id ≡ id → s.index < greatest_serial) xs → (d : Sub) → (get_or xs i d).index < greatest_serial
-hit_rises xs id i h a d = All-from_recursion (λ (s : Sub). s.id ≡ id → s.index < greatest_serial) xs a i d h.within (ap (λ (s : Sub). s.id) (there xs id i h d) ∙ nat_cmp-IsAntisymmetric h.element.id id h.level)
 
 -- whether ids rise is asked of each and the next
 pub rising_answer : (ids : List ℕ) (r : Bool) → IsAllAdjacentAnswer (λ x y b. b ≡ ltb x y) ids r → IsTrue r ↔ IsStrictlyIncreasing ids

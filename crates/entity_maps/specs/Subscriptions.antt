@@ -1,7 +1,11 @@
 -- Subscriptions in the order of their ids.
-use Rattle.std.specs.Prelude.{◌≡◌, ℕ, ◌<◌, ◌≤◌, List, Some}
-use Rattle.std.specs.Ordering.{nat_cmp}
+use Rattle.std.specs.Prelude.{◌≡◌, ℕ, ◌<◌, ◌≤◌, Bool, List, Some}
+use Rattle.std.specs.List.{AllByRecursion}
+use Rattle.std.specs.Ordering.{is_le, nat_cmp}
+use Rattle.std.specs.BTreeMap as tree
+use Rattle.std.specs.BTreeMap.{BTreeMap}
 use Rattle.std.specs.FinMap.{get}
+use Rattle.std.specs.Option.{option_map}
 use Rattle.entity_core.specs.Airspace.{is_one_of, Subscriptions, told_if}
 use Rattle.entity_core.specs.Serial.{greatest_serial}
 use Rattle.entity_core.specs.declared.subscription.Sub.{Sub}
@@ -10,6 +14,10 @@ use Rattle.entity_maps.specs.Sorted.{Rise, map_of}
 -- a subscription under its id
 abbrev pub pair_of : Sub → ℕ × Sub
 pair_of s = (s.id, s)
+
+-- each subscription stands under its own id
+abbrev pub AreKeyed : List (ℕ × Sub) → Type 0
+AreKeyed es = AllByRecursion (λ e. e.0 ≡ e.1.id) es
 
 abbrev pub InOrder : List Sub → Type 0
 InOrder ss = Rise nat_cmp pair_of ss
@@ -26,6 +34,19 @@ AllTold ss serial = (id : ℕ) (s : Sub) → get (subscription_map ss) id ≡ So
 abbrev pub CanRise : List Sub → Type 0
 CanRise ss = (id : ℕ) (s : Sub) → get (subscription_map ss) id ≡ Some s → s.index < greatest_serial
 
--- a subscription, told of one more change where its id is one of these
-abbrev pub told_of : List ℕ → Sub → Sub
-told_of ids s = (told_if (is_one_of ids) (pair_of s)).1
+-- the same of a tree
+abbrev pub TreeCanRise : BTreeMap ℕ Sub → Type 0
+TreeCanRise m = (id : ℕ) (s : Sub) → tree.get nat_cmp m id ≡ Some s → s.index < greatest_serial
+
+-- the subscription of an id, told of one more change where that is one of these
+abbrev pub told_at : List ℕ → ℕ → Sub → Sub
+told_at ids id s = (told_if (is_one_of ids) (id, s)).1
+
+-- a tree has under each id what another has, told where the id is one of these
+abbrev pub Tells : List ℕ → BTreeMap ℕ Sub → BTreeMap ℕ Sub → Type 0
+Tells ids m n = (id : ℕ)
+    → tree.get nat_cmp n id ≡ option_map (told_at ids id) (tree.get nat_cmp m id)
+
+-- whether a subscription is the one of an id or comes behind it
+abbrev pub comes_from : ℕ → Sub → Bool
+comes_from id s = is_le (nat_cmp id s.id)

@@ -1,4 +1,4 @@
-//! Maps of entities, of subscriptions and of availabilities: a tree, and two sorted lists.
+//! Maps of entities, of subscriptions and of availabilities: two trees, and a sorted list.
 #![tactic(auto)]
 
 pub mod availabilities;

@@ -1,15 +1,16 @@
 //! Subscriptions in the order of their ids.
-ghost use Rattle.std.specs.Prelude.{◌≡◌, ◌<◌, ◌↔◌, not, [], ◌∷◌, OnOk, OnErr, IfOk, IfErr, IsOk, IsSome, IsNone, IsTrue, filter, length, map};
-ghost use Rattle.std.specs.List.{AllByRecursion};
-ghost use Rattle.std.specs.List.Sorted.{IsBinarySearchResult, IsSearchInRange, IsStrictlyIncreasing};
-ghost use Rattle.std.specs.Ordering.{eq_by_cmp, nat_cmp};
-ghost use Rattle.std.specs.FinMap.{find, get, insert, remove};
-ghost use Rattle.std.specs.FinMap.Entries.{put};
+ghost use Rattle.std.specs.Prelude.{◌≡◌, ◌<◌, ◌↔◌, [], ◌∷◌, OnOk, OnErr, IfOk, IsOk, IfSome, IsSome, IsNone, IsTrue, filter, length, nat_eq};
+ghost use Rattle.std.specs.List.{list_any};
+ghost use Rattle.std.specs.List.Sorted.{IsStrictlyIncreasing};
+ghost use Rattle.std.specs.BTreeMap as trees;
+ghost use Rattle.std.specs.Map.{values_of};
+ghost use Rattle.std.specs.Ordering.{nat_cmp};
+ghost use Rattle.std.specs.Option.{option_copied};
+ghost use Rattle.std.specs.FinMap.{get, insert, remove};
 ghost use Rattle.entity_core.specs.Airspace.{is_one_of, told_where};
 ghost use Rattle.entity_core.specs.Search.{is_for_near, is_own_near, subscribers_in, subscriptions_in};
 ghost use Rattle.entity_core.specs.Serial.{greatest_serial};
-ghost use Rattle.entity_maps.specs.Sorted.{keyed, Hit, Gap};
-ghost use Rattle.entity_maps.specs.Subscriptions.{CanRise, pair_of, subscription_map, told_of, InOrder};
+ghost use Rattle.entity_maps.specs.Subscriptions.{AreKeyed, CanRise, comes_from, pair_of, subscription_map, Tells, TreeCanRise, InOrder};
 
 use entity_core::entity_id::EntityId;
 use entity_core::nature::Kind;
@@ -18,50 +19,28 @@ use entity_core::uss_id::UssId;
 use grid_core::sorted_area::{SortedArea, meets_some_sorted, sorted};
 use grid_core::volume::Area;
 use std::alloc::{AllocError, Global};
+use std::collections::BTreeMap;
+use std::collections::btree_map::{Range, Values};
 use std::marker::Model;
 
-/// Subscriptions in the order of their ids, each once. Contracts see their list.
+/// Subscriptions in the order of their ids, each once. They stand in a tree, where none is moved as
+/// another comes or goes. Contracts see their list.
 #[derive(Debug, Drop)]
 pub struct Subscriptions {
-    items: Vec<Sub>,
+    tree: BTreeMap<u128, Sub>,
 }
 
 impl Model for Subscriptions {
     ghost use Rattle.std.specs.Prelude.{List};
+    ghost use Rattle.std.specs.BTreeMap.{values};
     ghost use Rattle.entity_core.specs.declared.subscription.Sub.{Sub};
-    ghost use Rattle.entity_maps.specs.Subscriptions.{InOrder};
+    ghost use Rattle.entity_maps.specs.Subscriptions.{AreKeyed};
 
     ghost Value = { List Sub };
 
-    ghost view = { λ a. a.items.items };
+    ghost view = { λ a. values a.tree };
 
-    ghost invariant = { λ a. InOrder a.items.items };
-}
-
-fn search_subs(items: &[Sub], id: EntityId) -> Result<usize, usize>
-    ensures bound { IsSearchInRange result (length items.now) }
-    ensures position { IsBinarySearchResult (λ s. nat_cmp s.id id) items.now result }
-{
-    items.binary_search_by(|sub| sub.id.number().cmp(&id.number()))
-}
-
-// Where a subscription stands, or would stand.
-fn sub_place(items: &[Sub], id: EntityId) -> Result<usize, usize>
-    ensures hit { InOrder items.now → IfOk result (Hit nat_cmp pair_of items.now id) }
-    ensures gap { InOrder items.now → IfErr result (Gap nat_cmp pair_of items.now id) }
-{
-    search_subs(items, id)
-}
-
-fn find_sub(items: &[Sub], id: EntityId) -> Result<Option<Sub>, AllocError>
-    requires { InOrder items.now }
-    ensures found { IfOk result (λ found. found ≡ find nat_cmp id (keyed pair_of items.now)) }
-    ensures none { IsNone (find nat_cmp id (keyed pair_of items.now)) → IsOk result }
-{
-    match sub_place(items, id) {
-        Ok(i) => Ok(Some(items[i].clone()?)),
-        Err(_) => Ok(None),
-    }
+    ghost invariant = { λ a. AreKeyed a.tree.entries };
 }
 
 // Whether a subscription is a supplier's, and its volume meets an area.
@@ -71,24 +50,6 @@ fn is_own_near(sub: &Sub, uss: &UssId, area: &SortedArea) -> bool
     sub.manager.text() == uss.text() && sub.volume.meets_sorted(area)
 }
 
-fn all_own(
-    alloc: Global,
-    items: &[Sub],
-    uss: &UssId,
-    area: &SortedArea,
-) -> Result<Vec<Sub>, AllocError>
-    ensures { IfOk result (λ found. found.items ≡ filter
-        (λ s. is_own_near uss.now area.now (pair_of s)) items.now) }
-{
-    let mut own = Vec::new(alloc);
-    for sub in items {
-        if is_own_near(sub, uss, area) {
-            own.push(sub.clone()?)?;
-        }
-    }
-    Ok(own)
-}
-
 // Whether a subscription is for a kind, and its volume meets some area.
 fn is_for_near(sub: &Sub, kind: Kind, areas: &[SortedArea]) -> bool
     ensures { result ≡ is_for_near kind areas.now (pair_of sub.now) }
@@ -96,46 +57,10 @@ fn is_for_near(sub: &Sub, kind: Kind, areas: &[SortedArea]) -> bool
     sub.interest.wants(kind) && meets_some_sorted(&sub.volume, areas)
 }
 
-fn all_for(
-    alloc: Global,
-    items: &[Sub],
-    kind: Kind,
-    areas: &[SortedArea],
-) -> Result<Vec<Sub>, AllocError>
-    ensures { IfOk result (λ found. found.items ≡ filter
-        (λ s. is_for_near kind areas.now (pair_of s)) items.now) }
+fn is_among(ids: &[EntityId], id: EntityId) -> bool
+    ensures { result ≡ list_any (λ other. nat_eq other id) ids.now }
 {
-    let mut wanted = Vec::new(alloc);
-    for sub in items {
-        if is_for_near(sub, kind, areas) {
-            wanted.push(sub.clone()?)?;
-        }
-    }
-    Ok(wanted)
-}
-
-fn is_one_of(ids: &[EntityId], sub: &Sub) -> bool
-    ensures { result ≡ is_one_of ids.now (pair_of sub.now) }
-{
-    ids.iter().any(|id| id.is(sub.id))
-}
-
-// Tells one of a change, if its id is among these.
-fn tell(sub: &mut Sub, ids: &[EntityId])
-    ensures { sub.old.index < greatest_serial → sub.new ≡ told_of ids.now sub.old }
-{
-    if is_one_of(ids, sub) {
-        sub.tell();
-    }
-}
-
-fn tell_all(items: &mut [Sub], ids: &[EntityId])
-    requires { AllByRecursion (λ s. s.index < greatest_serial) items.old }
-    ensures { items.new ≡ map (told_of ids.now) items.old }
-{
-    for sub in items.iter_mut() {
-        tell(sub, ids);
-    }
+    ids.iter().any(|other| other.is(id))
 }
 
 fn are_rising(ids: &[EntityId]) -> bool
@@ -145,65 +70,30 @@ fn are_rising(ids: &[EntityId]) -> bool
 }
 
 // Tells the one of an id, if there is one.
-fn tell_one(items: &mut [Sub], id: EntityId)
-    requires order { InOrder items.old }
-    requires rises { AllByRecursion (λ s. s.id ≡ id → s.index < greatest_serial) items.old }
-    ensures { items.new ≡ map (told_of (id ∷ [])) items.old }
+fn tell_one(tree: &mut BTreeMap<u128, Sub>, id: EntityId)
+    requires keyed { AreKeyed tree.old.entries }
+    requires rises { IfSome (trees.get nat_cmp tree.old id) (λ s. s.index < greatest_serial) }
+    ensures keyed { AreKeyed tree.new.entries }
+    ensures told { Tells (id ∷ []) tree.old tree.new }
 {
-    if let Ok(i) = sub_place(items, id) {
-        items[i].tell();
+    if let Some(sub) = tree.get_mut(&id.number()) {
+        sub.tell();
     }
 }
 
-// The same as `tell_all`: each id is looked for.
-fn tell_each(items: &mut [Sub], ids: &[EntityId])
-    requires order { InOrder items.old }
-    requires rises { AllByRecursion (λ s. s.index < greatest_serial) items.old }
-    requires once { IsStrictlyIncreasing ids.now }
-    ensures { items.new ≡ map (told_of ids.now) items.old }
+// Tells those of ids, each once: where these rise, in the size of what is told.
+fn tell_those(tree: &mut BTreeMap<u128, Sub>, ids: &[EntityId])
+    requires keyed { AreKeyed tree.old.entries }
+    requires rises { TreeCanRise tree.old }
+    ensures keyed { AreKeyed tree.new.entries }
+    ensures told { Tells ids.now tree.old tree.new }
 {
-    for id in ids {
-        tell_one(items, *id);
-    }
-}
-
-// Tells those of ids: where these rise, in the size of what is told.
-fn tell_those(items: &mut [Sub], ids: &[EntityId])
-    requires order { InOrder items.old }
-    requires rises { AllByRecursion (λ s. s.index < greatest_serial) items.old }
-    ensures { items.new ≡ map (told_of ids.now) items.old }
-{
-    if are_rising(ids) {
-        tell_each(items, ids);
-    } else {
-        tell_all(items, ids);
-    }
-}
-
-fn put_sub(items: &mut Vec<Sub>, sub: Sub) -> Result<(), AllocError>
-    requires { InOrder items.old.items }
-    ensures ok { OnOk result (keyed pair_of items.new.items
-        ≡ put nat_cmp sub.id sub (keyed pair_of items.old.items)) }
-    ensures err { OnErr result (items.new.items ≡ items.old.items) }
-    ensures over { IsSome (find nat_cmp sub.id (keyed pair_of items.old.items)) → IsOk result }
-{
-    match sub_place(items, sub.id) {
-        Ok(i) => {
-            items[i] = sub;
-            Ok(())
+    let rising = are_rising(ids);
+    for i in 0..ids.len() {
+        let id = ids[i];
+        if rising || !is_among(&ids[..i], id) {
+            tell_one(tree, id);
         }
-        Err(i) => Ok(items.insert(i, sub)?),
-    }
-}
-
-// Gives what stood there.
-fn remove_from(items: &mut Vec<Sub>, id: EntityId) -> Option<Sub>
-    requires { InOrder items.old.items }
-    ensures { filter (λ s. not (eq_by_cmp nat_cmp id s.id)) items.old.items ≡ items.new.items }
-{
-    match sub_place(items, id) {
-        Ok(i) => Some(items.remove(i)),
-        Err(_) => None,
     }
 }
 
@@ -213,16 +103,47 @@ impl Subscriptions {
         ensures { result ≡ [] }
     {
         Subscriptions {
-            items: Vec::new(alloc),
+            tree: BTreeMap::new(alloc),
         }
     }
 
+    /// How many there are.
+    pub fn len(&self) -> usize
+        ensures { result ≡ length self.now }
+    {
+        self.tree.len()
+    }
+
     /// The subscriptions, by rising ids.
-    pub fn items(&self) -> &[Sub]
-        ensures items { result.now ≡ self.now }
+    pub fn iter(&self) -> Values<'_, u128, Sub>
+        ensures items { result ≡ self.now }
         ensures order { InOrder self.now }
     {
-        &self.items
+        self.tree.values()
+    }
+
+    /// The same, each under the number of its id.
+    pub fn entries(&self) -> Range<'_, u128, Sub>
+        ensures items { values_of result ≡ self.now }
+        ensures order { InOrder self.now }
+    {
+        self.tree.range(..)
+    }
+
+    /// The subscription of an id and those behind it, by rising ids, each under the number of its
+    /// id.
+    pub fn from(&self, id: EntityId) -> Range<'_, u128, Sub>
+        ensures items { values_of result ≡ filter (comes_from id) self.now }
+        ensures order { InOrder self.now }
+    {
+        self.tree.range(id.number()..)
+    }
+
+    /// The subscription of the number of an id, which is all that an index has of it.
+    pub fn at(&self, number: u128) -> Option<&Sub>
+        ensures { option_copied result ≡ get (subscription_map self.now) number }
+    {
+        self.tree.get(&number)
     }
 
     /// A copy of the subscription of an id, if there is one. That there is none takes no memory to
@@ -231,7 +152,10 @@ impl Subscriptions {
         ensures found { IfOk result (λ found. found ≡ get (subscription_map self.now) id) }
         ensures none { IsNone (get (subscription_map self.now) id) → IsOk result }
     {
-        find_sub(&self.items, id)
+        match self.at(id.number()) {
+            Some(sub) => Ok(Some(sub.clone()?)),
+            None => Ok(None),
+        }
     }
 
     /// Copies of the subscriptions of a supplier whose volumes meet an area, by rising ids.
@@ -240,7 +164,25 @@ impl Subscriptions {
             ≡ subscriptions_in (subscription_map self.now) uss.now area.now) }
     {
         let sorted_area = SortedArea::of(alloc, area)?;
-        all_own(alloc, &self.items, uss, &sorted_area)
+        self.own_sorted(alloc, uss, &sorted_area)
+    }
+
+    fn own_sorted(
+        &self,
+        alloc: Global,
+        uss: &UssId,
+        area: &SortedArea,
+    ) -> Result<Vec<Sub>, AllocError>
+        ensures { IfOk result (λ found. found.items
+            ≡ subscriptions_in (subscription_map self.now) uss.now area.now) }
+    {
+        let mut own = Vec::new(alloc);
+        for sub in self.tree.values() {
+            if is_own_near(sub, uss, area) {
+                own.push(sub.clone()?)?;
+            }
+        }
+        Ok(own)
     }
 
     /// Copies of the subscriptions that are for a kind and whose volumes meet some area, by rising
@@ -255,7 +197,25 @@ impl Subscriptions {
             ≡ subscribers_in (subscription_map self.now) kind areas.now) }
     {
         let sorted_areas = sorted(alloc, areas)?;
-        all_for(alloc, &self.items, kind, &sorted_areas)
+        self.for_sorted(alloc, kind, &sorted_areas)
+    }
+
+    fn for_sorted(
+        &self,
+        alloc: Global,
+        kind: Kind,
+        areas: &[SortedArea],
+    ) -> Result<Vec<Sub>, AllocError>
+        ensures { IfOk result (λ found. found.items
+            ≡ subscribers_in (subscription_map self.now) kind areas.now) }
+    {
+        let mut wanted = Vec::new(alloc);
+        for sub in self.tree.values() {
+            if is_for_near(sub, kind, areas) {
+                wanted.push(sub.clone()?)?;
+            }
+        }
+        Ok(wanted)
     }
 
     /// Tells each subscription whose id is among these of one more change. It takes no memory. The
@@ -265,7 +225,7 @@ impl Subscriptions {
         ensures { subscription_map self.new
             ≡ told_where (is_one_of ids.now) (subscription_map self.old) }
     {
-        tell_those(self.items.as_mut_slice(), ids);
+        tell_those(&mut self.tree, ids);
     }
 
     /// Puts a subscription in the place of the one that has its id, or among the others where its
@@ -276,13 +236,16 @@ impl Subscriptions {
         ensures err { OnErr result (self.new ≡ self.old) }
         ensures over { IsSome (get (subscription_map self.old) sub.id) → IsOk result }
     {
-        put_sub(&mut self.items, sub)
+        match self.tree.insert(sub.id.number(), sub) {
+            Ok(_) => Ok(()),
+            Err(failed) => Err(AllocError::from(failed)),
+        }
     }
 
     /// Removes the subscription of an id; where there is none, nothing is changed.
     pub fn remove(&mut self, id: EntityId)
         ensures { subscription_map self.new ≡ remove (subscription_map self.old) id }
     {
-        let _gone = remove_from(&mut self.items, id);
+        let _gone = self.tree.remove(&id.number());
     }
 }

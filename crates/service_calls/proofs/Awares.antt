@@ -247,11 +247,11 @@ kept_step salt last a t c s =
 
 -- ---- over a list of calls
 
-later_later : {X : Type 0} (x y z : Option X) → later_or x (later_or y z) ≡ later_or (later_or x y) z
+pub later_later : {X : Type 0} (x y z : Option X) → later_or x (later_or y z) ≡ later_or (later_or x y) z
 later_later (Some x) y z = refl
 later_later None y z = refl
 
-later_none : {X : Type 0} (x : Option X) → later_or x None ≡ x
+pub later_none : {X : Type 0} (x : Option X) → later_or x None ≡ x
 later_none (Some x) = refl
 later_none None = refl
 
@@ -327,7 +327,7 @@ kept_empty salt n =
     }
 
 -- the last put among the calls that were answered is the last put of all
-last_told : (salt : List ℕ) (k : EntityKey) (a : Airspace) (cs : List Timed) (rs : List Reply) → has_stopped rs ≡ false → last_writer salt k a (answered_calls cs rs) (told_replies rs) ≡ last_writer salt k a cs rs
+pub last_told : (salt : List ℕ) (k : EntityKey) (a : Airspace) (cs : List Timed) (rs : List Reply) → has_stopped rs ≡ false → last_writer salt k a (answered_calls cs rs) (told_replies rs) ≡ last_writer salt k a cs rs
 last_told salt k a [] rs h = refl
 last_told salt k a (c ∷ cs) [] h = refl
 last_told salt k a (c ∷ cs) (Fault ∷ rs) h = last_told salt k a cs rs h ∙ sym (later_none (last_writer salt k a cs rs))

@@ -136,13 +136,13 @@ step_one salt a t c id x =
 -- ---- over a list of calls
 
 -- it was created among the calls, and is counted from then on; or it was there before them
-record Older (id : ℕ) (made : List MadeCall) (a : Airspace) (x : Sub) : Type 0 where
-  none : AllByRecursion (λ m. creates_sub id m.call.op ≡ false) made
-  was : Sub
-  there : get a.subscriptions id ≡ Some was
-  index : x.index ≡ was.index + length (filter (notified id) made)
+pub record Older (id : ℕ) (made : List MadeCall) (a : Airspace) (x : Sub) : Type 0 where
+  pub none : AllByRecursion (λ m. creates_sub id m.call.op ≡ false) made
+  pub was : Sub
+  pub there : get a.subscriptions id ≡ Some was
+  pub index : x.index ≡ was.index + length (filter (notified id) made)
 
-abbrev Tally : ℕ → List MadeCall → Airspace → Sub → Type 0
+abbrev pub Tally : ℕ → List MadeCall → Airspace → Sub → Type 0
 Tally id made a x = IsCounted id made x.index ⊎ Older id made a x
 
 one_more : (b : Bool) (m : MadeCall) (ms : List MadeCall) → length (cond b (m ∷ ms) ms) ≡ cond b 1 0 + length ms
@@ -188,7 +188,7 @@ tally_on id a b c made x one (inr was) =
           })
     ]
 
-tally_run : (salt : List ℕ) (cs : List Timed) (rs : List Reply) (a : Airspace) → has_stopped rs ≡ false → told_replies rs ≡ replies_of salt a (answered_calls cs rs) → (id : ℕ) (x : Sub)
+pub tally_run : (salt : List ℕ) (cs : List Timed) (rs : List Reply) (a : Airspace) → has_stopped rs ≡ false → told_replies rs ≡ replies_of salt a (answered_calls cs rs) → (id : ℕ) (x : Sub)
     → get (airspace_after salt a (answered_calls cs rs)).subscriptions id ≡ Some x → Tally id (done_calls salt a cs rs) a x
 tally_run salt [] rs a goes told id x h = inr (record { none = tt; was = x; there = h; index = omega arith })
 tally_run salt (c ∷ cs) [] a goes told id x h = inr (record { none = tt; was = x; there = h; index = omega arith })

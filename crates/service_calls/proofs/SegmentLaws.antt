@@ -55,7 +55,7 @@ all_entries R P (e ∷ es) o rises found = (
 -- ---- a sweep
 
 -- an airspace swept in part is numbered as it was
-kept_partly : (salt : List ℕ) (last : EntityKey → Option MadeCall) (until : ℕ) (a b : Airspace) → Kept salt last a → IsPartlySwept until a b → Kept salt last b
+pub kept_partly : (salt : List ℕ) (last : EntityKey → Option MadeCall) (until : ℕ) (a b : Airspace) → Kept salt last a → IsPartlySwept until a b → Kept salt last b
 kept_partly salt last until a b is partly =
     let serial : b.serial ≡ a.serial = ap (λ (x : Airspace). x.serial) partly.same in
     record {

@@ -8,3 +8,6 @@ pub mod Runs
 pub mod Lookers
 pub mod Ended
 pub mod Backs
+pub mod Known
+pub mod Earlier
+pub mod Unseen

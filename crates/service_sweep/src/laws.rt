@@ -3,6 +3,9 @@ ghost use Rattle.service_sweep.specs.Ahead.{RunCommutes, RunIsUnseen, SweepCommu
 ghost use Rattle.service_sweep.specs.Back.{LookingBackFindsLess};
 ghost use Rattle.service_sweep.specs.Ended.{EndedIsRefused};
 ghost use Rattle.service_sweep.specs.Kept.{SweepKeepsAware, SweepKeepsCounts, SweepKeepsNumbers};
+ghost use Rattle.service_sweep.specs.Segments.{OneMomentIsEnough, SegmentsAreAware, SegmentsAreUnseen};
+
+use space_core::settle::Settles;
 
 /// What has ended by a moment is what the policy's rule P13 refuses to put at it.
 pub fn ended_is_refused()
@@ -47,4 +50,22 @@ pub fn sweep_commutes()
 /// not found.
 pub fn looking_back_finds_less()
     ensures { LookingBackFindsLess }
+{}
+
+/// Of what is kept after segments and rounds from the empty airspace, where nobody was told
+/// `Stopped`: the last put of the later of two entities that meet knew the other, whichever segment
+/// it was made in; and the index of each subscription is the number of calls told as `Done`, over
+/// all segments, after the one that last created it, that notified it. What went between changes
+/// neither.
+pub fn segments_are_aware<S: Settles>()
+    ensures { SegmentsAreAware S.Settles.own }
+{}
+
+/// Where each call looks ahead of the sweeps before it, all that is told over all segments is what
+/// the policy tells where nothing is ever let go; and what is kept is what is left then, swept in
+/// part. Nothing is asked of the calls before the first sweep. It is enough that the others look
+/// ahead of one moment that is not before any sweep's.
+pub fn segments_are_unseen<S: Settles>()
+    ensures unseen { SegmentsAreUnseen S.Settles.own }
+    ensures enough { OneMomentIsEnough }
 {}

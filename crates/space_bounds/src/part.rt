@@ -9,7 +9,6 @@ use entity_core::entity_id::EntityId;
 use entity_core::nature::Kind;
 use entity_core::subscription::Sub;
 use entity_core::uss_id::UssId;
-use entity_maps::subscriptions::Subscriptions;
 use entity_sweep::gone::Gone;
 use space_core::space::{Change, Space, SpaceFault};
 use space_shown::shown::Shown;
@@ -80,14 +79,6 @@ pub(crate) fn added_by(change: &Change) -> Option<(&UssId, Kept)>
     }
 }
 
-fn subscription_in(subscriptions: &Subscriptions, id: EntityId) -> Option<&Sub> {
-    let items = subscriptions.items();
-    match items.binary_search_by(|sub| sub.id.number().cmp(&id.number())) {
-        Ok(at) => items.get(at),
-        Err(_) => None,
-    }
-}
-
 /// The supplier of what goes, and how much that is, where it is among what is shown.
 pub(crate) fn going<'a>(shown: &Shown<'a>, thing: Gone) -> Option<(&'a UssId, Kept)> {
     match thing {
@@ -96,7 +87,7 @@ pub(crate) fn going<'a>(shown: &Shown<'a>, thing: Gone) -> Option<(&'a UssId, Ke
             Some((&entity.manager, Kept::of_entity(entity)))
         }
         Gone::Subscription(id) => {
-            let sub = subscription_in(shown.subscriptions, id)?;
+            let sub = shown.subscriptions.at(id.number())?;
             Some((&sub.manager, Kept::of_sub(sub)))
         }
     }

@@ -77,7 +77,7 @@ impl Tally {
             let at = self.place(&entity.manager)?;
             self.give(at, Kept::of_entity(entity));
         }
-        for sub in subscriptions.items() {
+        for sub in subscriptions.iter() {
             let at = self.place(&sub.manager)?;
             self.give(at, Kept::of_sub(sub));
         }

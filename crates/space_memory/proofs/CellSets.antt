@@ -16,7 +16,7 @@ use Rattle.std.proofs.lemmas.Bool.Decides.{nat_tests}
 use Rattle.space_memory.specs.CellIndex.{Holder, Mark, Grows, KeepsOthers, mark_cmp}
 use Rattle.space_memory.specs.Near.{Span}
 
-either : (c b : Bool) → b ≡ true → cond c true b ≡ true
+pub either : (c b : Bool) → b ≡ true → cond c true b ≡ true
 either true b h = refl
 either false b h = h
 

@@ -38,24 +38,44 @@ grown_index m old new g h = λ k x at. grown_marked old new g x (h k x at)
 pub none_there : (es : List Entity) → es ≡ [] → (k : EntityKey) (x : Entity) → get (entity_map es) k ≡ Some x → ⊥
 none_there es e k x at = let bad : None ≡ Some x = sym (ap (λ (l : List Entity). get (entity_map l) k) e ∙ get-from_entries key_total (keyed pair_of []) k) ∙ at in cc
 
-pub none_indexed : (es : List Entity) (marks : BTreeSet Mark) → es ≡ [] → IsIndexOf (entity_map es) marks
-none_indexed es marks e = λ k x at. absurd (none_there es e k x at)
+-- ---- what holds of each entity of a map, as entities come and go
 
-pub put_indexed : (m n : Entities) (e : Entity) (marks : BTreeSet Mark) → n ≡ insert m (key_of e) e → IsIndexOf m marks → AllMarked marks e → IsIndexOf n marks
-put_indexed m n e marks is h own = λ k x at.
-    let now : cond (eq_by_cmp key_cmp k (key_of e)) (Some e) (get m k) ≡ Some x = sym (ap (λ (l : Entities). get l k) is ∙ get-insert key_total m (key_of e) e k) ∙ at in
-    elim (eq_by_cmp key_cmp k (key_of e)) as (λ b. cond b (Some e) (get m k) ≡ Some x → AllMarked marks x) [
-      | true ↦ λ g. subst (AllMarked marks) (same_Some e x g) own
-      | false ↦ λ g. h k x g
-    ] now
+module _ (P : Entity → Type 0) where
+  abbrev pub Each : Entities → Type 0
+  Each m = (k : EntityKey) (x : Entity) → get m k ≡ Some x → P x
 
-pub removed_indexed : (m n : Entities) (k : EntityKey) (marks : BTreeSet Mark) → n ≡ remove m k → IsIndexOf m marks → IsIndexOf n marks
-removed_indexed m n gone marks is h = λ k x at.
-    let now : cond (eq_by_cmp key_cmp k gone) None (get m k) ≡ Some x = sym (ap (λ (l : Entities). get l k) is ∙ get-remove key_total m gone k) ∙ at in
-    elim (eq_by_cmp key_cmp k gone) as (λ b. cond b None (get m k) ≡ Some x → AllMarked marks x) [
-      | true ↦ λ g. cc
-      | false ↦ λ g. h k x g
-    ] now
+  pub none_each : (es : List Entity) → es ≡ [] → Each (entity_map es)
+  none_each es e = λ k x at. absurd (none_there es e k x at)
+
+  pub put_each : (m n : Entities) (e : Entity) → n ≡ insert m (key_of e) e → Each m → P e → Each n
+  put_each m n e is h own = λ k x at.
+      let now : cond (eq_by_cmp key_cmp k (key_of e)) (Some e) (get m k) ≡ Some x = sym (ap (λ (l : Entities). get l k) is ∙ get-insert key_total m (key_of e) e k) ∙ at in
+      elim (eq_by_cmp key_cmp k (key_of e)) as (λ b. cond b (Some e) (get m k) ≡ Some x → P x) [
+        | true ↦ λ g. subst P (same_Some e x g) own
+        | false ↦ λ g. h k x g
+      ] now
+
+  pub removed_each : (m n : Entities) (k : EntityKey) → n ≡ remove m k → Each m → Each n
+  removed_each m n gone is h = λ k x at.
+      let now : cond (eq_by_cmp key_cmp k gone) None (get m k) ≡ Some x = sym (ap (λ (l : Entities). get l k) is ∙ get-remove key_total m gone k) ∙ at in
+      elim (eq_by_cmp key_cmp k gone) as (λ b. cond b None (get m k) ≡ Some x → P x) [
+        | true ↦ λ g. cc
+        | false ↦ λ g. h k x g
+      ] now
+
+  -- what holds of a whole list holds of each that is found
+  listed : (es : List Entity) (k : EntityKey) (x : Entity) → maps.find key_cmp k (keyed pair_of es) ≡ Some x → All P es → P x
+  listed [] k x at h = cc
+  listed (e ∷ es) k x at h =
+      elim (eq_by_cmp key_cmp k (key_of e)) as (λ b. cond b (Some e) (maps.find key_cmp k (keyed pair_of es)) ≡ Some x → P x) [
+        | true ↦ λ g. subst P (same_Some e x g) (All-head P e es h)
+        | false ↦ λ g. listed es k x g (All-tail P e es h)
+      ] at
+
+  pub all_each : (es : List Entity) → All P es → Each (entity_map es)
+  all_each es h = λ k x at. listed es k x (sym (get-from_entries key_total (keyed pair_of es) k) ∙ at) h
+
+-- ---- what is taken out
 
 small_kind : (k : Kind) → kind_index k ≤ 1
 small_kind Intent = omega arith
@@ -92,15 +112,3 @@ forgotten_indexed es g old new keeps gone h = λ k x at.
     let own : key_of x ≡ k = own_key es k x (sym (get-from_entries key_total (keyed pair_of es) k) ∙ at) in
     not_put x g.serial (get (entity_map es) (key_of g)) gone (ap (λ (q : EntityKey). get (entity_map es) q) (sym keys ∙ own) ∙ at) same.0 in
     all_marked old new x (λ i c m. record { cell = m.cell; narrow = m.narrow; mark = keeps (mark_of (holder_of x) i c) other m.mark }) (h k x at)
-
--- what is marked of a whole list is marked of each that is found
-listed : (marks : BTreeSet Mark) (es : List Entity) (k : EntityKey) (x : Entity) → maps.find key_cmp k (keyed pair_of es) ≡ Some x → All (AllMarked marks) es → AllMarked marks x
-listed marks [] k x at h = cc
-listed marks (e ∷ es) k x at h =
-    elim (eq_by_cmp key_cmp k (key_of e)) as (λ b. cond b (Some e) (maps.find key_cmp k (keyed pair_of es)) ≡ Some x → AllMarked marks x) [
-      | true ↦ λ g. subst (AllMarked marks) (same_Some e x g) (All-head (AllMarked marks) e es h)
-      | false ↦ λ g. listed marks es k x g (All-tail (AllMarked marks) e es h)
-    ] at
-
-pub all_indexed : (es : List Entity) (marks : BTreeSet Mark) → All (AllMarked marks) es → IsIndexOf (entity_map es) marks
-all_indexed es marks h = λ k x at. listed marks es k x (sym (get-from_entries key_total (keyed pair_of es) k) ∙ at) h

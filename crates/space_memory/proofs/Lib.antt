@@ -8,4 +8,5 @@ pub mod Named
 pub mod IndexedMaps
 pub mod SubscriptionIndexes
 pub mod SoughtMaps
+pub mod NamePairs
 pub mod EndedPieces

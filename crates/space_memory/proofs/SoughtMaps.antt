@@ -62,10 +62,10 @@ same_numbers n = equal_is (nat_cmp n n) ((eq_by_cmp_equiv nat_cmp_total).refl n)
 own_kind : (kind : Kind) (i : ℕ) → has_kind kind (kind, i) ≡ true
 own_kind kind i = let e : kind_index kind ≡ kind_index kind = refl in grind (arith, nat_tests)
 
-rising : (kind : Kind) (i j : ℕ) → nat_cmp i j ≡ Less → key_cmp (kind, i) (kind, j) ≡ Less
+pub rising : (kind : Kind) (i j : ℕ) → nat_cmp i j ≡ Less → key_cmp (kind, i) (kind, j) ≡ Less
 rising kind i j h = ap (λ (r : Ordering). ordering_then r (nat_cmp i j)) (same_numbers (kind_index kind)) ∙ h
 
-own_of : (es : List Entity) (k : EntityKey) (x : Entity) → get (entity_map es) k ≡ Some x → key_of x ≡ k
+pub own_of : (es : List Entity) (k : EntityKey) (x : Entity) → get (entity_map es) k ≡ Some x → key_of x ≡ k
 own_of es k x at = own_key es k x (sym (get-from_entries key_total (keyed pair_of es) k) ∙ at)
 
 module _ (es : List Entity) (kind : Kind) (areas : List Region) (except : Option ℕ) (part : Part) (bits : ℕ) (e : Entity) (at : get (entity_map es) (kind, part.0) ≡ Some e) where

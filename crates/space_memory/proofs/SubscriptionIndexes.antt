@@ -23,10 +23,6 @@ use Rattle.space_memory.proofs.CellMeetings.{marked_more}
 pub own : (ss : List Sub) (id : ℕ) (s : Sub) → get (subscription_map ss) id ≡ Some s → s.id ≡ id
 own ss id s h = own_id ss id s (sym (get-from_entries nat_cmp_total (keyed pair_of ss) id) ∙ h)
 
--- what is found in a list is what its map has
-pub got_of : (seen ss : List Sub) (id : ℕ) → seen ≡ ss → maps.find nat_cmp id (keyed pair_of seen) ≡ get (subscription_map ss) id
-got_of seen ss id e = sym (get-from_entries nat_cmp_total (keyed pair_of seen) id) ∙ ap (λ (l : List Sub). get (subscription_map l) id) e
-
 same_id : (id other : ℕ) → eq_by_cmp nat_cmp id other ≡ false → id ≡ other → ⊥
 same_id id other apart e =
     let bad : true ≡ false = sym (subst (λ (k : ℕ). eq_by_cmp nat_cmp id k ≡ true) e ((eq_by_cmp_equiv nat_cmp_total).refl id)) ∙ apart in cc

@@ -2,6 +2,7 @@ pub mod Memory
 pub mod Proper
 pub mod Settled
 pub mod CellIndex
+pub mod Names
 pub mod Near
 pub mod Found
 pub mod IndexedSubscriptions

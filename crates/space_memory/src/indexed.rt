@@ -1,13 +1,17 @@
-//! Entities with an index by the cells of their volumes, so that a search costs what it finds.
+//! Entities with an index by the cells of their volumes and one by what intents name, so that a
+//! search costs what it finds.
 ghost use Rattle.std.specs.Prelude.{◌≡◌, [], OnOk, OnErr, IfOk, IsOk, IsNone};
 ghost use Rattle.std.specs.FinMap.{get, insert, remove};
 ghost use Rattle.entity_core.specs.Airspace.{key_of};
 ghost use Rattle.entity_core.specs.Search.{meeting_in, all_in, dependents_in};
 ghost use Rattle.entity_maps.specs.Entities.{entity_map};
-ghost use Rattle.space_memory.specs.CellIndex.{AllMarked, IsIndexOf};
+ghost use Rattle.entity_sweep.specs.Sweep.{is_named_in};
+ghost use Rattle.space_memory.specs.CellIndex.{AllMarked, Grows, IsIndexOf};
+ghost use Rattle.space_memory.specs.Names.{IsEntered, IsNameIndex, NamesMore};
 
 use crate::cell_index::{Mark, mark_entity, unmark_entity};
 use crate::found::{entities_of, sought_ids};
+use crate::names::{Naming, dependents_of, enter_name, forget_name, is_named};
 use crate::near::near;
 use entity_core::entity::Entity;
 use entity_core::entity_id::EntityId;
@@ -20,12 +24,13 @@ use std::alloc::{AllocError, Global};
 use std::collections::BTreeSet;
 use std::marker::Model;
 
-/// Entities in their order, each kind and id once, and where their cells are. Contracts see their
-/// list.
+/// Entities in their order, each kind and id once, where their cells are, and what they name.
+/// Contracts see their list.
 #[derive(Debug, Drop)]
 pub(crate) struct IndexedEntities {
     entities: Entities,
     marks: BTreeSet<Mark>,
+    names: BTreeSet<Naming>,
     counts: Counts,
 }
 
@@ -34,76 +39,116 @@ impl Model for IndexedEntities {
     ghost use Rattle.entity_core.specs.declared.entity.Entity.{Entity};
     ghost use Rattle.entity_maps.specs.Entities.{entity_map};
     ghost use Rattle.space_memory.specs.CellIndex.{IsIndexOf};
+    ghost use Rattle.space_memory.specs.Names.{IsNameIndex};
 
     ghost Value = { List Entity };
 
     ghost view = { λ a. a.entities };
 
-    ghost invariant = { λ a. IsIndexOf (entity_map a.entities) a.marks };
+    ghost invariant = { λ a. IsIndexOf (entity_map a.entities) a.marks
+        × IsNameIndex (entity_map a.entities) a.names };
 }
 
-// Takes the marks of an entity out, unless one of its kind, id and serial is kept.
-fn forget_entity(marks: &mut BTreeSet<Mark>, entities: &Entities, gone: &Entity)
-    ensures { IsIndexOf (entity_map entities.now) marks.old
+// Takes an entity out of both indexes, but for what is of one that is kept.
+fn forget_entity(
+    marks: &mut BTreeSet<Mark>,
+    names: &mut BTreeSet<Naming>,
+    entities: &Entities,
+    gone: &Entity,
+)
+    ensures cells { IsIndexOf (entity_map entities.now) marks.old
         → IsIndexOf (entity_map entities.now) marks.new }
+    ensures names { IsNameIndex (entity_map entities.now) names.old
+        → IsNameIndex (entity_map entities.now) names.new }
 {
+    forget_name(names, entities, gone);
     if !entities.has_put(gone) {
         unmark_entity(marks, gone);
     }
 }
 
-// Marks an entity that will be put. What was marked before an error goes out again.
+// On an error some of it may be there.
+fn add_entity(
+    marks: &mut BTreeSet<Mark>,
+    names: &mut BTreeSet<Naming>,
+    entity: &Entity,
+) -> Result<(), AllocError>
+    ensures more_cells { Grows marks.old marks.new }
+    ensures more_names { NamesMore names.old names.new }
+    ensures marked { OnOk result (AllMarked marks.new entity.now) }
+    ensures entered { OnOk result (IsEntered names.new entity.now) }
+{
+    enter_name(names, entity)?;
+    mark_entity(marks, entity)
+}
+
+// Adds an entity that will be put to both indexes. What was added before an error goes out again.
 fn enter_entity(
     marks: &mut BTreeSet<Mark>,
+    names: &mut BTreeSet<Naming>,
     entities: &Entities,
     entity: &Entity,
 ) -> Result<(), AllocError>
-    ensures kept { IsIndexOf (entity_map entities.now) marks.old
+    ensures cells { IsIndexOf (entity_map entities.now) marks.old
         → IsIndexOf (entity_map entities.now) marks.new }
+    ensures names { IsNameIndex (entity_map entities.now) names.old
+        → IsNameIndex (entity_map entities.now) names.new }
     ensures marked { OnOk result (AllMarked marks.new entity.now) }
+    ensures entered { OnOk result (IsEntered names.new entity.now) }
 {
-    match mark_entity(marks, entity) {
+    match add_entity(marks, names, entity) {
         Ok(()) => Ok(()),
         Err(fault) => {
-            forget_entity(marks, entities, entity);
+            forget_entity(marks, names, entities, entity);
             Err(fault)
         }
     }
 }
 
-// The marks come first, and go out again where there is no memory for the entity.
+// The indexes come first, and are as they were where there is no memory for the entity.
 fn put_entity(
     entities: &mut Entities,
     marks: &mut BTreeSet<Mark>,
+    names: &mut BTreeSet<Naming>,
     entity: Entity,
 ) -> Result<(), AllocError>
-    requires { IsIndexOf (entity_map entities.old) marks.old }
-    ensures index { IsIndexOf (entity_map entities.new) marks.new }
+    requires cells { IsIndexOf (entity_map entities.old) marks.old }
+    requires names { IsNameIndex (entity_map entities.old) names.old }
+    ensures cells { IsIndexOf (entity_map entities.new) marks.new }
+    ensures names { IsNameIndex (entity_map entities.new) names.new }
     ensures ok { OnOk result (entity_map entities.new
         ≡ insert (entity_map entities.old) (key_of entity) entity) }
     ensures err { OnErr result (entities.new ≡ entities.old) }
 {
-    enter_entity(marks, entities, &entity)?;
+    enter_entity(marks, names, entities, &entity)?;
     match entities.replace(entity) {
         Ok(Some(gone)) => {
-            forget_entity(marks, entities, &gone);
+            forget_entity(marks, names, entities, &gone);
             Ok(())
         }
         Ok(None) => Ok(()),
         Err(failed) => {
-            forget_entity(marks, entities, &failed.value);
+            forget_entity(marks, names, entities, &failed.value);
             Err(AllocError::from(failed))
         }
     }
 }
 
-fn remove_entity(entities: &mut Entities, marks: &mut BTreeSet<Mark>, kind: Kind, id: EntityId)
-    requires { IsIndexOf (entity_map entities.old) marks.old }
-    ensures index { IsIndexOf (entity_map entities.new) marks.new }
+fn remove_entity(
+    entities: &mut Entities,
+    marks: &mut BTreeSet<Mark>,
+    names: &mut BTreeSet<Naming>,
+    kind: Kind,
+    id: EntityId,
+)
+    requires cells { IsIndexOf (entity_map entities.old) marks.old }
+    requires names { IsNameIndex (entity_map entities.old) names.old }
+    ensures cells { IsIndexOf (entity_map entities.new) marks.new }
+    ensures names { IsNameIndex (entity_map entities.new) names.new }
     ensures removed { entity_map entities.new ≡ remove (entity_map entities.old) (kind, id) }
 {
     if let Some(gone) = entities.take(kind, id) {
-        forget_entity(marks, entities, &gone);
+        forget_entity(marks, names, entities, &gone);
     }
 }
 
@@ -134,23 +179,26 @@ impl IndexedEntities {
         IndexedEntities {
             entities: Entities::new(alloc),
             marks: BTreeSet::new(alloc),
+            names: BTreeSet::new(alloc),
             counts: Counts::nothing(),
         }
     }
 
-    /// The entities of a tree, each with its marks.
+    /// The entities of a tree, each with its marks and what it names.
     pub(crate) fn of(alloc: Global, entities: Entities) -> Result<IndexedEntities, AllocError>
         ensures { IfOk result (λ indexed. indexed ≡ entities) }
     {
         let mut marks = BTreeSet::new(alloc);
+        let mut names = BTreeSet::new(alloc);
         let mut counts = Counts::nothing();
         for entity in entities.iter() {
-            mark_entity(&mut marks, entity)?;
+            add_entity(&mut marks, &mut names, entity)?;
             counts.add(entity.nature.kind());
         }
         Ok(IndexedEntities {
             entities,
             marks,
+            names,
             counts,
         })
     }
@@ -211,7 +259,14 @@ impl IndexedEntities {
     ) -> Result<Vec<EntityId>, AllocError>
         ensures { IfOk result (λ found. found.items ≡ dependents_in (entity_map self.now) id) }
     {
-        self.entities.dependents(alloc, id)
+        dependents_of(alloc, &self.entities, &self.names, id)
+    }
+
+    /// Whether some intent names a subscription. It takes no memory.
+    pub(crate) fn is_named(&self, id: EntityId) -> bool
+        ensures { result ≡ is_named_in (entity_map self.now) id }
+    {
+        is_named(&self.entities, &self.names, id)
     }
 
     /// Puts an entity in the place of the one that has its kind and id, or among the others where
@@ -223,7 +278,7 @@ impl IndexedEntities {
     {
         let kind = entity.nature.kind();
         let is_new = self.entities.at(kind, entity.id.number()).is_none();
-        put_entity(&mut self.entities, &mut self.marks, entity)?;
+        put_entity(&mut self.entities, &mut self.marks, &mut self.names, entity)?;
         if is_new {
             self.counts.add(kind);
         }
@@ -234,9 +289,16 @@ impl IndexedEntities {
     pub(crate) fn remove(&mut self, kind: Kind, id: EntityId)
         ensures { entity_map self.new ≡ remove (entity_map self.old) (kind, id) }
     {
-        if self.entities.at(kind, id.number()).is_some() {
+        let is_there = self.entities.at(kind, id.number()).is_some();
+        remove_entity(
+            &mut self.entities,
+            &mut self.marks,
+            &mut self.names,
+            kind,
+            id,
+        );
+        if is_there {
             self.counts.take(kind);
         }
-        remove_entity(&mut self.entities, &mut self.marks, kind, id);
     }
 }

@@ -1,9 +1,7 @@
 //! Subscriptions with an index by the cells of their volumes, so that a search costs what it finds.
-ghost use Rattle.std.specs.Prelude.{◌≡◌, [], filter_map, length, is_some, OnOk, OnErr, IfOk, IsOk, IsNone, IsSome};
+ghost use Rattle.std.specs.Prelude.{◌≡◌, [], filter_map, is_some, OnOk, OnErr, IfOk, IsOk, IsNone, IsSome};
 ghost use Rattle.std.specs.FinMap.{get, insert, remove};
 ghost use Rattle.std.specs.BTreeSet.{IsOrdered, keys};
-ghost use Rattle.std.specs.List.Sorted.{IsBinarySearchResult, IsSearchInRange};
-ghost use Rattle.std.specs.Option.{option_copied};
 ghost use Rattle.std.specs.Ordering.{nat_cmp};
 ghost use Rattle.entity_core.specs.Airspace.{is_one_of, told_where};
 ghost use Rattle.entity_core.specs.IdTexts.{same_text};
@@ -51,24 +49,6 @@ impl Model for IndexedSubscriptions {
 
 // ---- one subscription
 
-fn search_id(items: &[Sub], number: u128) -> Result<usize, usize>
-    ensures bound { IsSearchInRange result (length items.now) }
-    ensures position { IsBinarySearchResult (λ s. nat_cmp s.id number) items.now result }
-{
-    items.binary_search_by(|sub| sub.id.number().cmp(&number))
-}
-
-/// The subscription of the number of an id, which is all that an index has of it.
-pub(crate) fn at(subscriptions: &Subscriptions, number: u128) -> Option<&Sub>
-    ensures { option_copied result ≡ get (subscription_map subscriptions.now) number }
-{
-    let items = subscriptions.items();
-    match search_id(items, number) {
-        Ok(i) => Some(&items[i]),
-        Err(_) => None,
-    }
-}
-
 fn sub_holder(sub: &Sub) -> Holder
     ensures { result ≡ holder_of sub.now }
 {
@@ -96,7 +76,7 @@ fn enter_sub(
         → IsIndexIfAny (subscription_map subscriptions.now) marks.new) }
 {
     match marks {
-        Some(marks) => match at(subscriptions, id.number()) {
+        Some(marks) => match subscriptions.at(id.number()) {
             Some(sub) => mark_sub(marks, sub),
             None => Ok(()),
         },
@@ -114,7 +94,7 @@ fn forget_sub(
     ensures kept { IsIndexBut id (subscription_map subscriptions.now) marks.old
         → IsIndexBut id (subscription_map subscriptions.now) marks.new }
 {
-    match at(subscriptions, id.number()) {
+    match subscriptions.at(id.number()) {
         Some(sub) => {
             if let Some(marks) = marks {
                 unmark_cells(marks, sub_holder(sub), 0, sub.volume.cells());
@@ -134,7 +114,7 @@ fn remove_sub(subscriptions: &mut Subscriptions, marks: &mut Option<BTreeSet<Mar
 {
     forget_sub(marks, subscriptions, id);
     subscriptions.remove(id);
-    let _left = subscriptions.items();
+    let _left = subscriptions.iter();
 }
 
 // The new marks are made of what was put, so that they can go out again. Where they find no memory,
@@ -151,7 +131,7 @@ fn put_sub(
     ensures err { OnErr result (subscriptions.new ≡ subscriptions.old) }
     ensures over { IsSome (get (subscription_map subscriptions.old) sub.id) → IsOk result }
 {
-    let _before = subscriptions.items();
+    let _before = subscriptions.iter();
     let id = sub.id;
     let is_over = forget_sub(marks, subscriptions, id);
     subscriptions.put(sub)?;
@@ -188,7 +168,7 @@ fn is_own(
     ensures { Judges (get (subscription_map subscriptions.now)) volumes_of
         (is_own_of uss.now areas.now) areas.now part bits result }
 {
-    match at(subscriptions, part.0) {
+    match subscriptions.at(part.0) {
         Some(sub) => is_of(sub, uss) && meets_one_of(&sub.volume, bits, areas),
         None => false,
     }
@@ -226,7 +206,7 @@ fn is_wanted(
     ensures { Judges (get (subscription_map subscriptions.now)) volumes_of
         (is_for_near kind areas.now) areas.now part bits result }
 {
-    match at(subscriptions, part.0) {
+    match subscriptions.at(part.0) {
         Some(sub) => sub.interest.wants(kind) && meets_one_of(&sub.volume, bits, areas),
         None => false,
     }
@@ -265,7 +245,7 @@ fn all_of(
 {
     let mut found = Vec::new(alloc);
     for id in ids {
-        if let Some(sub) = at(subscriptions, *id) {
+        if let Some(sub) = subscriptions.at(*id) {
             found.push(sub.clone()?)?;
         }
     }
@@ -318,7 +298,7 @@ impl IndexedSubscriptions {
         }
     }
 
-    /// The subscriptions of a list, each with its marks.
+    /// The subscriptions of a tree, each with its marks.
     pub(crate) fn of(
         alloc: Global,
         subscriptions: Subscriptions,
@@ -326,7 +306,7 @@ impl IndexedSubscriptions {
         ensures { IfOk result (λ indexed. indexed ≡ subscriptions) }
     {
         let mut marks = BTreeSet::new(alloc);
-        for sub in subscriptions.items() {
+        for sub in subscriptions.iter() {
             mark_sub(&mut marks, sub)?;
         }
         Ok(IndexedSubscriptions {

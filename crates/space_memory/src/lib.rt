@@ -1,5 +1,5 @@
-//! An airspace in memory: its entities in a tree and its lists, with an index of the entities and
-//! one of the subscriptions by their cells.
+//! An airspace in memory: its entities and its subscriptions in trees, and a list, with an index of
+//! the entities and one of the subscriptions by their cells, and one of what intents name.
 #![tactic(auto)]
 
 mod cell_index;
@@ -10,6 +10,7 @@ mod indexed_subscriptions;
 pub mod listing;
 mod maps;
 pub mod memory;
+mod names;
 mod near;
 pub mod settled;
 mod shown;

@@ -1,4 +1,4 @@
-//! A space in memory: a tree of the entities, and sorted lists of the subscriptions and of what
+//! A space in memory: a tree of the entities, one of the subscriptions, and a sorted list of what
 //! suppliers have set; entities and subscriptions are found by their cells.
 ghost use Rattle.std.specs.Prelude.{◌≡◌, ◌≤◌, ℕ, false, ◌+◌, Ok, OnOk, OnErr, min, IfOk, IsOk, IsNone, IsTrue};
 ghost use Rattle.std.specs.FinMap.{get};
@@ -21,6 +21,7 @@ use entity_core::serial::GREATEST_SERIAL;
 use entity_core::subscription::Sub;
 use entity_core::uss_id::UssId;
 use entity_maps::availabilities::Availabilities;
+use entity_sweep::gone::Gone;
 use grid_core::volume::Area;
 use space_core::met::Met;
 use space_core::space::{Change, Space, SpaceFault};
@@ -35,8 +36,8 @@ pub struct MemorySpace {
     pub(crate) availabilities: Availabilities,
     pub(crate) serial: u64,
     pub(crate) refusals: u64,
-    // the entity that was let go of last: where the next that has ended is looked for
-    pub(crate) last_gone: Option<(Kind, EntityId)>,
+    // what was let go of last: where the next that has ended is looked for
+    pub(crate) last_gone: Option<Gone>,
     ghost told: { AllTold subscriptions serial },
 }
 

@@ -1,34 +1,23 @@
 //! What has ended is found in a space in memory, piece by piece, and goes.
-ghost use Rattle.std.specs.Prelude.{◌≡◌, ℕ, ◌<◌, ◌||◌, IfOk, IsFalse, OnOk, List, length, true, Some};
-ghost use Rattle.std.specs.BTreeSet.{contains};
-ghost use Rattle.std.specs.FinMap.{get};
-ghost use Rattle.std.specs.List.{list_any};
+ghost use Rattle.std.specs.Prelude.{◌≡◌, ℕ, ◌<◌, IfOk, IsFalse, List, length};
 ghost use Rattle.std.specs.Map.{values_of};
-ghost use Rattle.std.specs.Ordering.{nat_cmp};
-ghost use Rattle.entity_core.specs.Search.{is_naming};
-ghost use Rattle.entity_core.specs.declared.subscription.Sub.{Sub};
 ghost use Rattle.entity_maps.specs.declared.availabilities.Setting.{Setting};
-ghost use Rattle.entity_maps.specs.Entities.{InOrder, entity_map, pair_of};
+ghost use Rattle.entity_maps.specs.Entities.{entity_map};
 ghost use Rattle.entity_maps.specs.Lists.{airspace_of};
-ghost use Rattle.entity_maps.specs.Subscriptions.{InOrder as SubsInOrder, subscription_map};
 ghost use Rattle.entity_sweep.specs.Gone.{IsPiece, less_all, less_one};
 ghost use Rattle.entity_sweep.specs.Sweep.{has_ended, sub_has_ended};
 ghost use Rattle.space_memory.specs.Memory.{content_of, refusals_of};
-ghost use Rattle.space_memory.specs.Swept.{AreFirst, AreSome, TellNamed, ended_in, free_in, is_ended_there, is_free};
+ghost use Rattle.space_memory.specs.Swept.{AreFirst, IsPieceIfAny, ended_in, free_in, is_free};
 
-use crate::found::add_at;
 use crate::indexed::IndexedEntities;
-use crate::indexed_subscriptions::{IndexedSubscriptions, at};
+use crate::indexed_subscriptions::IndexedSubscriptions;
 use crate::memory::MemorySpace;
 use entity_core::entity::Entity;
-use entity_core::entity_id::EntityId;
-use entity_core::nature::Kind;
 use entity_core::subscription::Sub;
-use entity_maps::entities::{Entities, Key};
+use entity_maps::entities::Key;
 use entity_maps::subscriptions::Subscriptions;
 use entity_sweep::gone::Gone;
 use std::alloc::{AllocError, Global};
-use std::collections::BTreeSet;
 use std::collections::btree_map::Range;
 
 /// A piece ends once what it lets go of has more cells than these together. Each cell is a row to
@@ -49,14 +38,11 @@ fn sub_has_ended(sub: &Sub, until: u64) -> bool
     sub.volume.time().1 <= until
 }
 
-// Whether there is a subscription of an id, and it has ended.
-fn is_ended_there(subscriptions: &Subscriptions, id: EntityId, until: u64) -> bool
-    ensures { result ≡ is_ended_there until (get (subscription_map subscriptions.now) id) }
+// Whether a subscription has ended, and no intent names it.
+fn is_free(sub: &Sub, entities: &IndexedEntities, until: u64) -> bool
+    ensures { result ≡ is_free until (entity_map entities.now) sub.now }
 {
-    match at(subscriptions, id.number()) {
-        Some(sub) => sub_has_ended(sub, until),
-        None => false,
-    }
+    sub_has_ended(sub, until) && !entities.is_named(sub.id)
 }
 
 // How many cells the volumes of an entity have.
@@ -102,95 +88,22 @@ fn first_ended(
     Ok(gone)
 }
 
-// Of the entities that have ended the first ones from where the last one went on; none only where
-// none has ended there.
-fn ended_from(
+// Of some subscriptions those that have ended and that no intent names, the first ones.
+fn first_free(
     alloc: Global,
-    entities: &Entities,
-    last: Option<(Kind, EntityId)>,
+    subscriptions: Range<'_, u128, Sub>,
+    entities: &IndexedEntities,
     until: u64,
     most: usize,
 ) -> Result<Vec<Gone>, AllocError>
     requires { 0 < most }
-    ensures { IfOk result (λ gone. AreSome until most gone.items entities.now) }
-{
-    match last {
-        Some((kind, id)) => first_ended(alloc, entities.from(kind, id), until, most),
-        None => Ok(Vec::new(alloc)),
-    }
-}
-
-// Adds the id of the subscription that an entity names, if it names one that has ended.
-fn note_named(
-    named: &mut BTreeSet<u128>,
-    entity: &Entity,
-    subscriptions: &Subscriptions,
-    until: u64,
-) -> Result<(), AllocError>
-    ensures { OnOk result ((id : ℕ) (s : Sub)
-        → get (subscription_map subscriptions.now) id ≡ Some s → sub_has_ended until s ≡ true
-        → contains nat_cmp named.new id
-        ≡ contains nat_cmp named.old id || is_naming id (pair_of entity.now)) }
-{
-    match entity.nature.subscription() {
-        Some(id) => {
-            let answer = is_ended_there(subscriptions, id, until);
-            add_at(named, id.number(), answer)
-        }
-        None => Ok(()),
-    }
-}
-
-// Whether some subscription has ended.
-fn some_ended(subscriptions: &[Sub], until: u64) -> bool
-    ensures { result ≡ list_any (sub_has_ended until) subscriptions.now }
-{
-    subscriptions.iter().any(|sub| sub_has_ended(sub, until))
-}
-
-// The ids of the subscriptions that have ended and that an intent names. It walks once over the
-// entities, however many subscriptions have ended, and not at all where none has.
-fn named_ended(
-    alloc: Global,
-    entities: &Entities,
-    subscriptions: &Subscriptions,
-    until: u64,
-) -> Result<BTreeSet<u128>, AllocError>
-    ensures { IfOk result (λ named. TellNamed until (entity_map entities.now)
-        (subscription_map subscriptions.now) named) }
-{
-    let mut named = BTreeSet::new(alloc);
-    if !some_ended(subscriptions.items(), until) {
-        return Ok(named);
-    }
-    for entity in entities.iter() {
-        note_named(&mut named, entity, subscriptions, until)?;
-    }
-    Ok(named)
-}
-
-// Whether a subscription has ended, and is not among these.
-fn is_free(sub: &Sub, named: &BTreeSet<u128>, until: u64) -> bool
-    ensures { result ≡ is_free until named.now sub.now }
-{
-    sub_has_ended(sub, until) && !named.contains(&sub.id.number())
-}
-
-// Of the subscriptions that have ended and are not among these the first ones.
-fn free_subscriptions(
-    alloc: Global,
-    items: &[Sub],
-    named: &BTreeSet<u128>,
-    until: u64,
-    most: usize,
-) -> Result<Vec<Gone>, AllocError>
-    requires { 0 < most }
-    ensures { IfOk result (λ gone. AreFirst most gone.items (free_in until named.now items.now)) }
+    ensures { IfOk result (λ gone. AreFirst most gone.items
+        (free_in until (entity_map entities.now) (values_of subscriptions.entry))) }
 {
     let mut gone = Vec::new(alloc);
     let mut cells = 0usize;
-    for sub in items {
-        if is_free(sub, named, until) {
+    for (_, sub) in subscriptions {
+        if is_free(sub, entities, until) {
             gone.push(Gone::Subscription(sub.id))?;
             cells = cells.saturating_add(sub.volume.cells().len());
             if is_full(&gone, cells, most) {
@@ -201,13 +114,59 @@ fn free_subscriptions(
     Ok(gone)
 }
 
+// What is found from where one went on, entities alone or subscriptions alone.
+fn piece_from(
+    alloc: Global,
+    entities: &IndexedEntities,
+    subscriptions: &Subscriptions,
+    last: Gone,
+    until: u64,
+    most: usize,
+) -> Result<Vec<Gone>, AllocError>
+    requires { 0 < most }
+    ensures { IfOk result (λ gone. (settings : List Setting) (serial : ℕ)
+        → IsPieceIfAny until most gone.items
+        (airspace_of entities.now subscriptions.now settings serial)) }
+{
+    match last {
+        Gone::Entity(kind, id) => {
+            let next = entities.entities().from(kind, id);
+            first_ended(alloc, next, until, most)
+        }
+        Gone::Subscription(id) => {
+            let next = subscriptions.from(id);
+            first_free(alloc, next, entities, until, most)
+        }
+    }
+}
+
+// The same of the last one, and nothing where none went.
+fn next_piece(
+    alloc: Global,
+    entities: &IndexedEntities,
+    subscriptions: &Subscriptions,
+    last: Option<Gone>,
+    until: u64,
+    most: usize,
+) -> Result<Vec<Gone>, AllocError>
+    requires { 0 < most }
+    ensures { IfOk result (λ gone. (settings : List Setting) (serial : ℕ)
+        → IsPieceIfAny until most gone.items
+        (airspace_of entities.now subscriptions.now settings serial)) }
+{
+    match last {
+        Some(last) => piece_from(alloc, entities, subscriptions, last, until, most),
+        None => Ok(Vec::new(alloc)),
+    }
+}
+
 // It is looked first where the last one went, since each look from the start on passes all that
-// stays. A subscription goes only once no entity does: what names it may go, too.
+// stays. From the start on, entities come before subscriptions: what names one may go, too.
 fn piece_of(
     alloc: Global,
-    entities: &Entities,
+    entities: &IndexedEntities,
     subscriptions: &Subscriptions,
-    last: Option<(Kind, EntityId)>,
+    last: Option<Gone>,
     until: u64,
     most: usize,
 ) -> Result<Vec<Gone>, AllocError>
@@ -216,17 +175,15 @@ fn piece_of(
         → IsPiece until most gone.items
         (airspace_of entities.now subscriptions.now settings serial)) }
 {
-    let all = entities.entries();
-    let next = ended_from(alloc, entities, last, until, most)?;
+    let next = next_piece(alloc, entities, subscriptions, last, until, most)?;
     if !next.is_empty() {
         return Ok(next);
     }
-    let gone = first_ended(alloc, all, until, most)?;
+    let gone = first_ended(alloc, entities.entities().entries(), until, most)?;
     if !gone.is_empty() {
         return Ok(gone);
     }
-    let named = named_ended(alloc, entities, subscriptions, until)?;
-    free_subscriptions(alloc, subscriptions.items(), &named, until, most)
+    first_free(alloc, subscriptions.entries(), entities, until, most)
 }
 
 // ---- what goes
@@ -256,19 +213,10 @@ fn let_all_go(
     }
 }
 
-// The entity that goes last.
-fn last_entity(gone: &[Gone]) -> Option<(Kind, EntityId)> {
-    match gone.last() {
-        Some(Gone::Entity(kind, id)) => Some((*kind, *id)),
-        _ => None,
-    }
-}
-
 impl MemorySpace {
     /// Some of what a sweep until a moment takes, at most so many; none only where nothing is left
-    /// that goes. A piece has entities alone while some have ended, and else subscriptions, which
-    /// no intent names then. It ends early once what it has counts over 1,024 cells together. The
-    /// error is want of memory.
+    /// that goes. A piece has entities alone, or subscriptions alone, which no intent names then. It
+    /// ends early once what it has counts over 1,024 cells together. The error is want of memory.
     pub fn ended(&self, until: u64, most: usize) -> Result<Vec<Gone>, AllocError>
         ensures { IfOk result (λ gone. IsPiece until most gone.items (content_of self.now)) }
     {
@@ -277,7 +225,7 @@ impl MemorySpace {
         }
         piece_of(
             self.alloc,
-            self.entities.entities(),
+            &self.entities,
             self.subscriptions.subscriptions(),
             self.last_gone,
             until,
@@ -291,7 +239,7 @@ impl MemorySpace {
         ensures content { content_of self.new ≡ less_all gone.now (content_of self.old) }
         ensures refusals { refusals_of self.new ≡ refusals_of self.old }
     {
-        self.last_gone = last_entity(gone).or(self.last_gone);
+        self.last_gone = gone.last().copied().or(self.last_gone);
         let_all_go(&mut self.entities, &mut self.subscriptions, gone);
     }
 }

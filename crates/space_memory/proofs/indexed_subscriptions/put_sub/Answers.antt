@@ -15,5 +15,5 @@ returns-in-Ok-clause-index c =
 
 pub returns-else-is_over-clause-err : goal.returns-else-is_over-clause-err
 returns-else-is_over-clause-err c =
-    undone c.args.subscriptions.now c.put.new.self c.remove_sub.new.subscriptions c.args.sub.id c.args.sub c.items-before.ensures.order c.remove_sub.ensures.order
+    undone c.args.subscriptions.now c.put.new.self c.remove_sub.new.subscriptions c.args.sub.id c.args.sub c.iter-before.ensures.order c.remove_sub.ensures.order
     (nothing_there (subscription_map c.args.subscriptions.now) c.args.sub.id (sym c.forget_sub-is_over.ensures.there ∙ c.if-is_over.false)) c.in_ok-put.ensures.ok c.remove_sub.ensures.removed

@@ -4,7 +4,8 @@ use Rattle.std.specs.Map.{values_of}
 use Rattle.std.specs.Map.Iter.{deref_pair}
 use Rattle.std.specs.declared.ops.Bound.TheVariants.{Included, Excluded}
 use Rattle.std.proofs.lemmas.Map.Iter.{rest_all}
-use Rattle.entity_maps.proofs.EntityTrees.{all_found, all_gone, number_cmp}
+use Rattle.entity_maps.proofs.EntityTrees.{all_found, number_cmp}
+use Rattle.entity_maps.proofs.Trees.{all_gone}
 use Rattle.entity_maps.proofs.entities.Entities.all.Goals as goal
 
 pub returns : goal.returns

@@ -1,7 +1,8 @@
 use Rattle.std.proofs.Common.{refl, ap, ◌∙◌}
 use Rattle.std.specs.Map.Iter.{deref}
 use Rattle.std.proofs.lemmas.Map.Iter.{rest_all}
-use Rattle.entity_maps.proofs.EntityTrees.{all_gone, dependents_found, naming}
+use Rattle.entity_maps.proofs.EntityTrees.{dependents_found, naming}
+use Rattle.entity_maps.proofs.Trees.{all_gone}
 use Rattle.entity_maps.proofs.entities.Entities.dependents.Goals as goal
 
 pub returns : goal.returns

@@ -1,7 +1,8 @@
 use Rattle.std.proofs.Common.{refl, ap, ◌∙◌}
 use Rattle.std.specs.Map.{values_of}
 use Rattle.std.proofs.lemmas.Map.Iter.{rest_all}
-use Rattle.entity_maps.proofs.EntityTrees.{all_gone, order_kept}
+use Rattle.entity_maps.proofs.EntityTrees.{order_kept}
+use Rattle.entity_maps.proofs.Trees.{all_gone}
 use Rattle.entity_maps.proofs.entities.Entities.into_vec.Goals as goal
 
 pub returns-clause-items : goal.returns-clause-items

@@ -1,7 +1,8 @@
 use Rattle.std.proofs.Common.{refl, ap, ◌∙◌}
 use Rattle.std.specs.Map.Iter.{deref}
 use Rattle.std.proofs.lemmas.Map.Iter.{rest_all}
-use Rattle.entity_maps.proofs.EntityTrees.{all_gone, meeting_found, wanted}
+use Rattle.entity_maps.proofs.EntityTrees.{meeting_found, wanted}
+use Rattle.entity_maps.proofs.Trees.{all_gone}
 use Rattle.entity_maps.proofs.entities.Entities.meeting_sorted.Goals as goal
 
 pub returns : goal.returns

@@ -1,12 +1,17 @@
+use Rattle.std.proofs.Common.{ℕ, None, sym, ap, ◌∙◌, subst}
+use Rattle.std.specs.Prelude.{cond}
+use Rattle.std.specs.BTreeMap as tree
+use Rattle.std.specs.BTreeMap.{is_at}
 use Rattle.std.specs.Ordering.{nat_cmp}
-use Rattle.std.specs.FinMap.{nat_cmp-IsAntisymmetric}
-use Rattle.std.proofs.lemmas.Cmp.{nat_cmp_total}
-use Rattle.entity_maps.specs.Subscriptions.{pair_of}
-use Rattle.entity_maps.proofs.Places.{remove_order, remove_map}
+use Rattle.entity_maps.specs.Subscriptions.{AreKeyed}
+use Rattle.entity_maps.proofs.SubscriptionTrees.{keyed_without, without_map}
 use Rattle.entity_maps.proofs.subscriptions.Subscriptions.remove.Goals as goal
 
 pub invariant_of-self : goal.invariant_of-self
-invariant_of-self c = remove_order nat_cmp pair_of nat_cmp_total c.self.inside.items.items c.remove_from-gone.new.items.items c.args.id c.self.invariant c.remove_from-gone.ensures
+invariant_of-self c = subst AreKeyed (sym c.remove-gone.ensures.entries) (keyed_without (is_at (nat_cmp c.number.result)) c.self.inside.tree.entries c.self.invariant)
 
 pub returns : goal.returns
-returns c = remove_map nat_cmp pair_of nat_cmp_total nat_cmp-IsAntisymmetric c.self.inside.items.items c.remove_from-gone.new.items.items c.args.self.now c.args.id c.self.view_is c.self.invariant c.remove_from-gone.ensures
+returns c =
+    let left = subst AreKeyed (sym c.remove-gone.ensures.entries) (keyed_without (is_at (nat_cmp c.number.result)) c.self.inside.tree.entries c.self.invariant) in
+    without_map c.self.inside.tree c.remove-gone.new.self c.args.self.now c.self.view_is c.self.invariant left c.args.id
+    (λ q. c.remove-gone.ensures.updates.0 q ∙ ap (λ (k : ℕ). cond (is_at (nat_cmp k) q) None (tree.get nat_cmp c.self.inside.tree q)) c.number.ensures)

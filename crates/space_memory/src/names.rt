@@ -1,0 +1,98 @@
+//! An index by what intents name: the intents that name a subscription are found with no look at
+//! any other.
+ghost use Rattle.std.specs.Prelude.{◌≡◌, IfOk, OnOk};
+ghost use Rattle.entity_core.specs.Search.{dependents_in};
+ghost use Rattle.entity_maps.specs.Entities.{entity_map};
+ghost use Rattle.entity_sweep.specs.Sweep.{is_named_in};
+ghost use Rattle.space_memory.specs.Names.{ArePairsOf, IsEntered, IsNameIndex, NamesMore, dependent_at};
+
+use entity_core::entity::Entity;
+use entity_core::entity_id::EntityId;
+use entity_core::nature::Kind;
+use entity_maps::entities::Entities;
+use std::alloc::{AllocError, Global};
+use std::collections::BTreeSet;
+use std::collections::btree_set::Range;
+
+/// The number of a subscription's id, and that of the id of an intent that names it.
+pub(crate) type Naming = (u128, u128);
+
+// ---- what goes in and out
+
+/// Adds the pair of an entity, if it names a subscription. On an error nothing is changed.
+pub(crate) fn enter_name(names: &mut BTreeSet<Naming>, entity: &Entity) -> Result<(), AllocError>
+    ensures kept { NamesMore names.old names.new }
+    ensures entered { OnOk result (IsEntered names.new entity.now) }
+{
+    if let Some(id) = entity.nature.subscription() {
+        names.insert((id.number(), entity.id.number()))?;
+    }
+    Ok(())
+}
+
+// The id of the intent of this number, if there is one and it names the subscription.
+fn dependent_at(entities: &Entities, id: EntityId, intent: u128) -> Option<EntityId>
+    ensures { result ≡ dependent_at (entity_map entities.now) id intent }
+{
+    match entities.at(Kind::Intent, intent) {
+        Some(entity) => match entity.nature.subscription() {
+            Some(named) if named.is(id) => Some(entity.id),
+            _ => None,
+        },
+        None => None,
+    }
+}
+
+/// Takes the pair of an entity out, unless the intent of its id names the same subscription.
+pub(crate) fn forget_name(names: &mut BTreeSet<Naming>, entities: &Entities, gone: &Entity)
+    ensures { IsNameIndex (entity_map entities.now) names.old
+        → IsNameIndex (entity_map entities.now) names.new }
+{
+    if let Some(id) = gone.nature.subscription() {
+        if dependent_at(entities, id, gone.id.number()).is_none() {
+            names.remove(&(id.number(), gone.id.number()));
+        }
+    }
+}
+
+// ---- what is found
+
+// The pairs of a subscription, by the rising ids of the intents.
+fn pairs_of(names: &BTreeSet<Naming>, id: EntityId) -> Range<'_, Naming>
+    ensures { ArePairsOf names.now id result }
+{
+    let number = id.number();
+    names.range((number, 0)..=(number, u128::MAX))
+}
+
+/// The ids of the intents that name a subscription, rising.
+pub(crate) fn dependents_of(
+    alloc: Global,
+    entities: &Entities,
+    names: &BTreeSet<Naming>,
+    id: EntityId,
+) -> Result<Vec<EntityId>, AllocError>
+    requires { IsNameIndex (entity_map entities.now) names.now }
+    ensures { IfOk result (λ found. found.items ≡ dependents_in (entity_map entities.now) id) }
+{
+    let mut found = Vec::new(alloc);
+    for pair in pairs_of(names, id) {
+        if let Some(intent) = dependent_at(entities, id, pair.1) {
+            found.push(intent)?;
+        }
+    }
+    Ok(found)
+}
+
+/// Whether some intent names a subscription. It takes no memory.
+pub(crate) fn is_named(entities: &Entities, names: &BTreeSet<Naming>, id: EntityId) -> bool
+    requires { IsNameIndex (entity_map entities.now) names.now }
+    ensures { result ≡ is_named_in (entity_map entities.now) id }
+{
+    for pair in pairs_of(names, id) {
+        if dependent_at(entities, id, pair.1).is_some() {
+            return true;
+        }
+    }
+    false
+}
