@@ -262,6 +262,11 @@ impl IndexedEntities {
         dependents_of(alloc, &self.entities, &self.names, id)
     }
 
+    /// About how many intents name a subscription.
+    pub(crate) fn namings(&self) -> usize {
+        self.names.len()
+    }
+
     /// Whether some intent names a subscription. It takes no memory.
     pub(crate) fn is_named(&self, id: EntityId) -> bool
         ensures { result ≡ is_named_in (entity_map self.now) id }

@@ -24,6 +24,10 @@ use std::collections::btree_map::Range;
 /// be deleted, and no client should wait long for it.
 const MOST_CELLS: usize = 1024;
 
+// To delete a subscription takes a look at all that intents name, since tables have no index of it:
+// so many of these take as long as the row of a cell.
+const NAMINGS_A_CELL: usize = 40;
+
 // ---- what has ended
 
 fn has_ended(entity: &Entity, until: u64) -> bool
@@ -100,12 +104,14 @@ fn first_free(
     ensures { IfOk result (λ gone. AreFirst most gone.items
         (free_in until (entity_map entities.now) (values_of subscriptions.entry))) }
 {
+    let looked_at = entities.namings() / NAMINGS_A_CELL;
     let mut gone = Vec::new(alloc);
     let mut cells = 0usize;
     for (_, sub) in subscriptions {
         if is_free(sub, entities, until) {
             gone.push(Gone::Subscription(sub.id))?;
-            cells = cells.saturating_add(sub.volume.cells().len());
+            let own = sub.volume.cells().len();
+            cells = cells.saturating_add(own.saturating_add(looked_at));
             if is_full(&gone, cells, most) {
                 return Ok(gone);
             }
@@ -216,7 +222,8 @@ fn let_all_go(
 impl MemorySpace {
     /// Some of what a sweep until a moment takes, at most so many; none only where nothing is left
     /// that goes. A piece has entities alone, or subscriptions alone, which no intent names then. It
-    /// ends early once what it has counts over 1,024 cells together. The error is want of memory.
+    /// ends early once what it has counts over 1,024 cells together, where a subscription counts
+    /// for one more for each 40 intents that name any. The error is want of memory.
     pub fn ended(&self, until: u64, most: usize) -> Result<Vec<Gone>, AllocError>
         ensures { IfOk result (λ gone. IsPiece until most gone.items (content_of self.now)) }
     {
