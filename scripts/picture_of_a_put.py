@@ -12,21 +12,21 @@ TOP = pathlib.Path(__file__).resolve().parent.parent
 # each a step in, below a function that calls it: the file and the function
 WAY = """
 serve::serve_clients
-  port::round
-    peer::turn
-      link::receive
+  event_loop::run_once
+    client_connection::turn
+      client_io::receive
       connection::advance
-        held::next_held
+        buffered::next_held
           rest::head_so_far
         call::ask
           routes::find
-          place::kind
+          endpoint::kind
           body::read_body
           token_table::caller
         service::call
           early::early
           decide::decide
-            look::look
+            look_up::look_up
               indexed::entity
               indexed_subscriptions::subscription
             standing::standing
@@ -38,42 +38,42 @@ serve::serve_clients
             ovn::ovn_of
             indexed_subscriptions::for_kind
             notice::notices_of
-          changes::wait
-            memory::follow
-        text::answer_text
+          changes::enqueue
+            memory::replicate
+        text::response_text
           answer::reply_text
-    port::settle
-      service::settle
-        changes::settle
-          round::make_changes
+    event_loop::commit_batch
+      service::commit
+        changes::commit
+          batch::commit_batch
             put::put_entity
-            tell::tell_all
-      peer::tell
-        connection::let_go
-        link::send
+            notify::notify_all
+      client_connection::tell
+        connection::release_deferred
+        client_io::send
 """
 # where a part of the way begins, and what it is
 PARTS = {
     "serve::serve_clients": "all connections",
-    "port::round": "a round of their calls",
-    "peer::turn": "a turn of one of them",
+    "event_loop::run_once": "a round of their calls",
+    "client_connection::turn": "a turn of one of them",
     "connection::advance": "the next request, answered",
-    "held::next_held": "a whole request",
+    "buffered::next_held": "a whole request",
     "call::ask": "the call that it makes",
     "early::early": "the rules that look at the call alone",
-    "look::look": "what the call names, from the copy in memory",
+    "look_up::look_up": "what the call names, from the copy in memory",
     "standing::standing": "the rules on what was found",
     "needed::needed_with": "the key",
     "effects::prepare": "the change and the answer, made",
-    "changes::wait": "the change is seen, and waits",
-    "text::answer_text": "the answer, held back",
-    "port::settle": "the end of the round",
-    "round::make_changes": "one transaction, one sync",
-    "peer::tell": "and each is answered",
+    "changes::enqueue": "the change is seen, and waits",
+    "text::response_text": "the answer, held back",
+    "event_loop::commit_batch": "the end of the round",
+    "batch::commit_batch": "one transaction, one sync",
+    "client_connection::tell": "and each is answered",
 }
 # the columns: the crates of each, by how their names begin
 LANES = {
-    "the wire": ("dss_", "wire_", "token_conf"), "the service": ("service_",), "the rules": ("policy_", "entity_"),
+    "the wire": ("dss_", "admin_", "wire_", "token_conf"), "the service": ("service_",), "the rules": ("policy_", "entity_"),
     "tables and copy": ("space_",),
 }
 FUNCTION = re.compile(r"^( *)(?:pub(?:\(\w+\))? )?fn (\w+)", re.M)
@@ -121,9 +121,9 @@ def named(crate, name):
 @functools.cache
 def spaces():
     """The calls of the traits of spaces, and the crates of the space over tables and of its copy in memory."""
-    calls = [name for crate, file, name in functions() if crate == "space_core" and file in ("space", "round", "settle")]
+    calls = [name for crate, file, name in functions() if crate == "space_core" and file in ("space", "batch", "group_commit")]
     sources = sorted(TOP.glob("crates/*/src/*.rt"))
-    is_space = re.compile(r"Space for (SqlSpace|Grouped|MemorySpace)\b")
+    is_space = re.compile(r"Space for (SqlSpace|Mirrored|MemorySpace)\b")
     return calls, [it.parent.parent.name for it in sources if is_space.search(it.read_text())]
 
 

@@ -7,7 +7,7 @@ import pathlib
 
 TOP = pathlib.Path(__file__).resolve().parent.parent
 CRATES = TOP / "crates.txt"
-FOR_TESTS = {"grid_vectors", "test_libraries", "tables_in_memory"}
+FOR_TESTS = {"test_grid_vectors", "test_libraries", "test_sql_memory"}
 # a box, what lies between boxes and between rows, and how far every other row stands aside, so that fewer lines cross boxes
 WIDE, HIGH, BESIDE, BETWEEN, MARGIN, ASIDE = 118, 26, 14, 44, 12, 66
 # how often crates of a row are laid under what they stand on

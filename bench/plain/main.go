@@ -1,5 +1,5 @@
 // Command plain is a service of the same routes and rules as dss, written the plain way, over SQLite's own C library: what
-// bench/beside measures dss beside. It serves a database of format 2 (docs/DATABASE.md) by docs/POLICY.md.
+// bench/compare measures dss beside. It serves a database of format 2 (docs/DATABASE.md) by docs/POLICY.md.
 //
 // Left out is what is not measured: the routes of constraints and subscriptions, constraints that a key needs, the making of
 // tables, and what no client of good will sends: the rules H1 to H5, escapes in paths, members of a wrong case, and wrong

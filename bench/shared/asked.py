@@ -1,4 +1,4 @@
-"""What is kept and what is asked where `dss serve` is measured beside the plain service (bench/beside)."""
+"""What is kept and what is asked where `dss serve` is measured beside the plain service (bench/compare)."""
 import time
 
 import tables

@@ -155,7 +155,7 @@ class Service:
 
     def __init__(self, files, port=None, database="dss.db", admin=None):
         self.files, self.port, self.database = files, port or free_port(), files.folder / database
-        self.options = [] if admin is None else ["--admin", str(admin)]
+        self.options = [] if admin is None else ["--admin-port", str(admin)]
         self.start()
 
     def start(self):

@@ -48,7 +48,7 @@ class Backed(Operated):
         super().__init__(**{"disk": "/dev/shm", "tokens": TOKENS, **more})
         self.backups = self.folder / "backups"
         self.backups.mkdir()
-        self.options = ("--backups", str(self.backups))
+        self.options = ("--backup-dir", str(self.backups))
         database = self.folder / "dss.db"
         run([BUILT, "upgrade", "--db", str(database)])
         with contextlib.closing(sqlite3.connect(database)) as opened, opened:
@@ -210,9 +210,9 @@ def folders():
         folder = pathlib.Path(room)
         (folder / "tokens.toml").write_text(wire.token_file())
         (folder / "file").write_text("")
-        words = [BUILT, "serve", "--tokens", f"{folder}/tokens.toml", "--db", f"{folder}/dss.db", "--port", "1", "--admin", "2"]
+        words = [BUILT, "serve", "--tokens", f"{folder}/tokens.toml", "--db", f"{folder}/dss.db", "--port", "1", "--admin-port", "2"]
         for name in ("missing", "file"):
-            found += difference(name, run([*words, "--backups", str(folder / name)]), (1, b"", NO_FOLDER))
+            found += difference(name, run([*words, "--backup-dir", str(folder / name)]), (1, b"", NO_FOLDER))
         found += difference("the database", run([BUILT, "report", "--db", f"{folder}/dss.db"]), (0, b"serial 0\n", b""))
     return found
 

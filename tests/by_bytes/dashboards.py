@@ -33,9 +33,9 @@ ALERTS = {
         {'dss_requests_total{operation="read_intent",status="503"}': "_x39 1x1"},
         {'dss_requests_total{operation="read_intent",status="503"}': "1x40"},
     ),
-    "DssStoreFaults": ({"dss_store_faults_total": "0x30 1x10"}, {"dss_store_faults_total": "1x40"}),
-    "DssMemoryFaults": ({"dss_memory_faults_total": "0x30 1x10"}, {"dss_memory_faults_total": "1x40"}),
-    "DssClockFaults": ({"dss_clock_faults_total": "0x30 1x10"}, {"dss_clock_faults_total": "1x40"}),
+    "DssStoreFailing": ({"dss_store_failures_total": "0x30 1x10"}, {"dss_store_failures_total": "1x40"}),
+    "DssMemoryFailing": ({"dss_memory_failures_total": "0x30 1x10"}, {"dss_memory_failures_total": "1x40"}),
+    "DssClockFailing": ({"dss_clock_failures_total": "0x30 1x10"}, {"dss_clock_failures_total": "1x40"}),
     "DssFails": (
         {'dss_requests_total{operation="create_intent",status="500"}': "1x33 2x7"},
         {'dss_requests_total{operation="create_intent",status="500"}': "3x40"},
@@ -44,13 +44,13 @@ ALERTS = {
         {f'dss_request_duration_seconds_bucket{{le="{bound}"}}': f"0+{count}x40" for bound, count in (("0.25", 90), ("2.5", 100), ("+Inf", 100))},
         {f'dss_request_duration_seconds_bucket{{le="{bound}"}}': "0+100x40" for bound in ("0.25", "2.5", "+Inf")},
     ),
-    "DssDeniesMany": ({'dss_requests_denied_total{rule="P4"}': "0+600x40"}, {'dss_requests_denied_total{rule="P4"}': "0+60x40"}),
-    "DssWithoutCopy": ({"dss_copy": "0x40"}, {"dss_copy": "1x40"}),
-    "DssTokensNotTaken": ({"dss_tokens_reload_failures_total": "0x35 1x5"}, {"dss_tokens_reload_failures_total": "1x40"}),
-    "DssLogLinesLost": ({"dss_log_lines_lost_total": "0x35 9x5"}, {"dss_log_lines_lost_total": "9x40"}),
-    "DssNearItsClients": ({"dss_connections_open": "901x40"}, {"dss_connections_open": "900x40"}),
-    "DssSweepFaults": ({"dss_sweep_faults_total": "0x34 1+1x5"}, {"dss_sweep_faults_total": "0x34 1x5"}),
-    "DssStartsAgain": ({"dss_start_time_seconds": "1x28 2x3 3x3 4x6"}, {"dss_start_time_seconds": "1x30 2x10"}),
+    "DssManyDenials": ({'dss_requests_denied_total{rule="P4"}': "0+600x40"}, {'dss_requests_denied_total{rule="P4"}': "0+60x40"}),
+    "DssMirrorDown": ({"dss_mirror_up": "0x40"}, {"dss_mirror_up": "1x40"}),
+    "DssTokensRejected": ({"dss_tokens_reload_failures_total": "0x35 1x5"}, {"dss_tokens_reload_failures_total": "1x40"}),
+    "DssLogLinesDropped": ({"dss_log_lines_dropped_total": "0x35 9x5"}, {"dss_log_lines_dropped_total": "9x40"}),
+    "DssNearConnectionLimit": ({"dss_connections_open": "901x40"}, {"dss_connections_open": "900x40"}),
+    "DssPurgeFailing": ({"dss_purge_failures_total": "0x34 1+1x5"}, {"dss_purge_failures_total": "0x34 1x5"}),
+    "DssRestarting": ({"dss_start_time_seconds": "1x28 2x3 3x3 4x6"}, {"dss_start_time_seconds": "1x30 2x10"}),
 }
 
 

@@ -73,7 +73,7 @@ class Seen:
         """How what is counted is otherwise."""
         requests = {f'dss_requests_total{{operation="{name}",status="{status}"}}': f"{it}" for (name, status), it in self.answered.items()}
         rules = {f'dss_requests_denied_total{{rule="{it}"}}': f"{self.denied[it]}" for it in RULES}
-        found = difference("bytes", counted["dss_answer_bytes_total"], f"{self.size}")
+        found = difference("bytes", counted["dss_response_bytes_total"], f"{self.size}")
         for name, wanted in ("dss_requests_total", requests), ("dss_requests_denied_total", rules):
             found += difference(name, {key: it for key, it in counted.items() if key.startswith(f"{name}{{")}, wanted)
         return found + self.took(counted)
@@ -155,7 +155,7 @@ FAULTED = wire.answer(*FAULT, closes=True)
 
 def states(started):
     """Its health, and how many faults of the database are counted."""
-    return started.asked(HEALTH), started.counted()["dss_store_faults_total"]
+    return started.asked(HEALTH), started.counted()["dss_store_failures_total"]
 
 
 def full_disk():

@@ -1,4 +1,4 @@
-"""`serve --log`: a line for each request, to the letter, with nothing of tokens, OVNs and bodies; a file that is moved away, one that cannot
+"""`serve --access-log`: a line for each request, to the letter, with nothing of tokens, OVNs and bodies; a file that is moved away, one that cannot
 be written to, and one that cannot be opened."""
 import datetime
 import re
@@ -21,7 +21,7 @@ MOMENT = re.compile(r"\d{4}-\d\d-\d\dT\d\d:\d\d:\d\d\.\d{3}Z")
 UUID = re.compile(r"[0-9A-Fa-f]{8}(?:-[0-9A-Fa-f]{4}){3}-[0-9A-Fa-f]{12}")
 # bytes of a file that a process may write, and what is left of them for the first line
 MOST, LEFT = 4_194_304, 50
-LOST = "dss_log_lines_lost_total"
+LOST = "dss_log_lines_dropped_total"
 
 
 class Logged(Operated):
@@ -34,7 +34,7 @@ class Logged(Operated):
         return self.folder / self.name
 
     def command(self):
-        return [*super().command(), "--log", str(self.log)]
+        return [*super().command(), "--access-log", str(self.log)]
 
 
 def lines_of(file):
@@ -117,7 +117,7 @@ def drawn():
 class ToStandardError(Service):
     """`dss serve` with its log on standard error."""
 
-    options = ("--log", "-")
+    options = ("--access-log", "-")
 
 
 def by_letter():
@@ -216,7 +216,7 @@ def not_opened():
         started.kill()
         (started.folder / "dss.db").unlink(missing_ok=True)
         for name in f"{started.folder}/none/log", str(started.folder):
-            got = run([*started.command(), "--log", name])
+            got = run([*started.command(), "--access-log", name])
             if got != (1, b"", b"dss: output\n"):
                 return [f"{name}: {got!r}"]
         return [] if not (started.folder / "dss.db").exists() else ["a database was made"]

@@ -222,7 +222,7 @@ def ends_with_the_last():
 
 
 def one_at_a_time():
-    """With `--clients 1` the second connection is served when the first is closed."""
+    """With `--max-connections 1` the second connection is served when the first is closed."""
     with Service(count=2, clients=1) as started:
         with started.connect() as first, started.connect() as second:
             first.sendall(ASKED)

@@ -1,4 +1,4 @@
-"""`serve --most-kept N`: a supplier has no more kept than the bound, what would make more is answered a fault and changes nothing,
+"""`serve --quota N`: a supplier has no more kept than the bound, what would make more is answered a fault and changes nothing,
 and whoever else asks is not concerned."""
 import json
 

@@ -26,14 +26,14 @@ MOST = 16
 # the names of what is counted, with their types
 NAMES = {
     "dss_connections_open": "gauge", "dss_connections_accepted_total": "counter", "dss_connections_refused_total": "counter",
-    "dss_connections_failed_total": "counter", "dss_requests_total": "counter", "dss_answer_bytes_total": "counter",
+    "dss_connections_failed_total": "counter", "dss_requests_total": "counter", "dss_response_bytes_total": "counter",
     "dss_large_requests_waiting": "gauge", "dss_start_time_seconds": "gauge", "dss_build_info": "gauge",
     "dss_requests_denied_total": "counter", "dss_request_duration_seconds": "histogram",
-    "dss_store_faults_total": "counter", "dss_memory_faults_total": "counter", "dss_clock_faults_total": "counter",
-    "dss_log_lines_lost_total": "counter",
-    "dss_copy": "gauge", "dss_entities": "gauge", "dss_subscriptions": "gauge", "dss_serial": "gauge",
-    "dss_swept_total": "counter", "dss_sweep_faults_total": "counter",
-    "dss_tokens_read_time_seconds": "gauge", "dss_tokens_reload_failures_total": "counter",
+    "dss_store_failures_total": "counter", "dss_memory_failures_total": "counter", "dss_clock_failures_total": "counter",
+    "dss_log_lines_dropped_total": "counter",
+    "dss_mirror_up": "gauge", "dss_entities": "gauge", "dss_subscriptions": "gauge", "dss_serial": "gauge",
+    "dss_purged_total": "counter", "dss_purge_failures_total": "counter",
+    "dss_tokens_loaded_time_seconds": "gauge", "dss_tokens_reload_failures_total": "counter",
 }
 
 
@@ -55,7 +55,7 @@ class Operated(Service):
     """`dss serve` with an operator's port."""
 
     def command(self):
-        return [*super().command(), "--admin", f"{self.admin}"]
+        return [*super().command(), "--admin-port", f"{self.admin}"]
 
     def start(self):
         with socket.create_server(("127.0.0.1", 0)) as free:
@@ -152,9 +152,9 @@ def counts():
         found += difference("lines of no form", lines, [])
         first = started.counted()
         found += difference("when it started", before - SECONDS < int(first["dss_start_time_seconds"]) <= before + 1, True)
-        found += difference("when its tokens were read", first["dss_tokens_read_time_seconds"], first["dss_start_time_seconds"])
+        found += difference("when its tokens were read", first["dss_tokens_loaded_time_seconds"], first["dss_start_time_seconds"])
         there = {name: number for name, number in first.items() if "_time_" not in name and "build" not in name}
-        found += difference("a copy", there.pop("dss_copy"), "1")
+        found += difference("a copy", there.pop("dss_mirror_up"), "1")
         found += difference("of no clients", set(there.values()), {"0"})
         refusal = started.exchange(b"no request\r\n\r\n", ends=False)
         started.exchange(ASKED + CLOSING, ends=False)
@@ -170,7 +170,7 @@ def counts():
                   'dss_requests_denied_total{rule="H1"}': "1", 'dss_requests_denied_total{rule="P1"}': "1",
                   'dss_request_duration_seconds_count{operation="none"}': "2", 'dss_connections_failed_total{cause="read"}': "1",
                   "dss_connections_refused_total": "0", "dss_large_requests_waiting": "0",
-                  "dss_answer_bytes_total": f"{len(refusal + ANSWER + LAST + denied)}"}
+                  "dss_response_bytes_total": f"{len(refusal + ANSWER + LAST + denied)}"}
         found += difference("what is counted", {it: counted.get(it) for it in wanted}, wanted)
         return found
 
@@ -216,7 +216,7 @@ def ends_with_others():
         until_counted(started, "dss_connections_open", "1")
         # once the buffers are full nothing is answered any more
         made = None
-        while made != (made := started.counted()["dss_answer_bytes_total"]):
+        while made != (made := started.counted()["dss_response_bytes_total"]):
             time.sleep(1)
         waiting, asking = (stack.enter_context(started.operator()) for _ in range(2))
         asking.sendall(HEALTH[:20])
@@ -246,7 +246,7 @@ def broken():
                     found += difference("its health", started.asked(HEALTH), said(503, DEAD))
                     counted = started.counted()
                     found += difference("counted", counted['dss_requests_total{operation="set_availability",status="503"}'], "1")
-                    found += difference("faults", counted["dss_store_faults_total"], "1")
+                    found += difference("faults", counted["dss_store_failures_total"], "1")
                     return found + difference("told to end", started.asked(STOP), said(200, b"stopping\n"))
                 health = said(503, FAILING) if answer == wire.answer(*FAULT, closes=True) else said(200, SERVING)
                 found += difference(f"{at}: its health", started.asked(HEALTH), health)
@@ -280,11 +280,11 @@ def without_port():
         words = started.command()
         started.kill()
         port = taken.getsockname()[1]
-        found += difference("a port that is taken", run([*words, "--admin", f"{port}"]), (1, b"", SOCKET))
-        found += difference("the port of clients", run([*words, "--admin", f"{started.port}"]), (1, b"", SOCKET))
+        found += difference("a port that is taken", run([*words, "--admin-port", f"{port}"]), (1, b"", SOCKET))
+        found += difference("the port of clients", run([*words, "--admin-port", f"{started.port}"]), (1, b"", SOCKET))
         for number in "0", "65536", "x", "":
-            status, output, error = run([*words, "--admin", number])
-            found += difference(f"--admin {number}", (status, output, error != b""), (2, b"", True))
+            status, output, error = run([*words, "--admin-port", number])
+            found += difference(f"--admin-port {number}", (status, output, error != b""), (2, b"", True))
     return found
 
 

@@ -32,7 +32,7 @@ PATHS = {
 # what pages name that is not in the package: in the repository, and of others
 ELSEWHERE = re.compile(r"(\.\./)?(qualify|release|crates|tests|gateway/|bench/)|test$|tests/|[\w./]*\.(rattle|c|go)$")
 OF_OTHERS = {"usr/bin/dss-gateway", "usr/share/man/man1/dss-gateway.1.gz", "usr/lib/dss"}
-COMMANDS = "run", "serve", "report", "sweep", "backup", "upgrade", "tokens"
+COMMANDS = "run", "serve", "report", "purge", "backup", "upgrade", "tokens"
 # what keeps files, memory and programs of either unit from others
 KEPT = {"UMask=0077", "LimitCORE=0", "ProtectProc=invisible", "MemoryDenyWriteExecute=yes", "NoNewPrivileges=yes"}
 
@@ -88,7 +88,7 @@ def options(root):
     said, found, seen = {}, [], 0
     for place, text in texts:
         for line in re.findall(r"(?m)^(?:    |ExecStart=|CMD |\./).*$", text.replace('", "', " ").replace('["', "/dss ")):
-            for command, words in re.findall(r"\bdss (run|serve|report|sweep|upgrade|backup|self|tokens) ([^|>&]*)", line):
+            for command, words in re.findall(r"\bdss (run|serve|report|purge|upgrade|backup|self|tokens) ([^|>&]*)", line):
                 if command not in said:
                     said[command] = run([str(root / "usr/bin/dss"), command, "--help"])[1].decode()
                 asked = re.findall(r"(?<!\S)\[?(--[\w-]+)", words)
@@ -153,11 +153,11 @@ def completions(root):
     found += difference("se", completed(root, "se")[:1], ["serve"] if "serve" in completed(root, "se") else ["self"])
     found += difference("--to", completed(root, "run", "--to"), ["--tokens"])
     found += difference("--d", completed(root, "upgrade", "--d"), ["--db"])
-    found += difference("--b", completed(root, "serve", "--b"), ["--backups"])
-    found += difference("--u", completed(root, "sweep", "--u"), ["--until"])
-    found += difference("--k", completed(root, "serve", "--k"), ["--keep"])
-    found += difference("a log", completed(root, "serve", "--log", "tok"), ["tokens.toml"])
-    found += difference("--new", completed(root, "tokens", "--new"), ["--new", "--new-salt"])
+    found += difference("--b", completed(root, "serve", "--b"), ["--backup-dir"])
+    found += difference("--u", completed(root, "purge", "--u"), ["--until"])
+    found += difference("--re", completed(root, "serve", "--re"), ["--retention"])
+    found += difference("a log", completed(root, "serve", "--access-log", "tok"), ["tokens.toml"])
+    found += difference("--new-token", completed(root, "tokens", "--new-"), ["--new-token", "--new-salt"])
     found += difference("a file to check", completed(root, "tokens", "--check", "tok"), ["tokens.toml"])
     return found + difference("a file", completed(root, "run", "--tokens", "tok"), ["tokens.toml"])
 

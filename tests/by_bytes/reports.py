@@ -112,15 +112,15 @@ def places():
     with Room() as room:
         room.serve(filled())
         before = report(room.database)
-        found = difference("the cells", report(room.database, flags=["--places"]), (0, PLACES.encode(), b""))
+        found = difference("the cells", report(room.database, flags=["--cells"]), (0, PLACES.encode(), b""))
         found += difference("the report after it", report(room.database), before)
     with connections.Room() as room, tempfile.TemporaryDirectory() as folder:
         database = f"{folder}/dss.db"
-        found += difference("no file", report(database, flags=["--places"]), (0, b"", b""))
+        found += difference("no file", report(database, flags=["--cells"]), (0, b"", b""))
         with Room() as other:
             other.serve(filled())
             more = {"LD_PRELOAD": room.library, "WRITE_FAILS": "1"}
-            got = report(other.database, more, ["--places"])
+            got = report(other.database, more, ["--cells"])
             return found + difference("not written", got, (1, b"", b"dss: output\n"))
 
 

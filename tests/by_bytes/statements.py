@@ -1,16 +1,16 @@
 """The statements of queries and changes ask for rows of `cell` and of `subscription_cell` by their places, by their
 entity or by their subscription, never for all of them: what a call costs is then what it finds, not what is kept.
 
-Whole tables are read in space_load alone, in the module that opening a database and listing all entities of a kind
+Whole tables are read in space_sql_load alone, in the module that opening a database and listing all entities of a kind
 need. What finds, reads single things and changes them stands in the other crates over tables, which must not call it."""
 import re
 
 from program import TOP
 
-WHOLE_TABLES = "crates/space_load/src/tables.rt"
+WHOLE_TABLES = "crates/space_sql_load/src/tables.rt"
 SOURCES = sorted(it for it in TOP.glob("crates/space_*/src/*.rt") if not str(it).endswith(WHOLE_TABLES))
 # the crates that ask for rows, and no call of which needs all
-NARROW = ("space_search", "space_lookup", "space_changes")
+NARROW = ("space_sql_search", "space_sql_lookup", "space_sql_write")
 # what reads whole tables
 READS_ALL = re.compile(r"\bread_(?:airspace(?:_in)?|tables)\b")
 LITERAL = re.compile(r'"((?:[^"\\]|\\.)*)"', re.DOTALL)

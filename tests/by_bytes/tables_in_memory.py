@@ -1,4 +1,4 @@
-"""What the program `tables_in_memory` is given and must print, over tables in memory, which no command of dss has: drawn
+"""What the program `test_sql_memory` is given and must print, over tables in memory, which no command of dss has: drawn
 calls with the plain policy's answers, and searches of cells of all levels. The gate runs the program on these files, which
 tests/draw_tables writes."""
 import drawn_calls
@@ -7,7 +7,7 @@ import wire
 from drawn_calls import Draw, Drawn
 from program import TOP
 
-FOLDER = TOP / "crates" / "tables_in_memory"
+FOLDER = TOP / "crates" / "test_sql_memory"
 SEED, STREAMS = 7, 3
 # streams of creations that need no key, of two volumes each, and the levels of their cells
 CREATIONS, LEVELS = 2, range(7, 17)
@@ -74,7 +74,7 @@ def files():
 def as_drawn():
     """The crate's files are these."""
     return [
-        f"crates/tables_in_memory/{name} is not what is drawn: run tests/draw_tables"
+        f"crates/test_sql_memory/{name} is not what is drawn: run tests/draw_tables"
         for name, content in files().items()
         if not (FOLDER / name).is_file() or (FOLDER / name).read_bytes() != content
     ]

@@ -178,7 +178,7 @@ def from_nothing():
     """A salt and some tokens make a file without a finding; each is of 64 hexadecimal digits, and no two are alike."""
     asked = [("uss-a", ",".join(SCOPES)), ("uss-a", SCOPES[0]), ("u" * 64, f"{SCOPES[2]},{SCOPES[1]}")]
     file, found = "", []
-    for words in [["--new-salt"], *(["--new", uss, "--scopes", scopes] for uss, scopes in asked)]:
+    for words in [["--new-salt"], *(["--new-token", uss, "--scopes", scopes] for uss, scopes in asked)]:
         status, output, error = run([BUILT, "tokens", *words])
         file += output.decode()
         if (status, error) != (0, b""):
@@ -207,7 +207,7 @@ def not_made():
         ("uss-c", f"{SCOPES[0]},x\n", f'scope "x\\n": no scope has that name: {scopes}', "5 Scopes"),
     ):
         wanted = (1, b"", f"{told}\ndss: tokens: fault {fault}\n".encode())
-        got = run([BUILT, "tokens", "--new", uss, "--scopes", names])
+        got = run([BUILT, "tokens", "--new-token", uss, "--scopes", names])
         if got != wanted:
             found += [f"{uss!r}, {names!r}: wanted {wanted!r}, got {got!r}"]
     return found

@@ -28,7 +28,7 @@ class Kept(Operated):
 
     def command(self):
         (self.folder / "backups").mkdir(exist_ok=True)
-        return [*super().command(), "--log", f"{self.folder}/requests.log", "--backups", f"{self.folder}/backups"]
+        return [*super().command(), "--access-log", f"{self.folder}/requests.log", "--backup-dir", f"{self.folder}/backups"]
 
     def log(self):
         return (self.folder / "requests.log").read_text().splitlines()

@@ -74,10 +74,10 @@ def limits_of_options():
     """The limits are those of the other options."""
     text = wire.token_file(salt="f0" * 32)
     ways = (
-        (["--clients", "7"], limits(clients=7)),
+        (["--max-connections", "7"], limits(clients=7)),
         (["--count", "20"], limits("20 connections")),
-        (["--most-kept", "1000"], limits(most_kept=1000)),
-        (["--count", "1000000", "--clients", "1", "--most-kept", "4294967295"], limits("1000000 connections", 1, 4294967295)),
+        (["--quota", "1000"], limits(most_kept=1000)),
+        (["--count", "1000000", "--max-connections", "1", "--quota", "4294967295"], limits("1000000 connections", 1, 4294967295)),
     )
     with Taken() as it:
         return [
@@ -111,8 +111,8 @@ def causes():
             (tokens, f"{room}/text.db", [], limits(), cause(f"{room}/text.db", "it is no SQLite database"), of_store),
             (tokens, f"{room}/folder.db", [], limits(), cause(f"{room}/folder.db", "it is no file"), of_store),
             (tokens, f"{room}/held.db", [], limits(), cause(f"{room}/held.db", "another process has it open"), of_store),
-            (tokens, f"{room}/b.db", ["--log", lacking], limits(), cause(lacking, nowhere), "dss: output\n"),
-            (tokens, f"{room}/c.db", ["--admin", "1", "--backups", lacking], limits(), cause(lacking, nowhere), "dss: copy: fault 3 Write\n"),
+            (tokens, f"{room}/b.db", ["--access-log", lacking], limits(), cause(lacking, nowhere), "dss: output\n"),
+            (tokens, f"{room}/c.db", ["--admin-port", "1", "--backup-dir", lacking], limits(), cause(lacking, nowhere), "dss: copy: fault 3 Write\n"),
         )
         for file, database, options, before, told, last in ways:
             words = [BUILT, "serve", "--tokens", file, "--db", database, "--port", "1", *options]

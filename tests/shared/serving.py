@@ -13,8 +13,8 @@ from program import BUILT, SECONDS
 def words(folder, port, count, clients=None, most_kept=None):
     """The command line of the service over a folder with its token file and its database, for so many clients at once, and with
     a bound of what is kept of each supplier."""
-    at_once = [] if clients is None else ["--clients", f"{clients}"]
-    bound = [] if most_kept is None else ["--most-kept", f"{most_kept}"]
+    at_once = [] if clients is None else ["--max-connections", f"{clients}"]
+    bound = [] if most_kept is None else ["--quota", f"{most_kept}"]
     files = ["--tokens", f"{folder}/tokens.toml", "--db", f"{folder}/dss.db"]
     return [BUILT, "serve", *files, "--port", f"{port}", "--count", f"{count}", *at_once, *bound]
 

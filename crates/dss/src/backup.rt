@@ -1,9 +1,9 @@
 //! The command `backup`: a copy of a database that nothing has open.
 use crate::copying::{Copying, is_free};
 use dss_command::copy_fault::CopyFault;
-use dss_command::fault::{Fault, of_system};
-use dss_files::files::settle_database;
-use space_format::open_fault::OpenFault;
+use dss_command::fault::{Fault, io_fault};
+use dss_database::files::checkpoint_database;
+use space_sql_open::open_fault::OpenFault;
 use sqlite::Start;
 use std::fs;
 use std::fs::File;
@@ -20,7 +20,7 @@ fn is_database(rt: &HostRuntime, name: &str) -> Result<(), Fault> {
 fn copy_file(rt: &HostRuntime, name: &str, to: &str) -> Result<(), Fault> {
     let source = match File::open(rt, name) {
         Ok(source) => source,
-        Err(cause) => return Err(of_system(&cause, Fault::Copy(CopyFault::Read))),
+        Err(cause) => return Err(io_fault(&cause, Fault::Copy(CopyFault::Read))),
     };
     let mut copying = Copying::begin(rt, source, to)?;
     for _ in 0..u64::MAX {
@@ -46,6 +46,6 @@ pub(crate) fn backup<F: Start>(
 ) -> Result<(), Fault> {
     is_free(rt, to)?;
     is_database(rt, database)?;
-    let _files = settle_database(rt, database, start)?;
+    let _files = checkpoint_database(rt, database, start)?;
     copy_file(rt, database, to)
 }

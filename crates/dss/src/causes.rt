@@ -1,7 +1,7 @@
 //! What lies behind a fault with which `serve` ends, as a person needs it, where more is told.
 use dss_command::fault::Fault;
 use os::RangeLock;
-use space_format::open_fault::OpenFault;
+use space_sql_open::open_fault::OpenFault;
 use std::fs::OpenOptions;
 use std::io::Read;
 use std::net::Ipv4Addr;

@@ -5,17 +5,17 @@ use crate::clock::SystemClock;
 use crate::log_file::SystemLog;
 use crate::sockets::PortSockets;
 use crate::tokens::TokenFile;
-use dss_backups::folder::FolderBackups;
-use dss_command::clients::{Answering, Listen, Operated};
+use admin_backup::folder::BackupDir;
+use dss_args::serve_args::ServeArgs;
+use dss_command::clients::{AdminListener, Listen, ServeConfig};
 use dss_command::copy_fault::CopyFault;
-use dss_command::fault::{Fault, of_system};
+use dss_command::fault::{Fault, io_fault};
 use dss_command::limits::tell_limits;
 use dss_command::token_files::tell_tokens;
 use dss_command::tokens::{salt_of, table_of};
-use dss_files::files::{self, close_database, open_database};
-use dss_line::serving::Serving;
-use dss_serve::limits::{Limits, MOST_CLIENTS};
-use dss_serve::token_watch::TokenWatch;
+use dss_database::files::{self, close_database, open_database};
+use dss_server::limits::{Limits, MAX_CONNECTIONS};
+use dss_server::token_watch::TokenWatch;
 use sqlite::Start;
 use std::io::Write;
 use std::net::Ipv4Addr;
@@ -24,12 +24,12 @@ use token_conf::token_table::TokenTable;
 use wire_http::Moments;
 
 // The limits that a command line gives.
-fn limits_of(given: &Serving<'_>) -> Limits {
+fn limits_of(given: &ServeArgs<'_>) -> Limits {
     Limits {
         count: given.count,
-        clients: match usize::try_from(given.clients) {
+        clients: match usize::try_from(given.max_connections) {
             Ok(clients) => clients,
-            Err(_) => MOST_CLIENTS,
+            Err(_) => MAX_CONNECTIONS,
         },
     }
 }
@@ -69,29 +69,29 @@ impl<'a> Listen for Ports<'a> {
 }
 
 // The operator's port that a command line names. Where the system tells no time, the start is at 0.
-fn operated(rt: &HostRuntime, given: &Serving<'_>) -> Option<Operated> {
-    let port = given.admin?;
+fn operated(rt: &HostRuntime, given: &ServeArgs<'_>) -> Option<AdminListener> {
+    let port = given.admin_port?;
     let started = match SystemClock::new(rt).next() {
         Ok(moment) => moment,
         Err(_) => 0,
     };
-    Some(Operated { port, started })
+    Some(AdminListener { port, started })
 }
 
 // The folder of backups that a command line names.
 fn backups_of<'a>(
     rt: &'a HostRuntime,
-    given: &Serving<'_>,
+    given: &ServeArgs<'_>,
     causes: Causes<'_>,
 ) -> Result<Option<PortBackups<'a>>, Fault> {
-    let Some(folder) = given.backups else {
+    let Some(folder) = given.backup_dir else {
         return Ok(None);
     };
-    match FolderBackups::new(rt, given.database, folder) {
+    match BackupDir::new(rt, given.database, folder) {
         Ok(folder) => Ok(Some(PortBackups { folder })),
         Err(cause) => {
             causes.tell_of(folder, &cause);
-            Err(of_system(&cause, Fault::Copy(CopyFault::Write)))
+            Err(io_fault(&cause, Fault::Copy(CopyFault::Write)))
         }
     }
 }
@@ -100,7 +100,7 @@ fn backups_of<'a>(
 // file or surely not meant, and then the limits: that it cannot be told is no reason not to serve.
 fn tokens_of<E: Write>(
     rt: &HostRuntime,
-    given: &Serving<'_>,
+    given: &ServeArgs<'_>,
     causes: Causes<'_>,
     error: &mut E,
 ) -> Result<(String, TokenTable), Fault> {
@@ -108,7 +108,7 @@ fn tokens_of<E: Write>(
         Ok(text) => text,
         Err(cause) => {
             causes.tell_of(given.tokens, &cause);
-            return Err(of_system(&cause, Fault::TokensUnread));
+            return Err(io_fault(&cause, Fault::TokensUnread));
         }
     };
     if given.verbose {
@@ -116,7 +116,7 @@ fn tokens_of<E: Write>(
     }
     let tokens = table_of(rt.alloc(), text.as_str())?;
     if given.verbose {
-        let _ = tell_limits(given.clients, given.count, given.most_kept, error);
+        let _ = tell_limits(given.max_connections, given.count, given.quota, error);
     }
     Ok((text, tokens))
 }
@@ -124,17 +124,17 @@ fn tokens_of<E: Write>(
 // The log that a command line names.
 fn log_of<'a>(
     rt: &'a HostRuntime,
-    given: &Serving<'a>,
+    given: &ServeArgs<'a>,
     causes: Causes<'_>,
 ) -> Result<Option<SystemLog<'a>>, Fault> {
-    let Some(name) = given.log else {
+    let Some(name) = given.access_log else {
         return Ok(None);
     };
     match SystemLog::open(rt, name) {
         Ok(log) => Ok(Some(log)),
         Err(cause) => {
             causes.tell_of(name, &cause);
-            Err(of_system(&cause, Fault::Output))
+            Err(io_fault(&cause, Fault::Output))
         }
     }
 }
@@ -142,7 +142,7 @@ fn log_of<'a>(
 /// Runs the command over the database, which is closed last.
 pub(crate) fn serve<F: Start, E: Write>(
     rt: &HostRuntime,
-    given: &Serving<'_>,
+    given: &ServeArgs<'_>,
     start: F,
     error: &mut E,
 ) -> Result<(), Fault> {
@@ -164,12 +164,12 @@ pub(crate) fn serve<F: Start, E: Write>(
             return Ok(());
         }
     };
-    let answering = Answering {
+    let answering = ServeConfig {
         tokens: &tokens,
         address: given.listen,
         port: given.port,
         limits: limits_of(given),
-        keep: given.keep,
+        keep: given.retention,
         operated: operated(rt, given),
         verbose: given.verbose,
     };
@@ -185,7 +185,7 @@ pub(crate) fn serve<F: Start, E: Write>(
         rt.alloc(),
         space,
         listed,
-        given.most_kept,
+        given.quota,
         salt,
         answering,
         watch,

@@ -1,7 +1,7 @@
 //! A copy of a file that is whole or not there: written beside its name piece by piece, synced, and
 //! only then put there.
 use dss_command::copy_fault::CopyFault;
-use dss_command::fault::{Fault, of_system};
+use dss_command::fault::{Fault, io_fault};
 use std::fs::{File, OpenOptions};
 use std::io::{ErrorKind, Read, Write};
 use std::os::unix::fs::{OpenOptionsExt, PermissionsExt};
@@ -9,7 +9,7 @@ use std::path::PathBuf;
 use std::{fs, io};
 
 // The bytes of a piece.
-const PIECE: usize = 65_536;
+const CHUNK: usize = 65_536;
 
 // What the name under which a copy is written ends with.
 const BEGUN: &str = ".begun";
@@ -18,11 +18,11 @@ const BEGUN: &str = ".begun";
 const BESIDE: [&str; 2] = ["-wal", "-journal"];
 
 fn unread_source(cause: io::Error) -> Fault {
-    of_system(&cause, Fault::Copy(CopyFault::Read))
+    io_fault(&cause, Fault::Copy(CopyFault::Read))
 }
 
 fn unwritten(cause: io::Error) -> Fault {
-    of_system(&cause, Fault::Copy(CopyFault::Write))
+    io_fault(&cause, Fault::Copy(CopyFault::Write))
 }
 
 // How long the file of that name is, if there is one.
@@ -88,7 +88,7 @@ pub(crate) struct Copying<'a> {
     begun: String,
     // and the one that it gets
     to: String,
-    piece: Vec<u8>,
+    chunk: Vec<u8>,
 }
 
 impl<'a> Copying<'a> {
@@ -97,7 +97,7 @@ impl<'a> Copying<'a> {
     pub(crate) fn begin(rt: &'a HostRuntime, source: File, to: &str) -> Result<Copying<'a>, Fault> {
         is_free(rt, to)?;
         let alloc = rt.alloc();
-        let piece = vec![in alloc; 0; PIECE].map_err(|_| Fault::Memory)?;
+        let chunk = vec![in alloc; 0; CHUNK].map_err(|_| Fault::Memory)?;
         let begun = format!(in alloc; "{to}{BEGUN}").map_err(|_| Fault::Memory)?;
         let to = String::from_str(alloc, to).map_err(|_| Fault::Memory)?;
         let copy = new_file(rt, begun.as_str(), &source).map_err(unwritten)?;
@@ -107,14 +107,14 @@ impl<'a> Copying<'a> {
             copy,
             begun,
             to,
-            piece,
+            chunk,
         })
     }
 
     /// Copies the next piece, and says whether there was one. After a fault it has to be given up.
     pub(crate) fn go_on(&mut self) -> Result<bool, Fault> {
-        let length = self.source.read(&mut self.piece).map_err(unread_source)?;
-        let read = &self.piece[..length];
+        let length = self.source.read(&mut self.chunk).map_err(unread_source)?;
+        let read = &self.chunk[..length];
         self.copy.write_all(read).map_err(unwritten)?;
         Ok(length != 0)
     }

@@ -19,7 +19,7 @@ struct Named<'a> {
 
 // Where the lines go.
 #[derive(Drop)]
-enum Place<'a> {
+enum LogTarget<'a> {
     StandardError,
     File(Named<'a>),
 }
@@ -29,7 +29,7 @@ enum Place<'a> {
 #[derive(Drop)]
 pub(crate) struct SystemLog<'a> {
     rt: &'a HostRuntime,
-    place: Place<'a>,
+    place: LogTarget<'a>,
 }
 
 // Opens the file of that name, at its end. It is made where there is none.
@@ -70,8 +70,8 @@ impl<'a> SystemLog<'a> {
     /// Opens the log of that name; `-` is standard error.
     pub(crate) fn open(rt: &'a HostRuntime, name: &'a str) -> io::Result<SystemLog<'a>> {
         let place = match name {
-            "-" => Place::StandardError,
-            _ => Place::File(Named {
+            "-" => LogTarget::StandardError,
+            _ => LogTarget::File(Named {
                 name,
                 file: open(rt, name)?,
                 looked: None,
@@ -91,8 +91,8 @@ impl<'a> LogFile for SystemLog<'a> {
 
     fn append(&mut self, bytes: &[u8]) -> io::Result<usize> {
         match &mut self.place {
-            Place::StandardError => self.rt.stderr().write(bytes),
-            Place::File(named) => {
+            LogTarget::StandardError => self.rt.stderr().write(bytes),
+            LogTarget::File(named) => {
                 named.find(self.rt);
                 named.file.write(bytes)
             }

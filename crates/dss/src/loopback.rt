@@ -3,7 +3,7 @@ ghost use Rattle.std.specs.Prelude.{◌≡◌};
 ghost use Rattle.token_conf.specs.TokenFile.{salt_of};
 
 use crate::tokens::token_table;
-use dss_command::fault::{Fault, of_system};
+use dss_command::fault::{Fault, io_fault};
 use dss_command::print::put;
 use dss_command::stream::serve_in_memory;
 use dss_command::tokens::salt_of;
@@ -20,7 +20,7 @@ const MOST_BYTES: usize = 16_384;
 
 /// What the command `self` was given.
 #[derive(Clone, Copy)]
-pub(crate) struct LoopbackLine<'a> {
+pub(crate) struct SelfArgs<'a> {
     /// The name of the token file.
     pub(crate) tokens: &'a str,
     /// The moment of each request, in seconds since 1970.
@@ -35,7 +35,7 @@ fn few_bytes<R: Read>(rt: &HostRuntime, input: &mut R) -> Result<Vec<u8>, Fault>
     // one more than the most, by which too many are known
     match input.take(16_385).read_to_end(&mut bytes) {
         Ok(_) => {}
-        Err(cause) => return Err(of_system(&cause, Fault::RequestsUnread)),
+        Err(cause) => return Err(io_fault(&cause, Fault::RequestsUnread)),
     }
     if bytes.len() > MOST_BYTES {
         return Err(Fault::RequestTooLong);
@@ -50,7 +50,7 @@ fn request_bytes<R: Read>(rt: &HostRuntime, name: &str, input: &mut R) -> Result
     }
     match File::open(rt, name) {
         Ok(mut file) => few_bytes(rt, &mut file),
-        Err(cause) => Err(of_system(&cause, Fault::RequestsUnread)),
+        Err(cause) => Err(io_fault(&cause, Fault::RequestsUnread)),
     }
 }
 
@@ -91,7 +91,7 @@ fn answers_to(
 {
     let (mut client, mut server) = match connect_self(rt, request) {
         Ok(ends) => ends,
-        Err(cause) => return Err(of_system(&cause, Fault::Socket)),
+        Err(cause) => return Err(io_fault(&cause, Fault::Socket)),
     };
     let mut answers = Vec::new(rt.alloc());
     let mut reader = Counted::new(&mut server);
@@ -102,14 +102,14 @@ fn answers_to(
     }
     match sent_back(rt, answers.as_slice(), &mut server, &mut client) {
         Ok(came) => Ok(came),
-        Err(cause) => Err(of_system(&cause, Fault::Socket)),
+        Err(cause) => Err(io_fault(&cause, Fault::Socket)),
     }
 }
 
 /// Runs the command.
 pub(crate) fn loop_back<R: Read, W: Write>(
     rt: &HostRuntime,
-    given: &LoopbackLine<'_>,
+    given: &SelfArgs<'_>,
     input: &mut R,
     output: &mut W,
 ) -> Result<(), Fault> {

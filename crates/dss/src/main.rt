@@ -10,9 +10,9 @@ mod copying;
 mod log_file;
 mod loopback;
 mod program;
+mod purge;
 mod run;
 mod sockets;
-mod sweep;
 mod tokens;
 mod tokens_command;
 

@@ -1,11 +1,11 @@
 //! The commands, as this system does them.
-use crate::loopback::{self, LoopbackLine};
-use crate::run::{self, RunLine};
-use crate::{backup, connections, sweep, tokens_command};
+use crate::loopback::{self, SelfArgs};
+use crate::run::{self, RunArgs};
+use crate::{backup, connections, purge, tokens_command};
+use dss_args::serve_args::ServeArgs;
 use dss_command::fault::Fault;
 use dss_command::line::Commands;
-use dss_files::files;
-use dss_line::serving::Serving;
+use dss_database::files;
 use sqlite::{Start, Wary};
 use std::io::{Read, Write};
 use wire_http::Counted;
@@ -31,7 +31,7 @@ impl<'a, F: Start> Commands for Program<'a, F> {
         output: &mut Counted<W>,
     ) -> Result<(), Fault> {
         let Program { rt, start } = self;
-        let given = RunLine {
+        let given = RunArgs {
             tokens,
             now,
             database,
@@ -40,9 +40,9 @@ impl<'a, F: Start> Commands for Program<'a, F> {
         run::run(rt, &given, start, input, output)
     }
 
-    fn serve<E: Write>(self, given: Serving<'_>, error: &mut E) -> Result<(), Fault> {
+    fn serve<E: Write>(self, given: ServeArgs<'_>, error: &mut E) -> Result<(), Fault> {
         let Program { rt, start } = self;
-        if given.wary {
+        if given.double_sync {
             return connections::serve(rt, &given, Wary, error);
         }
         connections::serve(rt, &given, start, error)
@@ -56,7 +56,7 @@ impl<'a, F: Start> Commands for Program<'a, F> {
         input: &mut Counted<R>,
         output: &mut Counted<W>,
     ) -> Result<(), Fault> {
-        let given = LoopbackLine {
+        let given = SelfArgs {
             tokens,
             now,
             request,
@@ -81,7 +81,7 @@ impl<'a, F: Start> Commands for Program<'a, F> {
         Ok(())
     }
 
-    fn sweep<W: Write>(
+    fn purge<W: Write>(
         self,
         database: &str,
         until: u64,
@@ -89,7 +89,7 @@ impl<'a, F: Start> Commands for Program<'a, F> {
         output: &mut W,
     ) -> Result<(), Fault> {
         let Program { rt, start } = self;
-        sweep::sweep(rt, database, until, now, start, output)
+        purge::purge(rt, database, until, now, start, output)
     }
 
     fn check_tokens<W: Write>(self, file: &str, output: &mut W) -> Result<(), Fault> {

@@ -3,10 +3,10 @@ ghost use Rattle.std.specs.Prelude.{◌≡◌};
 ghost use Rattle.token_conf.specs.TokenFile.{salt_of};
 
 use crate::tokens::token_table;
-use dss_command::fault::{Fault, of_system};
+use dss_command::fault::{Fault, io_fault};
 use dss_command::stream::serve_in_memory;
 use dss_command::tokens::salt_of;
-use dss_files::files::{self, close_database, open_database};
+use dss_database::files::{self, close_database, open_database};
 use entity_core::salt::Salt;
 use sqlite::Start;
 use std::fs::File;
@@ -16,7 +16,7 @@ use wire_http::Counted;
 
 /// What the command `run` was given.
 #[derive(Clone, Copy)]
-pub(crate) struct RunLine<'a> {
+pub(crate) struct RunArgs<'a> {
     /// The name of the token file.
     pub(crate) tokens: &'a str,
     /// The moment of each request, in seconds since 1970.
@@ -30,7 +30,7 @@ pub(crate) struct RunLine<'a> {
 // Serves the requests of a file, or of the standard input, in memory.
 fn in_memory<R: Read, W: Write>(
     rt: &HostRuntime,
-    given: &RunLine<'_>,
+    given: &RunArgs<'_>,
     tokens: &TokenTable,
     salt: Salt,
     input: &mut Counted<R>,
@@ -46,14 +46,14 @@ fn in_memory<R: Read, W: Write>(
             let mut input = Counted::new(file);
             serve_in_memory(rt.alloc(), salt, tokens, given.now, &mut input, output)
         }
-        Err(cause) => Err(of_system(&cause, Fault::RequestsUnread)),
+        Err(cause) => Err(io_fault(&cause, Fault::RequestsUnread)),
     }
 }
 
 // The same over the database in the file of that name, which is closed last.
 fn over_file<F: Start, R: Read, W: Write>(
     rt: &HostRuntime,
-    given: &RunLine<'_>,
+    given: &RunArgs<'_>,
     name: &str,
     start: F,
     tokens: &TokenTable,
@@ -80,7 +80,7 @@ fn over_file<F: Start, R: Read, W: Write>(
                     output,
                 )
             }
-            Err(cause) => close_database(Err(of_system(&cause, Fault::RequestsUnread)), space),
+            Err(cause) => close_database(Err(io_fault(&cause, Fault::RequestsUnread)), space),
         }
     };
     let _files = files?;
@@ -90,7 +90,7 @@ fn over_file<F: Start, R: Read, W: Write>(
 /// Runs the command.
 pub(crate) fn run<F: Start, R: Read, W: Write>(
     rt: &HostRuntime,
-    given: &RunLine<'_>,
+    given: &RunArgs<'_>,
     start: F,
     input: &mut Counted<R>,
     output: &mut Counted<W>,

@@ -1,7 +1,7 @@
 //! The sockets of the system, watched together.
 use crate::backups::PortBackups;
 use crate::causes::Causes;
-use dss_serve::sockets::{NotTaken, Socket, Sockets, Told, Watched};
+use dss_server::sockets::{AcceptFault, EventSource, Socket, SocketEvent, Sockets};
 use mio::event::Event;
 use mio::net::{TcpListener, TcpStream};
 use mio::{Events, Interest, Poll, Token};
@@ -52,8 +52,8 @@ impl Socket for Client {
         }
     }
 
-    fn receive(&mut self, piece: &mut [u8]) -> io::Result<usize> {
-        self.stream.read(piece)
+    fn receive(&mut self, chunk: &mut [u8]) -> io::Result<usize> {
+        self.stream.read(chunk)
     }
 
     fn send(&mut self, bytes: &[u8]) -> io::Result<usize> {
@@ -74,29 +74,29 @@ pub(crate) struct PortSockets<'a> {
     listener: TcpListener,
     operators: Option<TcpListener>,
     events: Events,
-    told: Vec<Told>,
+    told: Vec<SocketEvent>,
     // how many of what was told were taken
     taken: usize,
     backups: Option<PortBackups<'a>>,
 }
 
 // What is watched under a token.
-fn watched_as(token: usize) -> Watched {
+fn watched_as(token: usize) -> EventSource {
     match token {
-        LISTENER => Watched::Port,
-        OPERATORS_LISTENER => Watched::OperatorsPort,
-        _ if token >= OPERATORS => Watched::Operator(token - OPERATORS),
-        _ => Watched::Client(token),
+        LISTENER => EventSource::Port,
+        OPERATORS_LISTENER => EventSource::OperatorsPort,
+        _ if token >= OPERATORS => EventSource::Operator(token - OPERATORS),
+        _ => EventSource::Client(token),
     }
 }
 
 // The token under which it is watched.
-fn token_of(which: Watched) -> usize {
+fn token_of(which: EventSource) -> usize {
     match which {
-        Watched::Port => LISTENER,
-        Watched::OperatorsPort => OPERATORS_LISTENER,
-        Watched::Client(key) => key,
-        Watched::Operator(key) => OPERATORS.saturating_add(key),
+        EventSource::Port => LISTENER,
+        EventSource::OperatorsPort => OPERATORS_LISTENER,
+        EventSource::Client(key) => key,
+        EventSource::Operator(key) => OPERATORS.saturating_add(key),
     }
 }
 
@@ -107,7 +107,7 @@ fn listener_on(
     poll: &Poll,
     address: Ipv4Addr,
     port: u16,
-    which: Watched,
+    which: EventSource,
     causes: Causes<'_>,
 ) -> io::Result<TcpListener> {
     let mut listener = match TcpListener::bind(rt, SocketAddr::from((address, port))) {
@@ -124,7 +124,7 @@ fn listener_on(
 }
 
 // The next connection of a listener.
-fn accept_client(listener: &TcpListener) -> Result<Client, NotTaken> {
+fn accept_client(listener: &TcpListener) -> Result<Client, AcceptFault> {
     match listener.accept() {
         Ok((stream, address)) => {
             let _ = stream.set_nodelay(true);
@@ -135,9 +135,9 @@ fn accept_client(listener: &TcpListener) -> Result<Client, NotTaken> {
 }
 
 // What an event tells.
-fn told_by(event: &Event) -> Told {
+fn told_by(event: &Event) -> SocketEvent {
     let Token(token) = event.token();
-    Told {
+    SocketEvent {
         which: watched_as(token),
         readable: event.is_readable(),
         writable: event.is_writable(),
@@ -147,13 +147,13 @@ fn told_by(event: &Event) -> Told {
 }
 
 // Why the system gave no client.
-fn not_taken(cause: io::Error) -> NotTaken {
+fn not_taken(cause: io::Error) -> AcceptFault {
     match cause.raw_os_error() {
-        Some(NO_MEMORY | NO_DESCRIPTOR_IN_SYSTEM | NO_DESCRIPTOR | NO_BUFFER) => NotTaken::Full,
+        Some(NO_MEMORY | NO_DESCRIPTOR_IN_SYSTEM | NO_DESCRIPTOR | NO_BUFFER) => AcceptFault::Full,
         _ => match cause.kind() {
-            ErrorKind::WouldBlock => NotTaken::NoneWaits,
-            ErrorKind::Interrupted | ErrorKind::ConnectionAborted => NotTaken::Gone,
-            _ => NotTaken::Failed(cause),
+            ErrorKind::WouldBlock => AcceptFault::NoneWaits,
+            ErrorKind::Interrupted | ErrorKind::ConnectionAborted => AcceptFault::Gone,
+            _ => AcceptFault::Failed(cause),
         },
     }
 }
@@ -170,14 +170,14 @@ impl<'a> PortSockets<'a> {
         causes: Causes<'a>,
     ) -> io::Result<PortSockets<'a>> {
         let poll = Poll::new(rt)?;
-        let listener = listener_on(rt, &poll, address, port, Watched::Port, causes)?;
+        let listener = listener_on(rt, &poll, address, port, EventSource::Port, causes)?;
         let operators = match operators {
             Some(port) => Some(listener_on(
                 rt,
                 &poll,
                 Ipv4Addr::LOCALHOST,
                 port,
-                Watched::OperatorsPort,
+                EventSource::OperatorsPort,
                 causes,
             )?),
             None => None,
@@ -205,18 +205,18 @@ impl<'a> Sockets for PortSockets<'a> {
         self.backups.as_mut()
     }
 
-    fn accept(&mut self) -> Result<Client, NotTaken> {
+    fn accept(&mut self) -> Result<Client, AcceptFault> {
         accept_client(&self.listener)
     }
 
-    fn accept_operator(&mut self) -> Result<Client, NotTaken> {
+    fn accept_operator(&mut self) -> Result<Client, AcceptFault> {
         match &self.operators {
             Some(listener) => accept_client(listener),
-            None => Err(NotTaken::NoneWaits),
+            None => Err(AcceptFault::NoneWaits),
         }
     }
 
-    fn watch(&mut self, client: &mut Client, which: Watched) -> io::Result<()> {
+    fn watch(&mut self, client: &mut Client, which: EventSource) -> io::Result<()> {
         let interests = Interest::READABLE | Interest::WRITABLE;
         self.poll
             .registry()
@@ -233,13 +233,13 @@ impl<'a> Sockets for PortSockets<'a> {
         Ok(())
     }
 
-    fn next_told(&mut self) -> Option<Told> {
+    fn next_event(&mut self) -> Option<SocketEvent> {
         let told = *self.told.get(self.taken)?;
         self.taken = self.taken.saturating_add(1);
         Some(told)
     }
 
-    fn time(&self) -> io::Result<Duration> {
+    fn monotonic_time(&self) -> io::Result<Duration> {
         Ok(Instant::now(self.rt)?.saturating_duration_since(self.start))
     }
 }

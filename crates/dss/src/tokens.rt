@@ -1,7 +1,7 @@
 //! The token file of a command.
-use dss_command::fault::{Fault, of_system};
+use dss_command::fault::{Fault, io_fault};
 use dss_command::tokens::table_of;
-use dss_serve::token_watch::TokenSource;
+use dss_server::token_watch::TokenSource;
 use std::{fs, io};
 use token_conf::token_table::TokenTable;
 
@@ -9,7 +9,7 @@ use token_conf::token_table::TokenTable;
 pub(crate) fn token_text(rt: &HostRuntime, name: &str) -> Result<String, Fault> {
     match fs::read_to_string(rt, name) {
         Ok(text) => Ok(text),
-        Err(cause) => Err(of_system(&cause, Fault::TokensUnread)),
+        Err(cause) => Err(io_fault(&cause, Fault::TokensUnread)),
     }
 }
 

@@ -2,11 +2,11 @@
 ghost use Rattle.std.specs.Prelude.{◌≡◌, OnOk};
 
 use crate::tokens::token_text;
-use dss_command::fault::{Fault, of_system};
+use dss_command::fault::{Fault, io_fault};
 use dss_command::token_files;
 use std::io::Write;
 use std::random::RandomSource;
-use token_report::new::RANDOM_BYTES;
+use token_check::new::RANDOM_BYTES;
 
 /// Checks the token file of that name.
 pub(crate) fn check<W: Write>(rt: &HostRuntime, file: &str, output: &mut W) -> Result<(), Fault> {
@@ -19,7 +19,7 @@ fn random_bytes(rt: &HostRuntime) -> Result<[u8; RANDOM_BYTES], Fault> {
     let mut bytes = [0; RANDOM_BYTES];
     match rt.fill_bytes(&mut bytes) {
         Ok(()) => Ok(bytes),
-        Err(cause) => Err(of_system(&cause, Fault::TokensUnread)),
+        Err(cause) => Err(io_fault(&cause, Fault::TokensUnread)),
     }
 }
 

@@ -6,7 +6,7 @@ use Rattle.std.specs.declared.io.Error.{Error}
 use Rattle.std.specs.declared.io.ErrorKind.{ErrorKind}
 use Rattle.std.specs.declared.io.ErrorKind.TheVariants as kinds
 use Rattle.grid_core.specs.Token as token
-use Rattle.space_format.specs.OpenFault as opening
+use Rattle.space_sql_open.specs.OpenFault as opening
 use Rattle.token_conf.specs.ConfFault as conf
 use Rattle.wire_http.specs.Fault as streams
 use Rattle.dss_command.specs.CopyFault as copies

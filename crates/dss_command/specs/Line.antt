@@ -3,12 +3,12 @@ use Rattle.std.specs.Prelude.{◌≡◌, ◌⊎◌, ℕ, List, [], Option, None,
 use Rattle.std.specs.Io.KnownBytes.{Appends}
 use Rattle.clap.specs.Faults.{fault_of as mistakes_of}
 use Rattle.clap.specs.Words.{Text, subcommand_of}
-use Rattle.dss_line.specs.Grammar.{dss_app}
-use Rattle.dss_line.specs.Line.{Asks, Explains}
-use Rattle.dss_line.specs.declared.fault.LineFault.{LineFault}
-use Rattle.dss_line.specs.declared.fault.LineFault.TheVariants as fault
-use Rattle.dss_line.specs.declared.line.Line.{Line}
-use Rattle.dss_line.specs.declared.line.Line.TheVariants.{
+use Rattle.dss_args.specs.Grammar.{dss_app}
+use Rattle.dss_args.specs.CommandArgs.{Asks, Explains}
+use Rattle.dss_args.specs.declared.fault.LineFault.{LineFault}
+use Rattle.dss_args.specs.declared.fault.LineFault.TheVariants as fault
+use Rattle.dss_args.specs.declared.command_args.CommandArgs.{CommandArgs}
+use Rattle.dss_args.specs.declared.command_args.CommandArgs.TheVariants.{
   Backup,
   Cell,
   CheckTokens,
@@ -18,7 +18,7 @@ use Rattle.dss_line.specs.declared.line.Line.TheVariants.{
   Report,
   Run,
   Serve,
-  Sweep,
+  Purge,
   Upgrade,
 }
 use Rattle.dss_report.specs.Cell.{IsLineOfToken}
@@ -35,7 +35,7 @@ EndsRefused fault.Memory before after status = status ≡ 1
 
 -- what the commands of the system may do
 abbrev pub Doing : Type 1
-Doing = Line → (remaining before after : Option (List ℕ)) → Result (Unit {0}) Fault → Type 0
+Doing = CommandArgs → (remaining before after : Option (List ℕ)) → Result (Unit {0}) Fault → Type 0
 
 -- the line of a token's cell is written
 abbrev pub WritesCell : List ℕ → (before after : Option (List ℕ)) → Type 0
@@ -45,7 +45,7 @@ module _ (does : Doing) where
   -- What a line asks for was done: by the command of its name, with its values. `serve` writes to
   -- the second writer, `backup` to none, and every other command to the first; to both where no
   -- token is made, to tell why.
-  abbrev pub Does : Line → (remaining output output' error error' : Option (List ℕ))
+  abbrev pub Does : CommandArgs → (remaining output output' error error' : Option (List ℕ))
       → Result (Unit {0}) Fault → Type 0
   Does (Run tokens now database requests) remaining output output' error error' done =
       does (Run tokens now database requests) remaining output output' done × (error' ≡ error)
@@ -61,8 +61,8 @@ module _ (does : Doing) where
       does (Backup database to) None None None done × (output' ≡ output) × (error' ≡ error)
   Does (Upgrade database) remaining output output' error error' done =
       does (Upgrade database) None output output' done × (error' ≡ error)
-  Does (Sweep database until now) remaining output output' error error' done =
-      does (Sweep database until now) None output output' done × (error' ≡ error)
+  Does (Purge database until now) remaining output output' error error' done =
+      does (Purge database until now) None output output' done × (error' ≡ error)
   Does (CheckTokens file) remaining output output' error error' done =
       does (CheckTokens file) None output output' done × (error' ≡ error)
   Does (NewToken uss scopes) remaining output output' error error' done =
@@ -71,7 +71,7 @@ module _ (does : Doing) where
       does NewSalt None output output' done × (error' ≡ error)
 
   -- It ended with this status; where it was done, nothing more was written.
-  pub record EndsCommand (line : Line) (remaining output output' error error' : Option (List ℕ))
+  pub record EndsCommand (line : CommandArgs) (remaining output output' error error' : Option (List ℕ))
       (status : ℕ) : Type 0 where
     pub done : Result (Unit {0}) Fault
     pub told : Option (List ℕ)
@@ -84,7 +84,7 @@ module _ (does : Doing) where
   abbrev pub EndsLine : List Text → (remaining output output' error error' : Option (List ℕ)) → ℕ
       → Type 0
   EndsLine words remaining output output' error error' status =
-      ((line : Line) × Asks (subcommand_of dss_app words) line
+      ((line : CommandArgs) × Asks (subcommand_of dss_app words) line
       × (mistakes_of dss_app words ≡ [])
       × EndsCommand line remaining output output' error error' status)
       ⊎ ((why : LineFault) × Explains (mistakes_of dss_app words) (subcommand_of dss_app words) why

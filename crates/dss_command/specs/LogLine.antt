@@ -8,11 +8,11 @@ use Rattle.jiff_fmt.specs.Printer.{IsTimestampText, options}
 use Rattle.entity_core.specs.EntityId.{printed}
 use Rattle.policy_core.specs.Rule as policy
 use Rattle.wire_head.specs.Rule as wire
-use Rattle.wire_http.specs.declared.noted.Noted.{Noted}
-use Rattle.wire_http.specs.declared.noted.Outcome.{Outcome}
-use Rattle.wire_http.specs.declared.noted.Outcome.TheVariants as outcomes
-use Rattle.dss_admin.specs.Operation.{operation_word}
-use Rattle.dss_serve.specs.declared.journal.LoggedRequest.{LoggedRequest}
+use Rattle.wire_http.specs.declared.request_info.RequestInfo.{RequestInfo}
+use Rattle.wire_http.specs.declared.request_info.Outcome.{Outcome}
+use Rattle.wire_http.specs.declared.request_info.Outcome.TheVariants as outcomes
+use Rattle.admin_http.specs.Operation.{operation_word}
+use Rattle.dss_server.specs.declared.server_log.LoggedRequest.{LoggedRequest}
 
 -- the instant in UTC (RFC 3339), with three places of a second; `-` where none is told
 abbrev pub IsMoment : Option Timestamp → List ℕ → Type 0

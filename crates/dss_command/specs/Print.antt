@@ -2,9 +2,9 @@
 use Rattle.std.specs.Prelude.{ℕ, ◌++◌, Bool, true, false, List, Option, codes, decimal}
 use Rattle.std.specs.Io.KnownBytes.{Appends}
 use Rattle.entity_core.specs.Airspace.{Airspace}
-use Rattle.dss_report.specs.Places.{IsPlacesOf}
+use Rattle.dss_report.specs.CellLines.{IsPlacesOf}
 use Rattle.dss_report.specs.Report.{report_of}
-use Rattle.dss_sweep.specs.declared.swept.Swept.{Swept}
+use Rattle.dss_purge.specs.declared.purged.PurgeCounts.{PurgeCounts}
 
 -- the lines of the cells of its references are written
 abbrev pub WritesPlaces : Airspace → (before after : Option (List ℕ)) → Type 0
@@ -16,8 +16,8 @@ WritesReport true a before after = WritesPlaces a before after
 WritesReport false a before after = Appends before after (report_of a)
 
 -- the line of what a sweep let go of
-abbrev pub swept_line : Swept → List ℕ
-swept_line swept =
-    codes "swept " ++ (decimal swept.intents
-    ++ (codes " intents, " ++ (decimal swept.constraints
-    ++ (codes " constraints, " ++ (decimal swept.subscriptions ++ codes " subscriptions\n")))))
+abbrev pub purged_line : PurgeCounts → List ℕ
+purged_line purged =
+    codes "swept " ++ (decimal purged.intents
+    ++ (codes " intents, " ++ (decimal purged.constraints
+    ++ (codes " constraints, " ++ (decimal purged.subscriptions ++ codes " subscriptions\n")))))

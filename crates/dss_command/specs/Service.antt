@@ -2,11 +2,11 @@
 use Rattle.std.specs.Prelude.{◌≡◌, ℕ, List, Option, false}
 use Rattle.service_calls.specs.Held as held
 use Rattle.service_calls.specs.declared.service.Service.{Service}
-use Rattle.space_core.specs.declared.settle.Settles as settles
+use Rattle.space_core.specs.declared.group_commit.GroupCommit as settles
 use Rattle.space_core.specs.declared.space.Space as spaces
 use Rattle.token_conf.specs.TokenFile.{TokenFile, salt_of}
 use Rattle.wire_http.specs.declared.moments.Moments as moments
-use Rattle.dss_serve.specs.Serve.{ServesAll}
+use Rattle.dss_server.specs.Serve.{ServesAll}
 
 -- a service over that space, which was asked nothing, with the salt of the token file
 pub record IsServiceOver {S : Type 0} (tokens : TokenFile) (space : S) (service : Service S)

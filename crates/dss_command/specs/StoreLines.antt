@@ -1,14 +1,14 @@
 -- The lines that tell of the store.
 use Rattle.std.specs.Prelude.{ℕ, List, ◌++◌, codes, decimal}
-use Rattle.dss_serve.specs.declared.journal.StoreNews.{StoreNews}
-use Rattle.dss_serve.specs.declared.journal.StoreNews.TheVariants as news
+use Rattle.dss_server.specs.declared.server_log.StoreEvent.{StoreEvent}
+use Rattle.dss_server.specs.declared.server_log.StoreEvent.TheVariants as news
 
-abbrev pub store_line : StoreNews → List ℕ
-store_line news.Fails =
+abbrev pub store_line : StoreEvent → List ℕ
+store_line news.CommitFailed =
     codes "dss: store: changes are not kept, and are answered as faults\n"
-store_line (news.FailsStill count) =
+store_line (news.StillFailing count) =
     codes "dss: store: changes are still not kept, " ++ (decimal count ++ codes " faults more\n")
-store_line (news.Works count) =
+store_line (news.Recovered count) =
     codes "dss: store: changes are kept again, after " ++ (decimal count ++ codes " faults\n")
 store_line news.Stopped =
     codes "dss: store: stopped, and no call is answered any more\n"

@@ -16,10 +16,10 @@ use Rattle.wire_http.specs.Moments.{moment_of}
 use Rattle.wire_http.specs.Wire.{Serves, ServesPart}
 use Rattle.wire_http.specs.declared.end.Served.{Served}
 use Rattle.wire_http.specs.declared.fault.StreamFault.{StreamFault}
-use Rattle.wire_http.specs.declared.moments.Fixed.{Fixed}
+use Rattle.wire_http.specs.declared.moments.FixedClock.{FixedClock}
 
 -- what a clock gives that stands still: its moment, and it stays
-abbrev pub StandsStill : Fixed → ℕ → Fixed → Type 0
+abbrev pub StandsStill : FixedClock → ℕ → FixedClock → Type 0
 StandsStill old moment new = (moment ≡ moment_of old) × (new ≡ old)
 
 module _ {S : Type 0} (g : Ghosts S) (tokens : TokenFile) (now : ℕ)
@@ -28,8 +28,8 @@ module _ {S : Type 0} (g : Ghosts S) (tokens : TokenFile) (now : ℕ)
   -- answers were written.
   pub record ServesAt (old new : Service S) (served : Served) : Type 0 where
     pub input : List ℕ
-    pub clock : Fixed
-    pub clock' : Fixed
+    pub clock : FixedClock
+    pub clock' : FixedClock
     pub stands : moment_of clock ≡ now
     pub input_is : IsInput remaining input
     pub serves : Serves g StandsStill (callers_of tokens) most_requests input old new clock clock'
@@ -41,8 +41,8 @@ module _ {S : Type 0} (g : Ghosts S) (tokens : TokenFile) (now : ℕ)
     pub why : StreamFault
     pub fault_is : IsOfStream why fault
     pub input : List ℕ
-    pub clock : Fixed
-    pub clock' : Fixed
+    pub clock : FixedClock
+    pub clock' : FixedClock
     pub stands : moment_of clock ≡ now
     pub input_is : IsInput remaining input
     pub serves : ServesPart g StandsStill (callers_of tokens) most_requests input old new clock

@@ -4,10 +4,10 @@ use Rattle.token_conf.specs.TokenFile.{ReadsFile, TokenFile, file_of}
 use Rattle.token_conf.specs.declared.conf_fault.ConfFault.{ConfFault}
 use Rattle.token_conf.specs.declared.conf_fault.ConfFault.TheVariants as conf
 use Rattle.token_conf.specs.declared.token_table.TokenTable.{TokenTable}
-use Rattle.token_report.specs.Mistake.{fault_of}
-use Rattle.token_report.specs.declared.mistake.Mistake.{Mistake}
-use Rattle.dss_serve.specs.declared.token_watch.TokensFault.{TokensFault}
-use Rattle.dss_serve.specs.declared.token_watch.TokensFault.TheVariants as refusal
+use Rattle.token_check.specs.TokenFileError.{fault_of}
+use Rattle.token_check.specs.declared.token_file_error.TokenFileError.{TokenFileError}
+use Rattle.dss_server.specs.declared.token_watch.TokenReloadFault.{TokenReloadFault}
+use Rattle.dss_server.specs.declared.token_watch.TokenReloadFault.TheVariants as refusal
 use Rattle.dss_command.specs.Fault.{line_of}
 use Rattle.dss_command.specs.declared.fault.Fault.{Fault}
 use Rattle.dss_command.specs.declared.fault.Fault.TheVariants as fault
@@ -29,7 +29,7 @@ Tables text result =
     (told : Result TokenTable ConfFault) × ReadsFile (file_of text) told × Passes told result
 
 -- how a check ends whose file has these mistakes: with the fault of the first
-abbrev pub Judges : List Mistake → Result (Unit {0}) Fault → Type 0
+abbrev pub Judges : List TokenFileError → Result (Unit {0}) Fault → Type 0
 Judges [] result = result ≡ Ok tt
 Judges (m ∷ ms) result = result ≡ Err (fault.Tokens (fault_of m))
 
@@ -42,7 +42,7 @@ EndsCheck said (Err other) = Unit {0}
 
 -- The line that tells why a token file that changed was not taken, without its end: that of the
 -- fault with which a command ends by such a file, and for another salt one of its own.
-abbrev pub refusal_line : TokensFault → List ℕ
+abbrev pub refusal_line : TokenReloadFault → List ℕ
 refusal_line refusal.Unread = line_of fault.TokensUnread
 refusal_line (refusal.Wrong conf.Memory) = line_of fault.Memory
 refusal_line (refusal.Wrong why) = line_of (fault.Tokens why)

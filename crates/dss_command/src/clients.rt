@@ -7,22 +7,22 @@ ghost use Rattle.token_conf.specs.TokenFile.{salt_of};
 ghost use Rattle.dss_command.specs.Fault.{EndsServing, TellsClient};
 ghost use Rattle.dss_command.specs.Service.{ServesClients};
 
-use crate::fault::{Fault, of_system, tell};
-use crate::given_up::tell_given_up;
+use crate::aborted_connection::tell_given_up;
+use crate::fault::{Fault, io_fault, print_fault};
 use crate::request_log::{LogFile, RequestLog};
 use crate::store_lines::tell_store;
 use crate::tokens::tell_refusal;
-use dss_admin::build::Build;
-use dss_line::version::{KIT, VERSION};
-use dss_serve::journal::{GivenUp, Journal, LoggedRequest, StoreNews};
-use dss_serve::limits::Limits;
-use dss_serve::serve::serve_clients;
-use dss_serve::sockets::Sockets;
-use dss_serve::token_watch::{TokenSource, TokenWatch, TokensFault};
+use admin_http::build::BuildInfo;
+use dss_args::version::{KIT, VERSION};
+use dss_server::limits::Limits;
+use dss_server::serve::serve_clients;
+use dss_server::server_log::{AbortedConnection, LoggedRequest, ServerLog, StoreEvent};
+use dss_server::sockets::Sockets;
+use dss_server::token_watch::{TokenReloadFault, TokenSource, TokenWatch};
 use entity_core::salt::Salt;
 use service_calls::service::Service;
-use space_shown::shown::Shows;
-use space_sweeps::sweeps::Sweeps;
+use space_purge::purge_ended::PurgeEnded;
+use space_snapshot::snapshot::SnapshotSource;
 use std::alloc::Global;
 use std::io;
 use std::io::Write;
@@ -32,7 +32,7 @@ use wire_http::{Moments, StreamFault};
 use wire_route::routes::Routes;
 
 /// Tells on one line that the port of that address is listened on.
-pub fn tell_listening<E: Write>(address: Ipv4Addr, port: u16, error: &mut E) -> io::Result<()>
+pub fn print_listening<E: Write>(address: Ipv4Addr, port: u16, error: &mut E) -> io::Result<()>
     ensures { OnOk result (Appends (E.contents error.old) (E.contents error.new)
         (codes "dss: listening on " ++ (ipv4_text (ipv4_octets address)
         ++ (codes ":" ++ (decimal port ++ codes "\n"))))) }
@@ -41,7 +41,7 @@ pub fn tell_listening<E: Write>(address: Ipv4Addr, port: u16, error: &mut E) -> 
 }
 
 /// Tells on one line that the operator's port is listened on.
-pub fn tell_operated<E: Write>(port: u16, error: &mut E) -> io::Result<()>
+pub fn print_admin_listening<E: Write>(port: u16, error: &mut E) -> io::Result<()>
     ensures { OnOk result (Appends (E.contents error.old) (E.contents error.new)
         (codes "dss: admin on 127.0.0.1:" ++ decimal port ++ codes "\n")) }
 {
@@ -49,10 +49,10 @@ pub fn tell_operated<E: Write>(port: u16, error: &mut E) -> io::Result<()>
 }
 
 /// Tells on one line why a client was given up.
-pub fn tell_client<E: Write>(fault: StreamFault, error: &mut E) -> io::Result<()>
+pub fn print_client_fault<E: Write>(fault: StreamFault, error: &mut E) -> io::Result<()>
     ensures { OnOk result (TellsClient fault (E.contents error.old) (E.contents error.new)) }
 {
-    tell(&Fault::from(fault), error)
+    print_fault(&Fault::from(fault), error)
 }
 
 // Where requests are told, if there is a log of them, and the faults of clients and of the token
@@ -64,32 +64,32 @@ struct Lines<'a, E: Write, L> {
     verbose: bool,
 }
 
-impl<'a, E: Write, L: LogFile> Journal for Lines<'a, E, L> {
-    fn failed(&mut self, fault: StreamFault, given_up: GivenUp) {
-        let _ = tell_client(fault, self.error);
+impl<'a, E: Write, L: LogFile> ServerLog for Lines<'a, E, L> {
+    fn connection_failed(&mut self, fault: StreamFault, given_up: AbortedConnection) {
+        let _ = print_client_fault(fault, self.error);
         if self.verbose {
             let _ = tell_given_up(given_up, self.error);
         }
     }
 
-    fn answered(&mut self, request: &LoggedRequest<'_>) {
+    fn request_answered(&mut self, request: &LoggedRequest<'_>) {
         if let Some(log) = &mut self.log {
             log.note(request);
         }
     }
 
-    fn end_round(&mut self) -> u64 {
+    fn flush(&mut self) -> u64 {
         match &mut self.log {
             Some(log) => log.write(),
             None => 0,
         }
     }
 
-    fn refused_tokens(&mut self, fault: TokensFault) {
+    fn tokens_rejected(&mut self, fault: TokenReloadFault) {
         let _ = tell_refusal(fault, self.error);
     }
 
-    fn store(&mut self, news: StoreNews) {
+    fn store_event(&mut self, news: StoreEvent) {
         if self.verbose {
             let _ = tell_store(news, self.error);
         }
@@ -102,13 +102,13 @@ fn end_of_serving(served: io::Result<()>) -> Result<(), Fault>
 {
     match served {
         Ok(()) => Ok(()),
-        Err(cause) => Err(of_system(&cause, Fault::Socket)),
+        Err(cause) => Err(io_fault(&cause, Fault::Socket)),
     }
 }
 
 /// An operator's port.
 #[derive(Clone, Copy)]
-pub struct Operated {
+pub struct AdminListener {
     /// The port of 127.0.0.1.
     pub port: u16,
     /// When the service started, in seconds since 1970.
@@ -117,7 +117,7 @@ pub struct Operated {
 
 /// By what clients are answered, on which port, and how many.
 #[derive(Clone, Copy)]
-pub struct Answering<'a> {
+pub struct ServeConfig<'a> {
     /// The token file of the start.
     pub tokens: &'a TokenTable,
     /// The address that is listened on.
@@ -129,7 +129,7 @@ pub struct Answering<'a> {
     /// For how many seconds what has ended is kept, if it is not for good.
     pub keep: Option<u64>,
     /// The operator's port, if there is one.
-    pub operated: Option<Operated>,
+    pub operated: Option<AdminListener>,
     /// Whether it is told, too, that changes are not kept and that they are again.
     pub verbose: bool,
 }
@@ -153,11 +153,11 @@ pub trait Listen {
 }
 
 // What operators are told that stays as it is.
-fn build_of(operated: Option<Operated>) -> Option<Build<'static>>
+fn build_of(operated: Option<AdminListener>) -> Option<BuildInfo<'static>>
     ensures { IsSome result → IsSome operated }
 {
     match operated {
-        Some(Operated { port: _, started }) => Some(Build {
+        Some(AdminListener { port: _, started }) => Some(BuildInfo {
             started,
             version: VERSION,
             kit: KIT,
@@ -167,33 +167,33 @@ fn build_of(operated: Option<Operated>) -> Option<Build<'static>>
 }
 
 // The operator's port.
-fn operators_port(operated: Option<Operated>) -> Option<u16> {
+fn operators_port(operated: Option<AdminListener>) -> Option<u16> {
     match operated {
-        Some(Operated { port, started: _ }) => Some(port),
+        Some(AdminListener { port, started: _ }) => Some(port),
         None => None,
     }
 }
 
 // Answers the clients of the sockets by a service over a space.
 fn serve_sockets<
-    S: Sweeps + Shows + Drop,
+    S: PurgeEnded + SnapshotSource + Drop,
     M: Moments,
     N: Sockets + Drop,
     T: TokenSource + Drop,
-    J: Journal,
+    J: ServerLog,
 >(
     alloc: Global,
     space: S,
     salt: Salt,
     routes: &Routes,
-    given: Answering<'_>,
+    given: ServeConfig<'_>,
     watch: TokenWatch<T>,
     moments: &mut M,
     sockets: N,
     journal: &mut J,
 ) -> (Result<(), Fault>, S)
     requires { salt ≡ salt_of given.tokens.now }
-    ensures served { ServesClients S.Space S.Settles.own M.Moments T.gives
+    ensures served { ServesClients S.Space S.GroupCommit.own M.Moments T.gives
         given.entry.keep given.entry.tokens.now space result.1 moments.old moments.new }
     ensures counted { OnOk result.0 (IsSome given.entry.limits.count
         ⊎ IsSome given.entry.operated) }
@@ -223,7 +223,7 @@ fn serve_sockets<
 ///
 /// It is done only where a number of connections is given, or an operator's port.
 pub fn serve_port<
-    S: Sweeps + Shows + Drop,
+    S: PurgeEnded + SnapshotSource + Drop,
     M: Moments,
     L: Listen + Drop,
     T: TokenSource + Drop,
@@ -232,17 +232,17 @@ pub fn serve_port<
     alloc: Global,
     space: S,
     salt: Salt,
-    given: Answering<'_>,
+    given: ServeConfig<'_>,
     watch: TokenWatch<T>,
     moments: &mut M,
     mut listener: L,
     error: &mut E,
 ) -> (Result<(), Fault>, S)
     requires { salt ≡ salt_of given.tokens.now }
-    ensures served { OnOk result.0 (ServesClients S.Space S.Settles.own M.Moments T.gives
+    ensures served { OnOk result.0 (ServesClients S.Space S.GroupCommit.own M.Moments T.gives
         given.entry.keep given.entry.tokens.now space result.1 moments.old moments.new) }
     ensures part { OnErr result.0 ((result.1 ≡ space) × (moments.new ≡ moments.old)
-        ⊎ ServesClients S.Space S.Settles.own M.Moments T.gives
+        ⊎ ServesClients S.Space S.GroupCommit.own M.Moments T.gives
         given.entry.keep given.entry.tokens.now space result.1 moments.old moments.new) }
     ensures counted { OnOk result.0 (IsSome given.entry.limits.count
         ⊎ IsSome given.entry.operated) }
@@ -253,11 +253,11 @@ pub fn serve_port<
     let log = listener.log();
     let sockets = match listener.listen(given.address, given.port, operators_port(given.operated)) {
         Ok(sockets) => sockets,
-        Err(cause) => return (Err(of_system(&cause, Fault::Socket)), space),
+        Err(cause) => return (Err(io_fault(&cause, Fault::Socket)), space),
     };
-    let _ = tell_listening(given.address, given.port, error);
+    let _ = print_listening(given.address, given.port, error);
     if let Some(operated) = given.operated {
-        let _ = tell_operated(operated.port, error);
+        let _ = print_admin_listening(operated.port, error);
     }
     let mut journal = Lines {
         error,

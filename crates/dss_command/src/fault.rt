@@ -7,7 +7,7 @@ ghost use Rattle.dss_command.specs.Fault.{line_of, status_of, told_by};
 use crate::copy_fault::CopyFault;
 use dss_report::fault::{CellFault, ReportFault};
 use grid_core::token::TokenFault;
-use space_format::open_fault::OpenFault;
+use space_sql_open::open_fault::OpenFault;
 use std::io::{ErrorKind, Write};
 use std::{fmt, io};
 use token_conf::conf_fault::ConfFault;
@@ -158,7 +158,7 @@ impl From<ReportFault> for Fault {
 }
 
 /// Tells a fault on one line.
-pub fn tell<E: Write>(fault: &Fault, error: &mut E) -> io::Result<()>
+pub fn print_fault<E: Write>(fault: &Fault, error: &mut E) -> io::Result<()>
     ensures { OnOk result (Appends (E.contents error.old) (E.contents error.new)
         (line_of fault.now ++ codes "\n")) }
 {
@@ -176,7 +176,7 @@ pub fn status(done: &Result<(), Fault>) -> u8
 }
 
 /// What a call of the system that failed comes to: want of memory is told as such.
-pub fn of_system(cause: &io::Error, fault: Fault) -> Fault
+pub fn io_fault(cause: &io::Error, fault: Fault) -> Fault
     ensures { result ≡ told_by (error_kind cause.now) fault }
 {
     match cause.kind() {

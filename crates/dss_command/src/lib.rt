@@ -1,10 +1,10 @@
 //! What the commands of `dss` do, over readers, writers and texts whose bytes a clause can name.
 #![tactic(auto)]
 
+mod aborted_connection;
 pub mod clients;
 pub mod copy_fault;
 pub mod fault;
-mod given_up;
 pub mod limits;
 pub mod line;
 mod log_line;

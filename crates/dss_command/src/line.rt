@@ -1,16 +1,16 @@
 //! One command line, run, up to its exit status.
 ghost use Rattle.std.specs.Prelude.{◌≡◌, OnOk, string_bytes};
 ghost use Rattle.std.specs.Io.KnownBytes.{Appends};
-ghost use Rattle.dss_line.specs.Line.{texts};
+ghost use Rattle.dss_args.specs.CommandArgs.{texts};
 ghost use Rattle.wire_http.specs.Counted.{inner_of};
 ghost use Rattle.dss_command.specs.Fault.{status_of};
 ghost use Rattle.dss_command.specs.Line.{Does, EndsLine, EndsRefused};
 
-use crate::fault::{Fault, status, tell};
+use crate::fault::{Fault, print_fault, status};
 use crate::print::cell;
-use dss_line::fault::LineFault;
-use dss_line::line::{Line, parse};
-use dss_line::serving::Serving;
+use dss_args::command_args::{CommandArgs, parse};
+use dss_args::fault::LineFault;
+use dss_args::serve_args::ServeArgs;
 use std::alloc::Global;
 use std::io::{Read, Write};
 use wire_http::Counted;
@@ -22,10 +22,10 @@ use wire_http::Counted;
 /// has this to give and the writer is left so.
 pub trait Commands {
     ghost use Rattle.std.specs.Prelude.{ℕ, List, Option, Result, Some, None, OnOk, ◌≡◌};
-    ghost use Rattle.dss_line.specs.declared.line.Line.{Line};
+    ghost use Rattle.dss_args.specs.declared.command_args.CommandArgs.{CommandArgs};
     ghost use Rattle.dss_command.specs.declared.fault.Fault.{Fault};
 
-    ghost does: { Line → (remaining before after : Option (List ℕ)) → Result (Unit {0}) Fault
+    ghost does: { CommandArgs → (remaining before after : Option (List ℕ)) → Result (Unit {0}) Fault
         → Type 0 };
 
     /// The command `run`.
@@ -38,13 +38,13 @@ pub trait Commands {
         input: &mut Counted<R>,
         output: &mut Counted<W>,
     ) -> Result<(), Fault>
-        ensures { does (Line.Run tokens.entry now database.entry requests.entry)
+        ensures { does (CommandArgs.Run tokens.entry now database.entry requests.entry)
             (R.remaining (inner_of input.old))
             (W.contents (inner_of output.old)) (W.contents (inner_of output.new)) result };
 
     /// The command `serve`.
-    fn serve<E: Write>(self, given: Serving<'_>, error: &mut E) -> Result<(), Fault>
-        ensures { does (Line.Serve given.entry) None (E.contents error.old) (E.contents error.new)
+    fn serve<E: Write>(self, given: ServeArgs<'_>, error: &mut E) -> Result<(), Fault>
+        ensures { does (CommandArgs.Serve given.entry) None (E.contents error.old) (E.contents error.new)
             result };
 
     /// The command `self`.
@@ -56,41 +56,41 @@ pub trait Commands {
         input: &mut Counted<R>,
         output: &mut Counted<W>,
     ) -> Result<(), Fault>
-        ensures { does (Line.Loopback tokens.entry now request.entry)
+        ensures { does (CommandArgs.Loopback tokens.entry now request.entry)
             (R.remaining (inner_of input.old))
             (W.contents (inner_of output.old)) (W.contents (inner_of output.new)) result };
 
     /// The command `report`.
     fn report<W: Write>(self, database: &str, places: bool, output: &mut W) -> Result<(), Fault>
-        ensures { does (Line.Report database.entry places) None
+        ensures { does (CommandArgs.Report database.entry places) None
             (W.contents output.old) (W.contents output.new) result };
 
     /// The command `backup`, which prints nothing.
     fn backup(self, database: &str, to: &str) -> Result<(), Fault>
-        ensures { does (Line.Backup database.entry to.entry) None None None result };
+        ensures { does (CommandArgs.Backup database.entry to.entry) None None None result };
 
     /// The command `upgrade`.
     fn upgrade<W: Write>(self, database: &str, output: &mut W) -> Result<(), Fault>
-        ensures { does (Line.Upgrade database.entry) None
+        ensures { does (CommandArgs.Upgrade database.entry) None
             (W.contents output.old) (W.contents output.new) result };
 
-    /// The command `sweep`.
-    fn sweep<W: Write>(
+    /// The command `purge`.
+    fn purge<W: Write>(
         self,
         database: &str,
         until: u64,
         now: Option<u64>,
         output: &mut W,
     ) -> Result<(), Fault>
-        ensures { does (Line.Sweep database.entry until now) None
+        ensures { does (CommandArgs.Purge database.entry until now) None
             (W.contents output.old) (W.contents output.new) result };
 
     /// The command `tokens --check`.
     fn check_tokens<W: Write>(self, file: &str, output: &mut W) -> Result<(), Fault>
-        ensures { does (Line.CheckTokens file.entry) None
+        ensures { does (CommandArgs.CheckTokens file.entry) None
             (W.contents output.old) (W.contents output.new) result };
 
-    /// The command `tokens --new`. Why no token is made is told on a line of `error`.
+    /// The command `tokens --new-token`. Why no token is made is told on a line of `error`.
     fn new_token<W: Write, E: Write>(
         self,
         uss: &str,
@@ -98,13 +98,13 @@ pub trait Commands {
         output: &mut W,
         error: &mut E,
     ) -> Result<(), Fault>
-        ensures made { does (Line.NewToken uss.entry scopes.entry) None
+        ensures made { does (CommandArgs.NewToken uss.entry scopes.entry) None
             (W.contents output.old) (W.contents output.new) result }
         ensures quiet { OnOk result (E.contents error.new ≡ E.contents error.old) };
 
     /// The command `tokens --new-salt`.
     fn new_salt<W: Write>(self, output: &mut W) -> Result<(), Fault>
-        ensures { does Line.NewSalt None (W.contents output.old) (W.contents output.new) result };
+        ensures { does CommandArgs.NewSalt None (W.contents output.old) (W.contents output.new) result };
 }
 
 /// The exit status of a command that ended, after its fault was told on one line.
@@ -113,7 +113,7 @@ pub fn end_status<E: Write>(done: Result<(), Fault>, error: &mut E) -> u8
     ensures quiet { OnOk done (E.contents error.new ≡ E.contents error.old) }
 {
     if let Err(fault) = &done {
-        let _ = tell(fault, error);
+        let _ = print_fault(fault, error);
     }
     status(&done)
 }
@@ -147,7 +147,7 @@ pub fn refuse_line<O: Write, E: Write>(fault: LineFault, output: &mut O, error: 
 fn perform<C: Commands + Drop, R: Read, O: Write, E: Write>(
     alloc: Global,
     commands: C,
-    line: Line<'_>,
+    line: CommandArgs<'_>,
     input: &mut Counted<R>,
     output: &mut Counted<O>,
     error: &mut E,
@@ -157,30 +157,30 @@ fn perform<C: Commands + Drop, R: Read, O: Write, E: Write>(
         (E.contents error.old) (E.contents error.new) result }
 {
     match line {
-        Line::Run {
+        CommandArgs::Run {
             tokens,
             now,
             database,
             requests,
         } => commands.run(tokens, now, database, requests, input, output),
-        Line::Serve(given) => commands.serve(given, error),
-        Line::Loopback {
+        CommandArgs::Serve(given) => commands.serve(given, error),
+        CommandArgs::Loopback {
             tokens,
             now,
             request,
         } => commands.loop_back(tokens, now, request, input, output),
-        Line::Cell { token } => cell(alloc, token, output),
-        Line::Report { database, places } => commands.report(database, places, output),
-        Line::Backup { database, to } => commands.backup(database, to),
-        Line::Upgrade { database } => commands.upgrade(database, output),
-        Line::Sweep {
+        CommandArgs::Cell { token } => cell(alloc, token, output),
+        CommandArgs::Report { database, places } => commands.report(database, places, output),
+        CommandArgs::Backup { database, to } => commands.backup(database, to),
+        CommandArgs::Upgrade { database } => commands.upgrade(database, output),
+        CommandArgs::Purge {
             database,
             until,
             now,
-        } => commands.sweep(database, until, now, output),
-        Line::CheckTokens { file } => commands.check_tokens(file, output),
-        Line::NewToken { uss, scopes } => commands.new_token(uss, scopes, output, error),
-        Line::NewSalt => commands.new_salt(output),
+        } => commands.purge(database, until, now, output),
+        CommandArgs::CheckTokens { file } => commands.check_tokens(file, output),
+        CommandArgs::NewToken { uss, scopes } => commands.new_token(uss, scopes, output, error),
+        CommandArgs::NewSalt => commands.new_salt(output),
     }
 }
 

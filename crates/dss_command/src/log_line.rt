@@ -3,8 +3,8 @@ ghost use Rattle.std.specs.Prelude.{◌≡◌, IfOk};
 ghost use Rattle.std.specs.String.{string_bytes};
 ghost use Rattle.dss_command.specs.LogLine.{IsLogLine, IsMoment, entity_word, how, log_line, microseconds_word, rule_word, supplier_word, what, who};
 
-use dss_admin::operation::operation_name;
-use dss_serve::journal::LoggedRequest;
+use admin_http::operation::operation_name;
+use dss_server::server_log::LoggedRequest;
 use entity_core::entity_id::EntityId;
 use entity_core::uss_id::UssId;
 use jiff_core::Timestamp;

@@ -19,7 +19,7 @@ pub fn seconds_of(time: SystemTime) -> Option<u64>
 }
 
 /// Refuses a sweep until a moment that is in the future now, both in seconds since 1970.
-pub fn is_past(until: u64, now: u64) -> Result<(), Fault>
+pub fn check_not_in_future(until: u64, now: u64) -> Result<(), Fault>
     ensures past { OnOk result (until ≤ now) }
     ensures refused { IfErr result (λ fault. (fault ≡ UntilInFuture) × (now < until)) }
 {

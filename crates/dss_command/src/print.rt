@@ -6,13 +6,13 @@ ghost use Rattle.dss_report.specs.Cell.{IsLineOfToken};
 ghost use Rattle.dss_report.specs.Report.{report_of};
 ghost use Rattle.entity_core.specs.Airspace.{Airspace};
 ghost use Rattle.dss_command.specs.Fault.{IsOfCell};
-ghost use Rattle.dss_command.specs.Print.{WritesPlaces, WritesReport, swept_line};
+ghost use Rattle.dss_command.specs.Print.{WritesPlaces, WritesReport, purged_line};
 
 use crate::fault::Fault;
+use dss_purge::purged::PurgeCounts;
 use dss_report::cell::token_line;
-use dss_report::places::places_text;
+use dss_report::cell_lines::cells_text;
 use dss_report::report::report_text;
-use dss_sweep::swept::Swept;
 use space_core::space::Space;
 use std::alloc::Global;
 use std::io::Write;
@@ -52,16 +52,16 @@ pub fn put_format<W: Write>(upgraded: bool, output: &mut W) -> Result<(), Fault>
 }
 
 /// What the command `sweep` prints of what it let go of.
-pub fn put_swept<W: Write>(swept: Swept, output: &mut W) -> Result<(), Fault>
+pub fn put_purged<W: Write>(purged: PurgeCounts, output: &mut W) -> Result<(), Fault>
     ensures whole { OnOk result (Appends (W.contents output.old) (W.contents output.new)
-        (swept_line swept)) }
+        (purged_line purged)) }
     ensures output { IfErr result (λ fault. fault ≡ Output) }
 {
-    let Swept {
+    let PurgeCounts {
         intents,
         constraints,
         subscriptions,
-    } = swept;
+    } = purged;
     let written = writeln!(
         output,
         "swept {intents} intents, {constraints} constraints, {subscriptions} subscriptions"
@@ -106,7 +106,7 @@ pub fn put_places<S: Space + Drop, W: Write>(
     ensures told { IfErr result (λ fault.
         (fault ≡ DatabaseFailed) ⊎ (fault ≡ Memory) ⊎ (fault ≡ Output)) }
 {
-    let lines = places_text(alloc, space)?;
+    let lines = cells_text(alloc, space)?;
     put(lines.as_slice(), output)
 }
 

@@ -1,6 +1,6 @@
 //! The log of requests: a line for each, written at the end of its round.
 use crate::log_line::log_line;
-use dss_serve::journal::LoggedRequest;
+use dss_server::server_log::LoggedRequest;
 use jiff_core::Timestamp;
 use std::alloc::{AllocError, Global};
 use std::io;

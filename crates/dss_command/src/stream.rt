@@ -13,7 +13,7 @@ use space_memory::memory::MemorySpace;
 use std::alloc::Global;
 use std::io::{Read, Write};
 use token_conf::token_table::TokenTable;
-use wire_http::{Counted, Fixed, Served, serve_stream};
+use wire_http::{Counted, FixedClock, Served, serve_stream};
 use wire_route::routes::Routes;
 
 /// Serves one stream, each moment being `now`: what the input spells was asked and answered, as
@@ -41,7 +41,7 @@ pub fn serve_at<S: Space + Drop, R: Read, W: Write>(
     let Ok(routes) = Routes::new(alloc) else {
         return Err(Fault::Memory);
     };
-    let mut clock = Fixed::new(now);
+    let mut clock = FixedClock::new(now);
     match serve_stream(alloc, &routes, service, tokens, &mut clock, reader, writer) {
         Ok(served) => Ok(served),
         Err(fault) => Err(Fault::from(fault)),

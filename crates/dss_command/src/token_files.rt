@@ -3,7 +3,7 @@
 ghost use Rattle.std.specs.Prelude.{◌≡◌, ◌⊎◌, IfErr, OnOk};
 ghost use Rattle.std.specs.Io.KnownBytes.{Appends};
 ghost use Rattle.token_conf.specs.TokenFile.{file_of};
-ghost use Rattle.token_report.specs.New.{names_in, salt_line_of, table_of};
+ghost use Rattle.token_check.specs.New.{names_in, salt_line_of, table_of};
 ghost use Rattle.dss_command.specs.Tokens.{EndsCheck, Judges};
 ghost use Rattle.dss_command.specs.declared.fault.Fault.TheVariants.{Memory, Output};
 
@@ -11,9 +11,9 @@ use crate::fault::Fault;
 use crate::print::put;
 use std::alloc::Global;
 use std::io::Write;
-use token_report::mistake::Mistake;
-use token_report::new::{NewFault, salt_line, token_table};
-use token_report::report::report_on;
+use token_check::new::{NewFault, salt_line, token_table};
+use token_check::report::check_token_file;
+use token_check::token_file_error::TokenFileError;
 
 // Writes a line for each text.
 fn put_lines<W: Write>(lines: &[String], output: &mut W) -> Result<(), Fault>
@@ -27,7 +27,7 @@ fn put_lines<W: Write>(lines: &[String], output: &mut W) -> Result<(), Fault>
 }
 
 // How a check ends whose file has these mistakes.
-fn refuse_mistakes(mistakes: &[Mistake]) -> Result<(), Fault>
+fn refuse_mistakes(mistakes: &[TokenFileError]) -> Result<(), Fault>
     ensures { Judges mistakes.now result }
 {
     match mistakes.first() {
@@ -41,7 +41,7 @@ fn refuse_mistakes(mistakes: &[Mistake]) -> Result<(), Fault>
 pub fn tell_tokens<E: Write>(alloc: Global, text: &str, error: &mut E) -> Result<(), Fault>
     ensures { IfErr result (λ fault. (fault ≡ Memory) ⊎ (fault ≡ Output)) }
 {
-    let Ok(report) = report_on(alloc, text) else {
+    let Ok(report) = check_token_file(alloc, text) else {
         return Err(Fault::Memory);
     };
     put_lines(report.lines.as_slice(), error)
@@ -58,7 +58,7 @@ pub fn check_tokens<W: Write>(
 ) -> Result<(), Fault>
     ensures { EndsCheck (file_of text.now) result }
 {
-    let Ok(report) = report_on(alloc, text) else {
+    let Ok(report) = check_token_file(alloc, text) else {
         return Err(Fault::Memory);
     };
     put_lines(report.lines.as_slice(), output)?;

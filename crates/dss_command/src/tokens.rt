@@ -5,8 +5,8 @@ ghost use Rattle.token_conf.specs.TokenFile.{salt_of};
 ghost use Rattle.dss_command.specs.Tokens.{Passes, Tables, refusal_line};
 ghost use Rattle.dss_command.specs.declared.fault.Fault.TheVariants.{Memory};
 
-use crate::fault::{Fault, tell};
-use dss_serve::token_watch::TokensFault;
+use crate::fault::{Fault, print_fault};
+use dss_server::token_watch::TokenReloadFault;
 use entity_core::salt::Salt;
 use std::alloc::Global;
 use std::io;
@@ -43,14 +43,14 @@ pub fn salt_of(tokens: &TokenTable) -> Result<Salt, Fault>
 }
 
 /// Tells on one line why a token file that changed was not taken.
-pub fn tell_refusal<E: Write>(fault: TokensFault, error: &mut E) -> io::Result<()>
+pub fn tell_refusal<E: Write>(fault: TokenReloadFault, error: &mut E) -> io::Result<()>
     ensures { OnOk result (Appends (E.contents error.old) (E.contents error.new)
         (refusal_line fault ++ codes "\n")) }
 {
     match fault {
-        TokensFault::Unread => tell(&Fault::TokensUnread, error),
-        TokensFault::Wrong(ConfFault::Memory) => tell(&Fault::Memory, error),
-        TokensFault::Wrong(why) => tell(&Fault::Tokens(why), error),
-        TokensFault::OtherSalt => writeln!(error, "dss: tokens: another salt"),
+        TokenReloadFault::Unread => print_fault(&Fault::TokensUnread, error),
+        TokenReloadFault::Wrong(ConfFault::Memory) => print_fault(&Fault::Memory, error),
+        TokenReloadFault::Wrong(why) => print_fault(&Fault::Tokens(why), error),
+        TokenReloadFault::OtherSalt => writeln!(error, "dss: tokens: another salt"),
     }
 }

@@ -4,7 +4,7 @@ use Rattle.std.specs.Prelude.{map}
 use Rattle.std.specs.List.{AllZip, concat, flat_map}
 use Rattle.std.proofs.lemmas.List.{append_assoc, append-nil}
 use Rattle.entity_core.specs.declared.entity.Entity.{Entity}
-use Rattle.dss_report.specs.Places.{AddsPlaces, HasPlaces, IsPlaceLine, Place, places_of}
+use Rattle.dss_report.specs.CellLines.{AddsPlaces, HasPlaces, IsPlaceLine, Place, places_of}
 
 -- lists that go together, one after the other
 zip_append : {A B : Type 0} (R : A → B → Type 0) (xs xs' : List A) (ys ys' : List B) → AllZip R xs ys → AllZip R xs' ys' → AllZip R (xs ++ xs') (ys ++ ys')

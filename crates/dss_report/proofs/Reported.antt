@@ -3,22 +3,22 @@ use Rattle.std.specs.Prelude.{◌≡◌, Ok}
 use Rattle.std.proofs.Common.{inr, ap, ap₂, subst, ◌∙◌, ◌++◌, List, ℕ, Vec, Global}
 use Rattle.entity_core.specs.Airspace.{Airspace}
 use Rattle.space_core.specs.declared.space.Space.{Ghosts}
-use Rattle.space_core.specs.Space.{Reads, Tells}
-use Rattle.dss_report.specs.Places.{HasPlaces, IsPlacesIn, IsPlacesOf, Place, places_of}
-use Rattle.dss_report.specs.Reading.{IsKeptIn, Reports}
+use Rattle.space_core.specs.Space.{Reads, ReportsFault}
+use Rattle.dss_report.specs.CellLines.{HasPlaces, IsPlacesIn, IsPlacesOf, Place, places_of}
+use Rattle.dss_report.specs.Reading.{AreContentsOf, Reports}
 use Rattle.dss_report.specs.Report.{lines_of, report_of, serial_line, text_of}
-use Rattle.dss_report.specs.declared.kept.Kept.{Kept}
+use Rattle.dss_report.specs.declared.contents.Contents.{Contents}
 
 -- the text of what was read is the airspace's report
-text_is : (a : Airspace) (kept : Kept) → IsKeptIn a kept → text_of kept ≡ report_of a
+text_is : (a : Airspace) (kept : Contents) → AreContentsOf a kept → text_of kept ≡ report_of a
 text_is a kept is =
     ap₂ (λ (x y : List ℕ). x ++ y) (ap lines_of is.0) (ap₂ (λ (x y : List ℕ). x ++ y) (ap lines_of is.1) (ap serial_line is.2))
 
 -- what was read tells of the airspace what it tells of itself
-pub reports_as : {S : Type 0} (g : Ghosts S) (old new : S) (kept : Kept) (text : Vec ℕ Global) (P : Airspace → Vec ℕ Global → Type 0)
-    → Tells (g.refusals old) (g.refusals new) (g.is_broken old) (g.is_broken new) (Ok kept)
-    → Reads g.holds g.is_sound g.is_whole old new (Ok kept) IsKeptIn
-    → ((a : Airspace) → IsKeptIn a kept → P a text)
+pub reports_as : {S : Type 0} (g : Ghosts S) (old new : S) (kept : Contents) (text : Vec ℕ Global) (P : Airspace → Vec ℕ Global → Type 0)
+    → ReportsFault (g.refusals old) (g.refusals new) (g.is_broken old) (g.is_broken new) (Ok kept)
+    → Reads g.holds g.is_sound g.is_whole old new (Ok kept) AreContentsOf
+    → ((a : Airspace) → AreContentsOf a kept → P a text)
     → Reports g old new (Ok text) P
 reports_as g old new kept text P tells reads is = record {
   sound = reads.sound;
@@ -29,22 +29,22 @@ reports_as g old new kept text P tells reads is = record {
   told = (tells.counted, tells.breaks);
 }
 
-pub reports_of : {S : Type 0} (g : Ghosts S) (old new : S) (kept : Kept) (text : Vec ℕ Global)
-    → Tells (g.refusals old) (g.refusals new) (g.is_broken old) (g.is_broken new) (Ok kept)
-    → Reads g.holds g.is_sound g.is_whole old new (Ok kept) IsKeptIn
+pub reports_of : {S : Type 0} (g : Ghosts S) (old new : S) (kept : Contents) (text : Vec ℕ Global)
+    → ReportsFault (g.refusals old) (g.refusals new) (g.is_broken old) (g.is_broken new) (Ok kept)
+    → Reads g.holds g.is_sound g.is_whole old new (Ok kept) AreContentsOf
     → text.items ≡ text_of kept
     → Reports g old new (Ok text) (λ a text. text.items ≡ report_of a)
 reports_of g old new kept text tells reads is =
     reports_as g old new kept text (λ a text. text.items ≡ report_of a) tells reads (λ a read. is ∙ text_is a kept read)
 
 -- the places of what was read are the airspace's
-places_are : (a : Airspace) (kept : Kept) (text : List ℕ) → IsKeptIn a kept → IsPlacesIn kept text → IsPlacesOf a text
+places_are : (a : Airspace) (kept : Contents) (text : List ℕ) → AreContentsOf a kept → IsPlacesIn kept text → IsPlacesOf a text
 places_are a kept text is has =
     subst (λ (ps : List Place). HasPlaces ps text) (ap₂ (λ (x y : List Place). x ++ y) (ap places_of is.0) (ap places_of is.1)) has
 
-pub places_reported : {S : Type 0} (g : Ghosts S) (old new : S) (kept : Kept) (text : Vec ℕ Global)
-    → Tells (g.refusals old) (g.refusals new) (g.is_broken old) (g.is_broken new) (Ok kept)
-    → Reads g.holds g.is_sound g.is_whole old new (Ok kept) IsKeptIn
+pub places_reported : {S : Type 0} (g : Ghosts S) (old new : S) (kept : Contents) (text : Vec ℕ Global)
+    → ReportsFault (g.refusals old) (g.refusals new) (g.is_broken old) (g.is_broken new) (Ok kept)
+    → Reads g.holds g.is_sound g.is_whole old new (Ok kept) AreContentsOf
     → IsPlacesIn kept text.items
     → Reports g old new (Ok text) (λ a text. IsPlacesOf a text.items)
 places_reported g old new kept text tells reads is =

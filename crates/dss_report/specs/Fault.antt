@@ -1,6 +1,6 @@
 -- Why there is no report.
 use Rattle.std.specs.Prelude.{◌≡◌, ◌<◌, ◌⊎◌, ℕ, Bool, true, List, codes}
-use Rattle.space_core.specs.Space.{greatest_count}
+use Rattle.space_core.specs.Space.{max_count}
 use Rattle.dss_report.specs.declared.fault.ReportFault.{ReportFault}
 use Rattle.dss_report.specs.declared.fault.ReportFault.TheVariants.{Space, Memory}
 
@@ -16,10 +16,10 @@ name_of Memory = codes "Memory"
 -- value), or it is broken.
 abbrev pub HasFailed : ℕ → ℕ → Bool → Bool → Type 0
 HasFailed refusals refusals' broken broken' =
-    (((refusals < refusals') ⊎ (refusals' ≡ greatest_count)) × (broken' ≡ broken))
+    (((refusals < refusals') ⊎ (refusals' ≡ max_count)) × (broken' ≡ broken))
     ⊎ (broken' ≡ true)
 
 -- what a fault says of the space's answers
-abbrev pub ToldBy : ReportFault → ℕ → ℕ → Bool → Bool → Type 0
-ToldBy Space refusals refusals' broken broken' = HasFailed refusals refusals' broken broken'
-ToldBy Memory refusals refusals' broken broken' = (refusals' ≡ refusals) × (broken' ≡ broken)
+abbrev pub IsReportFaultOf : ReportFault → ℕ → ℕ → Bool → Bool → Type 0
+IsReportFaultOf Space refusals refusals' broken broken' = HasFailed refusals refusals' broken broken'
+IsReportFaultOf Memory refusals refusals' broken broken' = (refusals' ≡ refusals) × (broken' ≡ broken)

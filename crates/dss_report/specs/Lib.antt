@@ -1,5 +1,5 @@
 pub mod Cell
 pub mod Fault
-pub mod Places
+pub mod CellLines
 pub mod Reading
 pub mod Report

@@ -4,13 +4,13 @@ use Rattle.entity_core.specs.Airspace.{Airspace}
 use Rattle.entity_core.specs.Search.{all_in}
 use Rattle.entity_core.specs.declared.nature.Kind.TheVariants.{Intent, Constraint}
 use Rattle.space_core.specs.declared.space.Space.{Ghosts}
-use Rattle.dss_report.specs.Fault.{ToldBy}
+use Rattle.dss_report.specs.Fault.{IsReportFaultOf}
 use Rattle.dss_report.specs.declared.fault.ReportFault.{ReportFault}
-use Rattle.dss_report.specs.declared.kept.Kept.{Kept}
+use Rattle.dss_report.specs.declared.contents.Contents.{Contents}
 
 -- what was read is all that the airspace has for its report
-abbrev pub IsKeptIn : Airspace → Kept → Type 0
-IsKeptIn a kept =
+abbrev pub AreContentsOf : Airspace → Contents → Type 0
+AreContentsOf a kept =
     (kept.intents.items ≡ all_in a.entities Intent)
     × (kept.constraints.items ≡ all_in a.entities Constraint)
     × (kept.serial ≡ a.serial)
@@ -28,4 +28,4 @@ pub record Reports {S T : Type 0} (g : Ghosts S) (old new : S) (result : Result 
   pub answer : g.is_sound new → IfOk result (λ found. (a : Airspace) → g.holds old a → P a found)
   pub told : MatchResult result
       (λ _. (g.refusals new ≡ g.refusals old) × (g.is_broken new ≡ g.is_broken old))
-      (λ fault. ToldBy fault (g.refusals old) (g.refusals new) (g.is_broken old) (g.is_broken new))
+      (λ fault. IsReportFaultOf fault (g.refusals old) (g.refusals new) (g.is_broken old) (g.is_broken new))

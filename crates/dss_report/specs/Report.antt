@@ -11,7 +11,7 @@ use Rattle.entity_core.specs.declared.nature.Kind.{Kind}
 use Rattle.entity_core.specs.declared.nature.Kind.TheVariants as kind
 use Rattle.entity_core.specs.declared.nature.Nature.{Nature}
 use Rattle.entity_core.specs.declared.nature.Nature.TheVariants as nature
-use Rattle.dss_report.specs.declared.kept.Kept.{Kept}
+use Rattle.dss_report.specs.declared.contents.Contents.{Contents}
 
 -- ---- columns
 
@@ -69,6 +69,6 @@ report_of a =
     ++ serial_line a.serial)
 
 -- the report of what was read for it
-abbrev pub text_of : Kept → List ℕ
+abbrev pub text_of : Contents → List ℕ
 text_of kept =
     lines_of kept.intents.items ++ (lines_of kept.constraints.items ++ serial_line kept.serial)

@@ -3,8 +3,8 @@
 #![tactic(auto)]
 
 pub mod cell;
+pub mod cell_lines;
+mod contents;
 pub mod fault;
-mod kept;
 mod line;
-pub mod places;
 pub mod report;

@@ -1,16 +1,16 @@
 //! The report of a space.
 ghost use Rattle.std.specs.Prelude.{◌≡◌, IfOk};
-ghost use Rattle.dss_report.specs.Reading.{IsKeptIn, Reports};
+ghost use Rattle.dss_report.specs.Reading.{AreContentsOf, Reports};
 ghost use Rattle.dss_report.specs.Report.{report_of, text_of};
 
+use crate::contents::{Contents, read_contents};
 use crate::fault::ReportFault;
-use crate::kept::{Kept, kept_in};
 use crate::line::{put_lines, put_serial};
 use space_core::space::Space;
 use std::alloc::{AllocError, Global};
 
 // The text of what a space keeps.
-fn text_of(alloc: Global, kept: &Kept) -> Result<Vec<u8>, AllocError>
+fn text_of(alloc: Global, kept: &Contents) -> Result<Vec<u8>, AllocError>
     ensures { IfOk result (λ text. text.items ≡ text_of kept.now) }
 {
     let mut text = Vec::new(alloc);
@@ -29,7 +29,7 @@ fn text_of(alloc: Global, kept: &Kept) -> Result<Vec<u8>, AllocError>
 pub fn report_text<S: Space + Drop>(alloc: Global, space: &mut S) -> Result<Vec<u8>, ReportFault>
     ensures { Reports S.Space space.old space.new result (λ a text. text.items ≡ report_of a) }
 {
-    let kept = match kept_in(space) {
+    let kept = match read_contents(space) {
         Ok(kept) => kept,
         Err(_) => return Err(ReportFault::Space),
     };

@@ -9,7 +9,7 @@ use Rattle.std.specs.FinMap.{get, insert, remove, entries, entries_sorted, entri
 use Rattle.std.specs.FinMap as maps
 use Rattle.std.specs.FinMap.Entries.{below_all, is_sorted}
 use Rattle.std.proofs.lemmas.Cmp.{nat_cmp_total}
-use Rattle.entity_core.specs.Airspace.{Airspace, Entities, EntityKey, IsAirspace, Stated, Subscriptions, ToldOnce, empty_at, key_cmp, key_of, told_again, told_if, told_where, with_availability, with_entity, with_subscription, with_told, without_entity, without_subscription}
+use Rattle.entity_core.specs.Airspace.{Airspace, Entities, EntityKey, IsAirspace, VersionedAvailability, Subscriptions, NotifiedOnce, empty_at, key_cmp, key_of, notified_again, notified_if, notified_where, with_availability, with_entity, with_subscription, with_notified_subs, without_entity, without_subscription}
 use Rattle.entity_core.specs.declared.entity.Entity.{Entity}
 use Rattle.entity_core.specs.declared.subscription.Sub.{Sub}
 use Rattle.entity_core.proofs.Entries.{first, less, second}
@@ -79,7 +79,7 @@ proper_without a k proper = record {
   told = λ id s h. below_next s.index a.serial (proper.told id s h);
 }
 
-pub proper_stated : (a : Airspace) (uss : List ℕ) (stated : Stated) → IsAirspace a → IsAirspace (with_availability a uss stated)
+pub proper_stated : (a : Airspace) (uss : List ℕ) (stated : VersionedAvailability) → IsAirspace a → IsAirspace (with_availability a uss stated)
 proper_stated a uss stated proper = record {
   keyed = proper.keyed;
   own = proper.own;
@@ -115,53 +115,53 @@ proper_empty n = record {
 
 -- ---- what is told
 
-told_find : (test : ℕ × Sub → Bool) (id : ℕ) (ss : List (ℕ × Sub)) → find nat_cmp id (map (told_if test) ss) ≡ option_map (λ s. (told_if test (id, s)).1) (find nat_cmp id ss)
+told_find : (test : ℕ × Sub → Bool) (id : ℕ) (ss : List (ℕ × Sub)) → find nat_cmp id (map (notified_if test) ss) ≡ option_map (λ s. (notified_if test (id, s)).1) (find nat_cmp id ss)
 told_find test id [] = refl
 told_find test id (s ∷ ss) =
-    elim (eq_by_cmp nat_cmp id s.0) as (λ b. eq_by_cmp nat_cmp id s.0 ≡ b → cond b (Some (told_if test s).1) (find nat_cmp id (map (told_if test) ss)) ≡ option_map (λ x. (told_if test (id, x)).1) (cond b (Some s.1) (find nat_cmp id ss))) [
-      | true ↦ λ t. ap (λ (k : ℕ). Some (told_if test (k, s.1)).1) (sym (one_id id s.0 t))
+    elim (eq_by_cmp nat_cmp id s.0) as (λ b. eq_by_cmp nat_cmp id s.0 ≡ b → cond b (Some (notified_if test s).1) (find nat_cmp id (map (notified_if test) ss)) ≡ option_map (λ x. (notified_if test (id, x)).1) (cond b (Some s.1) (find nat_cmp id ss))) [
+      | true ↦ λ t. ap (λ (k : ℕ). Some (notified_if test (k, s.1)).1) (sym (one_id id s.0 t))
       | false ↦ λ t. told_find test id ss
     ] refl
 
-told_below : (test : ℕ × Sub → Bool) (q : ℕ) (ss : List (ℕ × Sub)) → below_all nat_cmp q (map (told_if test) ss) ≡ below_all nat_cmp q ss
+told_below : (test : ℕ × Sub → Bool) (q : ℕ) (ss : List (ℕ × Sub)) → below_all nat_cmp q (map (notified_if test) ss) ≡ below_all nat_cmp q ss
 told_below test q [] = refl
 told_below test q (s ∷ ss) = ap (λ (b : Bool). is_lt (nat_cmp q s.0) && b) (told_below test q ss)
 
-told_sorted : (test : ℕ × Sub → Bool) (ss : List (ℕ × Sub)) → is_sorted nat_cmp (map (told_if test) ss) ≡ is_sorted nat_cmp ss
+told_sorted : (test : ℕ × Sub → Bool) (ss : List (ℕ × Sub)) → is_sorted nat_cmp (map (notified_if test) ss) ≡ is_sorted nat_cmp ss
 told_sorted test [] = refl
 told_sorted test (s ∷ ss) = λ i. told_below test s.0 ss i && told_sorted test ss i
 
-pub told_rise : (test : ℕ × Sub → Bool) (m : Subscriptions) → T (is_sorted nat_cmp (map (told_if test) (entries m)))
+pub told_rise : (test : ℕ × Sub → Bool) (m : Subscriptions) → T (is_sorted nat_cmp (map (notified_if test) (entries m)))
 told_rise test m = subst T (sym (told_sorted test (entries m))) (entries_sorted m)
 
 -- the entries after telling
-pub entries-told : (test : ℕ × Sub → Bool) (m : Subscriptions) → entries (told_where test m) ≡ map (told_if test) (entries m)
-unfolding told_where
-entries-told test m = entries-from_sorted nat_cmp (map (told_if test) (entries m)) (told_rise test m)
+pub entries-told : (test : ℕ × Sub → Bool) (m : Subscriptions) → entries (notified_where test m) ≡ map (notified_if test) (entries m)
+unfolding notified_where
+entries-told test m = entries-from_sorted nat_cmp (map (notified_if test) (entries m)) (told_rise test m)
 
-pub told_once : ToldOnce
-unfolding told_where
+pub told_once : NotifiedOnce
+unfolding notified_where
 told_once m test id =
-    get-from_sorted nat_cmp (map (told_if test) (entries m)) id (told_rise test m)
-    ∙ (told_find test id (entries m) ∙ ap (option_map (λ (s : Sub). (told_if test (id, s)).1)) (sym (get-entries m id)))
+    get-from_sorted nat_cmp (map (notified_if test) (entries m)) id (told_rise test m)
+    ∙ (told_find test id (entries m) ∙ ap (option_map (λ (s : Sub). (notified_if test (id, s)).1)) (sym (get-entries m id)))
 
 -- what is found after telling was there, told or not
-pub told_was : (test : ℕ × Sub → Bool) (m : Subscriptions) (id : ℕ) (x : Sub) → get (told_where test m) id ≡ Some x → (s : Sub) × (get m id ≡ Some s) × ((told_if test (id, s)).1 ≡ x)
+pub told_was : (test : ℕ × Sub → Bool) (m : Subscriptions) (id : ℕ) (x : Sub) → get (notified_where test m) id ≡ Some x → (s : Sub) × (get m id ≡ Some s) × ((notified_if test (id, s)).1 ≡ x)
 told_was test m id x h =
-    elim (get m id) as (λ o. get m id ≡ o → option_map (λ s. (told_if test (id, s)).1) o ≡ Some x → (s : Sub) × (get m id ≡ Some s) × ((told_if test (id, s)).1 ≡ x)) [
+    elim (get m id) as (λ o. get m id ≡ o → option_map (λ s. (notified_if test (id, s)).1) o ≡ Some x → (s : Sub) × (get m id ≡ Some s) × ((notified_if test (id, s)).1 ≡ x)) [
       | None ↦ λ e k. cc
       | Some s ↦ λ e k. (s, e, same_Some _ x k)
     ] refl (sym (told_once m test id) ∙ h)
 
-told_id : (b : Bool) (s : Sub) → (cond b (told_again s) s).id ≡ s.id
+told_id : (b : Bool) (s : Sub) → (cond b (notified_again s) s).id ≡ s.id
 told_id true s = refl
 told_id false s = refl
 
-told_most : (b : Bool) (s : Sub) (n : ℕ) → s.index + 1 ≤ n → (cond b (told_again s) s).index ≤ n
+told_most : (b : Bool) (s : Sub) (n : ℕ) → s.index + 1 ≤ n → (cond b (notified_again s) s).index ≤ n
 told_most true s n h = h
 told_most false s n h = omega (arith, h)
 
-pub proper_told : (a : Airspace) (test : ℕ × Sub → Bool) → ((id : ℕ) (s : Sub) → get a.subscriptions id ≡ Some s → s.index + 1 ≤ a.serial) → IsAirspace a → IsAirspace (with_told a test)
+pub proper_told : (a : Airspace) (test : ℕ × Sub → Bool) → ((id : ℕ) (s : Sub) → get a.subscriptions id ≡ Some s → s.index + 1 ≤ a.serial) → IsAirspace a → IsAirspace (with_notified_subs a test)
 proper_told a test room proper = record {
   keyed = proper.keyed;
   own = λ id x h. let was = told_was test a.subscriptions id x h in ap (λ (y : Sub). y.id) (sym was.2) ∙ (told_id (test (id, was.0)) was.0 ∙ proper.own id was.0 was.1);
@@ -172,8 +172,8 @@ proper_told a test room proper = record {
 told_room : (i n : ℕ) → i ≤ n → i + 1 ≤ n + 1
 told_room i n h = omega (arith, h)
 
-pub proper_with_told : (a : Airspace) (e : Entity) (test : ℕ × Sub → Bool) → IsAirspace a → IsAirspace (with_told (with_entity a e) test)
+pub proper_with_told : (a : Airspace) (e : Entity) (test : ℕ × Sub → Bool) → IsAirspace a → IsAirspace (with_notified_subs (with_entity a e) test)
 proper_with_told a e test proper = proper_told (with_entity a e) test (λ id s h. told_room s.index a.serial (proper.told id s h)) (proper_with a e proper)
 
-pub proper_without_told : (a : Airspace) (k : EntityKey) (test : ℕ × Sub → Bool) → IsAirspace a → IsAirspace (with_told (without_entity a k) test)
+pub proper_without_told : (a : Airspace) (k : EntityKey) (test : ℕ × Sub → Bool) → IsAirspace a → IsAirspace (with_notified_subs (without_entity a k) test)
 proper_without_told a k test proper = proper_told (without_entity a k) test (λ id s h. told_room s.index a.serial (proper.told id s h)) (proper_without a k proper)

@@ -5,7 +5,7 @@ use Rattle.std.proofs.lemmas.List.{length-map, take-append-le, take_all}
 use Rattle.std.proofs.Common.{arith, zero, suc, get_or, set, take, drop, sym, ap, ◌∙◌, subst}
 use Rattle.std.specs.List.{AllByRecursion}
 use Rattle.entity_core.specs.declared.subscription.Sub.{Sub}
-use Rattle.entity_core.specs.Serial.{greatest_serial}
+use Rattle.entity_core.specs.Serial.{max_serial}
 
 at_place : {X : Type 0} (P : X → Type 0) (xs : List X) (i : ℕ) (d : X) → i < length xs → AllByRecursion P xs → P (get_or xs i d)
 at_place P [] i d within all = absurd (omega (arith, within))
@@ -30,7 +30,7 @@ told_whole f old seen new n same told size =
     let len : length new ≡ n = ap length told ∙ (length-map seen f ∙ size) in
     take-append-le n new (drop (length new) old) (omega (arith, len)) ∙ (take_all n new (omega (arith, len)) ∙ (told ∙ ap (map f) same))
 
-pub told_more : (f : Sub → Sub) (xs ys : List Sub) (i : ℕ) (x y : Sub) → i < length xs → AllByRecursion (λ s. s.index < greatest_serial) xs → ((get_or ys i x).index < greatest_serial → y ≡ f (get_or ys i x)) → ys ≡ map f (take i xs) ++ drop i xs
+pub told_more : (f : Sub → Sub) (xs ys : List Sub) (i : ℕ) (x y : Sub) → i < length xs → AllByRecursion (λ s. s.index < max_serial) xs → ((get_or ys i x).index < max_serial → y ≡ f (get_or ys i x)) → ys ≡ map f (take i xs) ++ drop i xs
     → x ≡ get_or ys i x → set ys i y ≡ map f (take (i + 1) xs) ++ drop (i + 1) xs
 told_more f xs ys i x y within all told inv is =
-    tell_more (λ s. s.index < greatest_serial) f xs ys i x y within all (subst (λ (z : Sub). z.index < greatest_serial → y ≡ f z) (sym is) told) inv is
+    tell_more (λ s. s.index < max_serial) f xs ys i x y within all (subst (λ (z : Sub). z.index < max_serial → y ≡ f z) (sym is) told) inv is

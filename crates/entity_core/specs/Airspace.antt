@@ -17,11 +17,11 @@ abbrev pub text_cmp : List ℕ → List ℕ → Ordering
 text_cmp a b = slice_cmp nat_cmp a b
 
 -- an availability, and its availability version: the OVN that setting it gave
-abbrev pub Stated : Type 0
-Stated = Availability × List ℕ
+abbrev pub VersionedAvailability : Type 0
+VersionedAvailability = Availability × List ℕ
 
 abbrev pub Availabilities : Type 0
-Availabilities = FinMap text_cmp Stated
+Availabilities = FinMap text_cmp VersionedAvailability
 
 -- a kind and an id; each kind has ids of its own
 abbrev pub EntityKey : Type 0
@@ -57,13 +57,13 @@ pub record IsAirspace (a : Airspace) : Type 0 where
   pub told : (id : ℕ) (s : Sub) → get a.subscriptions id ≡ Some s → s.index ≤ a.serial
 
 -- what is kept of a supplier; of one that has set nothing, `Unknown` under the empty version
-abbrev pub availability_of : Airspace → List ℕ → Stated
+abbrev pub availability_of : Airspace → List ℕ → VersionedAvailability
 availability_of a uss = unwrap_or (get a.availabilities uss) (Unknown, [])
 
 -- Each change lets the serial go on by one.
 
 -- with the availability of a supplier under an availability version
-abbrev pub with_availability : Airspace → List ℕ → Stated → Airspace
+abbrev pub with_availability : Airspace → List ℕ → VersionedAvailability → Airspace
 with_availability a uss stated = record a {
   availabilities = insert a.availabilities uss stated;
   serial = a.serial + 1;
@@ -94,29 +94,29 @@ without_subscription a id = record a {
 -- ---- what is told
 
 -- a subscription that was told of one more change; its version and its serial stay
-abbrev pub told_again : Sub → Sub
-told_again s = record s { index = s.index + 1 }
+abbrev pub notified_again : Sub → Sub
+notified_again s = record s { index = s.index + 1 }
 
 -- the same of one that passes a test; any other stays as it was
-abbrev pub told_if : (ℕ × Sub → Bool) → ℕ × Sub → ℕ × Sub
-told_if test s = (s.0, if test s then told_again s.1 else s.1)
+abbrev pub notified_if : (ℕ × Sub → Bool) → ℕ × Sub → ℕ × Sub
+notified_if test s = (s.0, if test s then notified_again s.1 else s.1)
 
 -- subscriptions, of which each that passes a test was told of one more change
-unfoldable pub told_where : (ℕ × Sub → Bool) → Subscriptions → Subscriptions
-told_where test m = from_sorted {R = nat_cmp} (map (told_if test) (entries m))
+unfoldable pub notified_where : (ℕ × Sub → Bool) → Subscriptions → Subscriptions
+notified_where test m = from_sorted {R = nat_cmp} (map (notified_if test) (entries m))
 
 -- a subscription of one of these ids
 abbrev pub is_one_of : List ℕ → ℕ × Sub → Bool
 is_one_of ids s = list_any (λ id. nat_eq id s.0) ids
 
 -- What is found then under an id is what was, told of one more change exactly where it passes.
-abbrev pub ToldOnce : Type 0
-ToldOnce = (m : Subscriptions) (test : ℕ × Sub → Bool) (id : ℕ)
-    → get (told_where test m) id ≡ option_map (λ s. (told_if test (id, s)).1) (get m id)
+abbrev pub NotifiedOnce : Type 0
+NotifiedOnce = (m : Subscriptions) (test : ℕ × Sub → Bool) (id : ℕ)
+    → get (notified_where test m) id ≡ option_map (λ s. (notified_if test (id, s)).1) (get m id)
 
 -- the airspace with these told; the serial stays, since it is a part of a change
-abbrev pub with_told : Airspace → (ℕ × Sub → Bool) → Airspace
-with_told a test = record a { subscriptions = told_where test a.subscriptions }
+abbrev pub with_notified_subs : Airspace → (ℕ × Sub → Bool) → Airspace
+with_notified_subs a test = record a { subscriptions = notified_where test a.subscriptions }
 
 -- an airspace in which nothing is kept, at a serial
 abbrev pub empty_at : ℕ → Airspace

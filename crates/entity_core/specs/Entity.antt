@@ -7,8 +7,8 @@ use Rattle.entity_core.specs.declared.nature.State.TheVariants.{Accepted, Activa
 use Rattle.entity_core.specs.declared.nature.Nature.{Nature}
 use Rattle.entity_core.specs.declared.nature.Nature.TheVariants as nature
 
-abbrev pub greatest_version : ℕ
-greatest_version = 2147483647
+abbrev pub max_version : ℕ
+max_version = 2147483647
 
 -- the place of a kind in the order of kinds
 abbrev pub kind_index : Kind → ℕ

@@ -41,12 +41,12 @@ abbrev pub url_fault : List ℕ → Option IdFault
 url_fault text = first_fault 1 255 is_visible_byte text
 
 -- the fault that is told where the text has this one: `Memory` only where it has none
-abbrev pub IsToldOf : Option IdFault → IdFault → Type 0
-IsToldOf fault Memory = fault ≡ None
-IsToldOf fault Length = fault ≡ Some Length
-IsToldOf fault Form = fault ≡ Some Form
+abbrev pub IsReadFault : Option IdFault → IdFault → Type 0
+IsReadFault fault Memory = fault ≡ None
+IsReadFault fault Length = fault ≡ Some Length
+IsReadFault fault Form = fault ≡ Some Form
 
 -- A text without a fault is read as it is, unless memory runs out; else its first fault is told.
 abbrev pub ReadsText : Option IdFault → List ℕ → Result (List ℕ) IdFault → Type 0
 ReadsText fault text result =
-    MatchResult result (λ id. (id ≡ text) × (fault ≡ None)) (λ e. IsToldOf fault e)
+    MatchResult result (λ id. (id ≡ text) × (fault ≡ None)) (λ e. IsReadFault fault e)

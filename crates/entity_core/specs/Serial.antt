@@ -2,5 +2,5 @@
 use Rattle.std.specs.Prelude.{ℕ}
 
 -- the greatest serial of an airspace
-abbrev pub greatest_serial : ℕ
-greatest_serial = 9223372036854775807
+abbrev pub max_serial : ℕ
+max_serial = 9223372036854775807

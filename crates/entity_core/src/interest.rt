@@ -15,7 +15,7 @@ pub enum Interest {
 
 impl Interest {
     /// That of intents, or constraints, or both; none for neither.
-    pub fn of(intents: bool, constraints: bool) -> Option<Interest>
+    pub fn from_flags(intents: bool, constraints: bool) -> Option<Interest>
         ensures intents { IfSome result (λ i. wants i kinds.Intent ≡ intents) }
         ensures constraints { IfSome result (λ i. wants i kinds.Constraint ≡ constraints) }
         ensures none { IfNone result ((intents ≡ false) × (constraints ≡ false)) }

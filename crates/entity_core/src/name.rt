@@ -2,7 +2,7 @@
 ghost use Rattle.std.specs.Prelude.{◌≡◌, MatchResult, None};
 ghost use Rattle.std.specs.List.{list_all};
 ghost use Rattle.std.specs.String.{string_bytes};
-ghost use Rattle.entity_core.specs.IdTexts.{is_name_byte, name_fault, IsToldOf};
+ghost use Rattle.entity_core.specs.IdTexts.{is_name_byte, name_fault, IsReadFault};
 
 use crate::id_fault::IdFault;
 use std::alloc::Global;
@@ -19,7 +19,7 @@ fn is_name(text: &str) -> bool
 /// A copy of a name. The error is its first fault.
 pub(crate) fn read_name(alloc: Global, text: &str) -> Result<String, IdFault>
     ensures { MatchResult result (λ s. (string_bytes s ≡ text.now) × (name_fault text.now ≡ None))
-        (λ e. IsToldOf (name_fault text.now) e) }
+        (λ e. IsReadFault (name_fault text.now) e) }
 {
     if text.is_empty() || text.len() > 64 {
         return Err(IdFault::Length);

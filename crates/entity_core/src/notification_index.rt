@@ -1,8 +1,8 @@
 //! Notification indexes of subscriptions.
 ghost use Rattle.std.specs.Prelude.{◌≡◌, ◌≤◌, ◌<◌, ◌+◌, IfSome, IfNone};
-ghost use Rattle.entity_core.specs.Serial.{greatest_serial};
+ghost use Rattle.entity_core.specs.Serial.{max_serial};
 
-use crate::serial::GREATEST_SERIAL;
+use crate::serial::MAX_SERIAL;
 use std::marker::Model;
 
 /// How many changes a subscription was told of, from 0 to the greatest serial (this project's
@@ -14,13 +14,13 @@ pub struct NotificationIndex {
 
 impl Model for NotificationIndex {
     ghost use Rattle.std.specs.Prelude.{ℕ, ◌≤◌};
-    ghost use Rattle.entity_core.specs.Serial.{greatest_serial};
+    ghost use Rattle.entity_core.specs.Serial.{max_serial};
 
     ghost Value = { ℕ };
 
     ghost view = { λ a. a.number };
 
-    ghost invariant = { λ a. a.number ≤ greatest_serial };
+    ghost invariant = { λ a. a.number ≤ max_serial };
 
     ghost inverse = { λ n. record { number = n } };
 }
@@ -36,9 +36,9 @@ impl NotificationIndex {
     /// That of a number up to the greatest serial.
     pub fn from_number(number: u64) -> Option<NotificationIndex>
         ensures some { IfSome result (λ index. index ≡ number) }
-        ensures none { IfNone result (greatest_serial < number) }
+        ensures none { IfNone result (max_serial < number) }
     {
-        if number <= GREATEST_SERIAL {
+        if number <= MAX_SERIAL {
             Some(NotificationIndex { number })
         } else {
             None
@@ -47,9 +47,9 @@ impl NotificationIndex {
 
     /// That after one more change, while there is one.
     pub fn next(self) -> NotificationIndex
-        ensures { self < greatest_serial → result ≡ self + 1 }
+        ensures { self < max_serial → result ≡ self + 1 }
     {
-        if self.number < GREATEST_SERIAL {
+        if self.number < MAX_SERIAL {
             NotificationIndex {
                 number: self.number + 1,
             }
@@ -61,7 +61,7 @@ impl NotificationIndex {
     /// The number.
     pub fn number(self) -> u64
         ensures number { result ≡ self }
-        ensures most { self ≤ greatest_serial }
+        ensures most { self ≤ max_serial }
     {
         let NotificationIndex { number } = self;
         number

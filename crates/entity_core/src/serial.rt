@@ -1,14 +1,14 @@
 //! Serials count the changes of an airspace.
 ghost use Rattle.std.specs.Prelude.{◌≡◌, ◌≤◌, ◌+◌, IfSome, IfNone};
-ghost use Rattle.entity_core.specs.Serial.{greatest_serial};
+ghost use Rattle.entity_core.specs.Serial.{max_serial};
 
 use std::marker::Model;
 
 /// The greatest serial of an airspace, 2^63 - 1 (this project's profile: it fits a column of
 /// SQLite).
-pub const GREATEST_SERIAL: u64 = 9_223_372_036_854_775_807;
+pub const MAX_SERIAL: u64 = 9_223_372_036_854_775_807;
 
-/// The serial of a change, from 1 to [`GREATEST_SERIAL`]. Contracts see the number.
+/// The serial of a change, from 1 to [`MAX_SERIAL`]. Contracts see the number.
 #[derive(Clone, Copy, Debug, PartialEq, Eq)]
 pub struct Serial {
     number: u64,
@@ -16,24 +16,24 @@ pub struct Serial {
 
 impl Model for Serial {
     ghost use Rattle.std.specs.Prelude.{ℕ, ◌≤◌};
-    ghost use Rattle.entity_core.specs.Serial.{greatest_serial};
+    ghost use Rattle.entity_core.specs.Serial.{max_serial};
 
     ghost Value = { ℕ };
 
     ghost view = { λ a. a.number };
 
-    ghost invariant = { λ a. (1 ≤ a.number) × (a.number ≤ greatest_serial) };
+    ghost invariant = { λ a. (1 ≤ a.number) × (a.number ≤ max_serial) };
 
     ghost inverse = { λ n. record { number = n } };
 }
 
 impl Serial {
     /// The one after the serial of an airspace, if that is not the greatest.
-    pub fn after(number: u64) -> Option<Serial>
+    pub fn next_after(number: u64) -> Option<Serial>
         ensures some { IfSome result (λ serial. serial ≡ number + 1) }
-        ensures none { IfNone result (greatest_serial ≤ number) }
+        ensures none { IfNone result (max_serial ≤ number) }
     {
-        if number < GREATEST_SERIAL {
+        if number < MAX_SERIAL {
             Some(Serial { number: number + 1 })
         } else {
             None
@@ -41,19 +41,17 @@ impl Serial {
     }
 
     /// The greatest one.
-    pub fn greatest() -> Serial
-        ensures { result ≡ greatest_serial }
+    pub fn max() -> Serial
+        ensures { result ≡ max_serial }
     {
-        Serial {
-            number: GREATEST_SERIAL,
-        }
+        Serial { number: MAX_SERIAL }
     }
 
     /// The number.
     pub fn number(self) -> u64
         ensures number { result ≡ self }
         ensures least { 1 ≤ self }
-        ensures most { self ≤ greatest_serial }
+        ensures most { self ≤ max_serial }
     {
         let Serial { number } = self;
         number

@@ -1,7 +1,7 @@
 //! Subscriptions: where a supplier is to be told of changes.
 ghost use Rattle.std.specs.Prelude.{◌≡◌, ◌<◌, IfOk};
-ghost use Rattle.entity_core.specs.Airspace.{told_again};
-ghost use Rattle.entity_core.specs.Serial.{greatest_serial};
+ghost use Rattle.entity_core.specs.Airspace.{notified_again};
+ghost use Rattle.entity_core.specs.Serial.{max_serial};
 
 use crate::base_url::BaseUrl;
 use crate::entity_id::EntityId;
@@ -49,8 +49,8 @@ impl Sub {
     }
 
     /// It is told of one more change, while its index can rise.
-    pub fn tell(&mut self)
-        ensures { self.old.index < greatest_serial → self.new ≡ told_again self.old }
+    pub fn notify(&mut self)
+        ensures { self.old.index < max_serial → self.new ≡ notified_again self.old }
     {
         self.index = self.index.next();
     }

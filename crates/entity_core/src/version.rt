@@ -1,11 +1,11 @@
 //! Versions of entities, as counts.
 ghost use Rattle.std.specs.Prelude.{◌≡◌, ◌≤◌, ◌+◌, IfSome, IfNone};
-ghost use Rattle.entity_core.specs.Entity.{greatest_version};
+ghost use Rattle.entity_core.specs.Entity.{max_version};
 
 use std::marker::Model;
 
 /// The greatest version, 2^31 - 1 (this project's profile).
-pub const GREATEST_VERSION: u32 = 2_147_483_647;
+pub const MAX_VERSION: u32 = 2_147_483_647;
 
 /// How often an entity was put, from 1 to 2,147,483,647 (this project's profile). Contracts see the
 /// number.
@@ -16,13 +16,13 @@ pub struct Version {
 
 impl Model for Version {
     ghost use Rattle.std.specs.Prelude.{ℕ, ◌≤◌};
-    ghost use Rattle.entity_core.specs.Entity.{greatest_version};
+    ghost use Rattle.entity_core.specs.Entity.{max_version};
 
     ghost Value = { ℕ };
 
     ghost view = { λ a. a.number };
 
-    ghost invariant = { λ a. (1 ≤ a.number) × (a.number ≤ greatest_version) };
+    ghost invariant = { λ a. (1 ≤ a.number) × (a.number ≤ max_version) };
 
     ghost inverse = { λ n. record { number = n } };
 }
@@ -35,12 +35,12 @@ impl Version {
         Version { number: 1 }
     }
 
-    /// That of a number from 1 to [`GREATEST_VERSION`].
+    /// That of a number from 1 to [`MAX_VERSION`].
     pub fn from_number(number: u32) -> Option<Version>
         ensures some { IfSome result (λ v. v ≡ number) }
-        ensures none { IfNone result ((1 ≤ number) → (number ≤ greatest_version) → ⊥) }
+        ensures none { IfNone result ((1 ≤ number) → (number ≤ max_version) → ⊥) }
     {
-        if number < 1 || number > GREATEST_VERSION {
+        if number < 1 || number > MAX_VERSION {
             None
         } else {
             Some(Version { number })
@@ -50,9 +50,9 @@ impl Version {
     /// The next one, if this is not the greatest.
     pub fn next(self) -> Option<Version>
         ensures some { IfSome result (λ v. v ≡ self + 1) }
-        ensures none { IfNone result (self ≡ greatest_version) }
+        ensures none { IfNone result (self ≡ max_version) }
     {
-        if self.number < GREATEST_VERSION {
+        if self.number < MAX_VERSION {
             Some(Version {
                 number: self.number + 1,
             })
@@ -65,7 +65,7 @@ impl Version {
     pub fn number(self) -> u32
         ensures number { result ≡ self }
         ensures least { 1 ≤ self }
-        ensures most { self ≤ greatest_version }
+        ensures most { self ≤ max_version }
     {
         let Version { number } = self;
         number

@@ -2,7 +2,7 @@
 ghost use Rattle.std.specs.Prelude.{◌≡◌, MatchResult, None};
 ghost use Rattle.std.specs.List.{list_all};
 ghost use Rattle.std.specs.String.{string_bytes};
-ghost use Rattle.entity_core.specs.IdTexts.{first_fault, is_visible_byte, IsToldOf};
+ghost use Rattle.entity_core.specs.IdTexts.{first_fault, is_visible_byte, IsReadFault};
 
 use crate::id_fault::IdFault;
 use std::alloc::Global;
@@ -23,7 +23,7 @@ pub(crate) fn read_visible(
 ) -> Result<String, IdFault>
     ensures { MatchResult result (λ s. (string_bytes s ≡ text.now)
         × (first_fault least most is_visible_byte text.now ≡ None))
-        (λ e. IsToldOf (first_fault least most is_visible_byte text.now) e) }
+        (λ e. IsReadFault (first_fault least most is_visible_byte text.now) e) }
 {
     if text.len() < least || text.len() > most {
         return Err(IdFault::Length);

@@ -13,12 +13,12 @@ use Rattle.std.specs.Option.{option_map}
 use Rattle.std.specs.Ordering.{eq_by_cmp, nat_cmp}
 use Rattle.std.specs.declared.ops.Bound.TheVariants.{Included, Unbounded}
 use Rattle.grid_core.specs.Extent.{Region}
-use Rattle.entity_core.specs.Airspace.{is_one_of, told_where}
+use Rattle.entity_core.specs.Airspace.{is_one_of, notified_where}
 use Rattle.entity_core.specs.Search.{is_for_near, is_own_near, subscribers_in, subscriptions_in}
 use Rattle.entity_core.specs.declared.nature.Kind.{Kind}
 use Rattle.entity_core.specs.declared.subscription.Sub.{Sub}
 use Rattle.entity_core.proofs.Changes.{one_id, told_once}
-use Rattle.entity_maps.specs.Subscriptions.{AreKeyed, CanRise, InOrder, Tells, TreeCanRise, comes_from, pair_of, subscription_map}
+use Rattle.entity_maps.specs.Subscriptions.{AreKeyed, CanNotify, InOrder, Notifies, TreeCanNotify, comes_from, pair_of, subscription_map}
 use Rattle.entity_maps.proofs.EntityLists.{own_answer, wanted_answer}
 use Rattle.entity_maps.proofs.Trees as trees
 
@@ -48,13 +48,13 @@ module _ (m n : BTreeMap ℕ Sub) (old : List Sub) (e : tree.values m ≡ old) (
   without_map = trees.without_map nat_cmp own_number id_of nat_cmp_total nat_cmp-IsAntisymmetric m n old e a b
 
   -- the map of a tree whose subscriptions were told
-  pub told_map : (ids : List ℕ) → Tells ids m n → subscription_map (tree.values n) ≡ told_where (is_one_of ids) (subscription_map old)
-  told_map ids told = same_map nat_cmp_total nat_cmp-IsAntisymmetric (subscription_map (tree.values n)) (told_where (is_one_of ids) (subscription_map old)) (λ id.
+  pub told_map : (ids : List ℕ) → Notifies ids m n → subscription_map (tree.values n) ≡ notified_where (is_one_of ids) (subscription_map old)
+  told_map ids told = same_map nat_cmp_total nat_cmp-IsAntisymmetric (subscription_map (tree.values n)) (notified_where (is_one_of ids) (subscription_map old)) (λ id.
       sym (get_in n (tree.values n) id refl b) ∙ (told id
       ∙ (ap (option_map _) (get_in m old id e a)
       ∙ sym (told_once (subscription_map old) (is_one_of ids) id))))
 
-pub can_rise : (m : BTreeMap ℕ Sub) (ss : List Sub) → tree.values m ≡ ss → AreKeyed m.entries → CanRise ss → TreeCanRise m
+pub can_rise : (m : BTreeMap ℕ Sub) (ss : List Sub) → tree.values m ≡ ss → AreKeyed m.entries → CanNotify ss → TreeCanNotify m
 can_rise m ss e a can = λ id s found. can id s (sym (get_in m ss id e a) ∙ found)
 
 module _ (m : BTreeMap ℕ Sub) (ss : List Sub) (e : tree.values m ≡ ss) (a : AreKeyed m.entries) (s : tree.IsOrdered nat_cmp m) where

@@ -13,11 +13,11 @@ use Rattle.std.proofs.lemmas.Bool.Decides.{nat_tests}
 use Rattle.std.proofs.lemmas.List.{get_or_default, get_or-take, take_more}
 use Rattle.std.proofs.lemmas.List.Folds.{list_any-append, list_any_none}
 use Rattle.std.proofs.lemmas.List.Kept.{AllPairs-from_increasing}
-use Rattle.entity_core.specs.Airspace.{told_again}
+use Rattle.entity_core.specs.Airspace.{notified_again}
 use Rattle.entity_core.specs.declared.subscription.Sub.{Sub}
-use Rattle.entity_core.specs.Serial.{greatest_serial}
+use Rattle.entity_core.specs.Serial.{max_serial}
 use Rattle.entity_core.proofs.Changes.{one_id}
-use Rattle.entity_maps.specs.Subscriptions.{Tells, TreeCanRise, told_at}
+use Rattle.entity_maps.specs.Subscriptions.{Notifies, TreeCanNotify, notified_at}
 
 -- whether an id is among these
 abbrev pub has : List ℕ → ℕ → Bool
@@ -35,60 +35,60 @@ equal k l e = grind (arith, nat_tests, e)
 -- ---- one subscription
 
 -- that of another id stays
-other : (id q : ℕ) (o : Option Sub) → nat_eq id q ≡ false → o ≡ option_map (told_at (id ∷ []) q) o
+other : (id q : ℕ) (o : Option Sub) → nat_eq id q ≡ false → o ≡ option_map (notified_at (id ∷ []) q) o
 other id q None e = refl
-other id q (Some s) e = λ i. Some (cond (sym e i || false) (told_again s) s)
+other id q (Some s) e = λ i. Some (cond (sym e i || false) (notified_again s) s)
 
 -- the one of an id is told
-pub told_written : (id : ℕ) (m n : BTreeMap ℕ Sub) (s w : Sub) → tree.get nat_cmp m id ≡ Some s → w ≡ told_again s → ((q : ℕ) → tree.get nat_cmp n q ≡ cond (is_at (nat_cmp id) q) (Some w) (tree.get nat_cmp m q)) → Tells (id ∷ []) m n
-told_written id m n s w found new u = λ q. u q ∙ elim (eq_by_cmp nat_cmp id q) as (λ b. eq_by_cmp nat_cmp id q ≡ b → cond b (Some w) (tree.get nat_cmp m q) ≡ option_map (told_at (id ∷ []) q) (tree.get nat_cmp m q)) [
+pub told_written : (id : ℕ) (m n : BTreeMap ℕ Sub) (s w : Sub) → tree.get nat_cmp m id ≡ Some s → w ≡ notified_again s → ((q : ℕ) → tree.get nat_cmp n q ≡ cond (is_at (nat_cmp id) q) (Some w) (tree.get nat_cmp m q)) → Notifies (id ∷ []) m n
+told_written id m n s w found new u = λ q. u q ∙ elim (eq_by_cmp nat_cmp id q) as (λ b. eq_by_cmp nat_cmp id q ≡ b → cond b (Some w) (tree.get nat_cmp m q) ≡ option_map (notified_at (id ∷ []) q) (tree.get nat_cmp m q)) [
   | true ↦ λ t.
       let here : tree.get nat_cmp m q ≡ Some s = ap (tree.get nat_cmp m) (sym (one_id id q t)) ∙ found in
       ap (λ (x : Sub). Some x) new
-      ∙ ((λ i. Some (cond (sym (same id q t) i || false) (told_again s) s))
-      ∙ ap (option_map (told_at (id ∷ []) q)) (sym here))
+      ∙ ((λ i. Some (cond (sym (same id q t) i || false) (notified_again s) s))
+      ∙ ap (option_map (notified_at (id ∷ []) q)) (sym here))
   | false ↦ λ t. other id q (tree.get nat_cmp m q) (differs id q t)
 ] refl
 
 -- none is told where there is none
-pub told_missed : (id : ℕ) (m n : BTreeMap ℕ Sub) → tree.get nat_cmp m id ≡ None → n ≡ m → Tells (id ∷ []) m n
-told_missed id m n none e = λ q. ap (λ (x : BTreeMap ℕ Sub). tree.get nat_cmp x q) e ∙ elim (eq_by_cmp nat_cmp id q) as (λ b. eq_by_cmp nat_cmp id q ≡ b → tree.get nat_cmp m q ≡ option_map (told_at (id ∷ []) q) (tree.get nat_cmp m q)) [
+pub told_missed : (id : ℕ) (m n : BTreeMap ℕ Sub) → tree.get nat_cmp m id ≡ None → n ≡ m → Notifies (id ∷ []) m n
+told_missed id m n none e = λ q. ap (λ (x : BTreeMap ℕ Sub). tree.get nat_cmp x q) e ∙ elim (eq_by_cmp nat_cmp id q) as (λ b. eq_by_cmp nat_cmp id q ≡ b → tree.get nat_cmp m q ≡ option_map (notified_at (id ∷ []) q) (tree.get nat_cmp m q)) [
   | true ↦ λ t.
       let here : tree.get nat_cmp m q ≡ None = ap (tree.get nat_cmp m) (sym (one_id id q t)) ∙ none in
-      here ∙ ap (option_map (told_at (id ∷ []) q)) (sym here)
+      here ∙ ap (option_map (notified_at (id ∷ []) q)) (sym here)
   | false ↦ λ t. other id q (tree.get nat_cmp m q) (differs id q t)
 ] refl
 
 -- ---- one after another
 
-unchanged : (q : ℕ) (o : Option Sub) → o ≡ option_map (told_at [] q) o
+unchanged : (q : ℕ) (o : Option Sub) → o ≡ option_map (notified_at [] q) o
 unchanged q None = refl
 unchanged q (Some s) = refl
 
-pub tell_none : (m : BTreeMap ℕ Sub) → Tells [] m m
+pub tell_none : (m : BTreeMap ℕ Sub) → Notifies [] m m
 tell_none m = λ q. unchanged q (tree.get nat_cmp m q)
 
-told_next : (ids : List ℕ) (id q : ℕ) (s : Sub) → has ids id ≡ false → told_at (id ∷ []) q (told_at ids q s) ≡ told_at (ids ++ id ∷ []) q s
+told_next : (ids : List ℕ) (id q : ℕ) (s : Sub) → has ids id ≡ false → notified_at (id ∷ []) q (notified_at ids q s) ≡ notified_at (ids ++ id ∷ []) q s
 told_next ids id q s new =
     let test = list_any-append (λ j. nat_eq j q) ids (id ∷ []) in
-    let once : Sub = told_at ids q s in
-    elim (nat_eq id q) as (λ b. nat_eq id q ≡ b → told_at (id ∷ []) q once ≡ told_at (ids ++ id ∷ []) q s) [
+    let once : Sub = notified_at ids q s in
+    elim (nat_eq id q) as (λ b. nat_eq id q ≡ b → notified_at (id ∷ []) q once ≡ notified_at (ids ++ id ∷ []) q s) [
       | true ↦ λ t.
           let not_yet : has ids q ≡ false = subst (λ (j : ℕ). has ids j ≡ false) (equal id q t) new in
           let found : has (ids ++ id ∷ []) q ≡ true = test ∙ (λ i. not_yet i || (t i || false)) in
-          (λ i. cond (t i || false) (told_again once) once)
-          ∙ ((λ i. told_again (cond (not_yet i) (told_again s) s)) ∙ (λ i. cond (sym found i) (told_again s) s))
+          (λ i. cond (t i || false) (notified_again once) once)
+          ∙ ((λ i. notified_again (cond (not_yet i) (notified_again s) s)) ∙ (λ i. cond (sym found i) (notified_again s) s))
       | false ↦ λ t.
           let as_before : has (ids ++ id ∷ []) q ≡ has ids q = test ∙ (ap (λ (b : Bool). has ids q || (b || false)) t ∙ or-false (has ids q)) in
-          (λ i. cond (t i || false) (told_again once) once) ∙ (λ i. cond (sym as_before i) (told_again s) s)
+          (λ i. cond (t i || false) (notified_again once) once) ∙ (λ i. cond (sym as_before i) (notified_again s) s)
     ] refl
 
-twice : (ids : List ℕ) (id q : ℕ) (o : Option Sub) → has ids id ≡ false → option_map (told_at (id ∷ []) q) (option_map (told_at ids q) o) ≡ option_map (told_at (ids ++ id ∷ []) q) o
+twice : (ids : List ℕ) (id q : ℕ) (o : Option Sub) → has ids id ≡ false → option_map (notified_at (id ∷ []) q) (option_map (notified_at ids q) o) ≡ option_map (notified_at (ids ++ id ∷ []) q) o
 twice ids id q None new = refl
 twice ids id q (Some s) new = ap (λ (x : Sub). Some x) (told_next ids id q s new)
 
-tell_next : (ids : List ℕ) (id : ℕ) (m n o : BTreeMap ℕ Sub) → has ids id ≡ false → Tells ids m n → Tells (id ∷ []) n o → Tells (ids ++ id ∷ []) m o
-tell_next ids id m n o new before now = λ q. now q ∙ (ap (option_map (told_at (id ∷ []) q)) (before q) ∙ twice ids id q (tree.get nat_cmp m q) new)
+tell_next : (ids : List ℕ) (id : ℕ) (m n o : BTreeMap ℕ Sub) → has ids id ≡ false → Notifies ids m n → Notifies (id ∷ []) n o → Notifies (ids ++ id ∷ []) m o
+tell_next ids id m n o new before now = λ q. now q ∙ (ap (option_map (notified_at (id ∷ []) q)) (before q) ∙ twice ids id q (tree.get nat_cmp m q) new)
 
 -- an id that was among them adds nothing
 had : (ids : List ℕ) (id q : ℕ) → has ids id ≡ true → has ids q ≡ has (ids ++ id ∷ []) q
@@ -101,26 +101,26 @@ had ids id q old =
       | false ↦ λ t. sym (test ∙ (ap (λ (b : Bool). has ids q || (b || false)) t ∙ or-false (has ids q)))
     ] refl
 
-tell_again : (ids : List ℕ) (id : ℕ) (m n : BTreeMap ℕ Sub) → has ids id ≡ true → Tells ids m n → Tells (ids ++ id ∷ []) m n
-tell_again ids id m n old before = λ q. before q ∙ ap (λ (b : Bool). option_map (λ (s : Sub). cond b (told_again s) s) (tree.get nat_cmp m q)) (had ids id q old)
+tell_again : (ids : List ℕ) (id : ℕ) (m n : BTreeMap ℕ Sub) → has ids id ≡ true → Notifies ids m n → Notifies (ids ++ id ∷ []) m n
+tell_again ids id m n old before = λ q. before q ∙ ap (λ (b : Bool). option_map (λ (s : Sub). cond b (notified_again s) s) (tree.get nat_cmp m q)) (had ids id q old)
 
 next : (ids : List ℕ) (k id : ℕ) → k < length ids → id ≡ get_or ids k id → take k ids ++ id ∷ [] ≡ take (k + 1) ids
 next ids k id lt at = ap (λ (x : ℕ). take k ids ++ x ∷ []) at ∙ sym (take_more ids k id lt)
 
 -- one more of ids, which was told now or was among those before it
-pub tell_more : (ids : List ℕ) (k id : ℕ) (m n o : BTreeMap ℕ Sub) → k < length ids → id ≡ get_or ids k id → has (take k ids) id ≡ false → Tells (take k ids) m n → Tells (id ∷ []) n o → Tells (take (k + 1) ids) m o
-tell_more ids k id m n o lt at new before now = subst (λ (all : List ℕ). Tells all m o) (next ids k id lt at) (tell_next (take k ids) id m n o new before now)
+pub tell_more : (ids : List ℕ) (k id : ℕ) (m n o : BTreeMap ℕ Sub) → k < length ids → id ≡ get_or ids k id → has (take k ids) id ≡ false → Notifies (take k ids) m n → Notifies (id ∷ []) n o → Notifies (take (k + 1) ids) m o
+tell_more ids k id m n o lt at new before now = subst (λ (all : List ℕ). Notifies all m o) (next ids k id lt at) (tell_next (take k ids) id m n o new before now)
 
-pub tell_same : (ids : List ℕ) (k id : ℕ) (m n : BTreeMap ℕ Sub) → k < length ids → id ≡ get_or ids k id → has (take k ids) id ≡ true → Tells (take k ids) m n → Tells (take (k + 1) ids) m n
-tell_same ids k id m n lt at old before = subst (λ (all : List ℕ). Tells all m n) (next ids k id lt at) (tell_again (take k ids) id m n old before)
+pub tell_same : (ids : List ℕ) (k id : ℕ) (m n : BTreeMap ℕ Sub) → k < length ids → id ≡ get_or ids k id → has (take k ids) id ≡ true → Notifies (take k ids) m n → Notifies (take (k + 1) ids) m n
+tell_same ids k id m n lt at old before = subst (λ (all : List ℕ). Notifies all m n) (next ids k id lt at) (tell_again (take k ids) id m n old before)
 
-rises_in : (ids : List ℕ) (id : ℕ) (o : Option Sub) → has ids id ≡ false → ((s : Sub) → o ≡ Some s → s.index < greatest_serial) → IfSome (option_map (told_at ids id) o) (λ s. s.index < greatest_serial)
+rises_in : (ids : List ℕ) (id : ℕ) (o : Option Sub) → has ids id ≡ false → ((s : Sub) → o ≡ Some s → s.index < max_serial) → IfSome (option_map (notified_at ids id) o) (λ s. s.index < max_serial)
 rises_in ids id None new h = tt
-rises_in ids id (Some s) new h = subst (λ (b : Bool). (cond b (told_again s) s).index < greatest_serial) (sym new) (h s refl)
+rises_in ids id (Some s) new h = subst (λ (b : Bool). (cond b (notified_again s) s).index < max_serial) (sym new) (h s refl)
 
 -- the index of the next one can rise, since it was not yet told
-pub rises_next : (ids : List ℕ) (id : ℕ) (m n : BTreeMap ℕ Sub) → has ids id ≡ false → TreeCanRise m → Tells ids m n → IfSome (tree.get nat_cmp n id) (λ s. s.index < greatest_serial)
-rises_next ids id m n new can before = subst (λ (o : Option Sub). IfSome o (λ s. s.index < greatest_serial)) (sym (before id)) (rises_in ids id (tree.get nat_cmp m id) new (can id))
+pub rises_next : (ids : List ℕ) (id : ℕ) (m n : BTreeMap ℕ Sub) → has ids id ≡ false → TreeCanNotify m → Notifies ids m n → IfSome (tree.get nat_cmp n id) (λ s. s.index < max_serial)
+rises_next ids id m n new can before = subst (λ (o : Option Sub). IfSome o (λ s. s.index < max_serial)) (sym (before id)) (rises_in ids id (tree.get nat_cmp m id) new (can id))
 
 lower : (a b : ℕ) → a < b → nat_eq a b ≡ false
 lower a b h = grind (arith, nat_tests)

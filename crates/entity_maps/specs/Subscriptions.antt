@@ -6,8 +6,8 @@ use Rattle.std.specs.BTreeMap as tree
 use Rattle.std.specs.BTreeMap.{BTreeMap}
 use Rattle.std.specs.FinMap.{get}
 use Rattle.std.specs.Option.{option_map}
-use Rattle.entity_core.specs.Airspace.{is_one_of, Subscriptions, told_if}
-use Rattle.entity_core.specs.Serial.{greatest_serial}
+use Rattle.entity_core.specs.Airspace.{is_one_of, Subscriptions, notified_if}
+use Rattle.entity_core.specs.Serial.{max_serial}
 use Rattle.entity_core.specs.declared.subscription.Sub.{Sub}
 use Rattle.entity_maps.specs.Sorted.{Rise, map_of}
 
@@ -27,25 +27,25 @@ abbrev pub subscription_map : List Sub → Subscriptions
 subscription_map ss = map_of nat_cmp pair_of ss
 
 -- the index of none is over a serial
-abbrev pub AllTold : List Sub → ℕ → Type 0
-AllTold ss serial = (id : ℕ) (s : Sub) → get (subscription_map ss) id ≡ Some s → s.index ≤ serial
+abbrev pub AllNotified : List Sub → ℕ → Type 0
+AllNotified ss serial = (id : ℕ) (s : Sub) → get (subscription_map ss) id ≡ Some s → s.index ≤ serial
 
 -- the index of each can rise
-abbrev pub CanRise : List Sub → Type 0
-CanRise ss = (id : ℕ) (s : Sub) → get (subscription_map ss) id ≡ Some s → s.index < greatest_serial
+abbrev pub CanNotify : List Sub → Type 0
+CanNotify ss = (id : ℕ) (s : Sub) → get (subscription_map ss) id ≡ Some s → s.index < max_serial
 
 -- the same of a tree
-abbrev pub TreeCanRise : BTreeMap ℕ Sub → Type 0
-TreeCanRise m = (id : ℕ) (s : Sub) → tree.get nat_cmp m id ≡ Some s → s.index < greatest_serial
+abbrev pub TreeCanNotify : BTreeMap ℕ Sub → Type 0
+TreeCanNotify m = (id : ℕ) (s : Sub) → tree.get nat_cmp m id ≡ Some s → s.index < max_serial
 
 -- the subscription of an id, told of one more change where that is one of these
-abbrev pub told_at : List ℕ → ℕ → Sub → Sub
-told_at ids id s = (told_if (is_one_of ids) (id, s)).1
+abbrev pub notified_at : List ℕ → ℕ → Sub → Sub
+notified_at ids id s = (notified_if (is_one_of ids) (id, s)).1
 
 -- a tree has under each id what another has, told where the id is one of these
-abbrev pub Tells : List ℕ → BTreeMap ℕ Sub → BTreeMap ℕ Sub → Type 0
-Tells ids m n = (id : ℕ)
-    → tree.get nat_cmp n id ≡ option_map (told_at ids id) (tree.get nat_cmp m id)
+abbrev pub Notifies : List ℕ → BTreeMap ℕ Sub → BTreeMap ℕ Sub → Type 0
+Notifies ids m n = (id : ℕ)
+    → tree.get nat_cmp n id ≡ option_map (notified_at ids id) (tree.get nat_cmp m id)
 
 -- whether a subscription is the one of an id or comes behind it
 abbrev pub comes_from : ℕ → Sub → Bool

@@ -16,7 +16,7 @@ use std::marker::Model;
 
 /// What one supplier has set.
 #[derive(Debug, Drop)]
-pub struct Setting {
+pub struct AvailabilityEntry {
     uss: UssId,
     availability: Availability,
     version: Ovn,
@@ -25,15 +25,15 @@ pub struct Setting {
 /// What suppliers have set, in the order of their ids, each once. Contracts see the list.
 #[derive(Debug, Drop)]
 pub struct Availabilities {
-    items: Vec<Setting>,
+    items: Vec<AvailabilityEntry>,
 }
 
 impl Model for Availabilities {
     ghost use Rattle.std.specs.Prelude.{List};
-    ghost use Rattle.entity_maps.specs.declared.availabilities.Setting.{Setting};
+    ghost use Rattle.entity_maps.specs.declared.availabilities.AvailabilityEntry.{AvailabilityEntry};
     ghost use Rattle.entity_maps.specs.Availabilities.{InOrder};
 
-    ghost Value = { List Setting };
+    ghost Value = { List AvailabilityEntry };
 
     ghost view = { λ a. a.items.items };
 
@@ -46,7 +46,7 @@ fn uss_order(uss: &UssId, other: &UssId) -> Ordering
     uss.text().cmp(other.text())
 }
 
-fn search_settings(items: &[Setting], uss: &UssId) -> Result<usize, usize>
+fn search_settings(items: &[AvailabilityEntry], uss: &UssId) -> Result<usize, usize>
     ensures bound { IsSearchInRange result (length items.now) }
     ensures position { IsBinarySearchResult (λ e. text_cmp e.uss uss.now) items.now result }
 {
@@ -54,14 +54,17 @@ fn search_settings(items: &[Setting], uss: &UssId) -> Result<usize, usize>
 }
 
 // Where a supplier's setting stands, or would stand.
-fn setting_place(items: &[Setting], uss: &UssId) -> Result<usize, usize>
+fn setting_place(items: &[AvailabilityEntry], uss: &UssId) -> Result<usize, usize>
     ensures hit { InOrder items.now → IfOk result (Hit text_cmp pair_of items.now uss.now) }
     ensures gap { InOrder items.now → IfErr result (Gap text_cmp pair_of items.now uss.now) }
 {
     search_settings(items, uss)
 }
 
-fn find_setting(items: &[Setting], uss: &UssId) -> Result<Option<(Availability, Ovn)>, AllocError>
+fn find_setting(
+    items: &[AvailabilityEntry],
+    uss: &UssId,
+) -> Result<Option<(Availability, Ovn)>, AllocError>
     requires { InOrder items.now }
     ensures found { IfOk result (λ found.
         found ≡ find text_cmp uss.now (keyed pair_of items.now)) }
@@ -74,7 +77,7 @@ fn find_setting(items: &[Setting], uss: &UssId) -> Result<Option<(Availability, 
 }
 
 // The availability alone, without memory; of a supplier that has set none, `Unknown`.
-fn present(items: &[Setting], uss: &UssId) -> Availability
+fn present(items: &[AvailabilityEntry], uss: &UssId) -> Availability
     requires { InOrder items.now }
     ensures { result ≡ (unwrap_or (find text_cmp uss.now (keyed pair_of items.now))
         (Availability.Unknown, [])).0 }
@@ -85,7 +88,10 @@ fn present(items: &[Setting], uss: &UssId) -> Availability
     }
 }
 
-fn put_setting(items: &mut Vec<Setting>, setting: Setting) -> Result<(), AllocError>
+fn put_setting(
+    items: &mut Vec<AvailabilityEntry>,
+    setting: AvailabilityEntry,
+) -> Result<(), AllocError>
     requires { InOrder items.old.items }
     ensures ok { OnOk result (keyed pair_of items.new.items
         ≡ put text_cmp setting.uss (setting.availability, setting.version)
@@ -103,7 +109,7 @@ fn put_setting(items: &mut Vec<Setting>, setting: Setting) -> Result<(), AllocEr
     }
 }
 
-impl Setting {
+impl AvailabilityEntry {
     /// The supplier.
     pub fn uss(&self) -> &UssId
         ensures { result.now ≡ self.now.uss }
@@ -136,7 +142,7 @@ impl Availabilities {
     }
 
     /// What each supplier has set, in the order of their ids.
-    pub fn items(&self) -> &[Setting]
+    pub fn items(&self) -> &[AvailabilityEntry]
         ensures { result.now ≡ self.now }
     {
         &self.items
@@ -173,7 +179,7 @@ impl Availabilities {
         ensures err { OnErr result (self.new ≡ self.old) }
         ensures over { IsSome (get (availability_map self.old) uss) → IsOk result }
     {
-        let setting = Setting {
+        let setting = AvailabilityEntry {
             uss,
             availability,
             version,

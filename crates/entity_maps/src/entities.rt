@@ -19,13 +19,13 @@ use std::collections::btree_map::{Range, Values};
 use std::marker::Model;
 
 /// The place of a kind in the order of kinds, and the number of an id.
-pub type Key = (u8, u128);
+pub type OrderKey = (u8, u128);
 
 /// Entities in the order of their kinds and ids, each kind and id once. They stand in a tree, where
 /// none is moved as another comes or goes. Contracts see their list.
 #[derive(Debug, Drop)]
 pub struct Entities {
-    tree: BTreeMap<Key, Entity>,
+    tree: BTreeMap<OrderKey, Entity>,
 }
 
 impl Model for Entities {
@@ -51,13 +51,13 @@ pub fn kind_index(kind: Kind) -> u8
     }
 }
 
-fn key(kind: Kind, number: u128) -> Key
+fn key(kind: Kind, number: u128) -> OrderKey
     ensures { result ≡ numbers_of (kind, number) }
 {
     (kind_index(kind), number)
 }
 
-fn own_key(entity: &Entity) -> Key
+fn own_key(entity: &Entity) -> OrderKey
     ensures { result ≡ numbers_of (key_of entity.now) }
 {
     key(entity.nature.kind(), entity.id.number())
@@ -77,7 +77,7 @@ fn is_wanted(entity: &Entity, kind: Kind, areas: &[SortedArea], except: Option<E
     ensures { result ≡ is_sought kind areas.now except (pair_of entity.now) }
 {
     let own = entity.nature.kind();
-    own.is(kind) && (is_other(except, own, entity.id) && entity.volumes.meet_sorted(areas))
+    own.is(kind) && (is_other(except, own, entity.id) && entity.volumes.meets_any_sorted(areas))
 }
 
 fn is_naming(entity: &Entity, id: EntityId) -> bool
@@ -100,7 +100,7 @@ impl Entities {
     }
 
     /// The entities, in their order.
-    pub fn iter(&self) -> Values<'_, Key, Entity>
+    pub fn iter(&self) -> Values<'_, OrderKey, Entity>
         ensures items { result ≡ self.now }
         ensures order { InOrder self.now }
     {
@@ -108,7 +108,7 @@ impl Entities {
     }
 
     /// The same, each under its key.
-    pub fn entries(&self) -> Range<'_, Key, Entity>
+    pub fn entries(&self) -> Range<'_, OrderKey, Entity>
         ensures items { values_of result ≡ self.now }
         ensures order { InOrder self.now }
     {
@@ -116,7 +116,7 @@ impl Entities {
     }
 
     /// The entity of a kind and an id and those behind it, in their order, each under its key.
-    pub fn from(&self, kind: Kind, id: EntityId) -> Range<'_, Key, Entity>
+    pub fn range_from(&self, kind: Kind, id: EntityId) -> Range<'_, OrderKey, Entity>
         ensures items { values_of result ≡ filter (comes_from (kind, id)) self.now }
         ensures order { InOrder self.now }
     {
@@ -124,7 +124,7 @@ impl Entities {
     }
 
     /// The entity of a kind and the number of an id, which is all that an index has of it.
-    pub fn at(&self, kind: Kind, number: u128) -> Option<&Entity>
+    pub fn get(&self, kind: Kind, number: u128) -> Option<&Entity>
         ensures { option_copied result ≡ get (entity_map self.now) (kind, number) }
     {
         self.tree.get(&key(kind, number))
@@ -141,7 +141,7 @@ impl Entities {
         ensures found { IfOk result (λ found. found ≡ get (entity_map self.now) (kind, id)) }
         ensures none { IsNone (get (entity_map self.now) (kind, id)) → IsOk result }
     {
-        match self.at(kind, id.number()) {
+        match self.get(kind, id.number()) {
             Some(entity) => Ok(Some(entity.clone(alloc)?)),
             None => Ok(None),
         }
@@ -212,7 +212,7 @@ impl Entities {
         ensures { result ≡ was_put_at entity.now.serial
             (get (entity_map self.now) (key_of entity.now)) }
     {
-        match self.at(entity.nature.kind(), entity.id.number()) {
+        match self.get(entity.nature.kind(), entity.id.number()) {
             Some(kept) => kept.serial.number() == entity.serial.number(),
             None => false,
         }

@@ -7,10 +7,10 @@ ghost use Rattle.std.specs.Map.{values_of};
 ghost use Rattle.std.specs.Ordering.{nat_cmp};
 ghost use Rattle.std.specs.Option.{option_copied};
 ghost use Rattle.std.specs.FinMap.{get, insert, remove};
-ghost use Rattle.entity_core.specs.Airspace.{is_one_of, told_where};
+ghost use Rattle.entity_core.specs.Airspace.{is_one_of, notified_where};
 ghost use Rattle.entity_core.specs.Search.{is_for_near, is_own_near, subscribers_in, subscriptions_in};
-ghost use Rattle.entity_core.specs.Serial.{greatest_serial};
-ghost use Rattle.entity_maps.specs.Subscriptions.{AreKeyed, CanRise, comes_from, pair_of, subscription_map, Tells, TreeCanRise, InOrder};
+ghost use Rattle.entity_core.specs.Serial.{max_serial};
+ghost use Rattle.entity_maps.specs.Subscriptions.{AreKeyed, CanNotify, comes_from, pair_of, subscription_map, Notifies, TreeCanNotify, InOrder};
 
 use entity_core::entity_id::EntityId;
 use entity_core::nature::Kind;
@@ -72,21 +72,21 @@ fn are_rising(ids: &[EntityId]) -> bool
 // Tells the one of an id, if there is one.
 fn tell_one(tree: &mut BTreeMap<u128, Sub>, id: EntityId)
     requires keyed { AreKeyed tree.old.entries }
-    requires rises { IfSome (trees.get nat_cmp tree.old id) (λ s. s.index < greatest_serial) }
+    requires rises { IfSome (trees.get nat_cmp tree.old id) (λ s. s.index < max_serial) }
     ensures keyed { AreKeyed tree.new.entries }
-    ensures told { Tells (id ∷ []) tree.old tree.new }
+    ensures told { Notifies (id ∷ []) tree.old tree.new }
 {
     if let Some(sub) = tree.get_mut(&id.number()) {
-        sub.tell();
+        sub.notify();
     }
 }
 
 // Tells those of ids, each once: where these rise, in the size of what is told.
 fn tell_those(tree: &mut BTreeMap<u128, Sub>, ids: &[EntityId])
     requires keyed { AreKeyed tree.old.entries }
-    requires rises { TreeCanRise tree.old }
+    requires rises { TreeCanNotify tree.old }
     ensures keyed { AreKeyed tree.new.entries }
-    ensures told { Tells ids.now tree.old tree.new }
+    ensures told { Notifies ids.now tree.old tree.new }
 {
     let rising = are_rising(ids);
     for i in 0..ids.len() {
@@ -132,7 +132,7 @@ impl Subscriptions {
 
     /// The subscription of an id and those behind it, by rising ids, each under the number of its
     /// id.
-    pub fn from(&self, id: EntityId) -> Range<'_, u128, Sub>
+    pub fn range_from(&self, id: EntityId) -> Range<'_, u128, Sub>
         ensures items { values_of result ≡ filter (comes_from id) self.now }
         ensures order { InOrder self.now }
     {
@@ -140,7 +140,7 @@ impl Subscriptions {
     }
 
     /// The subscription of the number of an id, which is all that an index has of it.
-    pub fn at(&self, number: u128) -> Option<&Sub>
+    pub fn get(&self, number: u128) -> Option<&Sub>
         ensures { option_copied result ≡ get (subscription_map self.now) number }
     {
         self.tree.get(&number)
@@ -152,18 +152,23 @@ impl Subscriptions {
         ensures found { IfOk result (λ found. found ≡ get (subscription_map self.now) id) }
         ensures none { IsNone (get (subscription_map self.now) id) → IsOk result }
     {
-        match self.at(id.number()) {
+        match self.get(id.number()) {
             Some(sub) => Ok(Some(sub.clone()?)),
             None => Ok(None),
         }
     }
 
     /// Copies of the subscriptions of a supplier whose volumes meet an area, by rising ids.
-    pub fn own(&self, alloc: Global, uss: &UssId, area: &Area) -> Result<Vec<Sub>, AllocError>
+    pub fn subscriptions_of(
+        &self,
+        alloc: Global,
+        uss: &UssId,
+        area: &Area,
+    ) -> Result<Vec<Sub>, AllocError>
         ensures { IfOk result (λ found. found.items
             ≡ subscriptions_in (subscription_map self.now) uss.now area.now) }
     {
-        let sorted_area = SortedArea::of(alloc, area)?;
+        let sorted_area = SortedArea::new(alloc, area)?;
         self.own_sorted(alloc, uss, &sorted_area)
     }
 
@@ -187,7 +192,7 @@ impl Subscriptions {
 
     /// Copies of the subscriptions that are for a kind and whose volumes meet some area, by rising
     /// ids.
-    pub fn for_kind(
+    pub fn subscribers(
         &self,
         alloc: Global,
         kind: Kind,
@@ -220,10 +225,10 @@ impl Subscriptions {
 
     /// Tells each subscription whose id is among these of one more change. It takes no memory. The
     /// index of each can rise.
-    pub fn tell(&mut self, ids: &[EntityId])
-        requires { CanRise self.old }
+    pub fn notify(&mut self, ids: &[EntityId])
+        requires { CanNotify self.old }
         ensures { subscription_map self.new
-            ≡ told_where (is_one_of ids.now) (subscription_map self.old) }
+            ≡ notified_where (is_one_of ids.now) (subscription_map self.old) }
     {
         tell_those(&mut self.tree, ids);
     }

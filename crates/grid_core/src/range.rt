@@ -3,14 +3,14 @@ ghost use Rattle.std.specs.Prelude.{◌≡◌, int_le, nat_le, pos, negsuc};
 ghost use Rattle.grid_core.specs.Extent.{reaches, shares, is_within, are_altitudes, are_times};
 
 /// The least altitude of a volume, in decimetres (this project's profile).
-pub const LEAST_ALTITUDE: i64 = -100_000;
+pub const MIN_ALTITUDE: i64 = -100_000;
 
 /// The greatest altitude of a volume, in decimetres (this project's profile).
-pub const GREATEST_ALTITUDE: i64 = 1_000_000;
+pub const MAX_ALTITUDE: i64 = 1_000_000;
 
 /// The last time of a volume, in seconds since 1970: the end of the year 9999 (this project's
 /// profile).
-pub const LAST_TIME: u64 = 253_402_300_799;
+pub const MAX_TIME: u64 = 253_402_300_799;
 
 fn is_below(low: i64, high: i64) -> bool
     ensures { result ≡ int_le low high }
@@ -73,7 +73,7 @@ fn is_altitude(bound: Option<i64>) -> bool
 {
     match bound {
         None => true,
-        Some(x) => is_below(LEAST_ALTITUDE, x) && is_below(x, GREATEST_ALTITUDE),
+        Some(x) => is_below(MIN_ALTITUDE, x) && is_below(x, MAX_ALTITUDE),
     }
 }
 
@@ -82,7 +82,7 @@ fn is_time(bound: Option<u64>) -> bool
 {
     match bound {
         None => true,
-        Some(x) => x <= LAST_TIME,
+        Some(x) => x <= MAX_TIME,
     }
 }
 

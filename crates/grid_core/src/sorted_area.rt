@@ -128,7 +128,7 @@ fn overlaps_one_of(own: Interval, intervals: &[Interval]) -> bool
 
 impl SortedArea {
     /// An area, sorted.
-    pub fn of(alloc: Global, area: &Area) -> Result<SortedArea, AllocError>
+    pub fn new(alloc: Global, area: &Area) -> Result<SortedArea, AllocError>
         ensures { IfOk result (λ s. s ≡ area.now) }
     {
         let mut intervals = intervals_of(alloc, area.cells())?;
@@ -167,7 +167,7 @@ pub fn sorted(alloc: Global, areas: &[Area]) -> Result<Vec<SortedArea>, AllocErr
 {
     let mut sorted = Vec::new(alloc);
     for area in areas {
-        sorted.push(SortedArea::of(alloc, area)?)?;
+        sorted.push(SortedArea::new(alloc, area)?)?;
     }
     Ok(sorted)
 }
@@ -208,7 +208,7 @@ fn any_meet_sorted(volumes: &[Volume], areas: &[SortedArea]) -> bool
 
 impl Volumes {
     /// Whether some volume meets some area, as `meet`.
-    pub fn meet_sorted(&self, areas: &[SortedArea]) -> bool
+    pub fn meets_any_sorted(&self, areas: &[SortedArea]) -> bool
         ensures { result ≡ any_meet self.now areas.now }
     {
         any_meet_sorted(self.items(), areas)

@@ -119,7 +119,7 @@ impl Volumes {
     }
 
     /// Whether some volume meets some area. Each is tested alone, and none are merged.
-    pub fn meet(&self, areas: &[Area]) -> bool
+    pub fn meets_any(&self, areas: &[Area]) -> bool
         ensures test { result ≡ any_meet self.now areas.now }
         ensures relation { IsTrue result ↔ AnyMeet self.now areas.now }
     {

@@ -6,7 +6,7 @@ use Rattle.std.specs.Ordering.{eq_by_cmp, nat_cmp}
 use Rattle.std.specs.FinMap as maps
 use Rattle.std.specs.FinMap.{get, get-entries, entries}
 use Rattle.entity_core.specs.IdTexts.{same_text}
-use Rattle.entity_core.specs.Airspace.{Airspace, EntityKey, Stated, Availabilities, key_cmp}
+use Rattle.entity_core.specs.Airspace.{Airspace, EntityKey, VersionedAvailability, Availabilities, key_cmp}
 use Rattle.entity_core.specs.Entity.{kind_of}
 use Rattle.entity_core.specs.Search.{dependents_in, is_naming}
 use Rattle.entity_core.specs.declared.entity.Entity.{Entity}
@@ -20,7 +20,7 @@ use Rattle.policy_core.specs.declared.rule.Rule.TheVariants.{Manager, Version}
 use Rattle.policy_core.specs.Policy.{breaks, breaks_given, early_rules, standing_rules}
 use Rattle.policy_core.specs.Standing.{Facts, depended_of, facts_of, found_of, is_some_of, stated_of, sub_under}
 use Rattle.policy_core.specs.Call.{subject_of}
-use Rattle.policy_core.specs.Blind.{veiled, veiled_entry, veiled_sub, veiled_sub_entry, IsLike, is_uss}
+use Rattle.policy_core.specs.Blind.{redacted, redacted_entry, redacted_sub, redacted_sub_entry, IsLike, is_uss}
 use Rattle.policy_core.proofs.Finds.{or_else, find-append}
 
 -- a supplier by its text
@@ -29,21 +29,21 @@ one_uss m caller h = one_text caller.uss m (sym h)
 
 -- ---- what is found
 
-find-veiled : (m : List ℕ) (k : EntityKey) (es : List (EntityKey × Entity)) → option_map (veiled m) (maps.find key_cmp k es) ≡ maps.find key_cmp k (map (veiled_entry m) es)
+find-veiled : (m : List ℕ) (k : EntityKey) (es : List (EntityKey × Entity)) → option_map (redacted m) (maps.find key_cmp k es) ≡ maps.find key_cmp k (map (redacted_entry m) es)
 find-veiled m k [] = refl
 find-veiled m k (e ∷ es) =
-    elim (eq_by_cmp key_cmp k e.0) as (λ b. option_map (veiled m) (cond b (Some e.1) (maps.find key_cmp k es)) ≡ cond b (Some (veiled m e.1)) (maps.find key_cmp k (map (veiled_entry m) es))) [
+    elim (eq_by_cmp key_cmp k e.0) as (λ b. option_map (redacted m) (cond b (Some e.1) (maps.find key_cmp k es)) ≡ cond b (Some (redacted m e.1)) (maps.find key_cmp k (map (redacted_entry m) es))) [
       | true ↦ refl
       | false ↦ find-veiled m k es
     ]
 
-get-veiled : (m : List ℕ) (a : Airspace) (k : EntityKey) → option_map (veiled m) (get a.entities k) ≡ maps.find key_cmp k (map (veiled_entry m) (entries a.entities))
-get-veiled m a k = ap (option_map (veiled m)) (get-entries a.entities k) ∙ find-veiled m k (entries a.entities)
+get-veiled : (m : List ℕ) (a : Airspace) (k : EntityKey) → option_map (redacted m) (get a.entities k) ≡ maps.find key_cmp k (map (redacted_entry m) (entries a.entities))
+get-veiled m a k = ap (option_map (redacted m)) (get-entries a.entities k) ∙ find-veiled m k (entries a.entities)
 
-pub get_like : (m : List ℕ) (a b : Airspace) (k : EntityKey) → IsLike m a b → option_map (veiled m) (get a.entities k) ≡ option_map (veiled m) (get b.entities k)
+pub get_like : (m : List ℕ) (a b : Airspace) (k : EntityKey) → IsLike m a b → option_map (redacted m) (get a.entities k) ≡ option_map (redacted m) (get b.entities k)
 get_like m a b k l = get-veiled m a k ∙ (ap (maps.find key_cmp k) l.entities ∙ sym (get-veiled m b k))
 
-pub found_like : (m : List ℕ) (a b : Airspace) (op : Operation) → IsLike m a b → option_map (veiled m) (found_of a op) ≡ option_map (veiled m) (found_of b op)
+pub found_like : (m : List ℕ) (a b : Airspace) (op : Operation) → IsLike m a b → option_map (redacted m) (found_of a op) ≡ option_map (redacted m) (found_of b op)
 found_like m a b NoRoute l = refl
 found_like m a b NoMethod l = refl
 found_like m a b (Malformed kind) l = refl
@@ -79,31 +79,31 @@ stated_like a b (SetAvail uss old availability) l = ap (λ (x : Availabilities).
 
 -- ---- subscriptions
 
-find_sub-veiled : (m : List ℕ) (k : ℕ) (ss : List (ℕ × Sub)) → option_map (veiled_sub m) (maps.find nat_cmp k ss) ≡ maps.find nat_cmp k (map (veiled_sub_entry m) ss)
+find_sub-veiled : (m : List ℕ) (k : ℕ) (ss : List (ℕ × Sub)) → option_map (redacted_sub m) (maps.find nat_cmp k ss) ≡ maps.find nat_cmp k (map (redacted_sub_entry m) ss)
 find_sub-veiled m k [] = refl
 find_sub-veiled m k (s ∷ ss) =
-    elim (eq_by_cmp nat_cmp k s.0) as (λ b. option_map (veiled_sub m) (cond b (Some s.1) (maps.find nat_cmp k ss)) ≡ cond b (Some (veiled_sub m s.1)) (maps.find nat_cmp k (map (veiled_sub_entry m) ss))) [
+    elim (eq_by_cmp nat_cmp k s.0) as (λ b. option_map (redacted_sub m) (cond b (Some s.1) (maps.find nat_cmp k ss)) ≡ cond b (Some (redacted_sub m s.1)) (maps.find nat_cmp k (map (redacted_sub_entry m) ss))) [
       | true ↦ refl
       | false ↦ find_sub-veiled m k ss
     ]
 
-get_sub-veiled : (m : List ℕ) (a : Airspace) (k : ℕ) → option_map (veiled_sub m) (get a.subscriptions k) ≡ maps.find nat_cmp k (map (veiled_sub_entry m) (entries a.subscriptions))
-get_sub-veiled m a k = ap (option_map (veiled_sub m)) (get-entries a.subscriptions k) ∙ find_sub-veiled m k (entries a.subscriptions)
+get_sub-veiled : (m : List ℕ) (a : Airspace) (k : ℕ) → option_map (redacted_sub m) (get a.subscriptions k) ≡ maps.find nat_cmp k (map (redacted_sub_entry m) (entries a.subscriptions))
+get_sub-veiled m a k = ap (option_map (redacted_sub m)) (get-entries a.subscriptions k) ∙ find_sub-veiled m k (entries a.subscriptions)
 
-pub get_sub_like : (m : List ℕ) (a b : Airspace) (k : ℕ) → IsLike m a b → option_map (veiled_sub m) (get a.subscriptions k) ≡ option_map (veiled_sub m) (get b.subscriptions k)
+pub get_sub_like : (m : List ℕ) (a b : Airspace) (k : ℕ) → IsLike m a b → option_map (redacted_sub m) (get a.subscriptions k) ≡ option_map (redacted_sub m) (get b.subscriptions k)
 get_sub_like m a b k l = get_sub-veiled m a k ∙ (ap (maps.find nat_cmp k) l.subscriptions ∙ sym (get_sub-veiled m b k))
 
-pub under_like : (m : List ℕ) (a b : Airspace) (named : Option ℕ) → IsLike m a b → option_map (veiled_sub m) (sub_under a named) ≡ option_map (veiled_sub m) (sub_under b named)
+pub under_like : (m : List ℕ) (a b : Airspace) (named : Option ℕ) → IsLike m a b → option_map (redacted_sub m) (sub_under a named) ≡ option_map (redacted_sub m) (sub_under b named)
 under_like m a b None l = refl
 under_like m a b (Some id) l = get_sub_like m a b id l
 
 -- an OVN has no part in what names a subscription
-dependents-veiled : (m : List ℕ) (id : ℕ) (es : List (EntityKey × Entity)) → map (λ e. e.id) (map (λ e. e.1) (filter (is_naming id) es)) ≡ map (λ e. e.id) (map (λ e. e.1) (filter (is_naming id) (map (veiled_entry m) es)))
+dependents-veiled : (m : List ℕ) (id : ℕ) (es : List (EntityKey × Entity)) → map (λ e. e.id) (map (λ e. e.1) (filter (is_naming id) es)) ≡ map (λ e. e.id) (map (λ e. e.1) (filter (is_naming id) (map (redacted_entry m) es)))
 dependents-veiled m id [] = refl
 dependents-veiled m id (e ∷ es) =
     let rest : List (EntityKey × Entity) = filter (is_naming id) es in
-    let others : List (EntityKey × Entity) = filter (is_naming id) (map (veiled_entry m) es) in
-    elim (is_naming id e) as (λ b. map (λ x. x.id) (map (λ x. x.1) (cond b (e ∷ rest) rest)) ≡ map (λ x. x.id) (map (λ x. x.1) (cond b (veiled_entry m e ∷ others) others))) [
+    let others : List (EntityKey × Entity) = filter (is_naming id) (map (redacted_entry m) es) in
+    elim (is_naming id e) as (λ b. map (λ x. x.id) (map (λ x. x.1) (cond b (e ∷ rest) rest)) ≡ map (λ x. x.id) (map (λ x. x.1) (cond b (redacted_entry m e ∷ others) others))) [
       | true ↦ ap (λ (ids : List ℕ). e.1.id ∷ ids) (dependents-veiled m id es)
       | false ↦ dependents-veiled m id es
     ]
@@ -139,9 +139,9 @@ manager_first : (own : Bool) (ovn present : List ℕ) (rest : Option Rule) → c
 manager_first true ovn present rest = refl
 manager_first false ovn present rest = refl
 
-veiled_found : (caller : Caller) (found : Option Entity) (stated : Option Stated) (serial t : ℕ) (sub : Option Sub) (depended : Bool) (op : Operation)
+veiled_found : (caller : Caller) (found : Option Entity) (stated : Option VersionedAvailability) (serial t : ℕ) (sub : Option Sub) (depended : Bool) (op : Operation)
     → find (breaks_given (record { found = found; stated = stated; serial = serial; sub = sub; depended = depended }) t (record { caller = Some caller; op = op })) standing_rules
-    ≡ find (breaks_given (record { found = option_map (veiled caller.uss) found; stated = stated; serial = serial; sub = sub; depended = depended }) t (record { caller = Some caller; op = op })) standing_rules
+    ≡ find (breaks_given (record { found = option_map (redacted caller.uss) found; stated = stated; serial = serial; sub = sub; depended = depended }) t (record { caller = Some caller; op = op })) standing_rules
 veiled_found caller None stated serial t sub depended op = refl
 veiled_found caller (Some e) stated serial t sub depended NoRoute = refl
 veiled_found caller (Some e) stated serial t sub depended NoMethod = refl
@@ -159,9 +159,9 @@ veiled_found caller (Some e) stated serial t sub depended (CreateSub id put) = r
 veiled_found caller (Some e) stated serial t sub depended (UpdateSub id version put) = refl
 veiled_found caller (Some e) stated serial t sub depended (DeleteSub id version) = refl
 
-veiled_subject : (caller : Caller) (found : Option Entity) (stated : Option Stated) (serial t : ℕ) (sub : Option Sub) (depended : Bool) (op : Operation)
+veiled_subject : (caller : Caller) (found : Option Entity) (stated : Option VersionedAvailability) (serial t : ℕ) (sub : Option Sub) (depended : Bool) (op : Operation)
     → find (breaks_given (record { found = found; stated = stated; serial = serial; sub = sub; depended = depended }) t (record { caller = Some caller; op = op })) standing_rules
-    ≡ find (breaks_given (record { found = found; stated = stated; serial = serial; sub = option_map (veiled_sub caller.uss) sub; depended = depended }) t (record { caller = Some caller; op = op })) standing_rules
+    ≡ find (breaks_given (record { found = found; stated = stated; serial = serial; sub = option_map (redacted_sub caller.uss) sub; depended = depended }) t (record { caller = Some caller; op = op })) standing_rules
 veiled_subject caller found stated serial t None depended op = refl
 veiled_subject caller found stated serial t (Some s) depended NoRoute = refl
 veiled_subject caller found stated serial t (Some s) depended NoMethod = refl
@@ -181,13 +181,13 @@ veiled_subject caller found stated serial t (Some s) depended (DeleteSub id vers
 
 -- the facts with what is behind the veil
 abbrev veiled_facts : List ℕ → Facts → Facts
-veiled_facts m f = record f { found = option_map (veiled m) f.found; sub = option_map (veiled_sub m) f.sub }
+veiled_facts m f = record f { found = option_map (redacted m) f.found; sub = option_map (redacted_sub m) f.sub }
 
 pub standing_veiled : (caller : Caller) (f : Facts) (t : ℕ) (op : Operation)
     → find (breaks_given f t (record { caller = Some caller; op = op })) standing_rules ≡ find (breaks_given (veiled_facts caller.uss f) t (record { caller = Some caller; op = op })) standing_rules
 standing_veiled caller f t op =
     veiled_found caller f.found f.stated f.serial t f.sub f.depended op
-    ∙ veiled_subject caller (option_map (veiled caller.uss) f.found) f.stated f.serial t f.sub f.depended op
+    ∙ veiled_subject caller (option_map (redacted caller.uss) f.found) f.stated f.serial t f.sub f.depended op
 
 facts_like : (m : List ℕ) (a b : Airspace) (op : Operation) → IsLike m a b → veiled_facts m (facts_of a op) ≡ veiled_facts m (facts_of b op)
 facts_like m a b op l = λ i. record {

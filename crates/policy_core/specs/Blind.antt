@@ -16,26 +16,26 @@ use Rattle.policy_core.specs.View.{view_of}
 -- ---- airspaces
 
 -- an entity without its OVN, unless the supplier manages it
-abbrev pub veiled : List ℕ → Entity → Entity
-veiled m e = record e { ovn = if same_text e.manager m then e.ovn else [] }
+abbrev pub redacted : List ℕ → Entity → Entity
+redacted m e = record e { ovn = if same_text e.manager m then e.ovn else [] }
 
-abbrev pub veiled_entry : List ℕ → EntityKey × Entity → EntityKey × Entity
-veiled_entry m e = (e.0, veiled m e.1)
+abbrev pub redacted_entry : List ℕ → EntityKey × Entity → EntityKey × Entity
+redacted_entry m e = (e.0, redacted m e.1)
 
 -- a subscription without its version, unless the supplier manages it
-abbrev pub veiled_sub : List ℕ → Sub → Sub
-veiled_sub m s = record s { version = if same_text s.manager m then s.version else [] }
+abbrev pub redacted_sub : List ℕ → Sub → Sub
+redacted_sub m s = record s { version = if same_text s.manager m then s.version else [] }
 
-abbrev pub veiled_sub_entry : List ℕ → ℕ × Sub → ℕ × Sub
-veiled_sub_entry m s = (s.0, veiled_sub m s.1)
+abbrev pub redacted_sub_entry : List ℕ → ℕ × Sub → ℕ × Sub
+redacted_sub_entry m s = (s.0, redacted_sub m s.1)
 
 -- Two airspaces are alike to a supplier: they differ in nothing but the OVNs of the
 -- entities and the versions of the subscriptions that it does not manage.
 pub record IsLike (m : List ℕ) (a b : Airspace) : Type 0 where
   pub entities :
-      map (veiled_entry m) (entries a.entities) ≡ map (veiled_entry m) (entries b.entities)
-  pub subscriptions : map (veiled_sub_entry m) (entries a.subscriptions)
-      ≡ map (veiled_sub_entry m) (entries b.subscriptions)
+      map (redacted_entry m) (entries a.entities) ≡ map (redacted_entry m) (entries b.entities)
+  pub subscriptions : map (redacted_sub_entry m) (entries a.subscriptions)
+      ≡ map (redacted_sub_entry m) (entries b.subscriptions)
   pub availabilities : a.availabilities ≡ b.availabilities
   pub serial : a.serial ≡ b.serial
 

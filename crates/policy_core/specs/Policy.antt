@@ -3,9 +3,9 @@ use Rattle.std.specs.Prelude.{ℕ, ◌&&◌, ◌||◌, not, nat_eq, nat_le, nat_
 use Rattle.std.specs.List.{list_any}
 use Rattle.grid_core.specs.Volumes.{span_of}
 use Rattle.entity_core.specs.IdTexts.{same_text}
-use Rattle.entity_core.specs.Entity.{greatest_version, subscription_of}
-use Rattle.entity_core.specs.Airspace.{Airspace, Stated}
-use Rattle.entity_core.specs.Serial.{greatest_serial}
+use Rattle.entity_core.specs.Entity.{max_version, subscription_of}
+use Rattle.entity_core.specs.Airspace.{Airspace, VersionedAvailability}
+use Rattle.entity_core.specs.Serial.{max_serial}
 use Rattle.entity_core.specs.declared.availability.Availability.TheVariants.{Unknown}
 use Rattle.entity_core.specs.declared.nature.State.{State}
 use Rattle.entity_core.specs.declared.nature.State.TheVariants.{Accepted, Activated, Nonconforming, Contingent}
@@ -25,7 +25,7 @@ use Rattle.policy_core.specs.declared.call.Operation.TheVariants.{NoRoute, NoMet
 use Rattle.policy_core.specs.declared.call.Call.{Call}
 use Rattle.policy_core.specs.declared.rule.Rule.{Rule}
 use Rattle.policy_core.specs.declared.rule.Rule.TheVariants.{Route, Method, Token, Scope, Form, Area, Found, Fresh, Manager, Version, Role, Change, Ended, Key, Limit, Subscription, Depended}
-use Rattle.policy_core.specs.Scope.{has_scope, is_open}
+use Rattle.policy_core.specs.Scope.{has_scope, is_permitted}
 use Rattle.policy_core.specs.Call.{kind_of, is_change, covered_of}
 use Rattle.policy_core.specs.Standing.{Facts, depended_of, found_of, stated_of, sub_of}
 use Rattle.policy_core.specs.Missing.{is_nothing, missing_for}
@@ -58,7 +58,7 @@ breaks_token caller = is_none caller
 
 -- there is a caller and a kind of operation, and none of the caller's scopes opens it
 abbrev pub breaks_scope : Option Caller → Option OpKind → Bool
-breaks_scope (Some caller) (Some kind) = not (is_open kind caller.scopes)
+breaks_scope (Some caller) (Some kind) = not (is_permitted kind caller.scopes)
 breaks_scope (Some caller) None = false
 breaks_scope None kind = false
 
@@ -72,11 +72,11 @@ breaks_form op = false
 -- P6 AREA
 
 -- how many cells of level 13 a call may count for
-abbrev pub greatest_cover : ℕ
-greatest_cover = 16384
+abbrev pub max_covered_cells : ℕ
+max_covered_cells = 16384
 
 abbrev pub breaks_area : Operation → Bool
-breaks_area op = nat_lt greatest_cover (covered_of op)
+breaks_area op = nat_lt max_covered_cells (covered_of op)
 
 -- P7 FOUND
 
@@ -127,7 +127,7 @@ has_another_ovn (Some e) ovn = not (same_text ovn e.ovn)
 has_another_ovn None ovn = false
 
 -- the version of a supplier's availability
-abbrev pub availability_version : Option Stated → List ℕ
+abbrev pub availability_version : Option VersionedAvailability → List ℕ
 availability_version stated = (unwrap_or stated (Unknown, [])).1
 
 abbrev pub has_another_version : Option Sub → List ℕ → Bool
@@ -136,7 +136,7 @@ has_another_version None version = false
 
 -- an update or a deletion by another OVN or version than the present one, a setting by another
 -- version
-abbrev pub breaks_version : Operation → Option Entity → Option Stated → Option Sub → Bool
+abbrev pub breaks_version : Operation → Option Entity → Option VersionedAvailability → Option Sub → Bool
 breaks_version (Update id ovn put) found stated sub = has_another_ovn found ovn
 breaks_version (Delete kind id ovn) found stated sub = has_another_ovn found ovn
 breaks_version (SetAvail uss old availability) found stated sub =
@@ -252,7 +252,7 @@ breaks_key a caller op = not (is_nothing (missing_for a caller op))
 -- P15 LIMIT
 
 abbrev pub has_last_version : Option Entity → Bool
-has_last_version (Some e) = nat_le greatest_version e.version
+has_last_version (Some e) = nat_le max_version e.version
 has_last_version None = false
 
 -- an update of what has the greatest version
@@ -262,7 +262,7 @@ is_spent op found = false
 
 -- a change at the greatest serial, or of what has the greatest version
 abbrev pub breaks_limit : Operation → Option Entity → ℕ → Bool
-breaks_limit op found serial = (is_change op && nat_le greatest_serial serial) || is_spent op found
+breaks_limit op found serial = (is_change op && nat_le max_serial serial) || is_spent op found
 
 -- ---- the rules
 

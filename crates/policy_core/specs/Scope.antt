@@ -59,25 +59,25 @@ abbrev pub with_scope : Scopes → Scope → Scopes
 with_scope s added = scopes_where (λ scope. same_scope scope added || has_scope s scope)
 
 -- The table of scopes: a kind of operation is open to whoever has one of these.
-abbrev pub openers : OpKind → List Scope
-openers (Query Intent) = StrategicCoordination ∷ ConformanceMonitoring ∷ []
-openers (Read Intent) = StrategicCoordination ∷ ConformanceMonitoring ∷ []
-openers (Create Intent) = StrategicCoordination ∷ ConformanceMonitoring ∷ []
-openers (Update Intent) = StrategicCoordination ∷ ConformanceMonitoring ∷ []
-openers (Delete Intent) = StrategicCoordination ∷ ConformanceMonitoring ∷ []
-openers (Query Constraint) = ConstraintProcessing ∷ ConstraintManagement ∷ []
-openers (Read Constraint) = ConstraintProcessing ∷ ConstraintManagement ∷ []
-openers (Create Constraint) = ConstraintManagement ∷ []
-openers (Update Constraint) = ConstraintManagement ∷ []
-openers (Delete Constraint) = ConstraintManagement ∷ []
-openers ReadAvail = AvailabilityArbitration ∷ StrategicCoordination ∷ ConformanceMonitoring ∷ []
-openers SetAvail = AvailabilityArbitration ∷ []
-openers QuerySub = StrategicCoordination ∷ ConstraintProcessing ∷ []
-openers ReadSub = StrategicCoordination ∷ ConstraintProcessing ∷ []
-openers CreateSub = StrategicCoordination ∷ ConstraintProcessing ∷ []
-openers UpdateSub = StrategicCoordination ∷ ConstraintProcessing ∷ []
-openers DeleteSub = StrategicCoordination ∷ ConstraintProcessing ∷ []
+abbrev pub permitting_scopes : OpKind → List Scope
+permitting_scopes (Query Intent) = StrategicCoordination ∷ ConformanceMonitoring ∷ []
+permitting_scopes (Read Intent) = StrategicCoordination ∷ ConformanceMonitoring ∷ []
+permitting_scopes (Create Intent) = StrategicCoordination ∷ ConformanceMonitoring ∷ []
+permitting_scopes (Update Intent) = StrategicCoordination ∷ ConformanceMonitoring ∷ []
+permitting_scopes (Delete Intent) = StrategicCoordination ∷ ConformanceMonitoring ∷ []
+permitting_scopes (Query Constraint) = ConstraintProcessing ∷ ConstraintManagement ∷ []
+permitting_scopes (Read Constraint) = ConstraintProcessing ∷ ConstraintManagement ∷ []
+permitting_scopes (Create Constraint) = ConstraintManagement ∷ []
+permitting_scopes (Update Constraint) = ConstraintManagement ∷ []
+permitting_scopes (Delete Constraint) = ConstraintManagement ∷ []
+permitting_scopes ReadAvail = AvailabilityArbitration ∷ StrategicCoordination ∷ ConformanceMonitoring ∷ []
+permitting_scopes SetAvail = AvailabilityArbitration ∷ []
+permitting_scopes QuerySub = StrategicCoordination ∷ ConstraintProcessing ∷ []
+permitting_scopes ReadSub = StrategicCoordination ∷ ConstraintProcessing ∷ []
+permitting_scopes CreateSub = StrategicCoordination ∷ ConstraintProcessing ∷ []
+permitting_scopes UpdateSub = StrategicCoordination ∷ ConstraintProcessing ∷ []
+permitting_scopes DeleteSub = StrategicCoordination ∷ ConstraintProcessing ∷ []
 
 -- whether one of the scopes opens a kind of operation
-abbrev pub is_open : OpKind → Scopes → Bool
-is_open kind s = list_any (has_scope s) (openers kind)
+abbrev pub is_permitted : OpKind → Scopes → Bool
+is_permitted kind s = list_any (has_scope s) (permitting_scopes kind)

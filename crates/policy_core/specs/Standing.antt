@@ -6,11 +6,11 @@ use Rattle.entity_core.specs.declared.availability.Availability.{Availability}
 use Rattle.entity_core.specs.declared.entity.Entity.{Entity}
 use Rattle.entity_core.specs.declared.subscription.Sub.{Sub}
 use Rattle.entity_core.specs.Entity.{kind_of}
-use Rattle.entity_core.specs.Airspace.{Airspace, Stated}
+use Rattle.entity_core.specs.Airspace.{Airspace, VersionedAvailability}
 use Rattle.entity_core.specs.Search.{dependents_in}
 use Rattle.policy_core.specs.declared.call.Operation.{Operation}
 use Rattle.policy_core.specs.declared.call.Operation.TheVariants.{Read, Create, Update, Delete, ReadAvail, SetAvail, DeleteSub}
-use Rattle.policy_core.specs.declared.standing.LentFacts.{LentFacts}
+use Rattle.policy_core.specs.declared.standing.FactsRef.{FactsRef}
 use Rattle.policy_core.specs.Call.{subject_of}
 
 -- what is kept under the kind and the id that the operation names
@@ -22,7 +22,7 @@ found_of a (Delete kind id ovn) = get a.entities (kind, id)
 found_of a op = None
 
 -- what is stated of the supplier whose availability is read or set
-abbrev pub stated_of : Airspace → Operation → Option Stated
+abbrev pub stated_of : Airspace → Operation → Option VersionedAvailability
 stated_of a (ReadAvail uss) = get a.availabilities uss
 stated_of a (SetAvail uss old availability) = get a.availabilities uss
 stated_of a op = None
@@ -48,7 +48,7 @@ depended_of a op = false
 -- all that is looked up
 pub record Facts : Type 0 where
   pub found : Option Entity
-  pub stated : Option Stated
+  pub stated : Option VersionedAvailability
   pub serial : ℕ
   pub sub : Option Sub
   pub depended : Bool
@@ -71,13 +71,13 @@ Regards a op facts = facts ≡ facts_of a op
 abbrev pub lent_entity : Option (Bor Entity) → Option Entity
 lent_entity found = option_map (λ e. e.now) found
 
-abbrev pub lent_stated : Option (Availability × Bor (List ℕ)) → Option Stated
+abbrev pub lent_stated : Option (Availability × Bor (List ℕ)) → Option VersionedAvailability
 lent_stated stated = option_map (λ x. (x.0, x.1.now)) stated
 
 abbrev pub lent_sub : Option (Bor Sub) → Option Sub
 lent_sub sub = option_map (λ s. s.now) sub
 
-abbrev pub lent_facts : LentFacts → Facts
+abbrev pub lent_facts : FactsRef → Facts
 lent_facts f = record {
   found = lent_entity f.found;
   stated = lent_stated f.stated;

@@ -1,7 +1,7 @@
 //! The rules that look at the call alone.
 ghost use Rattle.std.specs.Prelude.{◌≡◌, ℕ, find};
 ghost use Rattle.entity_core.specs.Airspace.{Airspace};
-ghost use Rattle.policy_core.specs.Scope.{is_open, openers};
+ghost use Rattle.policy_core.specs.Scope.{is_permitted, permitting_scopes};
 ghost use Rattle.policy_core.specs.Call.{covered_of, kind_of};
 ghost use Rattle.policy_core.specs.Policy.{breaks, breaks_route, breaks_method, breaks_token, breaks_scope, breaks_form, breaks_area, early_rules};
 
@@ -11,7 +11,7 @@ use crate::scope::{Caller, Scope, ScopeSet};
 use entity_core::nature::Kind;
 
 /// How many cells of level 13 the areas of a call may count for (this project's profile).
-pub const GREATEST_COVER: u64 = 16_384;
+pub const MAX_COVERED_CELLS: u64 = 16_384;
 
 // P1 ROUTE
 fn breaks_route(op: &Operation) -> bool
@@ -39,7 +39,7 @@ fn breaks_scope(caller: &Option<Caller>, kind: Option<OpKind>) -> bool
     ensures { result ≡ breaks_scope caller.now kind }
 {
     match (caller, kind) {
-        (Some(caller), Some(kind)) => !is_open(kind, caller.scopes),
+        (Some(caller), Some(kind)) => !is_permitted(kind, caller.scopes),
         _ => false,
     }
 }
@@ -67,8 +67,8 @@ fn kind_of(op: &Operation) -> Option<OpKind>
 }
 
 // The scopes of which any one opens an operation.
-fn openers(kind: OpKind) -> &'static [Scope]
-    ensures { result.now ≡ openers kind }
+fn permitting_scopes(kind: OpKind) -> &'static [Scope]
+    ensures { result.now ≡ permitting_scopes kind }
 {
     match kind {
         OpKind::Query(Kind::Intent)
@@ -98,10 +98,12 @@ fn openers(kind: OpKind) -> &'static [Scope]
     }
 }
 
-fn is_open(kind: OpKind, scopes: ScopeSet) -> bool
-    ensures { result ≡ is_open kind scopes }
+fn is_permitted(kind: OpKind, scopes: ScopeSet) -> bool
+    ensures { result ≡ is_permitted kind scopes }
 {
-    openers(kind).iter().any(|scope| scopes.has(*scope))
+    permitting_scopes(kind)
+        .iter()
+        .any(|scope| scopes.has(*scope))
 }
 
 // P5 FORM
@@ -115,7 +117,7 @@ fn breaks_form(op: &Operation) -> bool
 fn breaks_area(op: &Operation) -> bool
     ensures { result ≡ breaks_area op.now }
 {
-    covered_of(op) > GREATEST_COVER
+    covered_of(op) > MAX_COVERED_CELLS
 }
 
 fn covered_of(op: &Operation) -> u64

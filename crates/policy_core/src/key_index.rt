@@ -30,7 +30,7 @@ impl<'a> Model for KeyIndex<'a> {
 impl<'a> KeyIndex<'a> {
     /// The index of a key. Where the key has k OVNs, this takes O(k log k) comparisons. An empty
     /// key takes no memory.
-    pub fn of(alloc: Global, key: &'a [Ovn]) -> Result<KeyIndex<'a>, AllocError>
+    pub fn new(alloc: Global, key: &'a [Ovn]) -> Result<KeyIndex<'a>, AllocError>
         ensures { IfOk result (λ index. IsPermutation key.now index) }
     {
         let mut texts: Vec<&str> = key.iter().map(|own| own.text()).collect(alloc)?;

@@ -36,7 +36,7 @@ pub fn missing(alloc: Global, key: &[Ovn], needed: &[Entity]) -> Result<Vec<usiz
     ensures { IfOk result (λ places. places.items
         ≡ places_where (is_missing_from key.now) needed.now) }
 {
-    let index = KeyIndex::of(alloc, key)?;
+    let index = KeyIndex::new(alloc, key)?;
     let mut places = Vec::new(alloc);
     for place in 0..needed.len() {
         if !index.has(&needed[place].ovn) {

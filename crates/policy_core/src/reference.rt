@@ -136,7 +136,7 @@ impl Missing {
     ghost use Rattle.policy_core.specs.Missing.{is_nothing, nothing_missing};
 
     /// Nothing is missing. It takes no memory.
-    pub fn nothing(alloc: Global) -> Missing
+    pub fn empty(alloc: Global) -> Missing
         ensures { result ≡ nothing_missing }
     {
         Missing {
@@ -146,7 +146,7 @@ impl Missing {
     }
 
     /// Whether nothing is missing.
-    pub fn is_nothing(&self) -> bool
+    pub fn is_empty(&self) -> bool
         ensures { result ≡ is_nothing self.now }
     {
         self.intents.is_empty() && self.constraints.is_empty()

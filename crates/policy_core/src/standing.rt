@@ -14,14 +14,14 @@ use entity_core::entity_id::EntityId;
 use entity_core::interest::Interest;
 use entity_core::nature::{Kind, Nature, State};
 use entity_core::ovn::Ovn;
-use entity_core::serial::GREATEST_SERIAL;
+use entity_core::serial::MAX_SERIAL;
 use entity_core::subscription::Sub;
 use entity_core::text::Text;
-use entity_core::version::GREATEST_VERSION;
+use entity_core::version::MAX_VERSION;
 
 /// What is looked up for a call, lent.
 #[derive(Clone, Copy, Debug)]
-pub struct LentFacts<'a> {
+pub struct FactsRef<'a> {
     /// What is kept under the kind and the id that the call names.
     pub found: Option<&'a Entity>,
     /// What is stated of the supplier whose availability is read or set.
@@ -295,13 +295,13 @@ fn breaks_limit(op: &Operation, found: Option<&Entity>, serial: u64) -> bool
     ensures { result ≡ breaks_limit op.now (lent_entity found.entry) serial }
 {
     match op {
-        Operation::Update(_, _, _) => serial >= GREATEST_SERIAL || has_last_version(found),
+        Operation::Update(_, _, _) => serial >= MAX_SERIAL || has_last_version(found),
         Operation::Create(_, _)
         | Operation::Delete(_, _, _)
         | Operation::SetAvail(_, _, _)
         | Operation::CreateSub(_, _)
         | Operation::UpdateSub(_, _, _)
-        | Operation::DeleteSub(_, _) => serial >= GREATEST_SERIAL,
+        | Operation::DeleteSub(_, _) => serial >= MAX_SERIAL,
         _ => false,
     }
 }
@@ -310,13 +310,13 @@ fn has_last_version(found: Option<&Entity>) -> bool
     ensures { result ≡ has_last_version (lent_entity found.entry) }
 {
     match found {
-        Some(entity) => entity.version.number() >= GREATEST_VERSION,
+        Some(entity) => entity.version.number() >= MAX_VERSION,
         None => false,
     }
 }
 
 // The first broken rule of P7 to P13, P16 and P17.
-fn first_standing(now: u64, call: &Call, facts: &LentFacts<'_>) -> Option<Rule>
+fn first_standing(now: u64, call: &Call, facts: &FactsRef<'_>) -> Option<Rule>
     ensures { result ≡ find (breaks_given (lent_facts facts.now) now call.now) standing_rules }
 {
     if breaks_found(&call.op, facts.found, facts.sub) {
@@ -351,7 +351,7 @@ fn first_standing(now: u64, call: &Call, facts: &LentFacts<'_>) -> Option<Rule>
 
 /// What a call at a moment (in seconds since 1970) breaks, where these facts were looked up for it.
 /// It takes no memory.
-pub fn standing(now: u64, call: &Call, facts: &LentFacts<'_>) -> Findings
+pub fn standing(now: u64, call: &Call, facts: &FactsRef<'_>) -> Findings
     ensures first { result.first
         ≡ find (breaks_given (lent_facts facts.now) now call.now) standing_rules }
     ensures limit { result.limit

@@ -13,11 +13,11 @@ use std::marker::Model;
 
 /// Ids of entities in their order. Contracts see their list.
 #[derive(Debug, Drop)]
-pub struct Ids {
+pub struct EntityIds {
     items: Vec<EntityId>,
 }
 
-impl Model for Ids {
+impl Model for EntityIds {
     ghost use Rattle.std.specs.Prelude.{List, ℕ};
 
     ghost Value = { List ℕ };
@@ -25,12 +25,12 @@ impl Model for Ids {
     ghost view = { λ a. a.items.items };
 }
 
-impl Ids {
+impl EntityIds {
     /// These ids. It takes no memory.
-    pub fn from_vec(items: Vec<EntityId>) -> Ids
+    pub fn from_vec(items: Vec<EntityId>) -> EntityIds
         ensures { result ≡ items.items }
     {
-        Ids { items }
+        EntityIds { items }
     }
 
     /// The ids, in their order.
@@ -41,10 +41,10 @@ impl Ids {
     }
 
     /// A copy of these ids.
-    pub fn copied(alloc: Global, ids: &[EntityId]) -> Result<Ids, AllocError>
+    pub fn copied(alloc: Global, ids: &[EntityId]) -> Result<EntityIds, AllocError>
         ensures { IfOk result (λ copy. copy ≡ ids.now) }
     {
-        Ok(Ids {
+        Ok(EntityIds {
             items: Vec::from_slice(alloc, ids)?,
         })
     }
@@ -63,7 +63,7 @@ pub struct SubView {
     pub time_end: u64,
     pub url: BaseUrl,
     /// The ids of the intents that name it, rising.
-    pub dependents: Ids,
+    pub dependents: EntityIds,
 }
 
 /// What is seen of a subscription that intents of these ids name.
@@ -79,7 +79,7 @@ pub fn sub_view(alloc: Global, sub: &Sub, dependents: &[EntityId]) -> Result<Sub
         time_start,
         time_end,
         url: sub.url.clone()?,
-        dependents: Ids::copied(alloc, dependents)?,
+        dependents: EntityIds::copied(alloc, dependents)?,
     })
 }
 

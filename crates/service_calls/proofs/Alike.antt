@@ -8,7 +8,7 @@ use Rattle.std.specs.FinMap.{get, insert, remove, entries, entries-insert, from_
 use Rattle.std.specs.FinMap.Entries.{put, where_key, by_order}
 use Rattle.grid_core.specs.Extent.{Extent, Region, meets, region_of}
 use Rattle.entity_core.specs.IdTexts.{same_text}
-use Rattle.entity_core.specs.Airspace.{Airspace, EntityKey, Availabilities, key_cmp, key_of, availability_of, text_cmp, told_again, told_if, told_where, with_entity, with_subscription, without_entity, without_subscription}
+use Rattle.entity_core.specs.Airspace.{Airspace, EntityKey, Availabilities, key_cmp, key_of, availability_of, text_cmp, notified_again, notified_if, notified_where, with_entity, with_subscription, without_entity, without_subscription}
 use Rattle.entity_core.specs.Entity.{kind_of, subscription_of}
 use Rattle.entity_core.specs.Subscription.{wants}
 use Rattle.entity_core.specs.Ovn.{ovn_text}
@@ -28,7 +28,7 @@ use Rattle.policy_core.specs.declared.call.Operation.TheVariants.{NoRoute, NoMet
 use Rattle.policy_core.specs.declared.rule.Rule.{Rule}
 use Rattle.policy_core.specs.declared.rule.Rule.TheVariants.{Route, Method, Token, Scope, Form, Area, Found, Fresh, Manager, Version, Role, Change, Ended, Key, Limit, Subscription, Depended}
 use Rattle.policy_core.specs.declared.reference.Reference.{Reference}
-use Rattle.policy_core.specs.Blind.{veiled, veiled_entry, veiled_sub, veiled_sub_entry, IsLike, is_uss, known}
+use Rattle.policy_core.specs.Blind.{redacted, redacted_entry, redacted_sub, redacted_sub_entry, IsLike, is_uss, known}
 use Rattle.policy_core.specs.Missing.{in_key, put_needs, is_missing_from, is_spared, spared, unspared, excepted, needs_kind, missing_from, needed_put, needs_key, is_none_of, is_nothing, missing_put, missing_for}
 use Rattle.policy_core.specs.Policy.{breaks, breaks_limit, breaks_manager, is_sub_of_another, early_rules, standing_rules, last_rules, first_broken}
 use Rattle.policy_core.specs.Standing.{found_of, sub_of, sub_under}
@@ -43,26 +43,26 @@ use Rattle.entity_core.proofs.Entries.{entries-remove}
 use Rattle.service_step.specs.declared.reply.Answer.TheVariants.{Created, Changed, Listed, Avail}
 use Rattle.service_step.specs.declared.reply.Answer.TheVariants as answers
 use Rattle.service_step.specs.declared.reply.Reply.TheVariants.{Done, Denied}
-use Rattle.service_notices.specs.Notices.{notices_in, notices_of, notified_in, states_at, touched, urls_of, with_notified}
-use Rattle.service_step.specs.Step.{step, step_by, effect, effect_by, told_missing, created, kept_with, updated, update_effect, delete_effect, read_effect, sub_kept_as, seen_of, seen_sub, stored_reply, put_sub_effect, update_sub_effect, delete_sub_effect, read_sub_effect}
+use Rattle.service_notify.specs.Notices.{notices_in, notices_of, notified_in, states_at, touched, urls_of, with_notified}
+use Rattle.service_step.specs.Step.{step, step_by, effect, effect_by, missing_views, created, stored_with, updated, update_effect, delete_effect, read_effect, sub_stored_as, seen_of, seen_sub, stored_reply, put_sub_effect, update_sub_effect, delete_sub_effect, read_sub_effect}
 
 -- ---- entries
 
-put-veiled : (m : List ℕ) (k : EntityKey) (e : Entity) (es : List (EntityKey × Entity)) → map (veiled_entry m) (put key_cmp k e es) ≡ put key_cmp k (veiled m e) (map (veiled_entry m) es)
+put-veiled : (m : List ℕ) (k : EntityKey) (e : Entity) (es : List (EntityKey × Entity)) → map (redacted_entry m) (put key_cmp k e es) ≡ put key_cmp k (redacted m e) (map (redacted_entry m) es)
 put-veiled m k e [] = refl
 put-veiled m k e (x ∷ es) =
-    elim (key_cmp k x.0) as (λ r. map (veiled_entry m) (by_order r ((k, e) ∷ x ∷ es) ((x.0, e) ∷ es) (x ∷ put key_cmp k e es))
-    ≡ by_order r ((k, veiled m e) ∷ veiled_entry m x ∷ map (veiled_entry m) es) ((x.0, veiled m e) ∷ map (veiled_entry m) es) (veiled_entry m x ∷ put key_cmp k (veiled m e) (map (veiled_entry m) es))) [
+    elim (key_cmp k x.0) as (λ r. map (redacted_entry m) (by_order r ((k, e) ∷ x ∷ es) ((x.0, e) ∷ es) (x ∷ put key_cmp k e es))
+    ≡ by_order r ((k, redacted m e) ∷ redacted_entry m x ∷ map (redacted_entry m) es) ((x.0, redacted m e) ∷ map (redacted_entry m) es) (redacted_entry m x ∷ put key_cmp k (redacted m e) (map (redacted_entry m) es))) [
       | Less ↦ refl
       | Equal ↦ refl
-      | Greater ↦ ap (λ (ys : List (EntityKey × Entity)). veiled_entry m x ∷ ys) (put-veiled m k e es)
+      | Greater ↦ ap (λ (ys : List (EntityKey × Entity)). redacted_entry m x ∷ ys) (put-veiled m k e es)
     ]
 
-where-veiled : (m : List ℕ) (p : EntityKey → Bool) (es : List (EntityKey × Entity)) → map (veiled_entry m) (where_key key_cmp p es) ≡ where_key key_cmp p (map (veiled_entry m) es)
+where-veiled : (m : List ℕ) (p : EntityKey → Bool) (es : List (EntityKey × Entity)) → map (redacted_entry m) (where_key key_cmp p es) ≡ where_key key_cmp p (map (redacted_entry m) es)
 where-veiled m p [] = refl
 where-veiled m p (x ∷ es) =
-    elim (p x.0) as (λ b. map (veiled_entry m) (cond b (x ∷ where_key key_cmp p es) (where_key key_cmp p es)) ≡ cond b (veiled_entry m x ∷ where_key key_cmp p (map (veiled_entry m) es)) (where_key key_cmp p (map (veiled_entry m) es))) [
-      | true ↦ ap (λ (ys : List (EntityKey × Entity)). veiled_entry m x ∷ ys) (where-veiled m p es)
+    elim (p x.0) as (λ b. map (redacted_entry m) (cond b (x ∷ where_key key_cmp p es) (where_key key_cmp p es)) ≡ cond b (redacted_entry m x ∷ where_key key_cmp p (map (redacted_entry m) es)) (where_key key_cmp p (map (redacted_entry m) es))) [
+      | true ↦ ap (λ (ys : List (EntityKey × Entity)). redacted_entry m x ∷ ys) (where-veiled m p es)
       | false ↦ where-veiled m p es
     ]
 
@@ -70,10 +70,10 @@ where-veiled m p (x ∷ es) =
 
 with_like : (m : List ℕ) (a b : Airspace) (e : Entity) → IsLike m a b → IsLike m (with_entity a e) (with_entity b e)
 with_like m a b e l =
-    let side : (x : Airspace) → map (veiled_entry m) (entries (insert x.entities (key_of e) e)) ≡ put key_cmp (key_of e) (veiled m e) (map (veiled_entry m) (entries x.entities)) =
-    λ x. ap (map (veiled_entry m)) (entries-insert key_total x.entities (key_of e) e) ∙ put-veiled m (key_of e) e (entries x.entities) in
+    let side : (x : Airspace) → map (redacted_entry m) (entries (insert x.entities (key_of e) e)) ≡ put key_cmp (key_of e) (redacted m e) (map (redacted_entry m) (entries x.entities)) =
+    λ x. ap (map (redacted_entry m)) (entries-insert key_total x.entities (key_of e) e) ∙ put-veiled m (key_of e) e (entries x.entities) in
     record {
-      entities = side a ∙ (ap (put key_cmp (key_of e) (veiled m e)) l.entities ∙ sym (side b));
+      entities = side a ∙ (ap (put key_cmp (key_of e) (redacted m e)) l.entities ∙ sym (side b));
       subscriptions = l.subscriptions;
       availabilities = l.availabilities;
       serial = ap (λ (n : ℕ). n + 1) l.serial;
@@ -82,8 +82,8 @@ with_like m a b e l =
 without_like : (m : List ℕ) (a b : Airspace) (k : EntityKey) → IsLike m a b → IsLike m (without_entity a k) (without_entity b k)
 without_like m a b k l =
     let p : EntityKey → Bool = λ x. not (eq_by_cmp key_cmp k x) in
-    let side : (x : Airspace) → map (veiled_entry m) (entries (remove x.entities k)) ≡ where_key key_cmp p (map (veiled_entry m) (entries x.entities)) =
-    λ x. ap (map (veiled_entry m)) (entries-remove key_total key_exact x.entities k) ∙ where-veiled m p (entries x.entities) in
+    let side : (x : Airspace) → map (redacted_entry m) (entries (remove x.entities k)) ≡ where_key key_cmp p (map (redacted_entry m) (entries x.entities)) =
+    λ x. ap (map (redacted_entry m)) (entries-remove key_total key_exact x.entities k) ∙ where-veiled m p (entries x.entities) in
     record {
       entities = side a ∙ (ap (where_key key_cmp p) l.entities ∙ sym (side b));
       subscriptions = l.subscriptions;
@@ -93,31 +93,31 @@ without_like m a b k l =
 
 -- ---- changes of subscriptions
 
-put_sub-veiled : (m : List ℕ) (k : ℕ) (s : Sub) (ss : List (ℕ × Sub)) → map (veiled_sub_entry m) (put nat_cmp k s ss) ≡ put nat_cmp k (veiled_sub m s) (map (veiled_sub_entry m) ss)
+put_sub-veiled : (m : List ℕ) (k : ℕ) (s : Sub) (ss : List (ℕ × Sub)) → map (redacted_sub_entry m) (put nat_cmp k s ss) ≡ put nat_cmp k (redacted_sub m s) (map (redacted_sub_entry m) ss)
 put_sub-veiled m k s [] = refl
 put_sub-veiled m k s (x ∷ ss) =
-    elim (nat_cmp k x.0) as (λ r. map (veiled_sub_entry m) (by_order r ((k, s) ∷ x ∷ ss) ((x.0, s) ∷ ss) (x ∷ put nat_cmp k s ss))
-    ≡ by_order r ((k, veiled_sub m s) ∷ veiled_sub_entry m x ∷ map (veiled_sub_entry m) ss) ((x.0, veiled_sub m s) ∷ map (veiled_sub_entry m) ss) (veiled_sub_entry m x ∷ put nat_cmp k (veiled_sub m s) (map (veiled_sub_entry m) ss))) [
+    elim (nat_cmp k x.0) as (λ r. map (redacted_sub_entry m) (by_order r ((k, s) ∷ x ∷ ss) ((x.0, s) ∷ ss) (x ∷ put nat_cmp k s ss))
+    ≡ by_order r ((k, redacted_sub m s) ∷ redacted_sub_entry m x ∷ map (redacted_sub_entry m) ss) ((x.0, redacted_sub m s) ∷ map (redacted_sub_entry m) ss) (redacted_sub_entry m x ∷ put nat_cmp k (redacted_sub m s) (map (redacted_sub_entry m) ss))) [
       | Less ↦ refl
       | Equal ↦ refl
-      | Greater ↦ ap (λ (ys : List (ℕ × Sub)). veiled_sub_entry m x ∷ ys) (put_sub-veiled m k s ss)
+      | Greater ↦ ap (λ (ys : List (ℕ × Sub)). redacted_sub_entry m x ∷ ys) (put_sub-veiled m k s ss)
     ]
 
-where_sub-veiled : (m : List ℕ) (p : ℕ → Bool) (ss : List (ℕ × Sub)) → map (veiled_sub_entry m) (where_key nat_cmp p ss) ≡ where_key nat_cmp p (map (veiled_sub_entry m) ss)
+where_sub-veiled : (m : List ℕ) (p : ℕ → Bool) (ss : List (ℕ × Sub)) → map (redacted_sub_entry m) (where_key nat_cmp p ss) ≡ where_key nat_cmp p (map (redacted_sub_entry m) ss)
 where_sub-veiled m p [] = refl
 where_sub-veiled m p (x ∷ ss) =
-    elim (p x.0) as (λ b. map (veiled_sub_entry m) (cond b (x ∷ where_key nat_cmp p ss) (where_key nat_cmp p ss)) ≡ cond b (veiled_sub_entry m x ∷ where_key nat_cmp p (map (veiled_sub_entry m) ss)) (where_key nat_cmp p (map (veiled_sub_entry m) ss))) [
-      | true ↦ ap (λ (ys : List (ℕ × Sub)). veiled_sub_entry m x ∷ ys) (where_sub-veiled m p ss)
+    elim (p x.0) as (λ b. map (redacted_sub_entry m) (cond b (x ∷ where_key nat_cmp p ss) (where_key nat_cmp p ss)) ≡ cond b (redacted_sub_entry m x ∷ where_key nat_cmp p (map (redacted_sub_entry m) ss)) (where_key nat_cmp p (map (redacted_sub_entry m) ss))) [
+      | true ↦ ap (λ (ys : List (ℕ × Sub)). redacted_sub_entry m x ∷ ys) (where_sub-veiled m p ss)
       | false ↦ where_sub-veiled m p ss
     ]
 
 with_sub_like : (m : List ℕ) (a b : Airspace) (s : Sub) → IsLike m a b → IsLike m (with_subscription a s) (with_subscription b s)
 with_sub_like m a b s l =
-    let side : (x : Airspace) → map (veiled_sub_entry m) (entries (insert x.subscriptions s.id s)) ≡ put nat_cmp s.id (veiled_sub m s) (map (veiled_sub_entry m) (entries x.subscriptions)) =
-    λ x. ap (map (veiled_sub_entry m)) (entries-insert nat_cmp_total x.subscriptions s.id s) ∙ put_sub-veiled m s.id s (entries x.subscriptions) in
+    let side : (x : Airspace) → map (redacted_sub_entry m) (entries (insert x.subscriptions s.id s)) ≡ put nat_cmp s.id (redacted_sub m s) (map (redacted_sub_entry m) (entries x.subscriptions)) =
+    λ x. ap (map (redacted_sub_entry m)) (entries-insert nat_cmp_total x.subscriptions s.id s) ∙ put_sub-veiled m s.id s (entries x.subscriptions) in
     record {
       entities = l.entities;
-      subscriptions = side a ∙ (ap (put nat_cmp s.id (veiled_sub m s)) l.subscriptions ∙ sym (side b));
+      subscriptions = side a ∙ (ap (put nat_cmp s.id (redacted_sub m s)) l.subscriptions ∙ sym (side b));
       availabilities = l.availabilities;
       serial = ap (λ (n : ℕ). n + 1) l.serial;
     }
@@ -125,8 +125,8 @@ with_sub_like m a b s l =
 without_sub_like : (m : List ℕ) (a b : Airspace) (k : ℕ) → IsLike m a b → IsLike m (without_subscription a k) (without_subscription b k)
 without_sub_like m a b k l =
     let p : ℕ → Bool = λ x. not (eq_by_cmp nat_cmp k x) in
-    let side : (x : Airspace) → map (veiled_sub_entry m) (entries (remove x.subscriptions k)) ≡ where_key nat_cmp p (map (veiled_sub_entry m) (entries x.subscriptions)) =
-    λ x. ap (map (veiled_sub_entry m)) (entries-remove nat_cmp_total nat_cmp-IsAntisymmetric x.subscriptions k) ∙ where_sub-veiled m p (entries x.subscriptions) in
+    let side : (x : Airspace) → map (redacted_sub_entry m) (entries (remove x.subscriptions k)) ≡ where_key nat_cmp p (map (redacted_sub_entry m) (entries x.subscriptions)) =
+    λ x. ap (map (redacted_sub_entry m)) (entries-remove nat_cmp_total nat_cmp-IsAntisymmetric x.subscriptions k) ∙ where_sub-veiled m p (entries x.subscriptions) in
     record {
       entities = l.entities;
       subscriptions = side a ∙ (ap (where_key nat_cmp p) l.subscriptions ∙ sym (side b));
@@ -134,20 +134,20 @@ without_sub_like m a b k l =
       serial = ap (λ (n : ℕ). n + 1) l.serial;
     }
 
-same_sub_update : (m salt : List ℕ) (n k id : ℕ) (put : SubPut) (s r : Sub) → n ≡ k → veiled_sub m s ≡ veiled_sub m r → sub_kept_as salt (n + 1) s.manager s.index id put ≡ sub_kept_as salt (k + 1) r.manager r.index id put
-same_sub_update m salt n k id put s r e v = λ i. sub_kept_as salt (e i + 1) (v i).manager (v i).index id put
+same_sub_update : (m salt : List ℕ) (n k id : ℕ) (put : SubPut) (s r : Sub) → n ≡ k → redacted_sub m s ≡ redacted_sub m r → sub_stored_as salt (n + 1) s.manager s.index id put ≡ sub_stored_as salt (k + 1) r.manager r.index id put
+same_sub_update m salt n k id put s r e v = λ i. sub_stored_as salt (e i + 1) (v i).manager (v i).index id put
 
-update_sub_like : (m salt : List ℕ) (a b : Airspace) (uss : List ℕ) (id : ℕ) (put : SubPut) (o p : Option Sub) → IsLike m a b → option_map (veiled_sub m) o ≡ option_map (veiled_sub m) p
+update_sub_like : (m salt : List ℕ) (a b : Airspace) (uss : List ℕ) (id : ℕ) (put : SubPut) (o p : Option Sub) → IsLike m a b → option_map (redacted_sub m) o ≡ option_map (redacted_sub m) p
     → IsLike m (update_sub_effect salt a uss id put o).0 (update_sub_effect salt b uss id put p).0
 update_sub_like m salt a b uss id put None None l v = l
 update_sub_like m salt a b uss id put None (Some r) l v = cc
 update_sub_like m salt a b uss id put (Some s) None l v = cc
 update_sub_like m salt a b uss id put (Some s) (Some r) l v =
-    let same : veiled_sub m s ≡ veiled_sub m r = cc in
-    let x : Sub = sub_kept_as salt (a.serial + 1) s.manager s.index id put in
+    let same : redacted_sub m s ≡ redacted_sub m r = cc in
+    let x : Sub = sub_stored_as salt (a.serial + 1) s.manager s.index id put in
     subst (λ (y : Sub). IsLike m (with_subscription a x) (with_subscription b y)) (same_sub_update m salt a.serial b.serial id put s r l.serial same) (with_sub_like m a b x l)
 
-delete_sub_like : (m : List ℕ) (a b : Airspace) (id : ℕ) (o p : Option Sub) → IsLike m a b → option_map (veiled_sub m) o ≡ option_map (veiled_sub m) p → IsLike m (delete_sub_effect a id o).0 (delete_sub_effect b id p).0
+delete_sub_like : (m : List ℕ) (a b : Airspace) (id : ℕ) (o p : Option Sub) → IsLike m a b → option_map (redacted_sub m) o ≡ option_map (redacted_sub m) p → IsLike m (delete_sub_effect a id o).0 (delete_sub_effect b id p).0
 delete_sub_like m a b id None None l v = l
 delete_sub_like m a b id None (Some r) l v = cc
 delete_sub_like m a b id (Some s) None l v = cc
@@ -162,51 +162,51 @@ read_sub_like m a b (Some s) (Some r) l = l
 -- ---- who is notified
 
 -- telling sees no version, and leaves each as it is
-one_told-veiled : (m : List ℕ) (b : Bool) (s : Sub) → veiled_sub m (cond b (told_again s) s) ≡ cond b (told_again (veiled_sub m s)) (veiled_sub m s)
+one_told-veiled : (m : List ℕ) (b : Bool) (s : Sub) → redacted_sub m (cond b (notified_again s) s) ≡ cond b (notified_again (redacted_sub m s)) (redacted_sub m s)
 one_told-veiled m true s = refl
 one_told-veiled m false s = refl
 
-told_if-veiled : (m : List ℕ) (kind : Kind) (areas : List Region) (ss : List (ℕ × Sub)) → map (veiled_sub_entry m) (map (told_if (is_for_near kind areas)) ss) ≡ map (told_if (is_for_near kind areas)) (map (veiled_sub_entry m) ss)
+told_if-veiled : (m : List ℕ) (kind : Kind) (areas : List Region) (ss : List (ℕ × Sub)) → map (redacted_sub_entry m) (map (notified_if (is_for_near kind areas)) ss) ≡ map (notified_if (is_for_near kind areas)) (map (redacted_sub_entry m) ss)
 told_if-veiled m kind areas [] = refl
 told_if-veiled m kind areas (s ∷ ss) = λ i. (s.0, one_told-veiled m (is_for_near kind areas s) s.1 i) ∷ told_if-veiled m kind areas ss i
 
 notified_like : (m : List ℕ) (kind : Kind) (areas : List Region) (a b : Airspace) → IsLike m a b → IsLike m (with_notified kind areas a) (with_notified kind areas b)
 notified_like m kind areas a b l =
     let test : ℕ × Sub → Bool = is_for_near kind areas in
-    let side : (x : Airspace) → map (veiled_sub_entry m) (entries (told_where test x.subscriptions)) ≡ map (told_if test) (map (veiled_sub_entry m) (entries x.subscriptions)) =
-    λ x. ap (map (veiled_sub_entry m)) (entries-told test x.subscriptions) ∙ told_if-veiled m kind areas (entries x.subscriptions) in
+    let side : (x : Airspace) → map (redacted_sub_entry m) (entries (notified_where test x.subscriptions)) ≡ map (notified_if test) (map (redacted_sub_entry m) (entries x.subscriptions)) =
+    λ x. ap (map (redacted_sub_entry m)) (entries-told test x.subscriptions) ∙ told_if-veiled m kind areas (entries x.subscriptions) in
     record {
       entities = l.entities;
-      subscriptions = side a ∙ (ap (map (told_if test)) l.subscriptions ∙ sym (side b));
+      subscriptions = side a ∙ (ap (map (notified_if test)) l.subscriptions ∙ sym (side b));
       availabilities = l.availabilities;
       serial = l.serial;
     }
 
-kept_with_like : (m : List ℕ) (a b : Airspace) (old : List Extent) (e : Entity) → IsLike m a b → IsLike m (kept_with a old e) (kept_with b old e)
+kept_with_like : (m : List ℕ) (a b : Airspace) (old : List Extent) (e : Entity) → IsLike m a b → IsLike m (stored_with a old e) (stored_with b old e)
 kept_with_like m a b old e l = notified_like m (kind_of e.nature) (touched old e.volumes) (with_entity a e) (with_entity b e) (with_like m a b e l)
 
 -- ---- changes of entities
 
 -- entities that differ behind the veil alone are updated to one entity
-same_update : (m salt : List ℕ) (n k id : ℕ) (put : Put) (e f : Entity) → n ≡ k → veiled m e ≡ veiled m f → updated salt (n + 1) id put e ≡ updated salt (k + 1) id put f
+same_update : (m salt : List ℕ) (n k id : ℕ) (put : Put) (e f : Entity) → n ≡ k → redacted m e ≡ redacted m f → updated salt (n + 1) id put e ≡ updated salt (k + 1) id put f
 same_update m salt n k id put e f s v = λ i. updated salt (s i + 1) id put (v i)
 
-update_like : (m salt : List ℕ) (a b : Airspace) (uss : List ℕ) (id : ℕ) (put : Put) (o p : Option Entity) → IsLike m a b → option_map (veiled m) o ≡ option_map (veiled m) p
+update_like : (m salt : List ℕ) (a b : Airspace) (uss : List ℕ) (id : ℕ) (put : Put) (o p : Option Entity) → IsLike m a b → option_map (redacted m) o ≡ option_map (redacted m) p
     → IsLike m (update_effect salt a uss id put o).0 (update_effect salt b uss id put p).0
 update_like m salt a b uss id put None None l v = l
 update_like m salt a b uss id put None (Some f) l v = cc
 update_like m salt a b uss id put (Some e) None l v = cc
 update_like m salt a b uss id put (Some e) (Some f) l v =
-    let same : veiled m e ≡ veiled m f = cc in
+    let same : redacted m e ≡ redacted m f = cc in
     let x : Entity = updated salt (a.serial + 1) id put e in
-    subst (λ (y : List Extent × Entity). IsLike m (kept_with a e.volumes x) (kept_with b y.0 y.1)) (λ i. ((same i).volumes, same_update m salt a.serial b.serial id put e f l.serial same i)) (kept_with_like m a b e.volumes x l)
+    subst (λ (y : List Extent × Entity). IsLike m (stored_with a e.volumes x) (stored_with b y.0 y.1)) (λ i. ((same i).volumes, same_update m salt a.serial b.serial id put e f l.serial same i)) (kept_with_like m a b e.volumes x l)
 
-delete_like : (m : List ℕ) (a b : Airspace) (uss : List ℕ) (k : EntityKey) (o p : Option Entity) → IsLike m a b → option_map (veiled m) o ≡ option_map (veiled m) p → IsLike m (delete_effect a uss k o).0 (delete_effect b uss k p).0
+delete_like : (m : List ℕ) (a b : Airspace) (uss : List ℕ) (k : EntityKey) (o p : Option Entity) → IsLike m a b → option_map (redacted m) o ≡ option_map (redacted m) p → IsLike m (delete_effect a uss k o).0 (delete_effect b uss k p).0
 delete_like m a b uss k None None l v = l
 delete_like m a b uss k None (Some f) l v = cc
 delete_like m a b uss k (Some e) None l v = cc
 delete_like m a b uss k (Some e) (Some f) l v =
-    let same : veiled m e ≡ veiled m f = cc in
+    let same : redacted m e ≡ redacted m f = cc in
     let left : Airspace → List Extent → Airspace = λ x old. with_notified k.0 (touched old []) (without_entity x k) in
     subst (λ (old : List Extent). IsLike m (left a e.volumes) (left b old)) (ap (λ (x : Entity). x.volumes) same) (notified_like m k.0 (touched e.volumes []) (without_entity a k) (without_entity b k) (without_like m a b k l))
 
@@ -226,7 +226,7 @@ effect_like m salt a b (Some caller) (Query kind area) l = l
 effect_like m salt a b (Some caller) (Read kind id) l = read_like m a b caller.uss (get a.entities (kind, id)) (get b.entities (kind, id)) l
 effect_like m salt a b (Some caller) (Create id put) l =
     let x : ℕ → Entity = λ n. created salt (n + 1) caller.uss id put in
-    subst (λ (n : ℕ). IsLike m (kept_with a [] (x a.serial)) (kept_with b [] (x n))) l.serial (kept_with_like m a b [] (x a.serial) l)
+    subst (λ (n : ℕ). IsLike m (stored_with a [] (x a.serial)) (stored_with b [] (x n))) l.serial (kept_with_like m a b [] (x a.serial) l)
 effect_like m salt a b (Some caller) (Update id ovn put) l = update_like m salt a b caller.uss id put (get a.entities (kind_of put.nature, id)) (get b.entities (kind_of put.nature, id)) l (get_like m a b (kind_of put.nature, id) l)
 effect_like m salt a b (Some caller) (Delete kind id ovn) l = delete_like m a b caller.uss (kind, id) (get a.entities (kind, id)) (get b.entities (kind, id)) l (get_like m a b (kind, id) l)
 effect_like m salt a b (Some caller) (ReadAvail uss) l = l
@@ -239,7 +239,7 @@ effect_like m salt a b (Some caller) (SetAvail uss old availability) l = record 
 effect_like m salt a b (Some caller) (QuerySub area) l = l
 effect_like m salt a b (Some caller) (ReadSub id) l = read_sub_like m a b (get a.subscriptions id) (get b.subscriptions id) l
 effect_like m salt a b (Some caller) (CreateSub id put) l =
-    let x : ℕ → Sub = λ n. sub_kept_as salt (n + 1) caller.uss 0 id put in
+    let x : ℕ → Sub = λ n. sub_stored_as salt (n + 1) caller.uss 0 id put in
     subst (λ (n : ℕ). IsLike m (with_subscription a (x a.serial)) (with_subscription b (x n))) l.serial (with_sub_like m a b (x a.serial) l)
 effect_like m salt a b (Some caller) (UpdateSub id version put) l = update_sub_like m salt a b caller.uss id put (get a.subscriptions id) (get b.subscriptions id) l (get_sub_like m a b id l)
 effect_like m salt a b (Some caller) (DeleteSub id version) l = delete_sub_like m a b id (get a.subscriptions id) (get b.subscriptions id) l (get_sub_like m a b id l)
@@ -250,7 +250,7 @@ shown-veiled : (own : Bool) (ovn : List ℕ) → cond own (Some ovn) None ≡ co
 shown-veiled true ovn = refl
 shown-veiled false ovn = refl
 
-view-veiled : (m : List ℕ) (a : Airspace) (e : Entity) → view_of a m e ≡ view_of a m (veiled m e)
+view-veiled : (m : List ℕ) (a : Airspace) (e : Entity) → view_of a m e ≡ view_of a m (redacted m e)
 unfolding view_of
 view-veiled m a e =
     let seen : Reference = view_with m e (availability_of a e.manager).0 in
@@ -260,20 +260,20 @@ view_in : (m : List ℕ) (a b : Airspace) (e : Entity) → a.availabilities ≡ 
 unfolding view_of
 view_in m a b e l = ap (λ (x : Availabilities). view_with m e (unwrap_or (get x e.manager) (Unknown, [])).0) l
 
-view_like : (m : List ℕ) (a b : Airspace) (e f : Entity) → a.availabilities ≡ b.availabilities → veiled m e ≡ veiled m f → view_of a m e ≡ view_of b m f
+view_like : (m : List ℕ) (a b : Airspace) (e f : Entity) → a.availabilities ≡ b.availabilities → redacted m e ≡ redacted m f → view_of a m e ≡ view_of b m f
 view_like m a b e f l v = view-veiled m a e ∙ (ap (view_of a m) v ∙ (sym (view-veiled m a f) ∙ view_in m a b f l))
 
 -- what is met, behind the veil
-met-veiled : (m : List ℕ) (kind : Kind) (areas : List Region) (except : Option ℕ) (es : List (EntityKey × Entity)) → map (veiled m) (map (λ e. e.1) (filter (is_sought kind areas except) es)) ≡ map (λ e. e.1) (filter (is_sought kind areas except) (map (veiled_entry m) es))
+met-veiled : (m : List ℕ) (kind : Kind) (areas : List Region) (except : Option ℕ) (es : List (EntityKey × Entity)) → map (redacted m) (map (λ e. e.1) (filter (is_sought kind areas except) es)) ≡ map (λ e. e.1) (filter (is_sought kind areas except) (map (redacted_entry m) es))
 met-veiled m kind areas except [] = refl
 met-veiled m kind areas except (x ∷ es) =
     let test : EntityKey × Entity → Bool = is_sought kind areas except in
-    elim (is_sought kind areas except x) as (λ b. map (veiled m) (map (λ e. e.1) (cond b (x ∷ filter test es) (filter test es))) ≡ map (λ e. e.1) (cond b (veiled_entry m x ∷ filter test (map (veiled_entry m) es)) (filter test (map (veiled_entry m) es)))) [
-      | true ↦ ap (λ (ys : List Entity). veiled m x.1 ∷ ys) (met-veiled m kind areas except es)
+    elim (is_sought kind areas except x) as (λ b. map (redacted m) (map (λ e. e.1) (cond b (x ∷ filter test es) (filter test es))) ≡ map (λ e. e.1) (cond b (redacted_entry m x ∷ filter test (map (redacted_entry m) es)) (filter test (map (redacted_entry m) es)))) [
+      | true ↦ ap (λ (ys : List Entity). redacted m x.1 ∷ ys) (met-veiled m kind areas except es)
       | false ↦ met-veiled m kind areas except es
     ]
 
-met_like : (m : List ℕ) (a b : Airspace) (kind : Kind) (areas : List Region) (except : Option ℕ) → IsLike m a b → map (veiled m) (meeting_in a.entities kind areas except) ≡ map (veiled m) (meeting_in b.entities kind areas except)
+met_like : (m : List ℕ) (a b : Airspace) (kind : Kind) (areas : List Region) (except : Option ℕ) → IsLike m a b → map (redacted m) (meeting_in a.entities kind areas except) ≡ map (redacted m) (meeting_in b.entities kind areas except)
 unfolding meeting_in
 met_like m a b kind areas except l =
     met-veiled m kind areas except (entries a.entities)
@@ -281,96 +281,96 @@ met_like m a b kind areas except l =
     ∙ sym (met-veiled m kind areas except (entries b.entities)))
 
 -- what is the same behind the veil is seen the same
-seen_like : (m : List ℕ) (a b : Airspace) (es fs : List Entity) → a.availabilities ≡ b.availabilities → map (veiled m) es ≡ map (veiled m) fs → map (view_of a m) es ≡ map (view_of b m) fs
+seen_like : (m : List ℕ) (a b : Airspace) (es fs : List Entity) → a.availabilities ≡ b.availabilities → map (redacted m) es ≡ map (redacted m) fs → map (view_of a m) es ≡ map (view_of b m) fs
 seen_like m a b [] [] l v = refl
 seen_like m a b [] (f ∷ fs) l v = cc
 seen_like m a b (e ∷ es) [] l v = cc
 seen_like m a b (e ∷ es) (f ∷ fs) l v =
-    let here : veiled m e ≡ veiled m f = cc in
-    let rest : map (veiled m) es ≡ map (veiled m) fs = cc in
+    let here : redacted m e ≡ redacted m f = cc in
+    let rest : map (redacted m) es ≡ map (redacted m) fs = cc in
     λ i. view_like m a b e f l here i ∷ seen_like m a b es fs l rest i
 
 -- ---- what those that are notified are told
 
 -- whom a change notifies, behind the veil
-subscribers-veiled : (m : List ℕ) (kind : Kind) (areas : List Region) (ss : List (ℕ × Sub)) → map (veiled_sub m) (map (λ s. s.1) (filter (is_for_near kind areas) ss)) ≡ map (λ s. s.1) (filter (is_for_near kind areas) (map (veiled_sub_entry m) ss))
+subscribers-veiled : (m : List ℕ) (kind : Kind) (areas : List Region) (ss : List (ℕ × Sub)) → map (redacted_sub m) (map (λ s. s.1) (filter (is_for_near kind areas) ss)) ≡ map (λ s. s.1) (filter (is_for_near kind areas) (map (redacted_sub_entry m) ss))
 subscribers-veiled m kind areas [] = refl
 subscribers-veiled m kind areas (s ∷ ss) =
     let test : ℕ × Sub → Bool = is_for_near kind areas in
-    elim (is_for_near kind areas s) as (λ b. map (veiled_sub m) (map (λ x. x.1) (cond b (s ∷ filter test ss) (filter test ss))) ≡ map (λ x. x.1) (cond b (veiled_sub_entry m s ∷ filter test (map (veiled_sub_entry m) ss)) (filter test (map (veiled_sub_entry m) ss)))) [
-      | true ↦ ap (λ (xs : List Sub). veiled_sub m s.1 ∷ xs) (subscribers-veiled m kind areas ss)
+    elim (is_for_near kind areas s) as (λ b. map (redacted_sub m) (map (λ x. x.1) (cond b (s ∷ filter test ss) (filter test ss))) ≡ map (λ x. x.1) (cond b (redacted_sub_entry m s ∷ filter test (map (redacted_sub_entry m) ss)) (filter test (map (redacted_sub_entry m) ss)))) [
+      | true ↦ ap (λ (xs : List Sub). redacted_sub m s.1 ∷ xs) (subscribers-veiled m kind areas ss)
       | false ↦ subscribers-veiled m kind areas ss
     ]
 
-subscribers_like : (m : List ℕ) (a b : Airspace) (kind : Kind) (areas : List Region) → IsLike m a b → map (veiled_sub m) (subscribers_in a.subscriptions kind areas) ≡ map (veiled_sub m) (subscribers_in b.subscriptions kind areas)
+subscribers_like : (m : List ℕ) (a b : Airspace) (kind : Kind) (areas : List Region) → IsLike m a b → map (redacted_sub m) (subscribers_in a.subscriptions kind areas) ≡ map (redacted_sub m) (subscribers_in b.subscriptions kind areas)
 unfolding subscribers_in
 subscribers_like m a b kind areas l =
     subscribers-veiled m kind areas (entries a.subscriptions)
     ∙ (ap (λ (ss : List (ℕ × Sub)). map (λ s. s.1) (filter (is_for_near kind areas) ss)) l.subscriptions
     ∙ sym (subscribers-veiled m kind areas (entries b.subscriptions)))
 
-told_again-veiled : (m : List ℕ) (ss : List Sub) → map (veiled_sub m) (map told_again ss) ≡ map told_again (map (veiled_sub m) ss)
+told_again-veiled : (m : List ℕ) (ss : List Sub) → map (redacted_sub m) (map notified_again ss) ≡ map notified_again (map (redacted_sub m) ss)
 told_again-veiled m [] = refl
-told_again-veiled m (s ∷ ss) = ap (λ (xs : List Sub). told_again (veiled_sub m s) ∷ xs) (told_again-veiled m ss)
+told_again-veiled m (s ∷ ss) = ap (λ (xs : List Sub). notified_again (redacted_sub m s) ∷ xs) (told_again-veiled m ss)
 
 -- an address, an id and an index stand before the veil
-addresses-veiled : (m : List ℕ) (ss : List Sub) → map {B = List ℕ × Unit {0}} (λ s. (s.url, tt)) ss ≡ map {B = List ℕ × Unit {0}} (λ s. (s.url, tt)) (map (veiled_sub m) ss)
+addresses-veiled : (m : List ℕ) (ss : List Sub) → map {B = List ℕ × Unit {0}} (λ s. (s.url, tt)) ss ≡ map {B = List ℕ × Unit {0}} (λ s. (s.url, tt)) (map (redacted_sub m) ss)
 addresses-veiled m [] = refl
 addresses-veiled m (s ∷ ss) = ap (λ (xs : List (List ℕ × Unit {0})). (s.url, tt) ∷ xs) (addresses-veiled m ss)
 
-urls-veiled : (m : List ℕ) (ss : List Sub) → urls_of ss ≡ urls_of (map (veiled_sub m) ss)
+urls-veiled : (m : List ℕ) (ss : List Sub) → urls_of ss ≡ urls_of (map (redacted_sub m) ss)
 unfolding urls_of
 urls-veiled m ss = ap (λ (xs : List (List ℕ × Unit {0})). map (λ e. e.0) (entries (from_entries {X = Unit {0}} {R = text_cmp} xs))) (addresses-veiled m ss)
 
-states-veiled : (m url : List ℕ) (ss : List Sub) → states_at ss url ≡ states_at (map (veiled_sub m) ss) url
+states-veiled : (m url : List ℕ) (ss : List Sub) → states_at ss url ≡ states_at (map (redacted_sub m) ss) url
 states-veiled m url [] = refl
 states-veiled m url (s ∷ ss) =
     let test : Sub → Bool = λ x. same_text x.url url in
-    elim (same_text s.url url) as (λ b. map {B = ℕ × ℕ} (λ x. (x.id, x.index)) (cond b (s ∷ filter test ss) (filter test ss)) ≡ map {B = ℕ × ℕ} (λ x. (x.id, x.index)) (cond b (veiled_sub m s ∷ filter test (map (veiled_sub m) ss)) (filter test (map (veiled_sub m) ss)))) [
+    elim (same_text s.url url) as (λ b. map {B = ℕ × ℕ} (λ x. (x.id, x.index)) (cond b (s ∷ filter test ss) (filter test ss)) ≡ map {B = ℕ × ℕ} (λ x. (x.id, x.index)) (cond b (redacted_sub m s ∷ filter test (map (redacted_sub m) ss)) (filter test (map (redacted_sub m) ss)))) [
       | true ↦ ap (λ (xs : List (ℕ × ℕ)). (s.id, s.index) ∷ xs) (states-veiled m url ss)
       | false ↦ states-veiled m url ss
     ]
 
-notices-veiled : (m : List ℕ) (ss : List Sub) → notices_of ss ≡ notices_of (map (veiled_sub m) ss)
+notices-veiled : (m : List ℕ) (ss : List Sub) → notices_of ss ≡ notices_of (map (redacted_sub m) ss)
 notices-veiled m ss = λ i. map (λ url. record { url = url; states = states-veiled m url ss i }) (urls-veiled m ss i)
 
 notices_like : (m : List ℕ) (a b : Airspace) (kind : Kind) (areas : List Region) → IsLike m a b → notices_in a kind areas ≡ notices_in b kind areas
 notices_like m a b kind areas l =
-    let behind : (x : Airspace) → notices_in x kind areas ≡ notices_of (map told_again (map (veiled_sub m) (subscribers_in x.subscriptions kind areas))) =
+    let behind : (x : Airspace) → notices_in x kind areas ≡ notices_of (map notified_again (map (redacted_sub m) (subscribers_in x.subscriptions kind areas))) =
     λ x. notices-veiled m (notified_in x kind areas) ∙ ap notices_of (told_again-veiled m (subscribers_in x.subscriptions kind areas)) in
-    behind a ∙ (ap (λ (ss : List Sub). notices_of (map told_again ss)) (subscribers_like m a b kind areas l) ∙ sym (behind b))
+    behind a ∙ (ap (λ (ss : List Sub). notices_of (map notified_again ss)) (subscribers_like m a b kind areas l) ∙ sym (behind b))
 
 -- ---- what the supplier is told of an effect
 
-read_told : (m : List ℕ) (a b : Airspace) (o p : Option Entity) → IsLike m a b → option_map (veiled m) o ≡ option_map (veiled m) p → (read_effect a m o).1 ≡ (read_effect b m p).1
+read_told : (m : List ℕ) (a b : Airspace) (o p : Option Entity) → IsLike m a b → option_map (redacted m) o ≡ option_map (redacted m) p → (read_effect a m o).1 ≡ (read_effect b m p).1
 read_told m a b None None l v = refl
 read_told m a b None (Some f) l v = cc
 read_told m a b (Some e) None l v = cc
 read_told m a b (Some e) (Some f) l v =
-    let same : veiled m e ≡ veiled m f = cc in
+    let same : redacted m e ≡ redacted m f = cc in
     ap (λ (r : Reference). Done (answers.Found r)) (view_like m a b e f l.availabilities same)
 
-delete_told : (m : List ℕ) (a b : Airspace) (k : EntityKey) (o p : Option Entity) → IsLike m a b → option_map (veiled m) o ≡ option_map (veiled m) p → (delete_effect a m k o).1 ≡ (delete_effect b m k p).1
+delete_told : (m : List ℕ) (a b : Airspace) (k : EntityKey) (o p : Option Entity) → IsLike m a b → option_map (redacted m) o ≡ option_map (redacted m) p → (delete_effect a m k o).1 ≡ (delete_effect b m k p).1
 delete_told m a b k None None l v = refl
 delete_told m a b k None (Some f) l v = cc
 delete_told m a b k (Some e) None l v = cc
 delete_told m a b k (Some e) (Some f) l v =
-    let same : veiled m e ≡ veiled m f = cc in
+    let same : redacted m e ≡ redacted m f = cc in
     let told : notices_in a k.0 (touched e.volumes []) ≡ notices_in b k.0 (touched f.volumes []) =
     notices_like m a b k.0 (touched e.volumes []) l ∙ ap (λ (x : Entity). notices_in b k.0 (touched x.volumes [])) same in
     λ i. Done (Changed (view_like m a b e f l.availabilities same i) (told i))
 
-update_told : (m salt : List ℕ) (a b : Airspace) (id : ℕ) (put : Put) (o p : Option Entity) → IsLike m a b → option_map (veiled m) o ≡ option_map (veiled m) p → (update_effect salt a m id put o).1 ≡ (update_effect salt b m id put p).1
+update_told : (m salt : List ℕ) (a b : Airspace) (id : ℕ) (put : Put) (o p : Option Entity) → IsLike m a b → option_map (redacted m) o ≡ option_map (redacted m) p → (update_effect salt a m id put o).1 ≡ (update_effect salt b m id put p).1
 update_told m salt a b id put None None l v = refl
 update_told m salt a b id put None (Some f) l v = cc
 update_told m salt a b id put (Some e) None l v = cc
 update_told m salt a b id put (Some e) (Some f) l v =
-    let same : veiled m e ≡ veiled m f = cc in
+    let same : redacted m e ≡ redacted m f = cc in
     let x : Entity = updated salt (a.serial + 1) id put e in
     let y : Entity = updated salt (b.serial + 1) id put f in
     let kind : Kind = kind_of put.nature in
-    let seen : view_of (kept_with a e.volumes x) m x ≡ view_of (kept_with b f.volumes y) m y =
-    view_like m (kept_with a e.volumes x) (kept_with b f.volumes y) x y l.availabilities (ap (veiled m) (same_update m salt a.serial b.serial id put e f l.serial same)) in
+    let seen : view_of (stored_with a e.volumes x) m x ≡ view_of (stored_with b f.volumes y) m y =
+    view_like m (stored_with a e.volumes x) (stored_with b f.volumes y) x y l.availabilities (ap (redacted m) (same_update m salt a.serial b.serial id put e f l.serial same)) in
     let told : notices_in a kind (touched e.volumes put.volumes) ≡ notices_in b kind (touched f.volumes put.volumes) =
     notices_like m a b kind (touched e.volumes put.volumes) l ∙ ap (λ (z : Entity). notices_in b kind (touched z.volumes put.volumes)) same in
     λ i. Done (Changed (seen i) (told i))
@@ -378,7 +378,7 @@ update_told m salt a b id put (Some e) (Some f) l v =
 -- ---- what it is told of its subscriptions
 
 -- what a supplier manages stands before the veil
-unveiled : (m : List ℕ) (s : Sub) → same_text s.manager m ≡ true → veiled_sub m s ≡ s
+unveiled : (m : List ℕ) (s : Sub) → same_text s.manager m ≡ true → redacted_sub m s ≡ s
 unveiled m s h = ap (λ (b : Bool). record s { version = cond b s.version [] }) h
 
 seen_sub_like : (m : List ℕ) (a b : Airspace) (s : Sub) → IsLike m a b → seen_sub a s ≡ seen_sub b s
@@ -388,11 +388,11 @@ seen_subs_like : (m : List ℕ) (a b : Airspace) (ss : List Sub) → IsLike m a 
 seen_subs_like m a b [] l = refl
 seen_subs_like m a b (s ∷ ss) l = λ i. seen_sub_like m a b s l i ∷ seen_subs_like m a b ss l i
 
-own-veiled : (m : List ℕ) (area : Region) (ss : List (ℕ × Sub)) → map (λ s. s.1) (filter (is_own_near m area) ss) ≡ map (λ s. s.1) (filter (is_own_near m area) (map (veiled_sub_entry m) ss))
+own-veiled : (m : List ℕ) (area : Region) (ss : List (ℕ × Sub)) → map (λ s. s.1) (filter (is_own_near m area) ss) ≡ map (λ s. s.1) (filter (is_own_near m area) (map (redacted_sub_entry m) ss))
 own-veiled m area [] = refl
 own-veiled m area (s ∷ ss) =
     let rest : List (ℕ × Sub) = filter (is_own_near m area) ss in
-    let others : List (ℕ × Sub) = filter (is_own_near m area) (map (veiled_sub_entry m) ss) in
+    let others : List (ℕ × Sub) = filter (is_own_near m area) (map (redacted_sub_entry m) ss) in
     let ih = own-veiled m area ss in
     elim (same_text s.1.manager m) as (λ b. map (λ x. x.1) (cond (b && meets (region_of s.1.volume) area) (s ∷ rest) rest)
     ≡ map (λ x. x.1) (cond (b && meets (region_of s.1.volume) area) ((s.0, record s.1 { version = cond b s.1.version [] }) ∷ others) others)) [
@@ -415,28 +415,28 @@ own_is true h = refl
 own_is false h = cc
 
 -- of two that differ behind the veil alone, the supplier's own is the other
-same_own : (m : List ℕ) (s r : Sub) → veiled_sub m s ≡ veiled_sub m r → same_text r.manager m ≡ true → s ≡ r
+same_own : (m : List ℕ) (s r : Sub) → redacted_sub m s ≡ redacted_sub m r → same_text r.manager m ≡ true → s ≡ r
 same_own m s r v h =
     let here : same_text s.manager m ≡ true = ap (λ (x : Sub). same_text x.manager m) v ∙ h in
     sym (unveiled m s here) ∙ (v ∙ unveiled m r h)
 
-seen_own : (m : List ℕ) (a b : Airspace) (s r : Sub) → IsLike m a b → veiled_sub m s ≡ veiled_sub m r → same_text r.manager m ≡ true → Done (answers.SubFound (seen_sub a s)) ≡ Done (answers.SubFound (seen_sub b r))
+seen_own : (m : List ℕ) (a b : Airspace) (s r : Sub) → IsLike m a b → redacted_sub m s ≡ redacted_sub m r → same_text r.manager m ≡ true → Done (answers.SubFound (seen_sub a s)) ≡ Done (answers.SubFound (seen_sub b r))
 seen_own m a b s r l v h = ap (λ (x : SubView). Done (answers.SubFound x)) (seen_sub_like m a b s l ∙ ap (seen_sub b) (same_own m s r v h))
 
-read_sub_told : (caller : Caller) (a b : Airspace) (o p : Option Sub) → IsLike caller.uss a b → option_map (veiled_sub caller.uss) o ≡ option_map (veiled_sub caller.uss) p → is_sub_of_another (Some caller) p ≡ false → (read_sub_effect a o).1 ≡ (read_sub_effect b p).1
+read_sub_told : (caller : Caller) (a b : Airspace) (o p : Option Sub) → IsLike caller.uss a b → option_map (redacted_sub caller.uss) o ≡ option_map (redacted_sub caller.uss) p → is_sub_of_another (Some caller) p ≡ false → (read_sub_effect a o).1 ≡ (read_sub_effect b p).1
 read_sub_told caller a b None None l v own = refl
 read_sub_told caller a b None (Some r) l v own = cc
 read_sub_told caller a b (Some s) None l v own = cc
 read_sub_told caller a b (Some s) (Some r) l v own =
-    let same : veiled_sub caller.uss s ≡ veiled_sub caller.uss r = cc in
+    let same : redacted_sub caller.uss s ≡ redacted_sub caller.uss r = cc in
     seen_own caller.uss a b s r l same (own_is (same_text r.manager caller.uss) own)
 
-delete_sub_told : (caller : Caller) (a b : Airspace) (id : ℕ) (o p : Option Sub) → IsLike caller.uss a b → option_map (veiled_sub caller.uss) o ≡ option_map (veiled_sub caller.uss) p → is_sub_of_another (Some caller) p ≡ false → (delete_sub_effect a id o).1 ≡ (delete_sub_effect b id p).1
+delete_sub_told : (caller : Caller) (a b : Airspace) (id : ℕ) (o p : Option Sub) → IsLike caller.uss a b → option_map (redacted_sub caller.uss) o ≡ option_map (redacted_sub caller.uss) p → is_sub_of_another (Some caller) p ≡ false → (delete_sub_effect a id o).1 ≡ (delete_sub_effect b id p).1
 delete_sub_told caller a b id None None l v own = refl
 delete_sub_told caller a b id None (Some r) l v own = cc
 delete_sub_told caller a b id (Some s) None l v own = cc
 delete_sub_told caller a b id (Some s) (Some r) l v own =
-    let same : veiled_sub caller.uss s ≡ veiled_sub caller.uss r = cc in
+    let same : redacted_sub caller.uss s ≡ redacted_sub caller.uss r = cc in
     seen_own caller.uss a b s r l same (own_is (same_text r.manager caller.uss) own)
 
 seen_of_like : (kind : Kind) (m : List ℕ) (a b : Airspace) (s : Sub) → IsLike m a b → seen_of kind a m s ≡ seen_of kind b m s
@@ -453,13 +453,13 @@ put_sub_told m a b s r l e =
     stored_like m (with_subscription a s) (with_subscription b s) s (with_sub_like m a b s l)
     ∙ ap (λ (x : Sub). (put_sub_effect b m x).1) e
 
-update_sub_told : (m salt : List ℕ) (a b : Airspace) (id : ℕ) (put : SubPut) (o p : Option Sub) → IsLike m a b → option_map (veiled_sub m) o ≡ option_map (veiled_sub m) p → (update_sub_effect salt a m id put o).1 ≡ (update_sub_effect salt b m id put p).1
+update_sub_told : (m salt : List ℕ) (a b : Airspace) (id : ℕ) (put : SubPut) (o p : Option Sub) → IsLike m a b → option_map (redacted_sub m) o ≡ option_map (redacted_sub m) p → (update_sub_effect salt a m id put o).1 ≡ (update_sub_effect salt b m id put p).1
 update_sub_told m salt a b id put None None l v = refl
 update_sub_told m salt a b id put None (Some r) l v = cc
 update_sub_told m salt a b id put (Some s) None l v = cc
 update_sub_told m salt a b id put (Some s) (Some r) l v =
-    let same : veiled_sub m s ≡ veiled_sub m r = cc in
-    put_sub_told m a b (sub_kept_as salt (a.serial + 1) s.manager s.index id put) (sub_kept_as salt (b.serial + 1) r.manager r.index id put) l (same_sub_update m salt a.serial b.serial id put s r l.serial same)
+    let same : redacted_sub m s ≡ redacted_sub m r = cc in
+    put_sub_told m a b (sub_stored_as salt (a.serial + 1) s.manager s.index id put) (sub_stored_as salt (b.serial + 1) r.manager r.index id put) l (same_sub_update m salt a.serial b.serial id put s r l.serial same)
 
 -- ---- what it is told of any effect
 
@@ -473,8 +473,8 @@ effect_told salt a b caller (Query kind area) l own =
 effect_told salt a b caller (Read kind id) l own = read_told caller.uss a b (get a.entities (kind, id)) (get b.entities (kind, id)) l (get_like caller.uss a b (kind, id) l)
 effect_told salt a b caller (Create id put) l own =
     let x : ℕ → Entity = λ n. created salt (n + 1) caller.uss id put in
-    let seen : view_of (kept_with a [] (x a.serial)) caller.uss (x a.serial) ≡ view_of (kept_with b [] (x b.serial)) caller.uss (x b.serial) =
-    view_like caller.uss (kept_with a [] (x a.serial)) (kept_with b [] (x b.serial)) (x a.serial) (x b.serial) l.availabilities (ap (λ (n : ℕ). veiled caller.uss (x n)) l.serial) in
+    let seen : view_of (stored_with a [] (x a.serial)) caller.uss (x a.serial) ≡ view_of (stored_with b [] (x b.serial)) caller.uss (x b.serial) =
+    view_like caller.uss (stored_with a [] (x a.serial)) (stored_with b [] (x b.serial)) (x a.serial) (x b.serial) l.availabilities (ap (λ (n : ℕ). redacted caller.uss (x n)) l.serial) in
     λ i. Done (Created (seen i) (notices_like caller.uss a b (kind_of put.nature) (touched [] put.volumes) l i))
 effect_told salt a b caller (Update id ovn put) l own = update_told caller.uss salt a b id put (get a.entities (kind_of put.nature, id)) (get b.entities (kind_of put.nature, id)) l (get_like caller.uss a b (kind_of put.nature, id) l)
 effect_told salt a b caller (Delete kind id ovn) l own = delete_told caller.uss a b (kind, id) (get a.entities (kind, id)) (get b.entities (kind, id)) l (get_like caller.uss a b (kind, id) l)
@@ -484,7 +484,7 @@ effect_told salt a b caller (QuerySub area) l own =
     ap (λ (vs : List SubView). Done (answers.SubListed vs)) (seen_subs_like caller.uss a b (subscriptions_in a.subscriptions caller.uss area) l ∙ ap (map (seen_sub b)) (own_like caller.uss a b area l))
 effect_told salt a b caller (ReadSub id) l own = read_sub_told caller a b (get a.subscriptions id) (get b.subscriptions id) l (get_sub_like caller.uss a b id l) own
 effect_told salt a b caller (CreateSub id put) l own =
-    let x : ℕ → Sub = λ n. sub_kept_as salt (n + 1) caller.uss 0 id put in
+    let x : ℕ → Sub = λ n. sub_stored_as salt (n + 1) caller.uss 0 id put in
     put_sub_told caller.uss a b (x a.serial) (x b.serial) l (ap x l.serial)
 effect_told salt a b caller (UpdateSub id version put) l own = update_sub_told caller.uss salt a b id put (get a.subscriptions id) (get b.subscriptions id) l (get_sub_like caller.uss a b id l)
 effect_told salt a b caller (DeleteSub id version) l own = delete_sub_told caller a b id (get a.subscriptions id) (get b.subscriptions id) l (get_sub_like caller.uss a b id l) own
@@ -508,42 +508,42 @@ abbrev met_and_owed : Availabilities → Kind → List Region → Option ℕ →
 met_and_owed set kind areas except e = is_sought kind areas except e && not (spared e.1 (unwrap_or (get set e.1.manager) (Unknown, [])).0)
 
 missing-veiled : (m : List ℕ) (set : Availabilities) (kind : Kind) (areas : List Region) (except : Option ℕ) (key : List (List ℕ)) (es : List (EntityKey × Entity))
-    → map (veiled m) (filter (is_missing_from key) (map (λ e. e.1) (filter (met_and_owed set kind areas except) es)))
-    ≡ missing_known m (met_and_owed set kind areas except) key (map (veiled_entry m) es) (map (λ e. same_text e.1.manager m || in_key key e.1.ovn) es)
+    → map (redacted m) (filter (is_missing_from key) (map (λ e. e.1) (filter (met_and_owed set kind areas except) es)))
+    ≡ missing_known m (met_and_owed set kind areas except) key (map (redacted_entry m) es) (map (λ e. same_text e.1.manager m || in_key key e.1.ovn) es)
 missing-veiled m set kind areas except key [] = refl
 missing-veiled m set kind areas except key (x ∷ es) =
     let test : EntityKey × Entity → Bool = met_and_owed set kind areas except in
-    let rest : List Entity = missing_known m test key (map (veiled_entry m) es) (map (λ e. same_text e.1.manager m || in_key key e.1.ovn) es) in
+    let rest : List Entity = missing_known m test key (map (redacted_entry m) es) (map (λ e. same_text e.1.manager m || in_key key e.1.ovn) es) in
     let ih = missing-veiled m set kind areas except key es in
-    elim (met_and_owed set kind areas except x) as (λ b. map (veiled m) (filter (is_missing_from key) (map (λ e. e.1) (cond b (x ∷ filter test es) (filter test es))))
-    ≡ cond b (cond (not (cond (same_text x.1.manager m) (in_key key (cond (same_text x.1.manager m) x.1.ovn [])) (same_text x.1.manager m || in_key key x.1.ovn))) (veiled m x.1 ∷ rest) rest) rest) [
-      | true ↦ subst (λ (k : Bool). map (veiled m) (cond (not (in_key key x.1.ovn)) (x.1 ∷ filter (is_missing_from key) (map (λ e. e.1) (filter test es))) (filter (is_missing_from key) (map (λ e. e.1) (filter test es)))) ≡ cond (not k) (veiled m x.1 ∷ rest) rest) (seen_known (same_text x.1.manager m) key x.1.ovn) (
-          elim (in_key key x.1.ovn) as (λ k. map (veiled m) (cond (not k) (x.1 ∷ filter (is_missing_from key) (map (λ e. e.1) (filter test es))) (filter (is_missing_from key) (map (λ e. e.1) (filter test es)))) ≡ cond (not k) (veiled m x.1 ∷ rest) rest) [
+    elim (met_and_owed set kind areas except x) as (λ b. map (redacted m) (filter (is_missing_from key) (map (λ e. e.1) (cond b (x ∷ filter test es) (filter test es))))
+    ≡ cond b (cond (not (cond (same_text x.1.manager m) (in_key key (cond (same_text x.1.manager m) x.1.ovn [])) (same_text x.1.manager m || in_key key x.1.ovn))) (redacted m x.1 ∷ rest) rest) rest) [
+      | true ↦ subst (λ (k : Bool). map (redacted m) (cond (not (in_key key x.1.ovn)) (x.1 ∷ filter (is_missing_from key) (map (λ e. e.1) (filter test es))) (filter (is_missing_from key) (map (λ e. e.1) (filter test es)))) ≡ cond (not k) (redacted m x.1 ∷ rest) rest) (seen_known (same_text x.1.manager m) key x.1.ovn) (
+          elim (in_key key x.1.ovn) as (λ k. map (redacted m) (cond (not k) (x.1 ∷ filter (is_missing_from key) (map (λ e. e.1) (filter test es))) (filter (is_missing_from key) (map (λ e. e.1) (filter test es)))) ≡ cond (not k) (redacted m x.1 ∷ rest) rest) [
             | true ↦ ih
-            | false ↦ ap (λ (ys : List Entity). veiled m x.1 ∷ ys) ih
+            | false ↦ ap (λ (ys : List Entity). redacted m x.1 ∷ ys) ih
           ])
       | false ↦ ih
     ]
 
 met_missing_like : (m : List ℕ) (a b : Airspace) (kind : Kind) (areas : List Region) (except : Option ℕ) (key : List (List ℕ)) → IsLike m a b
     → map (λ e. same_text e.1.manager m || in_key key e.1.ovn) (entries a.entities) ≡ map (λ e. same_text e.1.manager m || in_key key e.1.ovn) (entries b.entities)
-    → map (veiled m) (missing_from key (unspared a (meeting_in a.entities kind areas except))) ≡ map (veiled m) (missing_from key (unspared b (meeting_in b.entities kind areas except)))
+    → map (redacted m) (missing_from key (unspared a (meeting_in a.entities kind areas except))) ≡ map (redacted m) (missing_from key (unspared b (meeting_in b.entities kind areas except)))
 unfolding missing_from meeting_in
 met_missing_like m a b kind areas except key l k =
-    let side : (x : Airspace) → map (veiled m) (filter (is_missing_from key) (unspared x (map (λ e. e.1) (filter (is_sought kind areas except) (entries x.entities)))))
-    ≡ missing_known m (met_and_owed x.availabilities kind areas except) key (map (veiled_entry m) (entries x.entities)) (map (λ e. same_text e.1.manager m || in_key key e.1.ovn) (entries x.entities)) =
-    λ x. ap (λ (es : List Entity). map (veiled m) (filter (is_missing_from key) es)) (both_at_once (λ (e : EntityKey × Entity). e.1) (λ e. not (is_spared x e)) (is_sought kind areas except) (entries x.entities))
+    let side : (x : Airspace) → map (redacted m) (filter (is_missing_from key) (unspared x (map (λ e. e.1) (filter (is_sought kind areas except) (entries x.entities)))))
+    ≡ missing_known m (met_and_owed x.availabilities kind areas except) key (map (redacted_entry m) (entries x.entities)) (map (λ e. same_text e.1.manager m || in_key key e.1.ovn) (entries x.entities)) =
+    λ x. ap (λ (es : List Entity). map (redacted m) (filter (is_missing_from key) es)) (both_at_once (λ (e : EntityKey × Entity). e.1) (λ e. not (is_spared x e)) (is_sought kind areas except) (entries x.entities))
     ∙ missing-veiled m x.availabilities kind areas except key (entries x.entities) in
     side a ∙ ((λ i. missing_known m (met_and_owed (l.availabilities i) kind areas except) key (l.entities i) (k i)) ∙ sym (side b))
 
 -- of what is asked for, or else of nothing
-asked_like : (m : List ℕ) (asked : Bool) (key : List (List ℕ)) (es fs : List Entity) → map (veiled m) (missing_from key es) ≡ map (veiled m) (missing_from key fs)
-    → map (veiled m) (missing_from key (cond asked es [])) ≡ map (veiled m) (missing_from key (cond asked fs []))
+asked_like : (m : List ℕ) (asked : Bool) (key : List (List ℕ)) (es fs : List Entity) → map (redacted m) (missing_from key es) ≡ map (redacted m) (missing_from key fs)
+    → map (redacted m) (missing_from key (cond asked es [])) ≡ map (redacted m) (missing_from key (cond asked fs []))
 asked_like m true key es fs h = h
 asked_like m false key es fs h = refl
 
 -- what a subscription is for is seen before the veil
-needs_kind-veiled : (m : List ℕ) (kind : Kind) (caller : Option Caller) (named : Option ℕ) (o : Option Sub) → needs_kind kind caller named o ≡ needs_kind kind caller named (option_map (veiled_sub m) o)
+needs_kind-veiled : (m : List ℕ) (kind : Kind) (caller : Option Caller) (named : Option ℕ) (o : Option Sub) → needs_kind kind caller named o ≡ needs_kind kind caller named (option_map (redacted_sub m) o)
 needs_kind-veiled m kinds.Intent caller named o = refl
 needs_kind-veiled m kinds.Constraint caller None o = refl
 needs_kind-veiled m kinds.Constraint caller (Some id) None = refl
@@ -557,12 +557,12 @@ asks_like m kind a b caller put l =
 
 needed_like : (m : List ℕ) (kind : Kind) (a b : Airspace) (caller : Option Caller) (id : ℕ) (put : Put) → IsLike m a b
     → map (λ e. same_text e.1.manager m || in_key put.key e.1.ovn) (entries a.entities) ≡ map (λ e. same_text e.1.manager m || in_key put.key e.1.ovn) (entries b.entities)
-    → map (veiled m) (missing_from put.key (needed_put kind a caller id put)) ≡ map (veiled m) (missing_from put.key (needed_put kind b caller id put))
+    → map (redacted m) (missing_from put.key (needed_put kind a caller id put)) ≡ map (redacted m) (missing_from put.key (needed_put kind b caller id put))
 needed_like m kind a b caller id put l k =
     let areas : List Region = map region_of put.volumes in
     let of : Airspace → List Entity = λ x. unspared x (meeting_in x.entities kind areas (excepted kind id)) in
     asked_like m (put_needs kind caller put (sub_under a (subscription_of put.nature))) put.key (of a) (of b) (met_missing_like m a b kind areas (excepted kind id) put.key l k)
-    ∙ ap (λ (asked : Bool). map (veiled m) (missing_from put.key (cond asked (of b) []))) (asks_like m kind a b caller put l)
+    ∙ ap (λ (asked : Bool). map (redacted m) (missing_from put.key (cond asked (of b) []))) (asks_like m kind a b caller put l)
 
 missing_put_like : (a b : Airspace) (caller : Caller) (id : ℕ) (put : Put) → IsLike caller.uss a b
     → map (λ e. same_text e.1.manager caller.uss || in_key put.key e.1.ovn) (entries a.entities) ≡ map (λ e. same_text e.1.manager caller.uss || in_key put.key e.1.ovn) (entries b.entities)
@@ -593,7 +593,7 @@ missing_like a b caller (UpdateSub id version put) l k = refl
 missing_like a b caller (DeleteSub id version) l k = refl
 
 -- of another's call, something is missing in both or in neither
-none_like : (m : List ℕ) (v w : Entity → Reference) (es fs : List Entity) → map (veiled m) es ≡ map (veiled m) fs → is_none_of (map v es) ≡ is_none_of (map w fs)
+none_like : (m : List ℕ) (v w : Entity → Reference) (es fs : List Entity) → map (redacted m) es ≡ map (redacted m) fs → is_none_of (map v es) ≡ is_none_of (map w fs)
 none_like m v w [] [] h = refl
 none_like m v w [] (f ∷ fs) h = cc
 none_like m v w (e ∷ es) [] h = cc
@@ -628,7 +628,7 @@ nothing_like m a b caller (DeleteSub id version) l k = refl
 
 -- ---- P14 and P15
 
-limit-veiled : (m : List ℕ) (o : Option Entity) (n : ℕ) (op : Operation) → breaks_limit op o n ≡ breaks_limit op (option_map (veiled m) o) n
+limit-veiled : (m : List ℕ) (o : Option Entity) (n : ℕ) (op : Operation) → breaks_limit op o n ≡ breaks_limit op (option_map (redacted m) o) n
 limit-veiled m None n op = refl
 limit-veiled m (Some e) n NoRoute = refl
 limit-veiled m (Some e) n NoMethod = refl
@@ -668,7 +668,7 @@ own_first m a b t caller op l is k =
     ∙ ((λ i. or_else (rules_like m a b t (Some caller) op l is i) (last_like m a b t caller op l k i))
     ∙ sym (find-append (breaks b t c) (early_rules ++ standing_rules) last_rules))
 
-told_like : (a b : Airspace) (caller : Caller) (op : Operation) (p : Rule) → missing_for a (Some caller) op ≡ missing_for b (Some caller) op → told_missing a (record { caller = Some caller; op = op }) p ≡ told_missing b (record { caller = Some caller; op = op }) p
+told_like : (a b : Airspace) (caller : Caller) (op : Operation) (p : Rule) → missing_for a (Some caller) op ≡ missing_for b (Some caller) op → missing_views a (record { caller = Some caller; op = op }) p ≡ missing_views b (record { caller = Some caller; op = op }) p
 told_like a b caller op Route h = refl
 told_like a b caller op Method h = refl
 told_like a b caller op Token h = refl

@@ -7,7 +7,7 @@ use Rattle.std.specs.Ordering.{eq_by_cmp}
 use Rattle.std.specs.List.{AllByRecursion}
 use Rattle.std.specs.FinMap.{get, entries, empty, get-entries, get-empty, len-entries, len-empty, entries-insert}
 use Rattle.grid_core.specs.Extent.{region_of, any_meet}
-use Rattle.entity_core.specs.Airspace.{Airspace, IsAirspace, EntityKey, key_cmp, key_of, with_availability, with_entity, with_subscription, with_told, without_entity, without_subscription, empty_at, Stated}
+use Rattle.entity_core.specs.Airspace.{Airspace, IsAirspace, EntityKey, key_cmp, key_of, with_availability, with_entity, with_subscription, with_notified_subs, without_entity, without_subscription, empty_at, VersionedAvailability}
 use Rattle.entity_core.specs.Entity.{kind_of}
 use Rattle.entity_core.specs.Search.{is_for_near}
 use Rattle.entity_core.specs.Ovn.{ovn_text}
@@ -31,12 +31,12 @@ use Rattle.space_core.specs.Space.{IsContent}
 use Rattle.service_step.specs.declared.reply.Reply.{Reply}
 use Rattle.service_step.specs.declared.reply.Reply.TheVariants.{Done, Denied, Fault, Stopped}
 use Rattle.service_calls.specs.Aware.{MadeCall, is_done, is_owed, left_by, put_in, last_writer, later_or, Knew, KnewOthers, SerialsDiffer, Aware}
-use Rattle.service_notices.specs.Notices.{touched}
-use Rattle.service_calls.specs.Run.{Answered, MayHaveStepped, Timed, Runs, replies_of, airspace_after, answered_calls, told_replies, has_stopped}
+use Rattle.service_notify.specs.Notices.{touched}
+use Rattle.service_calls.specs.Run.{Answered, MayHaveStepped, TimedCall, Runs, replies_of, airspace_after, answered_calls, delivered_replies, has_stopped}
 use Rattle.service_calls.specs.Held.{is_shut, salt_of, space_of}
 use Rattle.service_calls.specs.Stale.{IsNumbered, AllNumbered}
 use Rattle.service_calls.specs.declared.service.Service.{Service}
-use Rattle.service_step.specs.Step.{step, step_by, effect, created, updated, update_effect, delete_effect, read_effect, sub_kept_as, read_sub_effect, update_sub_effect, delete_sub_effect}
+use Rattle.service_step.specs.Step.{step, step_by, effect, created, updated, update_effect, delete_effect, read_effect, sub_stored_as, read_sub_effect, update_sub_effect, delete_sub_effect}
 use Rattle.entity_core.proofs.Changes.{got, stayed, proper_with, proper_with_told, proper_without, proper_without_told, proper_stated, proper_sub, proper_without_sub, proper_empty}
 use Rattle.service_step.proofs.Keeps.{told_within}
 use Rattle.service_calls.proofs.Kept.{all_found, all_put, all_where, all_turned}
@@ -120,7 +120,7 @@ kept_without salt last a k s = record {
 }
 
 -- with an availability
-kept_stated : (salt : List ℕ) (last : EntityKey → Option MadeCall) (a : Airspace) (uss : List ℕ) (stated : Stated) → Kept salt last a → Kept salt last (with_availability a uss stated)
+kept_stated : (salt : List ℕ) (last : EntityKey → Option MadeCall) (a : Airspace) (uss : List ℕ) (stated : VersionedAvailability) → Kept salt last a → Kept salt last (with_availability a uss stated)
 kept_stated salt last a uss stated s = record {
   proper = proper_stated a uss stated s.proper;
   numbered = all_turned (IsNumbered salt a.serial) (IsNumbered salt (a.serial + 1)) (raised salt a.serial) (entries a.entities) s.numbered;
@@ -146,7 +146,7 @@ kept_without_sub salt last a id s = record {
 }
 
 -- while some are told: the entities and the serial stay
-kept_telling : (salt : List ℕ) (last : EntityKey → Option MadeCall) (a : Airspace) (test : ℕ × Sub → Bool) → IsAirspace (with_told a test) → Kept salt last a → Kept salt last (with_told a test)
+kept_telling : (salt : List ℕ) (last : EntityKey → Option MadeCall) (a : Airspace) (test : ℕ × Sub → Bool) → IsAirspace (with_notified_subs a test) → Kept salt last a → Kept salt last (with_notified_subs a test)
 kept_telling salt last a test proper s = record { proper = proper; numbered = s.numbered; serials = s.serials; knew = s.knew }
 
 -- ---- after a call
@@ -210,7 +210,7 @@ kept_read_sub salt last a caller id (Some x) s = s
 kept_update_sub : (salt : List ℕ) (last : EntityKey → Option MadeCall) (a : Airspace) (caller : Caller) (id : ℕ) (version : List ℕ) (put : SubPut) (o : Option Sub) → get a.subscriptions id ≡ o → Kept salt last a
     → Kept salt (last_with last a (record { caller = Some caller; op = UpdateSub id version put }) (update_sub_effect salt a caller.uss id put o).1) (update_sub_effect salt a caller.uss id put o).0
 kept_update_sub salt last a caller id version put None there s = s
-kept_update_sub salt last a caller id version put (Some x) there s = kept_sub salt last a (sub_kept_as salt (a.serial + 1) x.manager x.index id put) (told_within a id x s.proper there) s
+kept_update_sub salt last a caller id version put (Some x) there s = kept_sub salt last a (sub_stored_as salt (a.serial + 1) x.manager x.index id put) (told_within a id x s.proper there) s
 
 kept_delete_sub : (salt : List ℕ) (last : EntityKey → Option MadeCall) (a : Airspace) (caller : Caller) (id : ℕ) (version : List ℕ) (o : Option Sub) → Kept salt last a
     → Kept salt (last_with last a (record { caller = Some caller; op = DeleteSub id version }) (delete_sub_effect a id o).1) (delete_sub_effect a id o).0
@@ -233,7 +233,7 @@ kept_effect salt last a (Some caller) (ReadAvail uss) s knows = s
 kept_effect salt last a (Some caller) (SetAvail uss old availability) s knows = kept_stated salt last a uss (availability, ovn_text salt (a.serial + 1)) s
 kept_effect salt last a (Some caller) (QuerySub area) s knows = s
 kept_effect salt last a (Some caller) (ReadSub id) s knows = kept_read_sub salt last a caller id (get a.subscriptions id) s
-kept_effect salt last a (Some caller) (CreateSub id put) s knows = kept_sub salt last a (sub_kept_as salt (a.serial + 1) caller.uss 0 id put) (omega arith) s
+kept_effect salt last a (Some caller) (CreateSub id put) s knows = kept_sub salt last a (sub_stored_as salt (a.serial + 1) caller.uss 0 id put) (omega arith) s
 kept_effect salt last a (Some caller) (UpdateSub id version put) s knows = kept_update_sub salt last a caller id version put (get a.subscriptions id) refl s
 kept_effect salt last a (Some caller) (DeleteSub id version) s knows = kept_delete_sub salt last a caller id version (get a.subscriptions id) s
 
@@ -298,7 +298,7 @@ effect_left salt a (Some caller) (UpdateSub id version put) = update_sub_left sa
 effect_left salt a (Some caller) (DeleteSub id version) = delete_sub_left a id (get a.subscriptions id)
 
 -- what is left by a call that the policy answers is what the policy leaves
-pub step_left : (salt : List ℕ) (a : Airspace) (c : Timed) → left_by salt a c (step salt a c.0 c.1).1 ≡ (step salt a c.0 c.1).0
+pub step_left : (salt : List ℕ) (a : Airspace) (c : TimedCall) → left_by salt a c (step salt a c.0 c.1).1 ≡ (step salt a c.0 c.1).0
 unfolding step
 step_left salt a c =
     elim (first_broken a c.0 c.1) as (λ r. cond (is_done (step_by salt a c.1 r).1) (step_by salt a c.1 r).0 a ≡ (step_by salt a c.1 r).0) [
@@ -306,7 +306,7 @@ step_left salt a c =
       | Some p ↦ refl
     ]
 
-pub kept_run : (salt : List ℕ) (last : EntityKey → Option MadeCall) (cs : List Timed) (a : Airspace) → Kept salt last a → Kept salt (λ k. later_or (last_writer salt k a cs (replies_of salt a cs)) (last k)) (airspace_after salt a cs)
+pub kept_run : (salt : List ℕ) (last : EntityKey → Option MadeCall) (cs : List TimedCall) (a : Airspace) → Kept salt last a → Kept salt (λ k. later_or (last_writer salt k a cs (replies_of salt a cs)) (last k)) (airspace_after salt a cs)
 kept_run salt last [] a s = s
 kept_run salt last (c ∷ cs) a s =
     let x = step salt a c.0 c.1 in
@@ -327,7 +327,7 @@ kept_empty salt n =
     }
 
 -- the last put among the calls that were answered is the last put of all
-pub last_told : (salt : List ℕ) (k : EntityKey) (a : Airspace) (cs : List Timed) (rs : List Reply) → has_stopped rs ≡ false → last_writer salt k a (answered_calls cs rs) (told_replies rs) ≡ last_writer salt k a cs rs
+pub last_told : (salt : List ℕ) (k : EntityKey) (a : Airspace) (cs : List TimedCall) (rs : List Reply) → has_stopped rs ≡ false → last_writer salt k a (answered_calls cs rs) (delivered_replies rs) ≡ last_writer salt k a cs rs
 last_told salt k a [] rs h = refl
 last_told salt k a (c ∷ cs) [] h = refl
 last_told salt k a (c ∷ cs) (Fault ∷ rs) h = last_told salt k a cs rs h ∙ sym (later_none (last_writer salt k a cs rs))
@@ -335,20 +335,20 @@ last_told salt k a (c ∷ cs) (Stopped ∷ rs) h = cc
 last_told salt k a (c ∷ cs) (Done x ∷ rs) h = ap (λ (o : Option MadeCall). later_or o (put_in k a c.1 (Done x))) (last_told salt k (step salt a c.0 c.1).0 cs rs h)
 last_told salt k a (c ∷ cs) (Denied p m ∷ rs) h = ap (λ (o : Option MadeCall). later_or o (put_in k a c.1 (Denied p m))) (last_told salt k a cs rs h)
 
-kept_told : (salt : List ℕ) (n : ℕ) (cs : List Timed) (rs : List Reply) → told_replies rs ≡ replies_of salt (empty_at n) (answered_calls cs rs) → has_stopped rs ≡ false
+kept_told : (salt : List ℕ) (n : ℕ) (cs : List TimedCall) (rs : List Reply) → delivered_replies rs ≡ replies_of salt (empty_at n) (answered_calls cs rs) → has_stopped rs ≡ false
     → Kept salt (λ k. last_writer salt k (empty_at n) cs rs) (airspace_after salt (empty_at n) (answered_calls cs rs))
 kept_told salt n cs rs told h =
     let answered = answered_calls cs rs in
     let last = λ (k : EntityKey) (qs : List Reply). last_writer salt k (empty_at n) answered qs in
-    subst (λ (f : EntityKey → Option MadeCall). Kept salt f (airspace_after salt (empty_at n) answered)) (λ i k. (ap (λ (qs : List Reply). later_or (last k qs) None) (sym told) ∙ (later_none (last k (told_replies rs)) ∙ last_told salt k (empty_at n) cs rs h)) i)
+    subst (λ (f : EntityKey → Option MadeCall). Kept salt f (airspace_after salt (empty_at n) answered)) (λ i k. (ap (λ (qs : List Reply). later_or (last k qs) None) (sym told) ∙ (later_none (last k (delivered_replies rs)) ∙ last_told salt k (empty_at n) cs rs h)) i)
     (kept_run salt (λ k. None) answered (empty_at n) (kept_empty salt n))
 
-pub aware_after : (salt : List ℕ) (n : ℕ) (cs : List Timed) (rs : List Reply) → told_replies rs ≡ replies_of salt (empty_at n) (answered_calls cs rs) → has_stopped rs ≡ false
+pub aware_after : (salt : List ℕ) (n : ℕ) (cs : List TimedCall) (rs : List Reply) → delivered_replies rs ≡ replies_of salt (empty_at n) (answered_calls cs rs) → has_stopped rs ≡ false
     → Aware salt (empty_at n) cs rs (airspace_after salt (empty_at n) (answered_calls cs rs))
 aware_after salt n cs rs told h = let k = kept_told salt n cs rs told h in record { proper = k.proper; serials = k.serials; knew = k.knew }
 
 -- each step keeps it, also the one of a call that was answered `Stopped`
-pub stepped_numbered : (salt : List ℕ) (last : EntityKey → Option MadeCall) (a : Airspace) (cs : List Timed) (rs : List Reply) (b : Airspace) → Kept salt last a → MayHaveStepped salt a cs rs b → AllNumbered salt b
+pub stepped_numbered : (salt : List ℕ) (last : EntityKey → Option MadeCall) (a : Airspace) (cs : List TimedCall) (rs : List Reply) (b : Airspace) → Kept salt last a → MayHaveStepped salt a cs rs b → AllNumbered salt b
 stepped_numbered salt last a [] rs b k is = subst (AllNumbered salt) (sym is) k.numbered
 stepped_numbered salt last a (c ∷ cs) [] b k is = subst (AllNumbered salt) (sym is) k.numbered
 stepped_numbered salt last a (c ∷ cs) (Fault ∷ rs) b k is = stepped_numbered salt last a cs rs b k is
@@ -362,16 +362,16 @@ stepped_numbered salt last a (c ∷ cs) (Denied p m ∷ rs) b k is = stepped_num
 
 -- ---- what is held after a run
 
-pub held_aware : {S : Type 0} (g : Ghosts S) (salt : List ℕ) (n : ℕ) (cs : List Timed) (rs : List Reply) (new : S) → Runs g salt (empty_at n) cs rs new → has_stopped rs ≡ false → (a : Airspace) → g.holds new a → Aware salt (empty_at n) cs rs a
+pub held_aware : {S : Type 0} (g : Ghosts S) (salt : List ℕ) (n : ℕ) (cs : List TimedCall) (rs : List Reply) (new : S) → Runs g salt (empty_at n) cs rs new → has_stopped rs ≡ false → (a : Airspace) → g.holds new a → Aware salt (empty_at n) cs rs a
 held_aware g salt n cs rs new t h a held = subst (Aware salt (empty_at n) cs rs) (sym ((t.whole h).only a held)) (aware_after salt n cs rs t.replies h)
 
-held_numbered : {S : Type 0} (g : Ghosts S) (salt : List ℕ) (n : ℕ) (cs : List Timed) (rs : List Reply) (new : S) → Runs g salt (empty_at n) cs rs new → (a : Airspace) → g.holds new a → AllNumbered salt a
+held_numbered : {S : Type 0} (g : Ghosts S) (salt : List ℕ) (n : ℕ) (cs : List TimedCall) (rs : List Reply) (new : S) → Runs g salt (empty_at n) cs rs new → (a : Airspace) → g.holds new a → AllNumbered salt a
 held_numbered g salt n cs rs new t a held = stepped_numbered salt (λ k. None) (empty_at n) cs rs a (kept_empty salt n) (t.kept a held)
 
 pub same_numbered : {S : Type 0} (g : Ghosts S) (salt : List ℕ) (n : ℕ) (old : S) → IsContent g.holds old (empty_at n) → (a : Airspace) → g.holds old a → AllNumbered salt a
 same_numbered g salt n old content a held = subst (AllNumbered salt) (sym (content.only a held)) (kept_empty salt n).numbered
 
-pub run_numbered : {S : Type 0} (g : Ghosts S) (old : Service S) (cs : List Timed) (rs : List Reply) (new : Service S) → Answered g old cs rs new → g.is_sound (space_of new)
+pub run_numbered : {S : Type 0} (g : Ghosts S) (old : Service S) (cs : List TimedCall) (rs : List Reply) (new : Service S) → Answered g old cs rs new → g.is_sound (space_of new)
     → (n : ℕ) → IsContent g.holds (space_of old) (empty_at n) → (a : Airspace) → g.holds (space_of new) a → AllNumbered (salt_of old) a
 run_numbered {S} g old cs rs new all s n content a held =
     elim (is_shut old) as (λ b. is_shut old ≡ b → AllNumbered (salt_of old) a) [

@@ -17,13 +17,13 @@ use Rattle.policy_core.specs.declared.call.Operation.{Operation}
 use Rattle.policy_core.specs.declared.call.Operation.TheVariants.{NoRoute, NoMethod, Malformed, Query, Read, Create, Update, Delete, ReadAvail, SetAvail, QuerySub, ReadSub, CreateSub, UpdateSub, DeleteSub}
 use Rattle.policy_core.specs.declared.rule.Rule.{Rule}
 use Rattle.policy_core.specs.declared.rule.Rule.TheVariants.{Found, Fresh, Manager, Version, Role, Change, Ended, Subscription, Depended}
-use Rattle.policy_core.specs.Blind.{veiled, veiled_entry, veiled_sub, veiled_sub_entry, IsLike, is_by, known, named, named_sub}
+use Rattle.policy_core.specs.Blind.{redacted, redacted_entry, redacted_sub, redacted_sub_entry, IsLike, is_by, known, named, named_sub}
 use Rattle.policy_core.specs.Policy.{breaks, early_rules, standing_rules, last_rules, first_broken, breaks_found, breaks_fresh, breaks_manager, breaks_version, breaks_role, breaks_change, breaks_ended, breaks_subscription, breaks_depended, has_another_ovn, has_another_version}
 use Rattle.policy_core.specs.Standing.{depended_of, found_of, stated_of, sub_of}
 use Rattle.policy_core.proofs.Finds.{or_else, find-append}
 use Rattle.policy_core.proofs.Veils.{found_like, under_like, depended_like}
 use Rattle.service_calls.specs.Blind.{AllMadeAlike, replies_to}
-use Rattle.service_calls.specs.Run.{Timed, replies_of, airspace_after}
+use Rattle.service_calls.specs.Run.{TimedCall, replies_of, airspace_after}
 use Rattle.service_step.specs.Step.{step}
 use Rattle.service_calls.proofs.Alike.{last_like, stays_like, own_call}
 
@@ -40,11 +40,11 @@ another_of m ovn k [] bs = false
 another_of m ovn k (x ∷ xs) [] = false
 another_of m ovn k (x ∷ xs) (b ∷ bs) = cond (eq_by_cmp key_cmp k x.0) (not (cond (same_text x.1.manager m) (same_text ovn x.1.ovn) b)) (another_of m ovn k xs bs)
 
-another-veiled : (m ovn : List ℕ) (k : EntityKey) (es : List (EntityKey × Entity)) → has_another_ovn (maps.find key_cmp k es) ovn ≡ another_of m ovn k (map (veiled_entry m) es) (map (λ e. same_text e.1.manager m || same_text ovn e.1.ovn) es)
+another-veiled : (m ovn : List ℕ) (k : EntityKey) (es : List (EntityKey × Entity)) → has_another_ovn (maps.find key_cmp k es) ovn ≡ another_of m ovn k (map (redacted_entry m) es) (map (λ e. same_text e.1.manager m || same_text ovn e.1.ovn) es)
 another-veiled m ovn k [] = refl
 another-veiled m ovn k (x ∷ es) =
     elim (eq_by_cmp key_cmp k x.0) as (λ b. has_another_ovn (cond b (Some x.1) (maps.find key_cmp k es)) ovn
-    ≡ cond b (not (cond (same_text x.1.manager m) (same_text ovn (cond (same_text x.1.manager m) x.1.ovn [])) (same_text x.1.manager m || same_text ovn x.1.ovn))) (another_of m ovn k (map (veiled_entry m) es) (map (λ e. same_text e.1.manager m || same_text ovn e.1.ovn) es))) [
+    ≡ cond b (not (cond (same_text x.1.manager m) (same_text ovn (cond (same_text x.1.manager m) x.1.ovn [])) (same_text x.1.manager m || same_text ovn x.1.ovn))) (another_of m ovn k (map (redacted_entry m) es) (map (λ e. same_text e.1.manager m || same_text ovn e.1.ovn) es))) [
       | true ↦ ap not (seen_path (same_text x.1.manager m) ovn x.1.ovn)
       | false ↦ another-veiled m ovn k es
     ]
@@ -64,11 +64,11 @@ another_sub_of m version k [] bs = false
 another_sub_of m version k (x ∷ xs) [] = false
 another_sub_of m version k (x ∷ xs) (b ∷ bs) = cond (eq_by_cmp nat_cmp k x.0) (not (cond (same_text x.1.manager m) (same_text version x.1.version) b)) (another_sub_of m version k xs bs)
 
-another_sub-veiled : (m version : List ℕ) (k : ℕ) (ss : List (ℕ × Sub)) → has_another_version (maps.find nat_cmp k ss) version ≡ another_sub_of m version k (map (veiled_sub_entry m) ss) (map (λ s. same_text s.1.manager m || same_text version s.1.version) ss)
+another_sub-veiled : (m version : List ℕ) (k : ℕ) (ss : List (ℕ × Sub)) → has_another_version (maps.find nat_cmp k ss) version ≡ another_sub_of m version k (map (redacted_sub_entry m) ss) (map (λ s. same_text s.1.manager m || same_text version s.1.version) ss)
 another_sub-veiled m version k [] = refl
 another_sub-veiled m version k (x ∷ ss) =
     elim (eq_by_cmp nat_cmp k x.0) as (λ b. has_another_version (cond b (Some x.1) (maps.find nat_cmp k ss)) version
-    ≡ cond b (not (cond (same_text x.1.manager m) (same_text version (cond (same_text x.1.manager m) x.1.version [])) (same_text x.1.manager m || same_text version x.1.version))) (another_sub_of m version k (map (veiled_sub_entry m) ss) (map (λ s. same_text s.1.manager m || same_text version s.1.version) ss))) [
+    ≡ cond b (not (cond (same_text x.1.manager m) (same_text version (cond (same_text x.1.manager m) x.1.version [])) (same_text x.1.manager m || same_text version x.1.version))) (another_sub_of m version k (map (redacted_sub_entry m) ss) (map (λ s. same_text s.1.manager m || same_text version s.1.version) ss))) [
       | true ↦ ap not (seen_path (same_text x.1.manager m) version x.1.version)
       | false ↦ another_sub-veiled m version k ss
     ]
@@ -108,7 +108,7 @@ rules_with caller found sub depended t op stale =
     (cond (breaks_role caller op) (Some Role) (cond (breaks_change op found) (Some Change) (cond (breaks_ended t op) (Some Ended)
     (cond (breaks_subscription caller op sub) (Some Subscription) (cond (breaks_depended op depended) (Some Depended) None))))))))
 
-rules-veiled : (m : List ℕ) (caller : Caller) (found : Option Entity) (sub : Option Sub) (depended : Bool) (t : ℕ) (op : Operation) (stale : Bool) → rules_with (Some caller) found sub depended t op stale ≡ rules_with (Some caller) (option_map (veiled m) found) sub depended t op stale
+rules-veiled : (m : List ℕ) (caller : Caller) (found : Option Entity) (sub : Option Sub) (depended : Bool) (t : ℕ) (op : Operation) (stale : Bool) → rules_with (Some caller) found sub depended t op stale ≡ rules_with (Some caller) (option_map (redacted m) found) sub depended t op stale
 rules-veiled m caller None sub depended t op stale = refl
 rules-veiled m caller (Some e) sub depended t NoRoute stale = refl
 rules-veiled m caller (Some e) sub depended t NoMethod stale = refl
@@ -126,7 +126,7 @@ rules-veiled m caller (Some e) sub depended t (CreateSub id put) stale = refl
 rules-veiled m caller (Some e) sub depended t (UpdateSub id version put) stale = refl
 rules-veiled m caller (Some e) sub depended t (DeleteSub id version) stale = refl
 
-rules_sub-veiled : (m : List ℕ) (caller : Caller) (found : Option Entity) (sub : Option Sub) (depended : Bool) (t : ℕ) (op : Operation) (stale : Bool) → rules_with (Some caller) found sub depended t op stale ≡ rules_with (Some caller) found (option_map (veiled_sub m) sub) depended t op stale
+rules_sub-veiled : (m : List ℕ) (caller : Caller) (found : Option Entity) (sub : Option Sub) (depended : Bool) (t : ℕ) (op : Operation) (stale : Bool) → rules_with (Some caller) found sub depended t op stale ≡ rules_with (Some caller) found (option_map (redacted_sub m) sub) depended t op stale
 rules_sub-veiled m caller found None depended t op stale = refl
 rules_sub-veiled m caller found (Some s) depended t NoRoute stale = refl
 rules_sub-veiled m caller found (Some s) depended t NoMethod stale = refl
@@ -149,9 +149,9 @@ standing_like : (m : List ℕ) (a b : Airspace) (t : ℕ) (caller : Caller) (op 
 standing_like m a b t caller op l n v =
     let stale : Airspace → Bool = λ x. breaks_version op (found_of x op) (stated_of x op) (sub_of x op) in
     rules-veiled m caller (found_of a op) (sub_of a op) (depended_of a op) t op (stale a)
-    ∙ (rules_sub-veiled m caller (option_map (veiled m) (found_of a op)) (sub_of a op) (depended_of a op) t op (stale a)
+    ∙ (rules_sub-veiled m caller (option_map (redacted m) (found_of a op)) (sub_of a op) (depended_of a op) t op (stale a)
     ∙ ((λ i. rules_with (Some caller) (found_like m a b op l i) (under_like m a b (subject_of op) l i) (depended_like m a b op l i) t op (stale_like m a b op l n v i))
-    ∙ (sym (rules_sub-veiled m caller (option_map (veiled m) (found_of b op)) (sub_of b op) (depended_of b op) t op (stale b))
+    ∙ (sym (rules_sub-veiled m caller (option_map (redacted m) (found_of b op)) (sub_of b op) (depended_of b op) t op (stale b))
     ∙ sym (rules-veiled m caller (found_of b op) (sub_of b op) (depended_of b op) t op (stale b)))))
 
 -- a call without a caller breaks P1, P2 or P3, whatever is kept
@@ -188,7 +188,7 @@ others_first m a b t (Some caller) op l k n v =
 
 -- ---- lists of calls
 
-pub run_blind : (salt m : List ℕ) (cs : List Timed) (a b : Airspace) → IsLike m a b → AllMadeAlike salt m cs a b
+pub run_blind : (salt m : List ℕ) (cs : List TimedCall) (a b : Airspace) → IsLike m a b → AllMadeAlike salt m cs a b
     → (replies_to m cs (replies_of salt a cs) ≡ replies_to m cs (replies_of salt b cs)) × IsLike m (airspace_after salt a cs) (airspace_after salt b cs)
 run_blind salt m [] a b l h = (refl, l)
 run_blind salt m (c ∷ cs) a b l h =

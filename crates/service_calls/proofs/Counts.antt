@@ -6,7 +6,7 @@ use Rattle.std.specs.Ordering.{eq_by_cmp, nat_cmp}
 use Rattle.std.specs.List.{AllByRecursion}
 use Rattle.std.specs.FinMap.{get, get-empty, get-insert}
 use Rattle.std.proofs.lemmas.Cmp.{nat_cmp_total}
-use Rattle.entity_core.specs.Airspace.{Airspace, empty_at, told_again, told_where}
+use Rattle.entity_core.specs.Airspace.{Airspace, empty_at, notified_again, notified_where}
 use Rattle.entity_core.specs.Entity.{kind_of}
 use Rattle.entity_core.specs.Search.{is_for_near}
 use Rattle.entity_core.specs.declared.entity.Entity.{Entity}
@@ -25,9 +25,9 @@ use Rattle.service_step.specs.declared.reply.Reply.{Reply}
 use Rattle.service_step.specs.declared.reply.Reply.TheVariants.{Done, Denied, Fault, Stopped}
 use Rattle.service_calls.specs.Aware.{MadeCall, is_done, left_by}
 use Rattle.service_calls.specs.Count.{Counts, IsCounted, creates_sub, done_calls, notified, notifies_one}
-use Rattle.service_notices.specs.Notices.{notifies, touched, volumes_of}
-use Rattle.service_calls.specs.Run.{Timed, Runs, replies_of, airspace_after, answered_calls, told_replies, has_stopped}
-use Rattle.service_step.specs.Step.{step, step_by, effect, update_effect, delete_effect, read_effect, sub_kept_as, read_sub_effect, update_sub_effect, delete_sub_effect}
+use Rattle.service_notify.specs.Notices.{notifies, touched, volumes_of}
+use Rattle.service_calls.specs.Run.{TimedCall, Runs, replies_of, airspace_after, answered_calls, delivered_replies, has_stopped}
+use Rattle.service_step.specs.Step.{step, step_by, effect, update_effect, delete_effect, read_effect, sub_stored_as, read_sub_effect, update_sub_effect, delete_sub_effect}
 use Rattle.service_calls.proofs.Awares.{step_left}
 
 -- ---- one call
@@ -47,7 +47,7 @@ record Created (id : ℕ) (op : Operation) (x : Sub) : Type 0 where
 abbrev One : ℕ → Airspace → Operation → Sub → Type 0
 One id a op x = Created id op x ⊎ Since id a op x
 
-told_index : (b : Bool) (s : Sub) → (cond b (told_again s) s).index ≡ s.index + cond b 1 0
+told_index : (b : Bool) (s : Sub) → (cond b (notified_again s) s).index ≡ s.index + cond b 1 0
 told_index true s = refl
 told_index false s = omega arith
 
@@ -55,7 +55,7 @@ told_index false s = omega arith
 same_one : (id : ℕ) (a : Airspace) (op : Operation) (x : Sub) → creates_sub id op ≡ false → ((s : Sub) → notifies a op (id, s) ≡ false) → get a.subscriptions id ≡ Some x → One id a op x
 same_one id a op x other quiet h = inr (record { other = other; was = x; there = h; index = sym (ap (λ (b : Bool). x.index + cond b 1 0) (quiet x) ∙ omega arith) })
 
-told_one : (id : ℕ) (a : Airspace) (op : Operation) (x : Sub) (test : ℕ × Sub → Bool) → creates_sub id op ≡ false → ((s : Sub) → test (id, s) ≡ notifies a op (id, s)) → get (told_where test a.subscriptions) id ≡ Some x → One id a op x
+told_one : (id : ℕ) (a : Airspace) (op : Operation) (x : Sub) (test : ℕ × Sub → Bool) → creates_sub id op ≡ false → ((s : Sub) → test (id, s) ≡ notifies a op (id, s)) → get (notified_where test a.subscriptions) id ≡ Some x → One id a op x
 told_one id a op x test other is h =
     let was = told_was test a.subscriptions id x h in
     inr (record { other = other; was = was.0; there = was.1; index = ap (λ (y : Sub). y.index) (sym was.2) ∙ (told_index (test (id, was.0)) was.0 ∙ ap (λ (b : Bool). was.0.index + cond b 1 0) (is was.0)) })
@@ -91,7 +91,7 @@ update_sub_one : (salt : List ℕ) (a : Airspace) (uss : List ℕ) (k : ℕ) (ve
     → get (update_sub_effect salt a uss k put o).0.subscriptions id ≡ Some x → One id a (UpdateSub k version put) x
 update_sub_one salt a uss k version put None id x there h = same_one id a (UpdateSub k version put) x refl (λ s. refl) h
 update_sub_one salt a uss k version put (Some r) id x there h =
-    let new : Sub = sub_kept_as salt (a.serial + 1) r.manager r.index k put in
+    let new : Sub = sub_stored_as salt (a.serial + 1) r.manager r.index k put in
     elim (eq_by_cmp nat_cmp id k) as (λ b. eq_by_cmp nat_cmp id k ≡ b → cond b (Some new) (get a.subscriptions id) ≡ Some x → One id a (UpdateSub k version put) x) [
       | true ↦ λ t e. inr (record { other = refl; was = r; there = ap (get a.subscriptions) (one_id id k t) ∙ there; index = ap (λ (y : Sub). y.index) (sym (same_Some new x e)) ∙ omega arith })
       | false ↦ λ t e. same_one id a (UpdateSub k version put) x refl (λ s. refl) e
@@ -101,7 +101,7 @@ update_sub_one salt a uss k version put (Some r) id x there h =
 create_sub_one : (salt : List ℕ) (a : Airspace) (caller : Caller) (k : ℕ) (put : SubPut) (id : ℕ) (x : Sub)
     → get (effect salt a (Some caller) (CreateSub k put)).0.subscriptions id ≡ Some x → One id a (CreateSub k put) x
 create_sub_one salt a caller k put id x h =
-    let new : Sub = sub_kept_as salt (a.serial + 1) caller.uss 0 k put in
+    let new : Sub = sub_stored_as salt (a.serial + 1) caller.uss 0 k put in
     elim (eq_by_cmp nat_cmp id k) as (λ b. eq_by_cmp nat_cmp id k ≡ b → cond b (Some new) (get a.subscriptions id) ≡ Some x → One id a (CreateSub k put) x) [
       | true ↦ λ t e. inl (record { creates = t; zeroth = ap (λ (y : Sub). y.index) (sym (same_Some new x e)) })
       | false ↦ λ t e. same_one id a (CreateSub k put) x t (λ s. refl) e
@@ -188,7 +188,7 @@ tally_on id a b c made x one (inr was) =
           })
     ]
 
-pub tally_run : (salt : List ℕ) (cs : List Timed) (rs : List Reply) (a : Airspace) → has_stopped rs ≡ false → told_replies rs ≡ replies_of salt a (answered_calls cs rs) → (id : ℕ) (x : Sub)
+pub tally_run : (salt : List ℕ) (cs : List TimedCall) (rs : List Reply) (a : Airspace) → has_stopped rs ≡ false → delivered_replies rs ≡ replies_of salt a (answered_calls cs rs) → (id : ℕ) (x : Sub)
     → get (airspace_after salt a (answered_calls cs rs)).subscriptions id ≡ Some x → Tally id (done_calls salt a cs rs) a x
 tally_run salt [] rs a goes told id x h = inr (record { none = tt; was = x; there = h; index = omega arith })
 tally_run salt (c ∷ cs) [] a goes told id x h = inr (record { none = tt; was = x; there = h; index = omega arith })
@@ -197,17 +197,17 @@ tally_run salt (c ∷ cs) (Stopped ∷ rs) a goes told id x h = cc
 tally_run salt (c ∷ cs) (Done r ∷ rs) a goes told id x h =
     let b : Airspace = (step salt a c.0 c.1).0 in
     let head : Done r ≡ (step salt a c.0 c.1).1 = cc in
-    let rest : told_replies rs ≡ replies_of salt b (answered_calls cs rs) = cc in
+    let rest : delivered_replies rs ≡ replies_of salt b (answered_calls cs rs) = cc in
     tally_on id a b c.1 (done_calls salt b cs rs) x (λ y k. step_one salt a c.0 c.1 id y (ap is_done (sym head)) k) (tally_run salt cs rs b goes rest id x h)
 tally_run salt (c ∷ cs) (Denied p m ∷ rs) a goes told id x h =
     let b : Airspace = (step salt a c.0 c.1).0 in
     let head : Denied p m ≡ (step salt a c.0 c.1).1 = cc in
-    let rest : told_replies rs ≡ replies_of salt b (answered_calls cs rs) = cc in
+    let rest : delivered_replies rs ≡ replies_of salt b (answered_calls cs rs) = cc in
     let same : b ≡ a = sym (ap (left_by salt a c) head ∙ step_left salt a c) in
-    tally_run salt cs rs a goes (subst (λ (y : Airspace). told_replies rs ≡ replies_of salt y (answered_calls cs rs)) same rest) id x
+    tally_run salt cs rs a goes (subst (λ (y : Airspace). delivered_replies rs ≡ replies_of salt y (answered_calls cs rs)) same rest) id x
     (subst (λ (y : Airspace). get (airspace_after salt y (answered_calls cs rs)).subscriptions id ≡ Some x) same h)
 
-pub counts_after : (salt : List ℕ) (n : ℕ) (cs : List Timed) (rs : List Reply) → told_replies rs ≡ replies_of salt (empty_at n) (answered_calls cs rs) → has_stopped rs ≡ false
+pub counts_after : (salt : List ℕ) (n : ℕ) (cs : List TimedCall) (rs : List Reply) → delivered_replies rs ≡ replies_of salt (empty_at n) (answered_calls cs rs) → has_stopped rs ≡ false
     → Counts salt (empty_at n) cs rs (airspace_after salt (empty_at n) (answered_calls cs rs))
 counts_after salt n cs rs told goes id x h =
     elim (tally_run salt cs rs (empty_at n) goes told id x h) [
@@ -216,5 +216,5 @@ counts_after salt n cs rs told goes id x h =
     ]
 
 -- what is held after a run
-pub held_counts : {S : Type 0} (g : Ghosts S) (salt : List ℕ) (n : ℕ) (cs : List Timed) (rs : List Reply) (new : S) → Runs g salt (empty_at n) cs rs new → has_stopped rs ≡ false → (a : Airspace) → g.holds new a → Counts salt (empty_at n) cs rs a
+pub held_counts : {S : Type 0} (g : Ghosts S) (salt : List ℕ) (n : ℕ) (cs : List TimedCall) (rs : List Reply) (new : S) → Runs g salt (empty_at n) cs rs new → has_stopped rs ≡ false → (a : Airspace) → g.holds new a → Counts salt (empty_at n) cs rs a
 held_counts g salt n cs rs new t h a held = subst (Counts salt (empty_at n) cs rs) (sym ((t.whole h).only a held)) (counts_after salt n cs rs t.replies h)

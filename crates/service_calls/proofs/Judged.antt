@@ -24,10 +24,10 @@ use Rattle.policy_core.specs.Standing.{Facts, sub_of, sub_under}
 use Rattle.policy_core.specs.View.{view_of}
 use Rattle.policy_core.proofs.Finds.{find_has, find_rest}
 use Rattle.service_step.specs.declared.admitted.Admitted.{Admitted}
-use Rattle.service_step.specs.declared.look.OwnFacts as own
+use Rattle.service_step.specs.declared.look_up.OwnedFacts as own
 use Rattle.service_step.specs.declared.needed.JudgedPut.{JudgedPut}
 use Rattle.service_step.specs.Admitted.{IsAdmitted}
-use Rattle.service_step.specs.Step.{told_missing}
+use Rattle.service_step.specs.Step.{missing_views}
 use Rattle.service_step.specs.Looks.{facts_in, AreFacts}
 use Rattle.service_calls.specs.Decision.{BreaksNoStandingBy, IsFirst, IsMissingFor, missing_by}
 
@@ -71,15 +71,15 @@ pub standing_none : (a : Airspace) (t : ℕ) (c : Call) → first_broken a t c �
 unfolding first_broken
 standing_none a t c h = find_none (breaks a t c) standing_rules last_rules (find_rest (breaks a t c) early_rules (standing_rules ++ last_rules) h)
 
-pub told_early : (a : Airspace) (t : ℕ) (c : Call) (r : Rule) → find (breaks a t c) early_rules ≡ Some r → told_missing a c r ≡ nothing_missing
-told_early a t c r h = find_has (λ (p : Rule). told_missing a c p ≡ nothing_missing) (breaks a t c) early_rules r (refl, (refl, (refl, (refl, (refl, (refl, tt)))))) h
+pub told_early : (a : Airspace) (t : ℕ) (c : Call) (r : Rule) → find (breaks a t c) early_rules ≡ Some r → missing_views a c r ≡ nothing_missing
+told_early a t c r h = find_has (λ (p : Rule). missing_views a c p ≡ nothing_missing) (breaks a t c) early_rules r (refl, (refl, (refl, (refl, (refl, (refl, tt)))))) h
 
-told_standing : (a : Airspace) (t : ℕ) (c : Call) (r : Rule) → find (breaks a t c) standing_rules ≡ Some r → told_missing a c r ≡ nothing_missing
-told_standing a t c r h = find_has (λ (p : Rule). told_missing a c p ≡ nothing_missing) (breaks a t c) standing_rules r (refl, (refl, (refl, (refl, (refl, (refl, (refl, (refl, (refl, tt))))))))) h
+told_standing : (a : Airspace) (t : ℕ) (c : Call) (r : Rule) → find (breaks a t c) standing_rules ≡ Some r → missing_views a c r ≡ nothing_missing
+told_standing a t c r h = find_has (λ (p : Rule). missing_views a c p ≡ nothing_missing) (breaks a t c) standing_rules r (refl, (refl, (refl, (refl, (refl, (refl, (refl, (refl, (refl, tt))))))))) h
 
 -- ---- what was looked up
 
-module _ (q : Admitted) (g : own.OwnFacts) where
+module _ (q : Admitted) (g : own.OwnedFacts) where
   -- what is first where what was looked up was lent
   pub lent_first : (f : Facts) (r : Option Rule) → f ≡ facts_in g → r ≡ find (breaks_given f q.moment q.call.now) standing_rules → find (breaks_given (facts_in g) q.moment q.call.now) standing_rules ≡ r
   lent_first f r one is = sym (is ∙ ap (λ (x : Facts). find (breaks_given x q.moment q.call.now) standing_rules) one)
@@ -87,13 +87,13 @@ module _ (q : Admitted) (g : own.OwnFacts) where
   pub lent_limit : (f : Facts) (limit : Bool) → f ≡ facts_in g → limit ≡ breaks_given f q.moment q.call.now Limit → limit ≡ breaks_given (facts_in g) q.moment q.call.now Limit
   lent_limit f limit one is = is ∙ ap (λ (x : Facts). breaks_given x q.moment q.call.now Limit) one
 
-pub standing_from : (a : Airspace) (t : ℕ) (c : Call) (g : own.OwnFacts) → AreFacts c.op a g → find (breaks_given (facts_in g) t c) standing_rules ≡ find (breaks a t c) standing_rules
+pub standing_from : (a : Airspace) (t : ℕ) (c : Call) (g : own.OwnedFacts) → AreFacts c.op a g → find (breaks_given (facts_in g) t c) standing_rules ≡ find (breaks a t c) standing_rules
 standing_from a t c g is = ap (λ (f : Facts). find (breaks_given f t c) standing_rules) is
 
 key_is : (a : Airspace) (t : ℕ) (c : Call) (m : Missing) (b : Bool) → m ≡ missing_for a c.caller c.op → b ≡ not (is_nothing m) → breaks a t c Key ≡ b
 key_is a t c m b is h = ap (λ (x : Missing). not (is_nothing x)) (sym is) ∙ sym h
 
-module _ (q : Admitted) (is_admitted : IsAdmitted q) (g : own.OwnFacts) (a : Airspace) (regards : AreFacts q.call.now.op a g) where
+module _ (q : Admitted) (is_admitted : IsAdmitted q) (g : own.OwnedFacts) (a : Airspace) (regards : AreFacts q.call.now.op a g) where
   -- the first of P7 to P13, P16 and P17 that is broken is the first of all
   pub judged_standing : (r : Rule) (m : Missing) → find (breaks_given (facts_in g) q.moment q.call.now) standing_rules ≡ Some r → m ≡ nothing_missing → IsFirst q a (Some (r, m))
   judged_standing r m is none =

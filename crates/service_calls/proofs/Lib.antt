@@ -9,8 +9,8 @@ pub mod Stales
 pub mod Meetings
 pub mod Counts
 pub mod Joined
-pub mod InRounds
-pub mod RoundLaws
+pub mod InBatches
+pub mod BatchLaws
 pub mod Sweeping
 pub mod Segments
 pub mod SegmentLaws

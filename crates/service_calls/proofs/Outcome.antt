@@ -7,29 +7,29 @@ use Rattle.space_core.specs.declared.space.Space.{Ghosts}
 use Rattle.space_core.specs.declared.space.SpaceFault.{SpaceFault}
 use Rattle.space_core.specs.declared.space.SpaceFault.TheVariants.{Unchanged, Broken}
 use Rattle.space_core.specs.declared.space.Change.{Change}
-use Rattle.space_core.specs.Space.{greatest_count, IsContent, Changes, Tells, changed}
+use Rattle.space_core.specs.Space.{max_count, IsContent, Changes, ReportsFault, changed}
 use Rattle.policy_core.specs.declared.call.Call.{Call}
 use Rattle.policy_core.specs.declared.rule.Rule.{Rule}
 use Rattle.policy_core.specs.declared.reference.Missing.{Missing}
 use Rattle.service_step.specs.declared.admitted.Admitted.{Admitted}
-use Rattle.service_step.specs.declared.halt.Halt.{Halt}
-use Rattle.service_step.specs.declared.halt.Halt.TheVariants.{NoMemory, Space}
-use Rattle.service_step.specs.declared.look.OwnFacts.{OwnFacts}
+use Rattle.service_step.specs.declared.call_fault.CallFault.{CallFault}
+use Rattle.service_step.specs.declared.call_fault.CallFault.TheVariants.{NoMemory, Space}
+use Rattle.service_step.specs.declared.look_up.OwnedFacts.{OwnedFacts}
 use Rattle.service_calls.specs.declared.decide.Decision.TheVariants.{Refused, Allowed}
-use Rattle.service_step.specs.declared.made.Made.{Made}
+use Rattle.service_step.specs.declared.prepared.Prepared.{Prepared}
 use Rattle.service_step.specs.declared.reply.Answer.{Answer}
 use Rattle.service_step.specs.declared.reply.Reply.{Reply}
 use Rattle.service_step.specs.declared.reply.Reply.TheVariants.{Done, Denied}
 use Rattle.policy_core.specs.Policy.{first_broken}
-use Rattle.service_step.specs.Step.{step, step_by, effect, told_missing}
+use Rattle.service_step.specs.Step.{step, step_by, effect, missing_views}
 use Rattle.service_step.specs.Admitted.{IsAdmitted}
-use Rattle.service_step.specs.Looks.{Looks, Prepares, changed_by}
+use Rattle.service_step.specs.Looks.{LooksUp, Prepares, changed_by}
 use Rattle.service_calls.specs.Decision.{Allows, BreaksNoStanding, Decides}
 use Rattle.service_step.specs.Reply.{is_stopped}
 use Rattle.service_calls.specs.Service.{Answers, AnswersTo, MayFail, reply_of}
-use Rattle.space_core.specs.Calls.{OfEachHeld}
+use Rattle.space_core.specs.Calls.{ForEachHeld}
 
-pub step_denied : (salt : List ℕ) (a : Airspace) (t : ℕ) (c : Call) (p : Rule) (m : Missing) → first_broken a t c ≡ Some p → m ≡ told_missing a c p → step salt a t c ≡ (a, Denied p m)
+pub step_denied : (salt : List ℕ) (a : Airspace) (t : ℕ) (c : Call) (p : Rule) (m : Missing) → first_broken a t c ≡ Some p → m ≡ missing_views a c p → step salt a t c ≡ (a, Denied p m)
 unfolding step
 step_denied salt a t c p m h is = ap (step_by salt a c) h ∙ ap (λ (x : Missing). (a, Denied p x)) (sym is)
 
@@ -47,7 +47,7 @@ fails_from : (a : Airspace) (t : ℕ) (c : Call) (reply : Reply) (n m k : ℕ) �
 fails_from a t c reply n m k e h = subst (λ (x : ℕ). MayFail a t c reply x k) e h
 
 -- an early rule is broken
-pub early_answers : {S : Type 0} (g : Ghosts S) (salt : List ℕ) (t : ℕ) (c : Call) (old : S) (p : Rule) (m : Missing) → ((a : Airspace) → first_broken a t c ≡ Some p) → ((a : Airspace) → m ≡ told_missing a c p) → Answers g salt t c old old (Denied p m)
+pub early_answers : {S : Type 0} (g : Ghosts S) (salt : List ℕ) (t : ℕ) (c : Call) (old : S) (p : Rule) (m : Missing) → ((a : Airspace) → first_broken a t c ≡ Some p) → ((a : Airspace) → m ≡ missing_views a c p) → Answers g salt t c old old (Denied p m)
 early_answers g salt t c old p m first missing = record {
   step = λ s a h. (step_denied salt a t c p m (first a) (missing a), h);
   fails = λ s a h. tt;
@@ -67,7 +67,7 @@ module _ {S : Type 0} (g : Ghosts S) (q : Admitted) where
   abbrev c : Call
   c = q.call.now
 
-  pub denied_answers : (old new : S) (p : Rule) (m : Missing) → Looks g old new (Ok (Refused p m)) (Decides q) → AnswersTo g q old new (Denied p m)
+  pub denied_answers : (old new : S) (p : Rule) (m : Missing) → LooksUp g old new (Ok (Refused p m)) (Decides q) → AnswersTo g q old new (Denied p m)
   denied_answers old new p m looks = record {
     step = λ s a h. let f = looks.found s a h.held in (step_denied salt a t c p m f.0 f.1, same_content g old new a (looks.stays s) (looks.no_other s) h);
     fails = λ s a h. tt;
@@ -78,7 +78,7 @@ module _ {S : Type 0} (g : Ghosts S) (q : Admitted) where
   }
 
   -- a halted look, where want of memory comes only where no standing rule is broken
-  pub halted_answers : {X : Type 0} (old new : S) (h : Halt) (P : Airspace → X → Type 0) → Looks g old new (Err h) P → IsAdmitted q → (h ≡ NoMemory → g.is_sound new → (a : Airspace) → g.holds old a → BreaksNoStanding q a) → AnswersTo g q old new (reply_of h)
+  pub halted_answers : {X : Type 0} (old new : S) (h : CallFault) (P : Airspace → X → Type 0) → LooksUp g old new (Err h) P → IsAdmitted q → (h ≡ NoMemory → g.is_sound new → (a : Airspace) → g.holds old a → BreaksNoStanding q a) → AnswersTo g q old new (reply_of h)
   halted_answers old new NoMemory P looks is_admitted quiet = record {
     step = λ s a h. same_content g old new a (looks.stays s) (looks.no_other s) h;
     fails = λ s a h. (ap is_some (is_admitted.early a), λ k. absurd (false≢true (sym (ap is_some (quiet refl s a h.held)) ∙ k)));
@@ -105,7 +105,7 @@ module _ {S : Type 0} (g : Ghosts S) (q : Admitted) where
   }
 
   -- what follows a look
-  pub after_answers : {X : Type 0} (old mid new : S) (x : X) (P : Airspace → X → Type 0) (reply : Reply) → Looks g old mid (Ok x) P → AnswersTo g q mid new reply → AnswersTo g q old new reply
+  pub after_answers : {X : Type 0} (old mid new : S) (x : X) (P : Airspace → X → Type 0) (reply : Reply) → LooksUp g old mid (Ok x) P → AnswersTo g q mid new reply → AnswersTo g q old new reply
   after_answers old mid new x P reply looks rest = record {
     step = λ s a h. rest.step s a (same_content g old mid a (looks.stays (rest.sound s)) (looks.no_other (rest.sound s)) h);
     fails = λ s a h. fails_from a t c reply (g.refusals old) (g.refusals mid) (g.refusals new) looks.told.0 (rest.fails s a (same_content g old mid a (looks.stays (rest.sound s)) (looks.no_other (rest.sound s)) h));
@@ -116,7 +116,7 @@ module _ {S : Type 0} (g : Ghosts S) (q : Admitted) where
   }
 
   -- a call that changes nothing
-  pub read_answers : (old new : S) (facts : OwnFacts) (made : Made) → made.change ≡ None → Looks g old new (Ok made) (Prepares q facts) → OfEachHeld g old IsAirspace → OfEachHeld g old (λ a. Decides q a (Allowed facts)) → AnswersTo g q old new (Done made.answer)
+  pub read_answers : (old new : S) (facts : OwnedFacts) (made : Prepared) → made.change ≡ None → LooksUp g old new (Ok made) (Prepares q facts) → ForEachHeld g old IsAirspace → ForEachHeld g old (λ a. Decides q a (Allowed facts)) → AnswersTo g q old new (Done made.answer)
   read_answers old new facts made is looks proper given = record {
     step = λ s a h.
         let k = given (looks.sound s) a h.held in
@@ -131,8 +131,8 @@ module _ {S : Type 0} (g : Ghosts S) (q : Admitted) where
 
   -- a change that was made
   pub change_done : (old new : S) (change : Change) (told : List ℕ) (answer : Answer) → g.fixed new ≡ g.fixed old → Changes {T = Unit {0}} g.holds g.is_sound g.is_whole (g.is_broken old) old new (Ok tt) (changed change told)
-      → Tells {T = Unit {0}} (g.refusals old) (g.refusals new) (g.is_broken old) (g.is_broken new) (Ok tt)
-      → OfEachHeld g old (λ a. Allows q a (Some change) told answer) → AnswersTo g q old new (Done answer)
+      → ReportsFault {T = Unit {0}} (g.refusals old) (g.refusals new) (g.is_broken old) (g.is_broken new) (Ok tt)
+      → ForEachHeld g old (λ a. Allows q a (Some change) told answer) → AnswersTo g q old new (Done answer)
   change_done old new change told answer fixed changes tells given = record {
     step = λ s a h.
         let k = given (changes.sound s) a h.held in
@@ -146,13 +146,13 @@ module _ {S : Type 0} (g : Ghosts S) (q : Admitted) where
   }
 
   -- a change that was not made, or of which nothing is known
-  pub change_failed : (old new : S) (change : Change) (told : List ℕ) (answer : Answer) (e : SpaceFault) → g.fixed new ≡ g.fixed old → Changes {T = Unit {0}} g.holds g.is_sound g.is_whole (g.is_broken old) old new (Err e) (changed change told) → Tells {T = Unit {0}} (g.refusals old) (g.refusals new) (g.is_broken old) (g.is_broken new) (Err e)
-      → IsAdmitted q → OfEachHeld g old (λ a. Allows q a (Some change) told answer) → AnswersTo g q old new (reply_of (Space e))
+  pub change_failed : (old new : S) (change : Change) (told : List ℕ) (answer : Answer) (e : SpaceFault) → g.fixed new ≡ g.fixed old → Changes {T = Unit {0}} g.holds g.is_sound g.is_whole (g.is_broken old) old new (Err e) (changed change told) → ReportsFault {T = Unit {0}} (g.refusals old) (g.refusals new) (g.is_broken old) (g.is_broken new) (Err e)
+      → IsAdmitted q → ForEachHeld g old (λ a. Allows q a (Some change) told answer) → AnswersTo g q old new (reply_of (Space e))
   change_failed old new change told answer Unchanged fixed changes tells is_admitted given = record {
     step = λ s a h. same_content g old new a (λ b. (changes.refused s refl b).0) (λ b. (changes.refused s refl b).1) h;
     fails = λ s a h. (
       ap is_some (is_admitted.early a),
-      λ k. elim (cases_lt (g.refusals old) greatest_count) [
+      λ k. elim (cases_lt (g.refusals old) max_count) [
         | inl lt ↦ inl (omega (arith, tells.counted, lt))
         | inr ge ↦ inr (omega (arith, tells.counted, ge))
       ],

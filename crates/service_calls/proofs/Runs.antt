@@ -12,11 +12,11 @@ use Rattle.service_calls.specs.declared.service.Service.{Service}
 use Rattle.service_calls.specs.Held.{Stays, is_shut, salt_of, space_of}
 use Rattle.service_step.specs.Step.{step}
 use Rattle.service_calls.specs.Service.{Leaves}
-use Rattle.service_calls.specs.Run.{Answered, AskedInOrder, IsReplyTo, Runs, StayStopped, Timed, answered_calls, has_stopped, replies_of, told_replies}
+use Rattle.service_calls.specs.Run.{Answered, AskedInOrder, IsReplyTo, Runs, StayStopped, TimedCall, answered_calls, has_stopped, replies_of, delivered_replies}
 
 module _ {S : Type 0} (g : Ghosts S) where
   -- one more call that was asked
-  pub asked_more : (old : Service S) (cs : List Timed) (rs : List Reply) (mid new : Service S) (c : Timed) (r : Reply) → AskedInOrder g old cs rs mid
+  pub asked_more : (old : Service S) (cs : List TimedCall) (rs : List Reply) (mid new : Service S) (c : TimedCall) (r : Reply) → AskedInOrder g old cs rs mid
       → IsReplyTo g mid new c.0 c.1 r → AskedInOrder g old (cs ++ c ∷ []) (rs ++ r ∷ []) new
   asked_more old [] [] mid new c r same reply = (new, subst (λ (x : Service S). IsReplyTo g x new c.0 c.1 r) same reply, refl)
   asked_more old [] (x ∷ rs) mid new c r h reply = absurd h
@@ -37,7 +37,7 @@ module _ {S : Type 0} (g : Ghosts S) where
     whole = λ s w. q.whole s (p.whole (q.sound s) w);
   }
 
-  stays_all : (old : Service S) (cs : List Timed) (rs : List Reply) (new : Service S) → AskedInOrder g old cs rs new → Stays g old new
+  stays_all : (old : Service S) (cs : List TimedCall) (rs : List Reply) (new : Service S) → AskedInOrder g old cs rs new → Stays g old new
   stays_all old [] [] new h = subst (Stays g old) (sym h) (stays_same old)
   stays_all old [] (r ∷ rs) new h = absurd h
   stays_all old (c ∷ cs) [] new h = absurd h
@@ -45,7 +45,7 @@ module _ {S : Type 0} (g : Ghosts S) where
 
   -- ---- where the service was shut
 
-  shut_all : (old : Service S) (cs : List Timed) (rs : List Reply) (new : Service S) → AskedInOrder g old cs rs new → is_shut old ≡ true → All (λ r. r ≡ Stopped) rs
+  shut_all : (old : Service S) (cs : List TimedCall) (rs : List Reply) (new : Service S) → AskedInOrder g old cs rs new → is_shut old ≡ true → All (λ r. r ≡ Stopped) rs
   shut_all old [] [] new h n = All-nil (λ r. r ≡ Stopped)
   shut_all old [] (r ∷ rs) new h n = absurd h
   shut_all old (c ∷ cs) [] new h n = absurd h
@@ -53,18 +53,18 @@ module _ {S : Type 0} (g : Ghosts S) where
       All-cons (λ r. r ≡ Stopped) r rs (h.1.shut n) (shut_all h.0 cs rs new h.2 (ap (λ (x : Service S). is_shut x) (h.1.stays.shut n) ∙ n))
 
   -- after a stop nothing changes
-  same_after : (old mid : Service S) (cs : List Timed) (rs : List Reply) (new : Service S) (c : Timed) → IsReplyTo g old mid c.0 c.1 Stopped → AskedInOrder g mid cs rs new → is_shut old ≡ false → new ≡ mid
+  same_after : (old mid : Service S) (cs : List TimedCall) (rs : List Reply) (new : Service S) (c : TimedCall) → IsReplyTo g old mid c.0 c.1 Stopped → AskedInOrder g mid cs rs new → is_shut old ≡ false → new ≡ mid
   same_after old mid cs rs new c reply h n = (stays_all mid cs rs new h).shut (reply.shuts n)
 
   -- ---- where it was not
 
-  one_each : (old : Service S) (cs : List Timed) (rs : List Reply) (new : Service S) → AskedInOrder g old cs rs new → length rs ≡ length cs
+  one_each : (old : Service S) (cs : List TimedCall) (rs : List Reply) (new : Service S) → AskedInOrder g old cs rs new → length rs ≡ length cs
   one_each old [] [] new h = refl
   one_each old [] (r ∷ rs) new h = absurd h
   one_each old (c ∷ cs) [] new h = absurd h
   one_each old (c ∷ cs) (r ∷ rs) new h = omega (arith, one_each h.0 cs rs new h.2)
 
-  shuts_all : (old : Service S) (cs : List Timed) (rs : List Reply) (new : Service S) → AskedInOrder g old cs rs new → is_shut old ≡ false → is_shut new ≡ has_stopped rs
+  shuts_all : (old : Service S) (cs : List TimedCall) (rs : List Reply) (new : Service S) → AskedInOrder g old cs rs new → is_shut old ≡ false → is_shut new ≡ has_stopped rs
   shuts_all old [] [] new h n = ap (λ (x : Service S). is_shut x) h ∙ n
   shuts_all old [] (r ∷ rs) new h n = absurd h
   shuts_all old (c ∷ cs) [] new h n = absurd h
@@ -73,7 +73,7 @@ module _ {S : Type 0} (g : Ghosts S) where
   shuts_all old (c ∷ cs) (Done x ∷ rs) new h n = shuts_all h.0 cs rs new h.2 (h.1.shuts n)
   shuts_all old (c ∷ cs) (Denied p m ∷ rs) new h n = shuts_all h.0 cs rs new h.2 (h.1.shuts n)
 
-  stopped_all : (old : Service S) (cs : List Timed) (rs : List Reply) (new : Service S) → AskedInOrder g old cs rs new → is_shut old ≡ false → StayStopped rs
+  stopped_all : (old : Service S) (cs : List TimedCall) (rs : List Reply) (new : Service S) → AskedInOrder g old cs rs new → is_shut old ≡ false → StayStopped rs
   stopped_all old [] [] new h n = tt
   stopped_all old [] (r ∷ rs) new h n = absurd h
   stopped_all old (c ∷ cs) [] new h n = absurd h
@@ -82,7 +82,7 @@ module _ {S : Type 0} (g : Ghosts S) where
   stopped_all old (c ∷ cs) (Done x ∷ rs) new h n = stopped_all h.0 cs rs new h.2 (h.1.shuts n)
   stopped_all old (c ∷ cs) (Denied p m ∷ rs) new h n = stopped_all h.0 cs rs new h.2 (h.1.shuts n)
 
-  breaks_all : (old : Service S) (cs : List Timed) (rs : List Reply) (new : Service S) → AskedInOrder g old cs rs new → is_shut old ≡ false
+  breaks_all : (old : Service S) (cs : List TimedCall) (rs : List Reply) (new : Service S) → AskedInOrder g old cs rs new → is_shut old ≡ false
       → g.is_broken (space_of new) ≡ (has_stopped rs || g.is_broken (space_of old))
   breaks_all old [] [] new h n = ap (λ (x : Service S). g.is_broken (space_of x)) h
   breaks_all old [] (r ∷ rs) new h n = absurd h
@@ -93,12 +93,12 @@ module _ {S : Type 0} (g : Ghosts S) where
   breaks_all old (c ∷ cs) (Denied p m ∷ rs) new h n = breaks_all h.0 cs rs new h.2 (h.1.shuts n) ∙ ap (λ (b : Bool). has_stopped rs || b) (h.1.answers n).breaks
 
   -- a call that was answered by the policy's reply, and then the others
-  runs_on : (salt : List ℕ) (a : Airspace) (c : Timed) (r : Reply) (cs : List Timed) (rs : List Reply) (new : S) → (step salt a c.0 c.1).1 ≡ r → Runs g salt (step salt a c.0 c.1).0 cs rs new
-      → r ∷ told_replies rs ≡ replies_of salt a (c ∷ answered_calls cs rs)
+  runs_on : (salt : List ℕ) (a : Airspace) (c : TimedCall) (r : Reply) (cs : List TimedCall) (rs : List Reply) (new : S) → (step salt a c.0 c.1).1 ≡ r → Runs g salt (step salt a c.0 c.1).0 cs rs new
+      → r ∷ delivered_replies rs ≡ replies_of salt a (c ∷ answered_calls cs rs)
   runs_on salt a c r cs rs new is rest =
-      ap (λ (x : Reply). x ∷ told_replies rs) (sym is) ∙ ap (λ (xs : List Reply). (step salt a c.0 c.1).1 ∷ xs) rest.replies
+      ap (λ (x : Reply). x ∷ delivered_replies rs) (sym is) ∙ ap (λ (xs : List Reply). (step salt a c.0 c.1).1 ∷ xs) rest.replies
 
-  runs_all : (old : Service S) (cs : List Timed) (rs : List Reply) (new : Service S) → AskedInOrder g old cs rs new → is_shut old ≡ false → g.is_sound (space_of new)
+  runs_all : (old : Service S) (cs : List TimedCall) (rs : List Reply) (new : Service S) → AskedInOrder g old cs rs new → is_shut old ≡ false → g.is_sound (space_of new)
       → (a : Airspace) → IsContent g.holds (space_of old) a → Runs g (salt_of old) a cs rs (space_of new)
   runs_all old [] [] new h n s a content = record {
     replies = refl;
@@ -131,7 +131,7 @@ module _ {S : Type 0} (g : Ghosts S) where
       record { replies = runs_on (salt_of old) a c (Denied p m) cs rs (space_of new) (ap (λ (x : Airspace × Reply). x.1) l.0) rest; whole = rest.whole; kept = rest.kept }
 
   -- what is known of all replies
-  pub answered : (old : Service S) (cs : List Timed) (rs : List Reply) (new : Service S) → AskedInOrder g old cs rs new → Answered g old cs rs new
+  pub answered : (old : Service S) (cs : List TimedCall) (rs : List Reply) (new : Service S) → AskedInOrder g old cs rs new → Answered g old cs rs new
   answered old cs rs new h = record {
     in_order = h;
     one_each = one_each old cs rs new h;

@@ -13,18 +13,18 @@ use Rattle.entity_core.specs.Airspace.{Airspace, EntityKey, empty_at, key_cmp}
 use Rattle.entity_core.specs.declared.entity.Entity.{Entity}
 use Rattle.entity_core.proofs.Entries.{first, less, second}
 use Rattle.entity_core.proofs.Keys.{key_total}
-use Rattle.entity_sweep.specs.Sweep.{IsPartlySwept}
-use Rattle.space_core.specs.declared.settle.Settles as settles
+use Rattle.entity_purge.specs.Purge.{IsPartlyPurged}
+use Rattle.space_core.specs.declared.group_commit.GroupCommit as settles
 use Rattle.service_calls.specs.declared.service.Service.{Service}
 use Rattle.service_calls.specs.Aware.{MadeCall}
 use Rattle.service_calls.specs.Held.{space_of}
 use Rattle.service_calls.specs.Run.{answered_calls, has_stopped}
-use Rattle.service_calls.specs.Rounds.{IfStopped, MayHaveKept, Round, all_timed, all_told}
+use Rattle.service_calls.specs.Batches.{IfStopped, MayHavePersisted, Batch, all_timed, all_delivered}
 use Rattle.service_calls.specs.Stale.{AllNumbered, IsNumbered}
-use Rattle.service_calls.specs.Swept.{MayHaveKeptSwept, RunsSwept, Segment, airspace_after_rounds}
+use Rattle.service_calls.specs.Purged.{MayHavePersistedPurged, RunsPurged, Segment, airspace_after_batches}
 use Rattle.service_calls.proofs.Awares.{Kept, kept_empty, kept_run}
 use Rattle.service_calls.proofs.Kept.{all_found}
-use Rattle.service_calls.proofs.RoundLaws.{kept_numbered}
+use Rattle.service_calls.proofs.BatchLaws.{kept_numbered}
 
 -- ---- what holds of each entry that is found holds of each
 
@@ -55,7 +55,7 @@ all_entries R P (e ∷ es) o rises found = (
 -- ---- a sweep
 
 -- an airspace swept in part is numbered as it was
-pub kept_partly : (salt : List ℕ) (last : EntityKey → Option MadeCall) (until : ℕ) (a b : Airspace) → Kept salt last a → IsPartlySwept until a b → Kept salt last b
+pub kept_partly : (salt : List ℕ) (last : EntityKey → Option MadeCall) (until : ℕ) (a b : Airspace) → Kept salt last a → IsPartlyPurged until a b → Kept salt last b
 kept_partly salt last until a b is partly =
     let serial : b.serial ≡ a.serial = ap (λ (x : Airspace). x.serial) partly.same in
     record {
@@ -71,16 +71,16 @@ kept_partly salt last until a b is partly =
       knew = λ k l x y hx hy older needs meet. is.knew k l x y (partly.entities k x hx) (partly.entities l y hy) older needs meet;
     }
 
-numbered_swept : (salt : List ℕ) (segments : List Segment) (rounds : List Round) (last : EntityKey → Option MadeCall) (a b : Airspace) → Kept salt last a → MayHaveKeptSwept salt a segments rounds b → AllNumbered salt b
-numbered_swept salt [] rounds last a b is kept = kept_numbered salt rounds last a b is kept
-numbered_swept salt (segment ∷ segments) rounds last a b is kept =
-    elim (has_stopped (all_told segment.rounds)) as (λ x. IfStopped x (MayHaveKept salt a segment.rounds b)
-    ((c : Airspace) × IsPartlySwept segment.until (airspace_after_rounds salt a segment.rounds) c × MayHaveKeptSwept salt c segments rounds b) → AllNumbered salt b) [
-      | true ↦ λ left. kept_numbered salt segment.rounds last a b is left
+numbered_purged : (salt : List ℕ) (segments : List Segment) (batches : List Batch) (last : EntityKey → Option MadeCall) (a b : Airspace) → Kept salt last a → MayHavePersistedPurged salt a segments batches b → AllNumbered salt b
+numbered_purged salt [] batches last a b is kept = kept_numbered salt batches last a b is kept
+numbered_purged salt (segment ∷ segments) batches last a b is kept =
+    elim (has_stopped (all_delivered segment.batches)) as (λ x. IfStopped x (MayHavePersisted salt a segment.batches b)
+    ((c : Airspace) × IsPartlyPurged segment.until (airspace_after_batches salt a segment.batches) c × MayHavePersistedPurged salt c segments batches b) → AllNumbered salt b) [
+      | true ↦ λ left. kept_numbered salt segment.batches last a b is left
       | false ↦ λ more.
-          numbered_swept salt segments rounds _ more.0 b
-          (kept_partly salt _ segment.until (airspace_after_rounds salt a segment.rounds) more.0 (kept_run salt last (answered_calls (all_timed segment.rounds) (all_told segment.rounds)) a is) more.1) more.2
+          numbered_purged salt segments batches _ more.0 b
+          (kept_partly salt _ segment.until (airspace_after_batches salt a segment.batches) more.0 (kept_run salt last (answered_calls (all_timed segment.batches) (all_delivered segment.batches)) a is) more.1) more.2
     ] kept
 
-pub swept_numbered : {S : Type 0} (k : settles.Ghosts S) (salt : List ℕ) (n : ℕ) (segments : List Segment) (rounds : List Round) (new : Service S) (a : Airspace) → RunsSwept k salt (empty_at n) segments rounds new → k.keeps (space_of new) a → AllNumbered salt a
-swept_numbered k salt n segments rounds new a runs held = numbered_swept salt segments rounds _ (empty_at n) a (kept_empty salt n) (runs.kept a held)
+pub purged_numbered : {S : Type 0} (k : settles.Ghosts S) (salt : List ℕ) (n : ℕ) (segments : List Segment) (batches : List Batch) (new : Service S) (a : Airspace) → RunsPurged k salt (empty_at n) segments batches new → k.persists (space_of new) a → AllNumbered salt a
+purged_numbered k salt n segments batches new a runs held = numbered_purged salt segments batches _ (empty_at n) a (kept_empty salt n) (runs.kept a held)

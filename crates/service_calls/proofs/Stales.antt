@@ -28,7 +28,7 @@ use Rattle.service_step.specs.declared.reply.Reply.{Reply}
 use Rattle.service_step.specs.declared.reply.Reply.TheVariants.{Done, Denied, Fault, Stopped}
 use Rattle.service_calls.specs.Service.{Leaves}
 use Rattle.service_calls.specs.Stale.{IsNumbered, AllNumbered, DifferUpTo, IsOfAnother, IsRefusedFor, FailsOrIsRefused, IsStale}
-use Rattle.service_step.specs.Step.{step, step_by, told_missing}
+use Rattle.service_step.specs.Step.{step, step_by, missing_views}
 
 -- ---- members of lists
 
@@ -103,7 +103,7 @@ stale_step salt a t c kind y s =
     let numbered : IsNumbered salt a.serial y = all_contained (IsNumbered salt a.serial) (needed kind a c.caller c.op) y (call_numbered salt kind a c.caller c.op s.numbered) s.needs in
     let asked = missing_denied a t c.caller c.op kind y s.needs (not_known salt a y (key_shown c.op) s.differ numbered s.old) in
     subst (λ (r : Option Rule). IsRefusedFor kind a c y (step_by salt a c r).1) (sym asked.first)
-    (asked.number, λ is. subst (λ (p : Rule). IsListed kind a c.caller y (told_missing a c p)) (sym is) (asked.listed is))
+    (asked.number, λ is. subst (λ (p : Rule). IsListed kind a c.caller y (missing_views a c p)) (sym is) (asked.listed is))
 
 -- ---- what a service tells
 

@@ -13,7 +13,7 @@ use Rattle.policy_core.specs.Known.{call_needs}
 use Rattle.policy_core.specs.Missing.{is_spared, key_shown, needs_key}
 use Rattle.service_step.specs.declared.reply.Reply.{Reply}
 use Rattle.service_step.specs.declared.reply.Reply.TheVariants.{Done, Denied, Fault, Stopped}
-use Rattle.service_calls.specs.Run.{Timed}
+use Rattle.service_calls.specs.Run.{TimedCall}
 use Rattle.service_step.specs.Step.{step}
 
 -- ---- the last put of an entity
@@ -36,7 +36,7 @@ is_done Fault = false
 is_done Stopped = false
 
 -- The airspace after a call that was answered so: only one that was answered `Done` may change it.
-abbrev pub left_by : List ℕ → Airspace → Timed → Reply → Airspace
+abbrev pub left_by : List ℕ → Airspace → TimedCall → Reply → Airspace
 left_by salt a c r = if is_done r then (step salt a c.0 c.1).0 else a
 
 -- the later one, if there is one, and else the earlier one
@@ -50,7 +50,7 @@ put_in k a c r = if is_done r && puts k c.op then Some (record { before = a; cal
 
 -- Of calls that were made from an airspace on and answered so, the last one answered `Done` that
 -- created or updated the entity of a kind and an id.
-abbrev pub last_writer : List ℕ → EntityKey → Airspace → List Timed → List Reply → Option MadeCall
+abbrev pub last_writer : List ℕ → EntityKey → Airspace → List TimedCall → List Reply → Option MadeCall
 last_writer salt k a [] rs = None
 last_writer salt k a (c ∷ cs) [] = None
 last_writer salt k a (c ∷ cs) (r ∷ rs) =
@@ -91,7 +91,7 @@ SerialsDiffer a = (k l : EntityKey) (x y : Entity) → get a.entities k ≡ Some
 -- After calls that were made from an airspace on and answered so, of any two entities one has the
 -- greater serial. Where they meet and it is an intent that is planned or flown as planned, its last
 -- put knew the other.
-pub record Aware (salt : List ℕ) (from : Airspace) (cs : List Timed) (rs : List Reply)
+pub record Aware (salt : List ℕ) (from : Airspace) (cs : List TimedCall) (rs : List Reply)
     (a : Airspace) : Type 0 where
   pub proper : IsAirspace a
   pub serials : SerialsDiffer a

@@ -5,7 +5,7 @@ use Rattle.policy_core.specs.declared.call.Call.{Call}
 use Rattle.policy_core.specs.Blind.{IsLike, KnowsTheSame, ToldTheSame, is_by}
 use Rattle.service_step.specs.declared.reply.Reply.{Reply}
 use Rattle.service_step.specs.Step.{step}
-use Rattle.service_calls.specs.Run.{Timed, replies_of, airspace_after}
+use Rattle.service_calls.specs.Run.{TimedCall, replies_of, airspace_after}
 
 -- A call is made in two airspaces: if it is the supplier's, its key knows as much of both; if it is
 -- another's, its key and its path do.
@@ -14,13 +14,13 @@ pub record MadeAlike (m : List ℕ) (c : Call) (a b : Airspace) : Type 0 where
   pub others : is_by m c ≡ false → ToldTheSame m c a b
 
 -- each call of a list, where it is made
-abbrev pub AllMadeAlike : List ℕ → List ℕ → List Timed → Airspace → Airspace → Type 0
+abbrev pub AllMadeAlike : List ℕ → List ℕ → List TimedCall → Airspace → Airspace → Type 0
 AllMadeAlike salt m [] a b = Unit {0}
 AllMadeAlike salt m (c ∷ cs) a b = MadeAlike m c.1 a b
     × AllMadeAlike salt m cs (step salt a c.0 c.1).0 (step salt b c.0 c.1).0
 
 -- the replies to the calls that the supplier made
-abbrev pub replies_to : List ℕ → List Timed → List Reply → List Reply
+abbrev pub replies_to : List ℕ → List TimedCall → List Reply → List Reply
 replies_to m [] rs = []
 replies_to m (c ∷ cs) [] = []
 replies_to m (c ∷ cs) (r ∷ rs) = if is_by m c.1 then r ∷ replies_to m cs rs else replies_to m cs rs
@@ -38,7 +38,7 @@ CallIsBlind = (salt m : List ℕ) (a b : Airspace) (now : ℕ) (c : Call) → Is
 -- Over every list of calls, whoever makes them, the supplier is told the same, and the airspaces
 -- stay alike.
 abbrev pub RunIsBlind : Type 0
-RunIsBlind = (salt m : List ℕ) (cs : List Timed) (a b : Airspace) → IsLike m a b
+RunIsBlind = (salt m : List ℕ) (cs : List TimedCall) (a b : Airspace) → IsLike m a b
     → AllMadeAlike salt m cs a b
     → (replies_to m cs (replies_of salt a cs) ≡ replies_to m cs (replies_of salt b cs))
     × IsLike m (airspace_after salt a cs) (airspace_after salt b cs)

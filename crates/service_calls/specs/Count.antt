@@ -9,14 +9,14 @@ use Rattle.policy_core.specs.declared.call.Operation.{Operation}
 use Rattle.policy_core.specs.declared.call.Operation.TheVariants.{CreateSub}
 use Rattle.service_step.specs.declared.reply.Reply.{Reply}
 use Rattle.service_calls.specs.Aware.{MadeCall, is_done, left_by}
-use Rattle.service_notices.specs.Notices.{notifies}
-use Rattle.service_calls.specs.Run.{Timed}
+use Rattle.service_notify.specs.Notices.{notifies}
+use Rattle.service_calls.specs.Run.{TimedCall}
 
 -- ---- the calls that were answered `Done`
 
 -- Of calls that were made from an airspace on and answered so, those answered `Done`, in order,
 -- each with the airspace before it.
-abbrev pub done_calls : List ℕ → Airspace → List Timed → List Reply → List MadeCall
+abbrev pub done_calls : List ℕ → Airspace → List TimedCall → List Reply → List MadeCall
 done_calls salt a [] rs = []
 done_calls salt a (c ∷ cs) [] = []
 done_calls salt a (c ∷ cs) (r ∷ rs) =
@@ -55,6 +55,6 @@ pub record IsCounted (id : ℕ) (made : List MadeCall) (index : ℕ) : Type 0 wh
 
 -- After calls that were made from an airspace on and answered so, each subscription's index is that
 -- number.
-abbrev pub Counts : List ℕ → Airspace → List Timed → List Reply → Airspace → Type 0
+abbrev pub Counts : List ℕ → Airspace → List TimedCall → List Reply → Airspace → Type 0
 Counts salt from cs rs a = (id : ℕ) (s : Sub) → get a.subscriptions id ≡ Some s
     → IsCounted id (done_calls salt from cs rs) s.index

@@ -13,13 +13,13 @@ use Rattle.policy_core.specs.Standing.{sub_of}
 use Rattle.policy_core.specs.View.{view_of}
 use Rattle.space_core.specs.declared.space.Change.{Change}
 use Rattle.service_step.specs.declared.admitted.Admitted.{Admitted}
-use Rattle.service_step.specs.declared.look.OwnFacts.{OwnFacts}
+use Rattle.service_step.specs.declared.look_up.OwnedFacts.{OwnedFacts}
 use Rattle.service_step.specs.declared.needed.JudgedPut.{JudgedPut}
 use Rattle.service_step.specs.declared.reply.Answer.{Answer}
 use Rattle.service_step.specs.Admitted.{BreaksNone}
 use Rattle.service_step.specs.Looks.{AreFacts, IsReady, Makes, facts_in}
 use Rattle.service_step.specs.Needed.{needed_by}
-use Rattle.service_step.specs.Step.{told_missing}
+use Rattle.service_step.specs.Step.{missing_views}
 use Rattle.service_calls.specs.declared.decide.Decision.{Decision}
 use Rattle.service_calls.specs.declared.decide.Decision.TheVariants as decisions
 
@@ -43,7 +43,7 @@ IsMissingFor admitted sub a missing = sub ≡ sub_of a admitted.call.now.op
 -- ---- the first rule
 
 -- none of P7 to P13, P16 and P17 is broken, by what was looked up or in an airspace
-abbrev pub BreaksNoStandingBy : Admitted → OwnFacts → Type 0
+abbrev pub BreaksNoStandingBy : Admitted → OwnedFacts → Type 0
 BreaksNoStandingBy admitted g =
     find (breaks_given (facts_in g) admitted.moment admitted.call.now) standing_rules ≡ None
 
@@ -56,16 +56,16 @@ abbrev pub IsFirst : Admitted → Airspace → Option (Rule × Missing) → Type
 IsFirst admitted a None = BreaksNone admitted a
 IsFirst admitted a (Some broken) =
     (first_broken a admitted.moment admitted.call.now ≡ Some broken.0)
-    × (broken.1 ≡ told_missing a admitted.call.now broken.0)
+    × (broken.1 ≡ missing_views a admitted.call.now broken.0)
 
 -- it is, where this was looked up for the call
-abbrev pub IsFirstBy : Admitted → OwnFacts → Airspace → Option (Rule × Missing) → Type 0
+abbrev pub IsFirstBy : Admitted → OwnedFacts → Airspace → Option (Rule × Missing) → Type 0
 IsFirstBy admitted g a broken =
     AreFacts admitted.call.now.op a g → IsFirst admitted a broken
 
 -- ---- the decision
 
-abbrev pub decision_of : OwnFacts → Option (Rule × Missing) → Decision
+abbrev pub decision_of : OwnedFacts → Option (Rule × Missing) → Decision
 decision_of g None = decisions.Allowed g
 decision_of g (Some broken) = decisions.Refused broken.0 broken.1
 

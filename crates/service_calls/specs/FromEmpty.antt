@@ -7,7 +7,7 @@ use Rattle.service_calls.specs.declared.service.Service.{Service}
 use Rattle.service_calls.specs.Aware.{Aware}
 use Rattle.service_calls.specs.Count.{Counts}
 use Rattle.service_calls.specs.Held.{is_shut, salt_of, space_of}
-use Rattle.service_calls.specs.Run.{Timed, has_stopped}
+use Rattle.service_calls.specs.Run.{TimedCall, has_stopped}
 use Rattle.service_calls.specs.Stale.{AllNumbered}
 use Rattle.service_step.specs.declared.reply.Reply.{Reply}
 
@@ -18,7 +18,7 @@ RunIsNumbered g old new = g.is_sound (space_of new)
     → (n : ℕ) → IsContent g.holds (space_of old) (empty_at n)
     → (a : Airspace) → g.holds (space_of new) a → AllNumbered (salt_of old) a
 
-module _ {S : Type 0} (g : Ghosts S) (old : Service S) (cs : List Timed) (rs : List Reply)
+module _ {S : Type 0} (g : Ghosts S) (old : Service S) (cs : List TimedCall) (rs : List Reply)
     (new : Service S) where
   -- Where the service was not shut, and nothing stopped: P of an empty airspace, of whatever
   -- serial, that its space held, and of one that it may then hold.

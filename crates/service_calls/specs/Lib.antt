@@ -2,10 +2,10 @@ pub mod Decision
 pub mod Service
 pub mod Held
 pub mod Run
-pub mod Rounds
+pub mod Batches
 pub mod Blind
 pub mod Aware
 pub mod Count
 pub mod Stale
 pub mod FromEmpty
-pub mod Swept
+pub mod Purged

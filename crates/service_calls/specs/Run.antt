@@ -15,8 +15,8 @@ use Rattle.space_core.specs.Space.{IsContent}
 use Rattle.service_step.specs.Step.{step}
 
 -- a call and its moment
-abbrev pub Timed : Type 0
-Timed = ℕ × Call
+abbrev pub TimedCall : Type 0
+TimedCall = ℕ × Call
 
 -- The service was asked once, and this is its reply. Where it was not shut: what the policy says,
 -- or a fault where one may come, or `Stopped`, which shuts it; a call that breaks an early rule is
@@ -35,7 +35,7 @@ pub record IsReplyTo {S : Type 0} (g : Ghosts S) (old new : Service S) (moment :
       → Answers g (salt_of old) moment call (space_of old) (space_of new) reply
 
 -- The service was asked the calls in order, each once, and these are its replies.
-abbrev pub AskedInOrder : {S : Type 0} → Ghosts S → Service S → List Timed → List Reply → Service S
+abbrev pub AskedInOrder : {S : Type 0} → Ghosts S → Service S → List TimedCall → List Reply → Service S
     → Type 0
 AskedInOrder g old [] [] new = new ≡ old
 AskedInOrder g old [] (r ∷ rs) new = ⊥
@@ -44,16 +44,16 @@ AskedInOrder {S} g old (c ∷ cs) (r ∷ rs) new =
     (mid : Service S) × IsReplyTo g old mid c.0 c.1 r × AskedInOrder g mid cs rs new
 
 -- the policy over a list of calls: the replies, and the airspace after them
-abbrev pub replies_of : List ℕ → Airspace → List Timed → List Reply
+abbrev pub replies_of : List ℕ → Airspace → List TimedCall → List Reply
 replies_of salt a [] = []
 replies_of salt a (c ∷ cs) = (step salt a c.0 c.1).1 ∷ replies_of salt (step salt a c.0 c.1).0 cs
 
-abbrev pub airspace_after : List ℕ → Airspace → List Timed → Airspace
+abbrev pub airspace_after : List ℕ → Airspace → List TimedCall → Airspace
 airspace_after salt a [] = a
 airspace_after salt a (c ∷ cs) = airspace_after salt (step salt a c.0 c.1).0 cs
 
 -- up to the first `Stopped`: the calls that were answered otherwise than by `Fault`
-abbrev pub answered_calls : List Timed → List Reply → List Timed
+abbrev pub answered_calls : List TimedCall → List Reply → List TimedCall
 answered_calls [] rs = []
 answered_calls (c ∷ cs) [] = []
 answered_calls (c ∷ cs) (Fault ∷ rs) = answered_calls cs rs
@@ -62,15 +62,15 @@ answered_calls (c ∷ cs) (Done x ∷ rs) = c ∷ answered_calls cs rs
 answered_calls (c ∷ cs) (Denied p m ∷ rs) = c ∷ answered_calls cs rs
 
 -- and those answers
-abbrev pub told_replies : List Reply → List Reply
-told_replies [] = []
-told_replies (Fault ∷ rs) = told_replies rs
-told_replies (Stopped ∷ rs) = []
-told_replies (Done x ∷ rs) = Done x ∷ told_replies rs
-told_replies (Denied p m ∷ rs) = Denied p m ∷ told_replies rs
+abbrev pub delivered_replies : List Reply → List Reply
+delivered_replies [] = []
+delivered_replies (Fault ∷ rs) = delivered_replies rs
+delivered_replies (Stopped ∷ rs) = []
+delivered_replies (Done x ∷ rs) = Done x ∷ delivered_replies rs
+delivered_replies (Denied p m ∷ rs) = Denied p m ∷ delivered_replies rs
 
 -- the first call that was answered `Stopped`, if there is one, may have had its effect
-abbrev pub MayHaveStepped : List ℕ → Airspace → List Timed → List Reply → Airspace → Type 0
+abbrev pub MayHaveStepped : List ℕ → Airspace → List TimedCall → List Reply → Airspace → Type 0
 MayHaveStepped salt a [] rs after = after ≡ a
 MayHaveStepped salt a (c ∷ cs) [] after = after ≡ a
 MayHaveStepped salt a (c ∷ cs) (Fault ∷ rs) after = MayHaveStepped salt a cs rs after
@@ -99,9 +99,9 @@ StayStopped (Denied p m ∷ rs) = StayStopped rs
 -- The replies are the policy's, but for the calls that failed. Where none is `Stopped`, its
 -- airspace is the content; else nothing is held but that up to the call so answered, or that call's
 -- step.
-pub record Runs {S : Type 0} (g : Ghosts S) (salt : List ℕ) (a : Airspace) (cs : List Timed)
+pub record Runs {S : Type 0} (g : Ghosts S) (salt : List ℕ) (a : Airspace) (cs : List TimedCall)
     (rs : List Reply) (new : S) : Type 0 where
-  pub replies : told_replies rs ≡ replies_of salt a (answered_calls cs rs)
+  pub replies : delivered_replies rs ≡ replies_of salt a (answered_calls cs rs)
   pub whole : has_stopped rs ≡ false
       → IsContent g.holds new (airspace_after salt a (answered_calls cs rs))
   pub kept : (b : Airspace) → g.holds new b → MayHaveStepped salt a cs rs b
@@ -109,7 +109,7 @@ pub record Runs {S : Type 0} (g : Ghosts S) (salt : List ℕ) (a : Airspace) (cs
 -- What is known of the replies to a list of calls: each call was asked once, in order. A service
 -- that was shut says nothing but `Stopped`. Else its replies are the policy's; the first `Stopped`
 -- shuts it, exactly where the space answered `Broken`, and then there is nothing else.
-pub record Answered {S : Type 0} (g : Ghosts S) (old : Service S) (cs : List Timed)
+pub record Answered {S : Type 0} (g : Ghosts S) (old : Service S) (cs : List TimedCall)
     (rs : List Reply) (new : Service S) : Type 0 where
   pub in_order : AskedInOrder g old cs rs new
   pub one_each : length rs ≡ length cs

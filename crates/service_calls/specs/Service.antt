@@ -2,20 +2,20 @@
 use Rattle.std.specs.Prelude.{◌≡◌, ℕ, ◌<◌, ◌||◌, List, find, ◌⊎◌, IsSome, IsNone}
 use Rattle.entity_core.specs.Airspace.{Airspace}
 use Rattle.space_core.specs.declared.space.Space.{Ghosts}
-use Rattle.space_core.specs.Space.{greatest_count, IsContent}
+use Rattle.space_core.specs.Space.{max_count, IsContent}
 use Rattle.policy_core.specs.declared.call.Call.{Call}
 use Rattle.service_step.specs.declared.admitted.Admitted.{Admitted}
 use Rattle.service_step.specs.declared.reply.Reply.{Reply}
 use Rattle.service_step.specs.declared.reply.Reply.TheVariants.{Done, Denied, Fault, Stopped}
 use Rattle.policy_core.specs.Policy.{breaks, early_rules, standing_rules}
 use Rattle.space_core.specs.declared.space.SpaceFault.TheVariants.{Unchanged, Broken}
-use Rattle.service_step.specs.declared.halt.Halt.{Halt}
-use Rattle.service_step.specs.declared.halt.Halt.TheVariants.{NoMemory, Space}
+use Rattle.service_step.specs.declared.call_fault.CallFault.{CallFault}
+use Rattle.service_step.specs.declared.call_fault.CallFault.TheVariants.{NoMemory, Space}
 use Rattle.service_step.specs.Reply.{is_stopped}
 use Rattle.service_step.specs.Step.{step}
 
 -- the reply where a call was given up
-abbrev pub reply_of : Halt → Reply
+abbrev pub reply_of : CallFault → Reply
 reply_of NoMemory = Fault
 reply_of (Space Unchanged) = Fault
 reply_of (Space Broken) = Stopped
@@ -37,7 +37,7 @@ Leaves g salt a now c Stopped new = (b : Airspace) → g.holds new b
 abbrev pub MayFail : Airspace → ℕ → Call → Reply → ℕ → ℕ → Type 0
 MayFail a now c Fault refusals refusals' = IsNone (find (breaks a now c) early_rules)
     × (IsSome (find (breaks a now c) standing_rules)
-    → (refusals < refusals') ⊎ (refusals' ≡ greatest_count))
+    → (refusals < refusals') ⊎ (refusals' ≡ max_count))
 MayFail a now c (Done answer) refusals refusals' = Unit {0}
 MayFail a now c (Denied r m) refusals refusals' = Unit {0}
 MayFail a now c Stopped refusals refusals' = Unit {0}

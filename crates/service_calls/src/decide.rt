@@ -4,7 +4,7 @@ ghost use Rattle.entity_core.specs.Airspace.{Airspace};
 ghost use Rattle.grid_core.specs.Extent.{region_of};
 ghost use Rattle.policy_core.specs.Missing.{is_nothing};
 ghost use Rattle.service_step.specs.Admitted.{IsAdmitted};
-ghost use Rattle.service_step.specs.Looks.{Looks, IsReady};
+ghost use Rattle.service_step.specs.Looks.{LooksUp, IsReady};
 ghost use Rattle.service_calls.specs.Decision.{BreaksNoStanding, BreaksNoStandingBy, Decides};
 ghost use Rattle.service_calls.specs.Decision.{IsFirstBy, IsMissingFor, IsReadyIfAllowed};
 ghost use Rattle.service_calls.specs.Decision.{decision_of, missing_by, missing_kind_by};
@@ -18,8 +18,8 @@ use policy_core::reference::{Missing, References};
 use policy_core::rule::Rule;
 use policy_core::standing::standing;
 use service_step::admitted::Admitted;
-use service_step::halt::Halt;
-use service_step::look::{OwnFacts, look};
+use service_step::call_fault::CallFault;
+use service_step::look_up::{OwnedFacts, look_up};
 use service_step::needed::{JudgedPut, missing_from, needed_with};
 use space_core::space::{Space, SpaceFault};
 use std::alloc::Global;
@@ -30,7 +30,7 @@ pub enum Decision {
     /// It breaks this rule first; this is what is missing.
     Refused(Rule, Missing),
     /// It breaks no rule; this was looked up for it.
-    Allowed(OwnFacts),
+    Allowed(OwnedFacts),
 }
 
 // All that is missing from the key of a call, where this is the subscription that it names.
@@ -40,8 +40,8 @@ fn missing_for<S: Space>(
     alloc: Global,
     admitted: &Admitted<'_>,
     sub: &Option<Sub>,
-) -> Result<Missing, Halt>
-    ensures { Looks S.Space space.old space.new result (IsMissingFor admitted.now sub.now) }
+) -> Result<Missing, CallFault>
+    ensures { LooksUp S.Space space.old space.new result (IsMissingFor admitted.now sub.now) }
 {
     match &admitted.call.op {
         Operation::Create(id, put) | Operation::Update(id, _, put) => {
@@ -53,7 +53,7 @@ fn missing_for<S: Space>(
             };
             missing_with(space, alloc, &judged)
         }
-        _ => Ok(Missing::nothing(alloc)),
+        _ => Ok(Missing::empty(alloc)),
     }
 }
 
@@ -62,12 +62,12 @@ fn missing_with<S: Space>(
     space: &mut S,
     alloc: Global,
     judged: &JudgedPut<'_>,
-) -> Result<Missing, Halt>
-    ensures { Looks S.Space space.old space.new result
+) -> Result<Missing, CallFault>
+    ensures { LooksUp S.Space space.old space.new result
         (λ a missing. missing ≡ missing_by a judged.now) }
 {
     if !needs_key(judged.put.nature) {
-        return Ok(Missing::nothing(alloc));
+        return Ok(Missing::empty(alloc));
     }
     missing_kinds(space, alloc, judged)
 }
@@ -77,8 +77,8 @@ fn missing_kinds<S: Space>(
     space: &mut S,
     alloc: Global,
     judged: &JudgedPut<'_>,
-) -> Result<Missing, Halt>
-    ensures { Looks S.Space space.old space.new result
+) -> Result<Missing, CallFault>
+    ensures { LooksUp S.Space space.old space.new result
         (λ a missing. missing ≡ missing_by a judged.now) }
 {
     let areas = judged.put.volumes.areas(alloc)?;
@@ -97,9 +97,9 @@ fn missing_kind<S: Space>(
     kind: Kind,
     judged: &JudgedPut<'_>,
     areas: &[Area],
-) -> Result<References, Halt>
+) -> Result<References, CallFault>
     requires areas { areas.now ≡ map region_of judged.now.put.now.volumes }
-    ensures { Looks S.Space space.old space.new result
+    ensures { LooksUp S.Space space.old space.new result
         (λ a references. references ≡ missing_kind_by kind a judged.now) }
 {
     let needed = needed_with(space, alloc, kind, judged, areas)?;
@@ -110,7 +110,7 @@ fn missing_kind<S: Space>(
 fn breaks_key(missing: &Missing) -> bool
     ensures { result ≡ not (is_nothing missing.now) }
 {
-    !missing.is_nothing()
+    !missing.is_empty()
 }
 
 // The first broken rule that is not early, and what is missing.
@@ -118,30 +118,30 @@ fn judge<S: Space>(
     space: &mut S,
     alloc: Global,
     admitted: &Admitted<'_>,
-    facts: &OwnFacts,
-) -> Result<Option<(Rule, Missing)>, Halt>
+    facts: &OwnedFacts,
+) -> Result<Option<(Rule, Missing)>, CallFault>
     requires { IsAdmitted admitted.now }
-    ensures looks { Looks S.Space space.old space.new result (IsFirstBy admitted.now facts.now) }
+    ensures looks { LooksUp S.Space space.old space.new result (IsFirstBy admitted.now facts.now) }
     ensures ready { result ≡ Ok None
         → IsReady admitted.now.call.now.op facts.now.found facts.now.sub }
-    ensures memory { result ≡ Err Halt.NoMemory → BreaksNoStandingBy admitted.now facts.now }
+    ensures memory { result ≡ Err CallFault.NoMemory → BreaksNoStandingBy admitted.now facts.now }
 {
     let lent = facts.lent();
     let findings = standing(admitted.moment, admitted.call, &lent);
     if let Some(broken) = findings.first {
-        return Ok(Some((broken, Missing::nothing(alloc))));
+        return Ok(Some((broken, Missing::empty(alloc))));
     }
     let missing = missing_for(space, alloc, admitted, &facts.sub)?;
     if breaks_key(&missing) {
         return Ok(Some((Rule::Key, missing)));
     }
     if findings.limit {
-        return Ok(Some((Rule::Limit, Missing::nothing(alloc))));
+        return Ok(Some((Rule::Limit, Missing::empty(alloc))));
     }
     Ok(None)
 }
 
-fn decision_of(facts: OwnFacts, judged: Option<(Rule, Missing)>) -> Decision
+fn decision_of(facts: OwnedFacts, judged: Option<(Rule, Missing)>) -> Decision
     ensures { result ≡ decision_of facts judged }
 {
     match judged {
@@ -156,16 +156,16 @@ pub fn decide<S: Space>(
     space: &mut S,
     alloc: Global,
     admitted: &Admitted<'_>,
-) -> Result<Decision, Halt>
+) -> Result<Decision, CallFault>
     requires { IsAdmitted admitted.now }
-    ensures looks { Looks S.Space space.old space.new result (Decides admitted.now) }
+    ensures looks { LooksUp S.Space space.old space.new result (Decides admitted.now) }
     ensures ready { IfOk result (IsReadyIfAllowed admitted.now.call.now.op) }
-    ensures memory { result ≡ Err Halt.NoMemory → S.is_sound space.new → (a : Airspace)
+    ensures memory { result ≡ Err CallFault.NoMemory → S.is_sound space.new → (a : Airspace)
         → S.holds space.old a → BreaksNoStanding admitted.now a }
     ensures broken { S.is_broken space.old ≡ true
-        → IsErrOf result (Halt.Space SpaceFault.Broken) }
+        → IsErrOf result (CallFault.Space SpaceFault.Broken) }
 {
-    let facts = look(space, &admitted.call.op)?;
+    let facts = look_up(space, &admitted.call.op)?;
     let judged = judge(space, alloc, admitted, &facts)?;
     Ok(decision_of(facts, judged))
 }

@@ -2,8 +2,8 @@
 ghost use Rattle.std.specs.Prelude.{◌≡◌, ◌<◌, ℕ, Some, IfOk, OnErr, true, false};
 ghost use Rattle.std.specs.Borrow.{Lends, sem};
 ghost use Rattle.entity_core.specs.Airspace.{Airspace};
-ghost use Rattle.entity_sweep.specs.Gone.{IsSweptAlready};
-ghost use Rattle.space_core.specs.Calls.{CallTells, OfEachHeld};
+ghost use Rattle.entity_purge.specs.PurgeItem.{IsPurgedAlready};
+ghost use Rattle.space_core.specs.Calls.{CallReportsFault, ForEachHeld};
 ghost use Rattle.space_core.specs.Space.{IsContent};
 ghost use Rattle.service_calls.specs.contracts.service.Service.{the_row};
 ghost use Rattle.service_step.specs.Admitted.{IsAdmitted};
@@ -14,33 +14,33 @@ ghost use Rattle.service_calls.specs.Run.{Answered, IsReplyTo};
 ghost use Rattle.service_calls.specs.FromEmpty.{RunIsAware, RunIsCounted, RunIsNumbered};
 ghost use Rattle.service_calls.specs.Stale.{RefusesStale};
 ghost use Rattle.service_calls.specs.Held.{space_of, salt_of, is_shut, with_space};
-ghost use Rattle.service_calls.specs.Swept.{HaveGone, LeavesPartly};
+ghost use Rattle.service_calls.specs.Purged.{HaveGone, LeavesPartly};
 
 use crate::decide::{Decision, decide};
 use entity_core::salt::Salt;
 use policy_core::call::Call;
 use policy_core::early::early;
 use policy_core::reference::Missing;
-use policy_core::sub_view::Ids;
+use policy_core::sub_view::EntityIds;
 use service_step::admitted::Admitted;
+use service_step::call_fault::CallFault;
 use service_step::effects::prepare;
-use service_step::halt::Halt;
-use service_step::look::OwnFacts;
-use service_step::made::Made;
+use service_step::look_up::OwnedFacts;
+use service_step::prepared::Prepared;
 use service_step::reply::{Answer, Reply};
-use space_core::settle::Settles;
+use space_core::group_commit::GroupCommit;
 use space_core::space::{Change, Space, SpaceFault};
-use space_sweeps::sweeps::Sweeps;
+use space_purge::purge_ended::PurgeEnded;
 use std::alloc::{AllocError, Global};
 
 // The reply where a call was given up.
-fn gave_up(halt: Halt) -> Reply
+fn gave_up(halt: CallFault) -> Reply
     ensures { result ≡ reply_of halt }
 {
     match halt {
-        Halt::NoMemory => Reply::Fault,
-        Halt::Space(SpaceFault::Unchanged) => Reply::Fault,
-        Halt::Space(SpaceFault::Broken) => Reply::Stopped,
+        CallFault::NoMemory => Reply::Fault,
+        CallFault::Space(SpaceFault::Unchanged) => Reply::Fault,
+        CallFault::Space(SpaceFault::Broken) => Reply::Stopped,
     }
 }
 
@@ -62,15 +62,15 @@ fn answer_allowed<S: Space>(
     space: &mut S,
     alloc: Global,
     admitted: &Admitted<'_>,
-    facts: &OwnFacts,
+    facts: &OwnedFacts,
 ) -> Reply
     requires admitted { IsAdmitted admitted.now }
     requires ready { IsReady admitted.now.call.now.op facts.now.found facts.now.sub }
-    requires given { OfEachHeld S.Space space.old (λ a.
+    requires given { ForEachHeld S.Space space.old (λ a.
         Decides admitted.now a (Decision.Allowed facts.now)) }
     ensures { AnswersTo S.Space admitted.now space.old space.new result }
 {
-    let Made {
+    let Prepared {
         change,
         notify,
         answer,
@@ -89,25 +89,25 @@ fn answer_changed<S: Space>(
     space: &mut S,
     admitted: &Admitted<'_>,
     change: Change,
-    notify: &Ids,
+    notify: &EntityIds,
     answer: Answer,
 ) -> Reply
     requires admitted { IsAdmitted admitted.now }
-    requires given { OfEachHeld S.Space space.old (λ a.
+    requires given { ForEachHeld S.Space space.old (λ a.
         Allows admitted.now a (Some change) notify.now answer) }
     ensures { AnswersTo S.Space admitted.now space.old space.new result }
 {
     let _admitted = admitted;
     match space.apply(change, notify.items()) {
         Ok(()) => Reply::Done(answer),
-        Err(fault) => gave_up(Halt::Space(fault)),
+        Err(fault) => gave_up(CallFault::Space(fault)),
     }
 }
 
 // Some of what has ended goes.
-fn swept<S: Sweeps>(space: &mut S, until: u64, most: usize) -> Result<usize, SpaceFault>
-    ensures tells { CallTells S.Space space.old space.new result }
-    ensures waits { S.waits space.new ≡ S.waits space.old }
+fn purged<S: PurgeEnded>(space: &mut S, until: u64, most: usize) -> Result<usize, SpaceFault>
+    ensures tells { CallReportsFault S.Space space.old space.new result }
+    ensures waits { S.is_pending space.new ≡ S.is_pending space.old }
     ensures sound { S.is_sound space.new → S.is_sound space.old }
     ensures whole { S.is_sound space.new → S.is_whole space.old → S.is_whole space.new }
     ensures left { S.is_sound space.new → (a : Airspace) → IsContent S.holds space.old a
@@ -115,11 +115,11 @@ fn swept<S: Sweeps>(space: &mut S, until: u64, most: usize) -> Result<usize, Spa
     ensures gone { S.is_sound space.new → (a : Airspace) → IsContent S.holds space.old a
         → IfOk result (λ n. HaveGone S.Space until most n a space.new) }
     ensures last { S.is_sound space.new → IfOk result (λ n. n ≡ 0 → 0 < most
-        → (a : Airspace) → S.holds space.new a → IsSweptAlready until a) }
+        → (a : Airspace) → S.holds space.new a → IsPurgedAlready until a) }
 {
-    let gone = space.ended(until, most)?;
+    let gone = space.find_ended(until, most)?;
     if !gone.is_empty() {
-        space.let_go(gone.as_slice())?;
+        space.purge(gone.as_slice())?;
     }
     Ok(gone.len())
 }
@@ -186,7 +186,7 @@ impl<S: Space + Drop> Service<S> {
             return Reply::Stopped;
         }
         if let Some(broken) = early(call) {
-            return Reply::Denied(broken, Missing::nothing(alloc));
+            return Reply::Denied(broken, Missing::empty(alloc));
         }
         let Some(caller) = &call.caller else {
             unreachable!();
@@ -234,14 +234,14 @@ impl<S: Space + Drop> Service<S> {
     }
 }
 
-impl<S: Settles + Drop> Service<S> {
-    ghost use Rattle.service_calls.specs.Rounds.{IsSettled};
+impl<S: GroupCommit + Drop> Service<S> {
+    ghost use Rattle.service_calls.specs.Batches.{IsCommitted};
 
     /// Whether changes wait to be kept. Where they do before a call or after it, its reply waits.
-    pub fn is_waiting(&self) -> bool
-        ensures { result ≡ S.waits (space_of self.now) }
+    pub fn has_pending(&self) -> bool
+        ensures { result ≡ S.is_pending (space_of self.now) }
     {
-        self.space.is_waiting()
+        self.space.has_pending()
     }
 
     /// Keeps the changes that wait, or none of them; none waits any more.
@@ -251,10 +251,10 @@ impl<S: Settles + Drop> Service<S> {
     /// `Fault`, and what is seen is again what was kept before those changes. After `Broken` it is
     /// told as `Stopped`, and so is each call from then on. What is told so is the policy's by the
     /// law `rounds_are_the_policy`.
-    pub fn settle(&mut self) -> Result<(), SpaceFault>
-        ensures { IsSettled S.Space S.Settles.own self.old self.new result }
+    pub fn commit(&mut self) -> Result<(), SpaceFault>
+        ensures { IsCommitted S.Space S.GroupCommit.own self.old self.new result }
     {
-        let settled = self.space.settle();
+        let settled = self.space.commit();
         if let Err(SpaceFault::Broken) = settled {
             self.stopped = true;
         }
@@ -262,8 +262,8 @@ impl<S: Settles + Drop> Service<S> {
     }
 }
 
-impl<S: Sweeps + Drop> Service<S> {
-    ghost use Rattle.service_calls.specs.Swept.{IsSweep};
+impl<S: PurgeEnded + Drop> Service<S> {
+    ghost use Rattle.service_calls.specs.Purged.{IsPurge};
 
     /// Lets go of some of what has ended by a moment (in seconds since 1970), at most so many
     /// intents, constraints and subscriptions together, and tells how many: none only where nothing
@@ -271,16 +271,16 @@ impl<S: Sweeps + Drop> Service<S> {
     /// wait, nothing goes: where something has ended, it answers `Unchanged`, as where it cannot be
     /// told what has, and all is as it was. After `Broken`, and where the service was shut, each
     /// call is told `Stopped`.
-    pub fn sweep(&mut self, until: u64, most: usize) -> Result<usize, SpaceFault>
-        ensures { IsSweep S.Space S.Settles.own until most self.old self.new result }
+    pub fn purge(&mut self, until: u64, most: usize) -> Result<usize, SpaceFault>
+        ensures { IsPurge S.Space S.GroupCommit.own until most self.old self.new result }
     {
         if self.stopped {
             return Err(SpaceFault::Broken);
         }
-        let swept = swept(&mut self.space, until, most);
-        if let Err(SpaceFault::Broken) = swept {
+        let purged = purged(&mut self.space, until, most);
+        if let Err(SpaceFault::Broken) = purged {
             self.stopped = true;
         }
-        swept
+        purged
     }
 }

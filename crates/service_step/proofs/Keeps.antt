@@ -14,7 +14,7 @@ use Rattle.policy_core.specs.declared.call.SubPut.{SubPut}
 use Rattle.policy_core.specs.declared.call.Operation.{Operation}
 use Rattle.policy_core.specs.declared.call.Operation.TheVariants.{NoRoute, NoMethod, Malformed, Query, Read, Create, Update, Delete, ReadAvail, SetAvail, QuerySub, ReadSub, CreateSub, UpdateSub, DeleteSub}
 use Rattle.policy_core.specs.Policy.{first_broken}
-use Rattle.service_step.specs.Step.{StepsKeep, step, step_by, effect, created, updated, read_effect, update_effect, delete_effect, sub_kept_as, read_sub_effect, update_sub_effect, delete_sub_effect}
+use Rattle.service_step.specs.Step.{StepsPreserve, step, step_by, effect, created, updated, read_effect, update_effect, delete_effect, sub_stored_as, read_sub_effect, update_sub_effect, delete_sub_effect}
 
 read_keeps : (a : Airspace) (uss : List ℕ) (o : Option Entity) → IsAirspace a → IsAirspace (read_effect a uss o).0
 read_keeps a uss None proper = proper
@@ -34,7 +34,7 @@ told_within a id s proper there = let told : s.index ≤ a.serial = proper.told 
 
 update_sub_keeps : (salt : List ℕ) (a : Airspace) (uss : List ℕ) (id : ℕ) (put : SubPut) (o : Option Sub) → get a.subscriptions id ≡ o → IsAirspace a → IsAirspace (update_sub_effect salt a uss id put o).0
 update_sub_keeps salt a uss id put None there proper = proper
-update_sub_keeps salt a uss id put (Some s) there proper = proper_sub a (sub_kept_as salt (a.serial + 1) s.manager s.index id put) (told_within a id s proper there) proper
+update_sub_keeps salt a uss id put (Some s) there proper = proper_sub a (sub_stored_as salt (a.serial + 1) s.manager s.index id put) (told_within a id s proper there) proper
 
 read_sub_keeps : (a : Airspace) (o : Option Sub) → IsAirspace a → IsAirspace (read_sub_effect a o).0
 read_sub_keeps a None proper = proper
@@ -58,11 +58,11 @@ effect_keeps salt a (Some caller) (ReadAvail uss) proper = proper
 effect_keeps salt a (Some caller) (SetAvail uss old availability) proper = proper_stated a uss (availability, ovn_text salt (a.serial + 1)) proper
 effect_keeps salt a (Some caller) (QuerySub area) proper = proper
 effect_keeps salt a (Some caller) (ReadSub id) proper = read_sub_keeps a (get a.subscriptions id) proper
-effect_keeps salt a (Some caller) (CreateSub id put) proper = proper_sub a (sub_kept_as salt (a.serial + 1) caller.uss 0 id put) (omega arith) proper
+effect_keeps salt a (Some caller) (CreateSub id put) proper = proper_sub a (sub_stored_as salt (a.serial + 1) caller.uss 0 id put) (omega arith) proper
 effect_keeps salt a (Some caller) (UpdateSub id version put) proper = update_sub_keeps salt a caller.uss id put (get a.subscriptions id) refl proper
 effect_keeps salt a (Some caller) (DeleteSub id version) proper = delete_sub_keeps a id (get a.subscriptions id) proper
 
-pub steps_keep : StepsKeep
+pub steps_keep : StepsPreserve
 unfolding step
 steps_keep salt a t c proper =
     elim (first_broken a t c) as (λ r. IsAirspace (step_by salt a c r).0) [

@@ -4,23 +4,23 @@ use Rattle.std.proofs.Common.{◌∙◌, subst}
 use Rattle.entity_core.specs.Airspace.{Airspace}
 use Rattle.space_core.specs.declared.space.Space.{Ghosts}
 use Rattle.space_core.specs.declared.space.SpaceFault.TheVariants.{Unchanged, Broken}
-use Rattle.service_step.specs.declared.halt.Halt.{Halt}
-use Rattle.service_step.specs.declared.halt.Halt.TheVariants.{NoMemory, Space}
-use Rattle.service_step.specs.Looks.{Looks, UnlessBroke, ToldBy}
+use Rattle.service_step.specs.declared.call_fault.CallFault.{CallFault}
+use Rattle.service_step.specs.declared.call_fault.CallFault.TheVariants.{NoMemory, Space}
+use Rattle.service_step.specs.Looks.{LooksUp, UnlessBroke, ReportedBy}
 
-pub unless_then : (h : Halt) (P Q : Type 0) → (P → Q) → UnlessBroke h P → UnlessBroke h Q
+pub unless_then : (h : CallFault) (P Q : Type 0) → (P → Q) → UnlessBroke h P → UnlessBroke h Q
 unless_then NoMemory P Q f p = f p
 unless_then (Space Unchanged) P Q f p = f p
 unless_then (Space Broken) P Q f p = p
 
 -- what a halt says since before the look that went before
-told_since : (h : Halt) (n n' n'' : ℕ) (b b' b'' : Bool) → n' ≡ n → b' ≡ b → ToldBy h n' n'' b' b'' → ToldBy h n n'' b b''
-told_since h n n' n'' b b' b'' en eb told = subst (λ (m : ℕ). ToldBy h m n'' b b'') en (subst (λ (c : Bool). ToldBy h n' n'' c b'') eb told)
+told_since : (h : CallFault) (n n' n'' : ℕ) (b b' b'' : Bool) → n' ≡ n → b' ≡ b → ReportedBy h n' n'' b' b'' → ReportedBy h n n'' b b''
+told_since h n n' n'' b b' b'' en eb told = subst (λ (m : ℕ). ReportedBy h m n'' b b'') en (subst (λ (c : Bool). ReportedBy h n' n'' c b'') eb told)
 
 module _ {S : Type 0} (g : Ghosts S) where
   pub looks_then : {X Y Z : Type 0} (old mid new : S) (x : X) (y : Y) (z : Z) (P : Airspace → X → Type 0) (Q : Airspace → Y → Type 0) (R : Airspace → Z → Type 0)
-      → Looks g old mid (Ok x) P → Looks g mid new (Ok y) Q → ((a : Airspace) → P a x → Q a y → R a z)
-      → Looks g old new (Ok z) R
+      → LooksUp g old mid (Ok x) P → LooksUp g mid new (Ok y) Q → ((a : Airspace) → P a x → Q a y → R a z)
+      → LooksUp g old new (Ok z) R
   looks_then old mid new x y z P Q R p q f = record {
     fixed = q.fixed ∙ p.fixed;
     sound = λ s. p.sound (q.sound s);
@@ -31,9 +31,9 @@ module _ {S : Type 0} (g : Ghosts S) where
     told = (q.told.0 ∙ p.told.0, q.told.1 ∙ p.told.1);
   }
 
-  pub looks_then_err : {X Y Z : Type 0} (old mid new : S) (x : X) (h : Halt) (P : Airspace → X → Type 0) (Q : Airspace → Y → Type 0) (R : Airspace → Z → Type 0)
-      → Looks g old mid (Ok x) P → Looks g mid new (Err h) Q
-      → Looks g old new (Err h) R
+  pub looks_then_err : {X Y Z : Type 0} (old mid new : S) (x : X) (h : CallFault) (P : Airspace → X → Type 0) (Q : Airspace → Y → Type 0) (R : Airspace → Z → Type 0)
+      → LooksUp g old mid (Ok x) P → LooksUp g mid new (Err h) Q
+      → LooksUp g old new (Err h) R
   looks_then_err old mid new x h P Q R p q = record {
     fixed = q.fixed ∙ p.fixed;
     sound = λ s. p.sound (q.sound s);
@@ -46,7 +46,7 @@ module _ {S : Type 0} (g : Ghosts S) where
 
   -- the same look, for another value
   pub looks_as : {X Z : Type 0} (old new : S) (x : X) (z : Z) (P : Airspace → X → Type 0) (R : Airspace → Z → Type 0)
-      → Looks g old new (Ok x) P → ((a : Airspace) → P a x → R a z) → Looks g old new (Ok z) R
+      → LooksUp g old new (Ok x) P → ((a : Airspace) → P a x → R a z) → LooksUp g old new (Ok z) R
   looks_as old new x z P R p f = record {
     fixed = p.fixed;
     sound = p.sound;
@@ -59,7 +59,7 @@ module _ {S : Type 0} (g : Ghosts S) where
 
   -- want of memory after a look
   pub looks_memory : {X Z : Type 0} (old new : S) (x : X) (P : Airspace → X → Type 0) (R : Airspace → Z → Type 0)
-      → Looks g old new (Ok x) P → Looks g old new (Err NoMemory) R
+      → LooksUp g old new (Ok x) P → LooksUp g old new (Err NoMemory) R
   looks_memory old new x P R p = record {
     fixed = p.fixed;
     sound = p.sound;
@@ -71,7 +71,7 @@ module _ {S : Type 0} (g : Ghosts S) where
   }
 
   -- no look at all
-  pub looks_none : {Z : Type 0} (old : S) (z : Z) (R : Airspace → Z → Type 0) → ((a : Airspace) → R a z) → Looks g old old (Ok z) R
+  pub looks_none : {Z : Type 0} (old : S) (z : Z) (R : Airspace → Z → Type 0) → ((a : Airspace) → R a z) → LooksUp g old old (Ok z) R
   looks_none old z R f = record {
     fixed = refl;
     sound = λ s. s;
@@ -83,20 +83,20 @@ module _ {S : Type 0} (g : Ghosts S) where
   }
 
   -- whatever the second look gives
-  pub looks_after : {X Y : Type 0} (old mid new : S) (x : X) (r : Result Y Halt) (P : Airspace → X → Type 0) (Q R : Airspace → Y → Type 0)
-      → Looks g old mid (Ok x) P → Looks g mid new r Q → ((a : Airspace) (y : Y) → P a x → Q a y → R a y)
-      → Looks g old new r R
+  pub looks_after : {X Y : Type 0} (old mid new : S) (x : X) (r : Result Y CallFault) (P : Airspace → X → Type 0) (Q R : Airspace → Y → Type 0)
+      → LooksUp g old mid (Ok x) P → LooksUp g mid new r Q → ((a : Airspace) (y : Y) → P a x → Q a y → R a y)
+      → LooksUp g old new r R
   looks_after old mid new x (Ok y) P Q R p q f = looks_then old mid new x y y P Q R p q (λ a h k. f a y h k)
   looks_after old mid new x (Err h) P Q R p q f = looks_then_err old mid new x h P Q R p q
 
   -- the same look, whatever it gave
-  pub looks_map : {X : Type 0} (old new : S) (r : Result X Halt) (P R : Airspace → X → Type 0)
-      → Looks g old new r P → ((a : Airspace) (x : X) → P a x → R a x) → Looks g old new r R
+  pub looks_map : {X : Type 0} (old new : S) (r : Result X CallFault) (P R : Airspace → X → Type 0)
+      → LooksUp g old new r P → ((a : Airspace) (x : X) → P a x → R a x) → LooksUp g old new r R
   looks_map old new (Ok x) P R p f = looks_as old new x x P R p (λ a h. f a x h)
   looks_map old new (Err h) P R p f = record { fixed = p.fixed; sound = p.sound; whole = p.whole; stays = p.stays; no_other = p.no_other; found = λ _. tt; told = p.told }
 
   -- want of memory before any look
-  pub looks_refused : {Z : Type 0} (old : S) (R : Airspace → Z → Type 0) → Looks g old old (Err NoMemory) R
+  pub looks_refused : {Z : Type 0} (old : S) (R : Airspace → Z → Type 0) → LooksUp g old old (Err NoMemory) R
   looks_refused old R = record {
     fixed = refl;
     sound = λ s. s;

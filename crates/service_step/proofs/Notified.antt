@@ -11,16 +11,16 @@ use Rattle.std.specs.FinMap as maps
 use Rattle.std.specs.FinMap.{entries, entries_sorted, get, get-entries, nat_cmp-IsAntisymmetric, same_map}
 use Rattle.std.specs.FinMap.Entries.{below_all, is_sorted}
 use Rattle.grid_core.specs.Extent.{Region}
-use Rattle.entity_core.specs.Airspace.{Airspace, IsAirspace, is_one_of, told_again, told_if, told_where}
+use Rattle.entity_core.specs.Airspace.{Airspace, IsAirspace, is_one_of, notified_again, notified_if, notified_where}
 use Rattle.entity_core.specs.Search.{is_for_near, subscribers_in}
-use Rattle.entity_core.specs.Serial.{greatest_serial}
+use Rattle.entity_core.specs.Serial.{max_serial}
 use Rattle.entity_core.specs.declared.nature.Kind.{Kind}
 use Rattle.entity_core.specs.declared.subscription.Sub.{Sub}
 use Rattle.space_core.specs.Space.{AreThere}
 use Rattle.entity_core.proofs.Entries.{first, second}
 use Rattle.entity_core.proofs.Changes.{no_sub_below, one_id, told_once}
 use Rattle.space_core.proofs.Risings.{OwnId, each_sub, found_in_order}
-use Rattle.service_step.specs.Looks.{CanTell}
+use Rattle.service_step.specs.Looks.{CanNotifyAll}
 
 -- ---- ids against tests
 
@@ -73,12 +73,12 @@ among test q x (e ∷ ss) own s h =
           ]
     ] refl h
 
-same_told : (one two : ℕ × Sub → Bool) (q : ℕ) (o : Option Sub) → ((x : Sub) → o ≡ Some x → one (q, x) ≡ two (q, x)) → option_map (λ s. (told_if one (q, s)).1) o ≡ option_map (λ s. (told_if two (q, s)).1) o
+same_told : (one two : ℕ × Sub → Bool) (q : ℕ) (o : Option Sub) → ((x : Sub) → o ≡ Some x → one (q, x) ≡ two (q, x)) → option_map (λ s. (notified_if one (q, s)).1) o ≡ option_map (λ s. (notified_if two (q, s)).1) o
 same_told one two q None h = refl
-same_told one two q (Some x) h = ap (λ (b : Bool). Some (cond b (told_again x) x)) (h x refl)
+same_told one two q (Some x) h = ap (λ (b : Bool). Some (cond b (notified_again x) x)) (h x refl)
 
 -- the ids of those that were told are what they were
-pub told_ids : (ss : List Sub) → map (λ s. s.id) (map told_again ss) ≡ map (λ s. s.id) ss
+pub told_ids : (ss : List Sub) → map (λ s. s.id) (map notified_again ss) ≡ map (λ s. s.id) ss
 told_ids [] = refl
 told_ids (s ∷ ss) = ap (λ (ids : List ℕ). s.id ∷ ids) (told_ids ss)
 
@@ -97,13 +97,13 @@ module _ (a : Airspace) (proper : IsAirspace a) where
   own_ids = each_sub OwnId (entries a.subscriptions) (entries_sorted a.subscriptions) (λ k x h. proper.own k x (get-entries a.subscriptions k ∙ h))
 
   -- to tell those of the ids of those that are notified is to tell these
-  pub told_alike : (kind : Kind) (areas : List Region) → told_where (is_one_of (map (λ s. s.id) (subscribers_in a.subscriptions kind areas))) a.subscriptions ≡ told_where (is_for_near kind areas) a.subscriptions
+  pub told_alike : (kind : Kind) (areas : List Region) → notified_where (is_one_of (map (λ s. s.id) (subscribers_in a.subscriptions kind areas))) a.subscriptions ≡ notified_where (is_for_near kind areas) a.subscriptions
   unfolding subscribers_in
   told_alike kind areas =
       let m = a.subscriptions in
       let test = is_for_near kind areas in
       let ids = ids_where test (entries m) in
-      same_map nat_cmp_total nat_cmp-IsAntisymmetric (told_where (is_one_of ids) m) (told_where test m) (λ q.
+      same_map nat_cmp_total nat_cmp-IsAntisymmetric (notified_where (is_one_of ids) m) (notified_where test m) (λ q.
       told_once m (is_one_of ids) q
       ∙ (same_told (is_one_of ids) test q (get m q) (λ x h. among test q x (entries m) own_ids (entries_sorted m) (sym (get-entries m q) ∙ h))
       ∙ sym (told_once m test q)))
@@ -125,5 +125,5 @@ module _ (a : Airspace) (proper : IsAirspace a) where
   }
 
   -- the index of each can rise
-  pub notified_rise : a.serial < greatest_serial → (kind : Kind) (areas : List Region) → CanTell a kind areas
-  notified_rise room kind areas = notified_all (λ s. s.index < greatest_serial) (λ id s h. let told : s.index ≤ a.serial = proper.told id s h in omega (arith, told, room)) kind areas
+  pub notified_rise : a.serial < max_serial → (kind : Kind) (areas : List Region) → CanNotifyAll a kind areas
+  notified_rise room kind areas = notified_all (λ s. s.index < max_serial) (λ id s h. let told : s.index ≤ a.serial = proper.told id s h in omega (arith, told, room)) kind areas

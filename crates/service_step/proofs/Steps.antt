@@ -4,8 +4,8 @@ use Rattle.std.proofs.Common.{arith, inl, inr, sym, ap, ◌∙◌, subst}
 use Rattle.std.proofs.lemmas.Bool.{cases_lt, false≢true, le-leb}
 use Rattle.std.specs.FinMap.{get}
 use Rattle.grid_core.specs.Extent.{Extent, Region}
-use Rattle.entity_core.specs.Serial.{greatest_serial}
-use Rattle.entity_core.specs.Entity.{greatest_version, kind_of, subscription_of}
+use Rattle.entity_core.specs.Serial.{max_serial}
+use Rattle.entity_core.specs.Entity.{max_version, kind_of, subscription_of}
 use Rattle.entity_core.specs.Airspace.{Airspace, IsAirspace, Subscriptions, with_availability, with_entity, with_subscription, without_entity}
 use Rattle.entity_core.specs.Search.{dependents_in, subscribers_in}
 use Rattle.entity_core.specs.declared.subscription.Sub.{Sub}
@@ -21,7 +21,7 @@ use Rattle.policy_core.specs.declared.scope.Caller.{Caller}
 use Rattle.policy_core.specs.declared.call.Operation.{Operation}
 use Rattle.policy_core.specs.declared.call.Operation.TheVariants.{NoRoute, NoMethod, Malformed, Query, Read, Create, Update, Delete, ReadAvail, SetAvail, QuerySub, ReadSub, CreateSub, UpdateSub, DeleteSub}
 use Rattle.policy_core.specs.declared.rule.Rule.TheVariants.{Route, Method, Token, Scope, Form, Area, Found, Fresh, Manager, Version, Role, Change, Ended, Subscription, Depended, Key, Limit}
-use Rattle.policy_core.specs.Scope.{is_open}
+use Rattle.policy_core.specs.Scope.{is_permitted}
 use Rattle.policy_core.specs.Call.{is_about_sub, is_change}
 use Rattle.policy_core.specs.Policy.{breaks, breaks_depended, breaks_subscription, early_rules, standing_rules, last_rules, first_broken, has_last_version, is_spent, is_sub_of_another, names_wrongly}
 use Rattle.policy_core.specs.Standing.{Facts, depended_of, found_of, is_some_of, sub_of, sub_under}
@@ -30,15 +30,15 @@ use Rattle.policy_core.specs.declared.reference.Reference.{Reference}
 use Rattle.space_core.specs.Space.{Fits, HasNamed}
 use Rattle.space_core.specs.declared.space.Change as space_change
 use Rattle.space_core.specs.declared.space.Change.TheVariants as changes
-use Rattle.service_step.specs.declared.made.Made.{Made}
+use Rattle.service_step.specs.declared.prepared.Prepared.{Prepared}
 use Rattle.service_step.specs.declared.reply.Answer.{Answer}
 use Rattle.service_step.specs.declared.reply.Answer.TheVariants as answers
 use Rattle.service_step.specs.declared.reply.Reply.{Reply}
 use Rattle.service_step.specs.declared.reply.Reply.TheVariants.{Done}
-use Rattle.service_step.specs.declared.look.OwnFacts as own
-use Rattle.service_notices.specs.Notices.{notices_in, touched}
-use Rattle.service_notices.specs.declared.notice.Notify.{Notify}
-use Rattle.service_step.specs.Step.{effect, effect_by, created, updated, kept_with, create_effect, put_effect, update_effect, delete_effect, sub_kept_as, seen_of, seen_sub, stored_reply, put_sub_effect, update_sub_effect, delete_sub_effect}
+use Rattle.service_step.specs.declared.look_up.OwnedFacts as own
+use Rattle.service_notify.specs.Notices.{notices_in, touched}
+use Rattle.service_notify.specs.declared.notice.Notify.{Notify}
+use Rattle.service_step.specs.Step.{effect, effect_by, created, updated, stored_with, create_effect, put_effect, update_effect, delete_effect, sub_stored_as, seen_of, seen_sub, stored_reply, put_sub_effect, update_sub_effect, delete_sub_effect}
 use Rattle.service_step.specs.Admitted.{IsAdmitted}
 use Rattle.service_step.specs.declared.admitted.Admitted.{Admitted}
 use Rattle.service_step.specs.Looks.{Announces, AreFacts, Makes, Prepares, PutsEntity, PutsSub, changed_by}
@@ -62,20 +62,20 @@ below n most h = elim (cases_lt n most) [
 ]
 
 -- what breaks no rule is at no limit
-limits : (a : Airspace) (t : ℕ) (c : Call) → first_broken a t c ≡ None → ((is_change c.op && nat_le greatest_serial a.serial) ≡ false) × (is_spent c.op (found_of a c.op) ≡ false)
+limits : (a : Airspace) (t : ℕ) (c : Call) → first_broken a t c ≡ None → ((is_change c.op && nat_le max_serial a.serial) ≡ false) × (is_spent c.op (found_of a c.op) ≡ false)
 unfolding first_broken
 limits a t c h =
     let last : find (breaks a t c) last_rules ≡ None = find_rest (breaks a t c) standing_rules last_rules (find_rest (breaks a t c) early_rules (standing_rules ++ last_rules) h) in
-    neither (is_change c.op && nat_le greatest_serial a.serial) (is_spent c.op (found_of a c.op)) (no_limit (breaks a t c Key) (breaks a t c Limit) last)
+    neither (is_change c.op && nat_le max_serial a.serial) (is_spent c.op (found_of a c.op)) (no_limit (breaks a t c Key) (breaks a t c Limit) last)
 
 -- a change that breaks no rule has room
-pub room_of : (a : Airspace) (t : ℕ) (c : Call) → first_broken a t c ≡ None → is_change c.op ≡ true → a.serial < greatest_serial
-room_of a t c h is = below a.serial greatest_serial (ap (λ (b : Bool). b && nat_le greatest_serial a.serial) (sym is) ∙ (limits a t c h).0)
+pub room_of : (a : Airspace) (t : ℕ) (c : Call) → first_broken a t c ≡ None → is_change c.op ≡ true → a.serial < max_serial
+room_of a t c h is = below a.serial max_serial (ap (λ (b : Bool). b && nat_le max_serial a.serial) (sym is) ∙ (limits a t c h).0)
 
 -- what an update that breaks no rule has found has not the greatest version
-pub unspent : (a : Airspace) (t : ℕ) (c : Call) (id : ℕ) (ovn : List ℕ) (put : Put) (e : Entity) → first_broken a t c ≡ None → c.op ≡ Update id ovn put → get a.entities (kind_of put.nature, id) ≡ Some e → e.version < greatest_version
+pub unspent : (a : Airspace) (t : ℕ) (c : Call) (id : ℕ) (ovn : List ℕ) (put : Put) (e : Entity) → first_broken a t c ≡ None → c.op ≡ Update id ovn put → get a.entities (kind_of put.nature, id) ≡ Some e → e.version < max_version
 unspent a t c id ovn put e h op there =
-    below e.version greatest_version (
+    below e.version max_version (
     ap has_last_version (sym there) ∙ (ap (λ (o : Operation). is_spent o (found_of a o)) (sym op) ∙ (limits a t c h).1))
 
 -- a call that breaks no early rule has an effect
@@ -86,7 +86,7 @@ pub well_formed : (a : Airspace) (t : ℕ) (caller : Option Caller) (op : Operat
 well_formed a t caller NoRoute h l r p u d q s n = cc
 well_formed a t caller NoMethod h l r p u d q s n = cc
 well_formed a t None (Malformed kind) h l r p u d q s n = cc
-well_formed a t (Some x) (Malformed kind) h l r p u d q s n = elim (is_open kind x.scopes) as (λ b. cond (not b) (Some Scope) (Some Form) ≡ None → ⊥) [ true ↦ λ e. cc | false ↦ λ e. cc ] h
+well_formed a t (Some x) (Malformed kind) h l r p u d q s n = elim (is_permitted kind x.scopes) as (λ b. cond (not b) (Some Scope) (Some Form) ≡ None → ⊥) [ true ↦ λ e. cc | false ↦ λ e. cc ] h
 well_formed a t caller (Query kind area) h l r p u d q s n = l kind area refl
 well_formed a t caller (Read kind id) h l r p u d q s n = r kind id refl
 well_formed a t caller (Create id put) h l r p u d q s n = p id put refl
@@ -178,7 +178,7 @@ named_by_none a t c id version h op =
 
 -- ---- the effects
 
-same_view : (a : Airspace) (uss : List ℕ) (old : List Extent) (e x : Entity) → view_of (kept_with a old e) uss x ≡ view_of a uss x
+same_view : (a : Airspace) (uss : List ℕ) (old : List Extent) (e x : Entity) → view_of (stored_with a old e) uss x ≡ view_of a uss x
 unfolding view_of
 same_view a uss old e x = refl
 
@@ -190,7 +190,7 @@ same_seen a uss s x = refl
 abbrev ids_for : Airspace → Kind → List Region → List ℕ
 ids_for a kind areas = map (λ s. s.id) (subscribers_in a.subscriptions kind areas)
 
-module _ (q : Admitted) (is_admitted : IsAdmitted q) (g : own.OwnFacts) (a : Airspace) where
+module _ (q : Admitted) (is_admitted : IsAdmitted q) (g : own.OwnedFacts) (a : Airspace) where
   abbrev salt : List ℕ
   salt = q.salt.now
 
@@ -200,7 +200,7 @@ module _ (q : Admitted) (is_admitted : IsAdmitted q) (g : own.OwnFacts) (a : Air
   abbrev uss : List ℕ
   uss = q.caller.now.uss
 
-  makes_from : (made : Made) (change : Option space_change.Change) (told : List ℕ) (answer : Answer)
+  makes_from : (made : Prepared) (change : Option space_change.Change) (told : List ℕ) (answer : Answer)
       → effect salt a call.caller call.op ≡ (changed_by change told a, Done answer) → made.change ≡ change → made.notify ≡ told → made.answer ≡ answer → IfSome change (λ x. Fits x told a) → Makes q a made.change made.notify made.answer
   makes_from made change told answer e one ids two fits = record {
     effect = e ∙ (λ i. (changed_by (sym one i) (sym ids i) a, Done (sym two i)));
@@ -210,28 +210,28 @@ module _ (q : Admitted) (is_admitted : IsAdmitted q) (g : own.OwnFacts) (a : Air
   effect_is : (op : Operation) → call.op ≡ op → effect salt a call.caller call.op ≡ effect_by salt a q.caller.now op
   effect_is op is = ap (λ (o : Option Caller). effect salt a o call.op) is_admitted.caller ∙ ap (effect_by salt a q.caller.now) is
 
-  next_is : (next : ℕ) → first_broken a q.moment call ≡ None → is_change call.op ≡ true → AreFacts call.op a g → (g.serial < greatest_serial → next ≡ g.serial + 1) → next ≡ a.serial + 1
+  next_is : (next : ℕ) → first_broken a q.moment call ≡ None → is_change call.op ≡ true → AreFacts call.op a g → (g.serial < max_serial → next ≡ g.serial + 1) → next ≡ a.serial + 1
   next_is next first is regards goes =
-      goes (subst (λ (k : ℕ). k < greatest_serial) (sym (ap (λ (f : Facts). f.serial) regards)) (room_of a q.moment call first is)) ∙ ap (λ (f : Facts). f.serial + 1) regards
+      goes (subst (λ (k : ℕ). k < max_serial) (sym (ap (λ (f : Facts). f.serial) regards)) (room_of a q.moment call first is)) ∙ ap (λ (f : Facts). f.serial + 1) regards
 
   found_is : (op : Operation) (e : Entity) → call.op ≡ op → g.found ≡ Some e → AreFacts call.op a g → found_of a op ≡ Some e
   found_is op e is found regards = ap (found_of a) (sym is) ∙ (sym (ap (λ (f : Facts). f.found) regards) ∙ found)
 
   -- what is put, with those told whom that notifies
-  put_made : (answer : Reference → List Notify → Answer) (old : List Extent) (e : Entity) (made : Made) → IsAirspace a
-      → effect salt a call.caller call.op ≡ (kept_with a old e, Done (answer (view_of (kept_with a old e) uss e) (notices_in a (kind_of e.nature) (touched old e.volumes))))
-      → PutsEntity answer uss old e a made → a.serial < greatest_serial → (e.serial ≡ a.serial + 1) × HasNamed a (subscription_of e.nature) → Makes q a made.change made.notify made.answer
+  put_made : (answer : Reference → List Notify → Answer) (old : List Extent) (e : Entity) (made : Prepared) → IsAirspace a
+      → effect salt a call.caller call.op ≡ (stored_with a old e, Done (answer (view_of (stored_with a old e) uss e) (notices_in a (kind_of e.nature) (touched old e.volumes))))
+      → PutsEntity answer uss old e a made → a.serial < max_serial → (e.serial ≡ a.serial + 1) × HasNamed a (subscription_of e.nature) → Makes q a made.change made.notify made.answer
   put_made answer old e made proper is puts room due =
       let kind = kind_of e.nature in
       let areas = touched old e.volumes in
       let told = notices_in a kind areas in
       let it = puts (notified_rise a proper room kind areas) in
       makes_from made (Some (changes.Put e)) (ids_for a kind areas) (answer (view_of a uss e) told)
-      (is ∙ (ap (λ (r : Reference). (kept_with a old e, Done (answer r told))) (same_view a uss old e e)
+      (is ∙ (ap (λ (r : Reference). (stored_with a old e, Done (answer r told))) (same_view a uss old e e)
       ∙ ap (λ (m : Subscriptions). (record (with_entity a e) { subscriptions = m }, Done (answer (view_of a uss e) told))) (sym (told_alike a proper kind areas))))
       it.1 it.0 it.2 (record { room = room; due = due; tells = notified_there a proper kind areas })
 
-  pub makes_create : (id : ℕ) (put : Put) (next : ℕ) (made : Made) → call.op ≡ Create id put → (g.serial < greatest_serial → next ≡ g.serial + 1)
+  pub makes_create : (id : ℕ) (put : Put) (next : ℕ) (made : Prepared) → call.op ≡ Create id put → (g.serial < max_serial → next ≡ g.serial + 1)
       → PutsEntity answers.Created uss [] (created salt next uss id put) a made → Prepares q g a made
   makes_create id put next made op goes puts proper first regards =
       let n = next_is next first (ap is_change op) regards goes in
@@ -239,8 +239,8 @@ module _ (q : Admitted) (is_admitted : IsAdmitted q) (g : own.OwnFacts) (a : Air
       (effect_is (Create id put) op ∙ ap (λ (k : ℕ). create_effect a uss (created salt k uss id put)) (sym n))
       puts (room_of a q.moment call first (ap is_change op)) (n, create_named a q.moment call q.caller.now id put first is_admitted.caller op)
 
-  pub makes_update : (id : ℕ) (ovn : List ℕ) (put : Put) (old : Entity) (next : ℕ) (made : Made) → call.op ≡ Update id ovn put → g.found ≡ Some old → (g.serial < greatest_serial → next ≡ g.serial + 1)
-      → (old.version < greatest_version → PutsEntity answers.Changed uss old.volumes (updated salt next id put old) a made) → Prepares q g a made
+  pub makes_update : (id : ℕ) (ovn : List ℕ) (put : Put) (old : Entity) (next : ℕ) (made : Prepared) → call.op ≡ Update id ovn put → g.found ≡ Some old → (g.serial < max_serial → next ≡ g.serial + 1)
+      → (old.version < max_version → PutsEntity answers.Changed uss old.volumes (updated salt next id put old) a made) → Prepares q g a made
   makes_update id ovn put old next made op found goes puts proper first regards =
       let n = next_is next first (ap is_change op) regards goes in
       let there = found_is (Update id ovn put) old op found regards in
@@ -248,7 +248,7 @@ module _ (q : Admitted) (is_admitted : IsAdmitted q) (g : own.OwnFacts) (a : Air
       (effect_is (Update id ovn put) op ∙ (ap (update_effect salt a uss id put) there ∙ ap (λ (k : ℕ). put_effect a uss old.volumes (updated salt k id put old)) (sym n)))
       (puts (unspent a q.moment call id ovn put old first op there)) (room_of a q.moment call first (ap is_change op)) (n, update_named a q.moment call q.caller.now id ovn put first is_admitted.caller op)
 
-  pub makes_delete : (kind : Kind) (id : ℕ) (ovn : List ℕ) (e : Entity) (made : Made) → call.op ≡ Delete kind id ovn → g.found ≡ Some e
+  pub makes_delete : (kind : Kind) (id : ℕ) (ovn : List ℕ) (e : Entity) (made : Prepared) → call.op ≡ Delete kind id ovn → g.found ≡ Some e
       → Announces kind (touched e.volumes []) (changes.Remove kind id) (answers.Changed (view_of a uss e)) a made → Prepares q g a made
   makes_delete kind id ovn e made op found makes proper first regards =
       let there = found_is (Delete kind id ovn) e op found regards in
@@ -261,7 +261,7 @@ module _ (q : Admitted) (is_admitted : IsAdmitted q) (g : own.OwnFacts) (a : Air
       ∙ ap (λ (m : Subscriptions). (record (without_entity a (kind, id)) { subscriptions = m }, Done answer)) (sym (told_alike a proper kind areas))))
       is.1 is.0 is.2 (record { room = room; due = ap is_some there; tells = notified_there a proper kind areas })
 
-  pub makes_set : (named old : List ℕ) (availability : Availability) (next : ℕ) (made : Made) → call.op ≡ SetAvail named old availability → (g.serial < greatest_serial → next ≡ g.serial + 1)
+  pub makes_set : (named old : List ℕ) (availability : Availability) (next : ℕ) (made : Prepared) → call.op ≡ SetAvail named old availability → (g.serial < max_serial → next ≡ g.serial + 1)
       → made.change ≡ Some (changes.Avail named availability (ovn_text salt next)) → made.notify ≡ [] → made.answer ≡ answers.Avail named availability (ovn_text salt next) → Prepares q g a made
   makes_set named old availability next made op goes one ids two proper first regards =
       let n = next_is next first (ap is_change op) regards goes in
@@ -275,30 +275,30 @@ module _ (q : Admitted) (is_admitted : IsAdmitted q) (g : own.OwnFacts) (a : Air
   sub_is : (op : Operation) (s : Sub) → call.op ≡ op → g.sub ≡ Some s → AreFacts call.op a g → sub_of a op ≡ Some s
   sub_is op s is found regards = ap (sub_of a) (sym is) ∙ (sym (ap (λ (f : Facts). f.sub) regards) ∙ found)
 
-  put_sub_made : (s : Sub) (made : Made) → effect salt a call.caller call.op ≡ put_sub_effect a uss s → PutsSub s a uss made → Fits (changes.PutSub s) [] a → Makes q a made.change made.notify made.answer
+  put_sub_made : (s : Sub) (made : Prepared) → effect salt a call.caller call.op ≡ put_sub_effect a uss s → PutsSub s a uss made → Fits (changes.PutSub s) [] a → Makes q a made.change made.notify made.answer
   put_sub_made s made e puts fits =
       makes_from made (Some (changes.PutSub s)) [] (answers.SubStored (seen_sub a s) (seen_of kinds.Intent a uss s) (seen_of kinds.Constraint a uss s))
       (e ∙ ap (λ (r : Reply). (with_subscription a s, r)) (same_seen a uss s s)) puts.0 puts.1 puts.2 fits
 
-  pub makes_create_sub : (id : ℕ) (put : SubPut) (next : ℕ) (made : Made) → call.op ≡ CreateSub id put → (g.serial < greatest_serial → next ≡ g.serial + 1)
-      → PutsSub (sub_kept_as salt next uss 0 id put) a uss made → Prepares q g a made
+  pub makes_create_sub : (id : ℕ) (put : SubPut) (next : ℕ) (made : Prepared) → call.op ≡ CreateSub id put → (g.serial < max_serial → next ≡ g.serial + 1)
+      → PutsSub (sub_stored_as salt next uss 0 id put) a uss made → Prepares q g a made
   makes_create_sub id put next made op goes puts proper first regards =
       let n = next_is next first (ap is_change op) regards goes in
-      put_sub_made (sub_kept_as salt next uss 0 id put) made
-      (effect_is (CreateSub id put) op ∙ ap (λ (k : ℕ). put_sub_effect a uss (sub_kept_as salt k uss 0 id put)) (sym n))
+      put_sub_made (sub_stored_as salt next uss 0 id put) made
+      (effect_is (CreateSub id put) op ∙ ap (λ (k : ℕ). put_sub_effect a uss (sub_stored_as salt k uss 0 id put)) (sym n))
       puts (record { room = room_of a q.moment call first (ap is_change op); due = (n, omega arith); tells = refl })
 
-  pub makes_update_sub : (id : ℕ) (version : List ℕ) (put : SubPut) (old : Sub) (next : ℕ) (made : Made) → call.op ≡ UpdateSub id version put → g.sub ≡ Some old → (g.serial < greatest_serial → next ≡ g.serial + 1)
-      → PutsSub (sub_kept_as salt next old.manager old.index id put) a uss made → Prepares q g a made
+  pub makes_update_sub : (id : ℕ) (version : List ℕ) (put : SubPut) (old : Sub) (next : ℕ) (made : Prepared) → call.op ≡ UpdateSub id version put → g.sub ≡ Some old → (g.serial < max_serial → next ≡ g.serial + 1)
+      → PutsSub (sub_stored_as salt next old.manager old.index id put) a uss made → Prepares q g a made
   makes_update_sub id version put old next made op found goes puts proper first regards =
       let n = next_is next first (ap is_change op) regards goes in
       let there = sub_is (UpdateSub id version put) old op found regards in
-      put_sub_made (sub_kept_as salt next old.manager old.index id put) made
+      put_sub_made (sub_stored_as salt next old.manager old.index id put) made
       (effect_is (UpdateSub id version put) op ∙ (ap (update_sub_effect salt a uss id put) there
-      ∙ ap (λ (k : ℕ). put_sub_effect a uss (sub_kept_as salt k old.manager old.index id put)) (sym n)))
+      ∙ ap (λ (k : ℕ). put_sub_effect a uss (sub_stored_as salt k old.manager old.index id put)) (sym n)))
       puts (record { room = room_of a q.moment call first (ap is_change op); due = (n, told_within a id old proper there); tells = refl })
 
-  pub makes_delete_sub : (id : ℕ) (version : List ℕ) (s : Sub) (made : Made) → call.op ≡ DeleteSub id version → g.sub ≡ Some s
+  pub makes_delete_sub : (id : ℕ) (version : List ℕ) (s : Sub) (made : Prepared) → call.op ≡ DeleteSub id version → g.sub ≡ Some s
       → made.change ≡ Some (changes.RemoveSub id) → made.notify ≡ [] → made.answer ≡ answers.SubFound (seen_sub a s) → Prepares q g a made
   makes_delete_sub id version s made op found one ids two proper first regards =
       let there = sub_is (DeleteSub id version) s op found regards in

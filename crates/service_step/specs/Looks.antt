@@ -3,7 +3,7 @@ use Rattle.std.specs.List.{AllByRecursion}
 use Rattle.grid_core.specs.Extent.{Extent, Region}
 use Rattle.entity_core.specs.Entity.{kind_of}
 use Rattle.entity_core.specs.Search.{subscribers_in}
-use Rattle.entity_core.specs.Serial.{greatest_serial}
+use Rattle.entity_core.specs.Serial.{max_serial}
 use Rattle.entity_core.specs.declared.nature.Kind.{Kind}
 use Rattle.std.specs.Prelude.{◌≡◌, ℕ, ◌<◌, map, Bool, true, List, [], Option, Some, None, Result, IfOk, MatchResult, ◌⊎◌, IfSome, is_some}
 use Rattle.space_core.specs.declared.space.Space.{Ghosts}
@@ -12,42 +12,42 @@ use Rattle.space_core.specs.declared.space.Change.{Change}
 use Rattle.space_core.specs.declared.space.Change.TheVariants as changes
 use Rattle.entity_core.specs.declared.nature.Kind.TheVariants as kinds
 use Rattle.entity_core.specs.Airspace.{Airspace, IsAirspace}
-use Rattle.space_core.specs.Space.{greatest_count, changed, Fits}
+use Rattle.space_core.specs.Space.{max_count, changed, Fits}
 use Rattle.policy_core.specs.declared.call.Operation.{Operation}
 use Rattle.policy_core.specs.declared.call.Operation.TheVariants.{Read, Update, Delete, ReadSub, UpdateSub, DeleteSub}
 use Rattle.entity_core.specs.declared.entity.Entity.{Entity}
 use Rattle.entity_core.specs.declared.subscription.Sub.{Sub}
 use Rattle.service_step.specs.declared.admitted.Admitted.{Admitted}
-use Rattle.service_step.specs.declared.halt.Halt.{Halt}
-use Rattle.service_step.specs.declared.halt.Halt.TheVariants.{NoMemory, Space}
-use Rattle.service_step.specs.declared.look.OwnFacts as own
-use Rattle.service_step.specs.declared.made.Made.{Made}
+use Rattle.service_step.specs.declared.call_fault.CallFault.{CallFault}
+use Rattle.service_step.specs.declared.call_fault.CallFault.TheVariants.{NoMemory, Space}
+use Rattle.service_step.specs.declared.look_up.OwnedFacts as own
+use Rattle.service_step.specs.declared.prepared.Prepared.{Prepared}
 use Rattle.service_step.specs.declared.reply.Answer.{Answer}
 use Rattle.service_step.specs.declared.reply.Answer.TheVariants.{SubStored}
 use Rattle.service_step.specs.declared.reply.Reply.TheVariants.{Done}
 use Rattle.policy_core.specs.Standing.{Facts, Regards}
 use Rattle.policy_core.specs.View.{view_of}
 use Rattle.policy_core.specs.declared.reference.Reference.{Reference}
-use Rattle.service_notices.specs.Notices.{notices_in, touched}
-use Rattle.service_notices.specs.declared.notice.Notify.{Notify}
+use Rattle.service_notify.specs.Notices.{notices_in, touched}
+use Rattle.service_notify.specs.declared.notice.Notify.{Notify}
 use Rattle.service_step.specs.Admitted.{BreaksNone}
 use Rattle.service_step.specs.Step.{effect, seen_of, seen_sub}
 
 -- P, but where the space broke
-abbrev pub UnlessBroke : Halt → Type 0 → Type 0
+abbrev pub UnlessBroke : CallFault → Type 0 → Type 0
 UnlessBroke NoMemory P = P
 UnlessBroke (Space Unchanged) P = P
 UnlessBroke (Space Broken) P = Unit {0}
 
 -- what a halt says of the space: whether it has refused, and whether it is broken
-abbrev pub ToldBy : Halt → ℕ → ℕ → Bool → Bool → Type 0
-ToldBy NoMemory refusals refusals' broken broken' = broken' ≡ broken
-ToldBy (Space Unchanged) refusals refusals' broken broken' =
-    ((refusals < refusals') ⊎ (refusals' ≡ greatest_count)) × (broken' ≡ broken)
-ToldBy (Space Broken) refusals refusals' broken broken' = broken' ≡ true
+abbrev pub ReportedBy : CallFault → ℕ → ℕ → Bool → Bool → Type 0
+ReportedBy NoMemory refusals refusals' broken broken' = broken' ≡ broken
+ReportedBy (Space Unchanged) refusals refusals' broken broken' =
+    ((refusals < refusals') ⊎ (refusals' ≡ max_count)) × (broken' ≡ broken)
+ReportedBy (Space Broken) refusals refusals' broken broken' = broken' ≡ true
 
 -- A look leaves what the space holds; what it finds has P of each airspace that was held.
-pub record Looks {S T : Type 0} (g : Ghosts S) (old new : S) (result : Result T Halt)
+pub record LooksUp {S T : Type 0} (g : Ghosts S) (old new : S) (result : Result T CallFault)
     (P : Airspace → T → Type 0) : Type 0 where
   pub fixed : g.fixed new ≡ g.fixed old
   pub sound : g.is_sound new → g.is_sound old
@@ -59,9 +59,9 @@ pub record Looks {S T : Type 0} (g : Ghosts S) (old new : S) (result : Result T 
   pub found : g.is_sound new → IfOk result (λ x. (a : Airspace) → g.holds old a → P a x)
   pub told : MatchResult result
       (λ _. (g.refusals new ≡ g.refusals old) × (g.is_broken new ≡ g.is_broken old))
-      (λ h. ToldBy h (g.refusals old) (g.refusals new) (g.is_broken old) (g.is_broken new))
+      (λ h. ReportedBy h (g.refusals old) (g.refusals new) (g.is_broken old) (g.is_broken new))
 
-abbrev pub facts_in : own.OwnFacts → Facts
+abbrev pub facts_in : own.OwnedFacts → Facts
 facts_in g = record {
   found = g.found;
   stated = g.stated;
@@ -71,7 +71,7 @@ facts_in g = record {
 }
 
 -- what was looked up is what the airspace has for the operation
-abbrev pub AreFacts : Operation → Airspace → own.OwnFacts → Type 0
+abbrev pub AreFacts : Operation → Airspace → own.OwnedFacts → Type 0
 AreFacts op a g = Regards a op (facts_in g)
 
 -- what is to be read, updated or deleted was found
@@ -96,48 +96,48 @@ pub record Makes (admitted : Admitted) (a : Airspace) (change : Option Change) (
   pub fits : IfSome change (λ change. Fits change told a)
 
 -- for each airspace that may be kept in which the call breaks no rule
-abbrev pub Prepares : Admitted → own.OwnFacts → Airspace → Made → Type 0
+abbrev pub Prepares : Admitted → own.OwnedFacts → Airspace → Prepared → Type 0
 Prepares admitted g a made =
     IsAirspace a → BreaksNone admitted a → AreFacts admitted.call.now.op a g
     → Makes admitted a made.change made.notify made.answer
 
 -- nothing is changed, and the answer is that
-abbrev pub IsReading : Answer → Made → Type 0
+abbrev pub IsReading : Answer → Prepared → Type 0
 IsReading answer made = (made.change ≡ None) × (made.answer ≡ answer)
 
 -- that is changed, nobody is notified, and the answer is that
-abbrev pub IsUntold : Change → Answer → Made → Type 0
-IsUntold change answer made =
+abbrev pub NotifiesNobody : Change → Answer → Prepared → Type 0
+NotifiesNobody change answer made =
     (made.change ≡ Some change) × (made.notify ≡ []) × (made.answer ≡ answer)
 
 -- A change puts a subscription and notifies nobody, and its answer is what a supplier sees of it
 -- and of what it is for.
-abbrev pub PutsSub : Sub → Airspace → List ℕ → Made → Type 0
-PutsSub s a uss made = IsUntold (changes.PutSub s)
+abbrev pub PutsSub : Sub → Airspace → List ℕ → Prepared → Type 0
+PutsSub s a uss made = NotifiesNobody (changes.PutSub s)
     (SubStored (seen_sub a s) (seen_of kinds.Intent a uss s) (seen_of kinds.Constraint a uss s))
     made
 
 -- the index of each that a change notifies can rise
-abbrev pub CanTell : Airspace → Kind → List Region → Type 0
-CanTell a kind areas =
-    AllByRecursion (λ s. s.index < greatest_serial) (subscribers_in a.subscriptions kind areas)
+abbrev pub CanNotifyAll : Airspace → Kind → List Region → Type 0
+CanNotifyAll a kind areas =
+    AllByRecursion (λ s. s.index < max_serial) (subscribers_in a.subscriptions kind areas)
 
 -- what is made notifies those that are for a kind and meet some area
-abbrev pub IsNotified : Airspace → Kind → List Region → Made → Type 0
+abbrev pub IsNotified : Airspace → Kind → List Region → Prepared → Type 0
 IsNotified a kind areas made =
     made.notify ≡ map (λ s. s.id) (subscribers_in a.subscriptions kind areas)
 
 -- A change of a kind is this one; it notifies those that are for that and meet some area, and its
 -- answer tells what they are told. It does where the index of each can rise.
-abbrev pub Announces : Kind → List Region → Change → (List Notify → Answer) → Airspace → Made
+abbrev pub Announces : Kind → List Region → Change → (List Notify → Answer) → Airspace → Prepared
     → Type 0
-Announces kind areas change answer a made = CanTell a kind areas
+Announces kind areas change answer a made = CanNotifyAll a kind areas
     → IsNotified a kind areas made × (made.change ≡ Some change)
     × (made.answer ≡ answer (notices_in a kind areas))
 
 -- it puts an entity, where these were its volumes before, and the answer has its reference
 abbrev pub PutsEntity : (Reference → List Notify → Answer) → List ℕ → List Extent → Entity
-    → Airspace → Made → Type 0
+    → Airspace → Prepared → Type 0
 PutsEntity answer uss old e a made =
     Announces (kind_of e.nature) (touched old e.volumes) (changes.Put e)
     (answer (view_of a uss e)) a made

@@ -26,7 +26,7 @@ use Rattle.policy_core.specs.View.{view_of}
 use Rattle.policy_core.specs.SubView.{sub_view_of}
 use Rattle.policy_core.specs.declared.reference.Reference.{Reference}
 use Rattle.policy_core.specs.declared.sub_view.SubView.{SubView}
-use Rattle.service_notices.specs.Notices.{notices_in, touched, with_notified}
+use Rattle.service_notify.specs.Notices.{notices_in, touched, with_notified}
 use Rattle.service_step.specs.declared.reply.Answer.TheVariants.{Created, Changed, Found, Listed, Avail, SubStored, SubFound, SubListed}
 use Rattle.service_step.specs.declared.reply.Reply.{Reply}
 use Rattle.service_step.specs.declared.reply.Reply.TheVariants.{Done, Denied, Fault, Stopped}
@@ -34,8 +34,8 @@ use Rattle.service_step.specs.declared.reply.Reply.TheVariants.{Done, Denied, Fa
 -- ---- what is put
 
 -- what is kept of a put
-abbrev pub kept_as : List ℕ → ℕ → List ℕ → ℕ → ℕ → Put → Entity
-kept_as salt serial manager version id put = record {
+abbrev pub stored_as : List ℕ → ℕ → List ℕ → ℕ → ℕ → Put → Entity
+stored_as salt serial manager version id put = record {
   nature = put.nature;
   id = id;
   manager = manager;
@@ -48,15 +48,15 @@ kept_as salt serial manager version id put = record {
 
 -- the entity that a creation by a supplier keeps
 abbrev pub created : List ℕ → ℕ → List ℕ → ℕ → Put → Entity
-created salt serial uss id put = kept_as salt serial uss 1 id put
+created salt serial uss id put = stored_as salt serial uss 1 id put
 
 -- the entity that an update keeps in the place of another
 abbrev pub updated : List ℕ → ℕ → ℕ → Put → Entity → Entity
-updated salt serial id put e = kept_as salt serial e.manager (e.version + 1) id put
+updated salt serial id put e = stored_as salt serial e.manager (e.version + 1) id put
 
 -- what is kept of a subscription's put
-abbrev pub sub_kept_as : List ℕ → ℕ → List ℕ → ℕ → ℕ → SubPut → Sub
-sub_kept_as salt serial manager index id put = record {
+abbrev pub sub_stored_as : List ℕ → ℕ → List ℕ → ℕ → ℕ → SubPut → Sub
+sub_stored_as salt serial manager index id put = record {
   id = id;
   manager = manager;
   version = ovn_text salt serial;
@@ -79,21 +79,21 @@ read_effect a uss None = (a, Fault)
 
 -- The airspace with an entity in which those are told whom that notifies, its reference there, and
 -- what they are told. The volumes are those that the entity had before.
-abbrev pub kept_with : Airspace → List Extent → Entity → Airspace
-kept_with a old e =
+abbrev pub stored_with : Airspace → List Extent → Entity → Airspace
+stored_with a old e =
     with_notified (kind_of e.nature) (touched old e.volumes) (with_entity a e)
 
 abbrev pub create_effect : Airspace → List ℕ → Entity → Airspace × Reply
 create_effect a uss e = (
-  kept_with a [] e,
-  Done (Created (view_of (kept_with a [] e) uss e)
+  stored_with a [] e,
+  Done (Created (view_of (stored_with a [] e) uss e)
       (notices_in a (kind_of e.nature) (touched [] e.volumes))),
 )
 
 abbrev pub put_effect : Airspace → List ℕ → List Extent → Entity → Airspace × Reply
 put_effect a uss old e = (
-  kept_with a old e,
-  Done (Changed (view_of (kept_with a old e) uss e)
+  stored_with a old e,
+  Done (Changed (view_of (stored_with a old e) uss e)
       (notices_in a (kind_of e.nature) (touched old e.volumes))),
 )
 
@@ -132,7 +132,7 @@ put_sub_effect a uss s = (with_subscription a s, stored_reply (with_subscription
 abbrev pub update_sub_effect : List ℕ → Airspace → List ℕ → ℕ → SubPut → Option Sub
     → Airspace × Reply
 update_sub_effect salt a uss id put (Some s) =
-    put_sub_effect a uss (sub_kept_as salt (a.serial + 1) s.manager s.index id put)
+    put_sub_effect a uss (sub_stored_as salt (a.serial + 1) s.manager s.index id put)
 update_sub_effect salt a uss id put None = (a, Fault)
 
 abbrev pub read_sub_effect : Airspace → Option Sub → Airspace × Reply
@@ -166,7 +166,7 @@ effect_by salt a caller (SetAvail uss old availability) = (
 effect_by salt a caller (QuerySub area) = query_sub_effect a caller.uss area
 effect_by salt a caller (ReadSub id) = read_sub_effect a (get a.subscriptions id)
 effect_by salt a caller (CreateSub id put) =
-    put_sub_effect a caller.uss (sub_kept_as salt (a.serial + 1) caller.uss 0 id put)
+    put_sub_effect a caller.uss (sub_stored_as salt (a.serial + 1) caller.uss 0 id put)
 effect_by salt a caller (UpdateSub id version put) =
     update_sub_effect salt a caller.uss id put (get a.subscriptions id)
 effect_by salt a caller (DeleteSub id version) = delete_sub_effect a id (get a.subscriptions id)
@@ -183,12 +183,12 @@ effect salt a None op = (a, Fault)
 -- ---- the step
 
 -- what is missing for a call that breaks this rule first
-abbrev pub told_missing : Airspace → Call → Rule → Missing
-told_missing a c Key = missing_for a c.caller c.op
-told_missing a c p = nothing_missing
+abbrev pub missing_views : Airspace → Call → Rule → Missing
+missing_views a c Key = missing_for a c.caller c.op
+missing_views a c p = nothing_missing
 
 abbrev pub step_by : List ℕ → Airspace → Call → Option Rule → Airspace × Reply
-step_by salt a c (Some p) = (a, Denied p (told_missing a c p))
+step_by salt a c (Some p) = (a, Denied p (missing_views a c p))
 step_by salt a c None = effect salt a c.caller c.op
 
 -- One call at a moment: where it breaks a rule, the airspace stays and the first such rule is told;
@@ -199,8 +199,8 @@ step salt a now c = step_by salt a c (first_broken a now c)
 -- ---- laws
 
 -- Each step of an airspace that may be kept leaves one.
-abbrev pub StepsKeep : Type 0
-StepsKeep = (salt : List ℕ) (a : Airspace) (now : ℕ) (c : Call) → IsAirspace a
+abbrev pub StepsPreserve : Type 0
+StepsPreserve = (salt : List ℕ) (a : Airspace) (now : ℕ) (c : Call) → IsAirspace a
     → IsAirspace (step salt a now c).0
 
 -- a reply that is `Done` or `Denied`, and neither `Fault` nor `Stopped`

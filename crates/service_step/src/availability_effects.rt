@@ -1,9 +1,9 @@
 //! The effects of the operations on availabilities.
 ghost use Rattle.std.specs.Prelude.{IfOk, unwrap_or, []};
 ghost use Rattle.entity_core.specs.Ovn.{ovn_text};
-ghost use Rattle.service_step.specs.Looks.{IsReading, IsUntold};
+ghost use Rattle.service_step.specs.Looks.{IsReading, NotifiesNobody};
 
-use crate::made::Made;
+use crate::prepared::Prepared;
 use crate::reply::Answer;
 use entity_core::availability::Availability;
 use entity_core::ovn::{Ovn, ovn_of};
@@ -15,21 +15,21 @@ use space_core::space::Change;
 use std::alloc::{AllocError, Global};
 
 /// The change of a setting and its answer.
-pub fn setting(
+pub fn prepare_set_availability(
     alloc: Global,
     salt: &Salt,
     serial: Serial,
     uss: &UssId,
     availability: Availability,
-) -> Result<Made, AllocError>
-    ensures { IfOk result (IsUntold
+) -> Result<Prepared, AllocError>
+    ensures { IfOk result (NotifiesNobody
         (Change.Avail uss.now availability (ovn_text salt.now serial))
         (Answer.Avail uss.now availability (ovn_text salt.now serial))) }
 {
     let version = ovn_of(alloc, salt, serial.number())?;
     let shown = version.clone()?.into_text();
     let change = Change::Avail(uss.clone()?, availability, version);
-    Ok(Made::untold(
+    Ok(Prepared::without_notices(
         alloc,
         change,
         Answer::Avail(uss.clone()?, availability, shown),
@@ -37,11 +37,11 @@ pub fn setting(
 }
 
 /// What is told of a supplier.
-pub fn availability_reading(
+pub fn prepare_read_availability(
     alloc: Global,
     uss: &UssId,
     stated: &Option<(Availability, Ovn)>,
-) -> Result<Made, AllocError>
+) -> Result<Prepared, AllocError>
     ensures { IfOk result (IsReading (Answer.Avail uss.now
         (unwrap_or stated.now (Availability.Unknown, [])).0
         (unwrap_or stated.now (Availability.Unknown, [])).1)) }
@@ -50,9 +50,9 @@ pub fn availability_reading(
     match stated {
         Some((availability, version)) => {
             let shown = version.clone()?.into_text();
-            Ok(Made::reading(alloc, Answer::Avail(uss, *availability, shown)))
+            Ok(Prepared::read_only(alloc, Answer::Avail(uss, *availability, shown)))
         }
-        None => Ok(Made::reading(
+        None => Ok(Prepared::read_only(
             alloc,
             Answer::Avail(uss, Availability::Unknown, Text::empty(alloc)),
         )),

@@ -1,16 +1,16 @@
 //! The effects of the operations on entities.
 ghost use Rattle.std.specs.Prelude.{◌≡◌, ◌+◌, ◌<◌, IfOk, None, map, [], ◌∷◌};
-ghost use Rattle.entity_core.specs.Serial.{greatest_serial};
-ghost use Rattle.entity_core.specs.Entity.{greatest_version};
+ghost use Rattle.entity_core.specs.Serial.{max_serial};
+ghost use Rattle.entity_core.specs.Entity.{max_version};
 ghost use Rattle.entity_core.specs.Search.{meeting_in, subscribers_in};
 ghost use Rattle.policy_core.specs.View.{view_of};
-ghost use Rattle.service_step.specs.Looks.{Announces, CanTell, IsReading, Looks, PutsEntity};
-ghost use Rattle.service_notices.specs.Notices.{notices_in, notified_in, touched};
-ghost use Rattle.service_step.specs.Step.{created, kept_as, updated};
+ghost use Rattle.service_step.specs.Looks.{Announces, CanNotifyAll, IsReading, LooksUp, PutsEntity};
+ghost use Rattle.service_notify.specs.Notices.{notices_in, notified_in, touched};
+ghost use Rattle.service_step.specs.Step.{created, stored_as, updated};
 
-use crate::halt::Halt;
-use crate::look::{look_meeting, look_subscribers, reference, references};
-use crate::made::Made;
+use crate::call_fault::CallFault;
+use crate::look_up::{find_meeting, find_subscribers, reference, references};
+use crate::prepared::Prepared;
 use crate::reply::Answer;
 use entity_core::entity::Entity;
 use entity_core::entity_id::EntityId;
@@ -24,25 +24,25 @@ use entity_core::version::Version;
 use grid_core::volume::Area;
 use grid_core::volumes::Volumes;
 use policy_core::call::Put;
-use policy_core::sub_view::Ids;
-use service_notices::notice::{Notices, ids_of, notices_of, tell_each};
+use policy_core::sub_view::EntityIds;
+use service_notify::notice::{Notices, notices_of, notify_each, sub_ids};
 use space_core::space::{Change, Space};
 use std::alloc::{AllocError, Global};
 use std::slice::from_ref;
 
 /// The serial of a change, while there is room for one.
 pub fn next_serial(serial: u64) -> Serial
-    ensures { serial < greatest_serial → result ≡ serial + 1 }
+    ensures { serial < max_serial → result ≡ serial + 1 }
 {
-    match Serial::after(serial) {
+    match Serial::next_after(serial) {
         Some(next) => next,
-        None => Serial::greatest(),
+        None => Serial::max(),
     }
 }
 
 /// The version after an update, while there is one.
 pub fn next_version(version: Version) -> Version
-    ensures { version < greatest_version → result ≡ version + 1 }
+    ensures { version < max_version → result ≡ version + 1 }
 {
     match version.next() {
         Some(next) => next,
@@ -61,7 +61,7 @@ fn entity_of(
     put: &Put,
 ) -> Result<Entity, AllocError>
     ensures { IfOk result (λ entity. entity
-        ≡ kept_as salt.now serial manager.now version id put.now) }
+        ≡ stored_as salt.now serial manager.now version id put.now) }
 {
     Ok(Entity {
         nature: put.nature,
@@ -76,43 +76,43 @@ fn entity_of(
 }
 
 /// The references of the entities that meet an area.
-pub fn listing<S: Space>(
+pub fn prepare_query<S: Space>(
     space: &mut S,
     alloc: Global,
     uss: &UssId,
     kind: Kind,
     area: &Area,
-) -> Result<Made, Halt>
-    ensures { Looks S.Space space.old space.new result
+) -> Result<Prepared, CallFault>
+    ensures { LooksUp S.Space space.old space.new result
         (λ a. IsReading (Answer.Listed kind
         (map (view_of a uss.now) (meeting_in a.entities kind (area.now ∷ []) None)))) }
 {
-    let met = look_meeting(space, kind, from_ref(area), None)?;
+    let met = find_meeting(space, kind, from_ref(area), None)?;
     let shown = references(alloc, uss, &met)?;
-    Ok(Made::reading(alloc, Answer::Listed(kind, shown)))
+    Ok(Prepared::read_only(alloc, Answer::Listed(kind, shown)))
 }
 
 /// The reference of what is read.
-pub fn reading<S: Space>(
+pub fn prepare_read<S: Space>(
     space: &mut S,
     alloc: Global,
     uss: &UssId,
     entity: &Entity,
-) -> Result<Made, Halt>
-    ensures { Looks S.Space space.old space.new result
+) -> Result<Prepared, CallFault>
+    ensures { LooksUp S.Space space.old space.new result
         (λ a. IsReading (Answer.Found (view_of a uss.now entity.now))) }
 {
     let shown = reference(space, uss, entity)?;
-    Ok(Made::reading(alloc, Answer::Found(shown)))
+    Ok(Prepared::read_only(alloc, Answer::Found(shown)))
 }
 
 // Those who are notified of a change that touches some areas, with their new indexes.
-fn look_notified<S: Space>(space: &mut S, kind: Kind, areas: &[Area]) -> Result<Vec<Sub>, Halt>
-    ensures { Looks S.Space space.old space.new result (λ a found.
-        CanTell a kind areas.now → found.items ≡ notified_in a kind areas.now) }
+fn look_notified<S: Space>(space: &mut S, kind: Kind, areas: &[Area]) -> Result<Vec<Sub>, CallFault>
+    ensures { LooksUp S.Space space.old space.new result (λ a found.
+        CanNotifyAll a kind areas.now → found.items ≡ notified_in a kind areas.now) }
 {
-    let mut subs = look_subscribers(space, kind, areas)?;
-    tell_each(subs.as_mut_slice());
+    let mut subs = find_subscribers(space, kind, areas)?;
+    notify_each(subs.as_mut_slice());
     Ok(subs)
 }
 
@@ -122,13 +122,13 @@ fn notify_subscribers<S: Space>(
     alloc: Global,
     kind: Kind,
     areas: &[Area],
-) -> Result<(Ids, Notices), Halt>
-    ensures { Looks S.Space space.old space.new result (λ a told. CanTell a kind areas.now
+) -> Result<(EntityIds, Notices), CallFault>
+    ensures { LooksUp S.Space space.old space.new result (λ a told. CanNotifyAll a kind areas.now
         → (told.0 ≡ map (λ s. s.id) (subscribers_in a.subscriptions kind areas.now))
         × (told.1 ≡ notices_in a kind areas.now)) }
 {
     let subs = look_notified(space, kind, areas)?;
-    Ok((ids_of(alloc, &subs)?, notices_of(alloc, &subs)?))
+    Ok((sub_ids(alloc, &subs)?, notices_of(alloc, &subs)?))
 }
 
 // The areas of old volumes and of new ones.
@@ -141,7 +141,7 @@ fn touched(alloc: Global, old: &Volumes, new: &Volumes) -> Result<Vec<Area>, All
 }
 
 /// The entity that a creation puts, its reference, and whom it notifies of what.
-pub fn creation<S: Space>(
+pub fn prepare_create<S: Space>(
     space: &mut S,
     alloc: Global,
     salt: &Salt,
@@ -149,15 +149,15 @@ pub fn creation<S: Space>(
     uss: &UssId,
     id: EntityId,
     put: &Put,
-) -> Result<Made, Halt>
-    ensures { Looks S.Space space.old space.new result
+) -> Result<Prepared, CallFault>
+    ensures { LooksUp S.Space space.old space.new result
         (PutsEntity Answer.Created uss.now [] (created salt.now serial uss.now id put.now)) }
 {
     let entity = entity_of(alloc, salt, serial, uss, Version::first(), id, put)?;
     let shown = reference(space, uss, &entity)?;
     let areas = entity.volumes.areas(alloc)?;
     let (notify, told) = notify_subscribers(space, alloc, entity.nature.kind(), &areas)?;
-    Ok(Made {
+    Ok(Prepared {
         change: Some(Change::Put(entity)),
         notify,
         answer: Answer::Created(shown, told),
@@ -166,7 +166,7 @@ pub fn creation<S: Space>(
 
 /// The entity that an update puts in the place of another of the supplier's, its reference, and
 /// whom it notifies of what.
-pub fn update<S: Space>(
+pub fn prepare_update<S: Space>(
     space: &mut S,
     alloc: Global,
     salt: &Salt,
@@ -175,9 +175,9 @@ pub fn update<S: Space>(
     id: EntityId,
     put: &Put,
     old: &Entity,
-) -> Result<Made, Halt>
-    ensures { Looks S.Space space.old space.new result
-        (λ a made. old.now.version < greatest_version
+) -> Result<Prepared, CallFault>
+    ensures { LooksUp S.Space space.old space.new result
+        (λ a made. old.now.version < max_version
         → PutsEntity Answer.Changed uss.now old.now.volumes
         (updated salt.now serial id put.now old.now) a made) }
 {
@@ -186,7 +186,7 @@ pub fn update<S: Space>(
     let shown = reference(space, uss, &entity)?;
     let areas = touched(alloc, &old.volumes, &entity.volumes)?;
     let (notify, told) = notify_subscribers(space, alloc, entity.nature.kind(), &areas)?;
-    Ok(Made {
+    Ok(Prepared {
         change: Some(Change::Put(entity)),
         notify,
         answer: Answer::Changed(shown, told),
@@ -194,22 +194,22 @@ pub fn update<S: Space>(
 }
 
 /// The removal of an entity, its reference as it was, and whom it notifies of what.
-pub fn removal<S: Space>(
+pub fn prepare_delete<S: Space>(
     space: &mut S,
     alloc: Global,
     uss: &UssId,
     kind: Kind,
     id: EntityId,
     entity: &Entity,
-) -> Result<Made, Halt>
-    ensures { Looks S.Space space.old space.new result
+) -> Result<Prepared, CallFault>
+    ensures { LooksUp S.Space space.old space.new result
         (λ a made. Announces kind (touched entity.now.volumes []) (Change.Remove kind id)
         (Answer.Changed (view_of a uss.now entity.now)) a made) }
 {
     let shown = reference(space, uss, entity)?;
     let areas = entity.volumes.areas(alloc)?;
     let (notify, told) = notify_subscribers(space, alloc, kind, &areas)?;
-    Ok(Made {
+    Ok(Prepared {
         change: Some(Change::Remove(kind, id)),
         notify,
         answer: Answer::Changed(shown, told),

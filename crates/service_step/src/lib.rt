@@ -4,11 +4,11 @@
 
 pub mod admitted;
 mod availability_effects;
+pub mod call_fault;
 pub mod effects;
 mod entity_effects;
-pub mod halt;
-pub mod look;
-pub mod made;
+pub mod look_up;
 pub mod needed;
+pub mod prepared;
 pub mod reply;
 mod sub_effects;

@@ -8,11 +8,11 @@ ghost use Rattle.entity_core.specs.declared.entity.Entity.{Entity};
 ghost use Rattle.policy_core.specs.Missing.{put_needs, is_for_constraints, excepted, needs_constraints, missing_from, unspared};
 ghost use Rattle.policy_core.specs.View.{view_of};
 ghost use Rattle.space_core.specs.Met.{met_of};
-ghost use Rattle.service_step.specs.Looks.{Looks};
+ghost use Rattle.service_step.specs.Looks.{LooksUp};
 ghost use Rattle.service_step.specs.Needed.{ArePresent, IsNeededFor, IsPaired, manager_has};
 
-use crate::halt::Halt;
-use crate::look::look_meeting;
+use crate::call_fault::CallFault;
+use crate::look_up::find_meeting;
 use entity_core::availability::Availability;
 use entity_core::entity::Entity;
 use entity_core::entity_id::EntityId;
@@ -132,15 +132,15 @@ pub fn needed_with<S: Space>(
     kind: Kind,
     judged: &JudgedPut<'_>,
     areas: &[Area],
-) -> Result<Needed, Halt>
+) -> Result<Needed, CallFault>
     requires areas { areas.now ≡ map region_of judged.now.put.now.volumes }
-    ensures looks { Looks S.Space space.old space.new result (IsNeededFor kind judged.now) }
+    ensures looks { LooksUp S.Space space.old space.new result (IsNeededFor kind judged.now) }
     ensures paired { IfOk result IsPaired }
 {
     if !put_needs(kind, judged.caller, judged.put, judged.sub) {
         return Ok(Needed::nothing(alloc));
     }
-    let met = look_meeting(space, kind, areas, excepted(kind, judged.id))?;
+    let met = find_meeting(space, kind, areas, excepted(kind, judged.id))?;
     Ok(unspared(alloc, met)?)
 }
 

@@ -8,7 +8,7 @@ use entity_core::uss_id::UssId;
 use policy_core::reference::{Missing, Reference, References};
 use policy_core::rule::Rule;
 use policy_core::sub_view::{SubView, SubViews};
-use service_notices::notice::Notices;
+use service_notify::notice::Notices;
 
 /// The answer to a call that broke no rule.
 #[derive(Debug, Drop)]

@@ -4,12 +4,12 @@ ghost use Rattle.entity_core.specs.declared.nature.Kind.TheVariants as kinds;
 ghost use Rattle.entity_core.specs.Search.{dependents_in, meeting_in, subscriptions_in};
 ghost use Rattle.grid_core.specs.Extent.{region_of};
 ghost use Rattle.policy_core.specs.View.{view_of};
-ghost use Rattle.service_step.specs.Looks.{IsReading, IsUntold, Looks, PutsSub};
-ghost use Rattle.service_step.specs.Step.{seen_of, seen_sub, sub_kept_as};
+ghost use Rattle.service_step.specs.Looks.{IsReading, NotifiesNobody, LooksUp, PutsSub};
+ghost use Rattle.service_step.specs.Step.{seen_of, seen_sub, sub_stored_as};
 
-use crate::halt::Halt;
-use crate::look::{look_meeting, references};
-use crate::made::Made;
+use crate::call_fault::CallFault;
+use crate::look_up::{find_meeting, references};
+use crate::prepared::Prepared;
 use crate::reply::Answer;
 use entity_core::entity_id::EntityId;
 use entity_core::nature::Kind;
@@ -37,7 +37,7 @@ fn sub_of(
     id: EntityId,
     put: &SubPut,
 ) -> Result<Sub, AllocError>
-    ensures { IfOk result (λ sub. sub ≡ sub_kept_as salt.now serial manager.now index id put.now) }
+    ensures { IfOk result (λ sub. sub ≡ sub_stored_as salt.now serial manager.now index id put.now) }
 {
     Ok(Sub {
         id,
@@ -51,23 +51,23 @@ fn sub_of(
     })
 }
 
-fn look_dependents<S: Space>(space: &mut S, id: EntityId) -> Result<Vec<EntityId>, Halt>
-    ensures { Looks S.Space space.old space.new result
+fn look_dependents<S: Space>(space: &mut S, id: EntityId) -> Result<Vec<EntityId>, CallFault>
+    ensures { LooksUp S.Space space.old space.new result
         (λ a found. found.items ≡ dependents_in a.entities id) }
 {
     Ok(space.dependents(id)?)
 }
 
 // A subscription as it is seen now.
-fn seen_sub<S: Space>(space: &mut S, alloc: Global, sub: &Sub) -> Result<SubView, Halt>
-    ensures { Looks S.Space space.old space.new result (λ a view. view ≡ seen_sub a sub.now) }
+fn seen_sub<S: Space>(space: &mut S, alloc: Global, sub: &Sub) -> Result<SubView, CallFault>
+    ensures { LooksUp S.Space space.old space.new result (λ a view. view ≡ seen_sub a sub.now) }
 {
     let dependents = look_dependents(space, sub.id)?;
     Ok(sub_view(alloc, sub, &dependents)?)
 }
 
-fn seen_subs<S: Space>(space: &mut S, alloc: Global, subs: &[Sub]) -> Result<SubViews, Halt>
-    ensures { Looks S.Space space.old space.new result
+fn seen_subs<S: Space>(space: &mut S, alloc: Global, subs: &[Sub]) -> Result<SubViews, CallFault>
+    ensures { LooksUp S.Space space.old space.new result
         (λ a views. views ≡ map (seen_sub a) subs.now) }
 {
     let mut items = Vec::new(alloc);
@@ -84,13 +84,13 @@ fn near<S: Space>(
     kind: Kind,
     uss: &UssId,
     sub: &Sub,
-) -> Result<References, Halt>
-    ensures { Looks S.Space space.old space.new result (λ a references. references
+) -> Result<References, CallFault>
+    ensures { LooksUp S.Space space.old space.new result (λ a references. references
         ≡ map (view_of a uss.now)
         (meeting_in a.entities kind (region_of sub.now.volume ∷ []) None)) }
 {
     let area = sub.volume.as_area()?;
-    let met = look_meeting(space, kind, from_ref(&area), None)?;
+    let met = find_meeting(space, kind, from_ref(&area), None)?;
     Ok(references(alloc, uss, &met)?)
 }
 
@@ -101,8 +101,8 @@ fn seen_of<S: Space>(
     kind: Kind,
     uss: &UssId,
     sub: &Sub,
-) -> Result<References, Halt>
-    ensures { Looks S.Space space.old space.new result
+) -> Result<References, CallFault>
+    ensures { LooksUp S.Space space.old space.new result
         (λ a references. references ≡ seen_of kind a uss.now sub.now) }
 {
     if !sub.interest.wants(kind) {
@@ -112,8 +112,13 @@ fn seen_of<S: Space>(
 }
 
 // What is answered of a subscription that is put, and of what it is for.
-fn store_sub<S: Space>(space: &mut S, alloc: Global, uss: &UssId, sub: &Sub) -> Result<Answer, Halt>
-    ensures { Looks S.Space space.old space.new result (λ a answer. answer
+fn store_sub<S: Space>(
+    space: &mut S,
+    alloc: Global,
+    uss: &UssId,
+    sub: &Sub,
+) -> Result<Answer, CallFault>
+    ensures { LooksUp S.Space space.old space.new result (λ a answer. answer
         ≡ Answer.SubStored (seen_sub a sub.now)
         (seen_of kinds.Intent a uss.now sub.now) (seen_of kinds.Constraint a uss.now sub.now)) }
 {
@@ -123,48 +128,57 @@ fn store_sub<S: Space>(space: &mut S, alloc: Global, uss: &UssId, sub: &Sub) -> 
     Ok(Answer::SubStored(view, intents, constraints))
 }
 
-fn look_own<S: Space>(space: &mut S, uss: &UssId, area: &Area) -> Result<Vec<Sub>, Halt>
-    ensures { Looks S.Space space.old space.new result
+fn look_own<S: Space>(space: &mut S, uss: &UssId, area: &Area) -> Result<Vec<Sub>, CallFault>
+    ensures { LooksUp S.Space space.old space.new result
         (λ a found. found.items ≡ subscriptions_in a.subscriptions uss.now area.now) }
 {
     Ok(space.subscriptions_of(uss, area)?)
 }
 
 /// A supplier's subscriptions that meet an area.
-pub fn sub_listing<S: Space>(
+pub fn prepare_query_subs<S: Space>(
     space: &mut S,
     alloc: Global,
     uss: &UssId,
     area: &Area,
-) -> Result<Made, Halt>
-    ensures { Looks S.Space space.old space.new result
+) -> Result<Prepared, CallFault>
+    ensures { LooksUp S.Space space.old space.new result
         (λ a. IsReading (Answer.SubListed
         (map (seen_sub a) (subscriptions_in a.subscriptions uss.now area.now)))) }
 {
     let own = look_own(space, uss, area)?;
     let shown = seen_subs(space, alloc, &own)?;
-    Ok(Made::reading(alloc, Answer::SubListed(shown)))
+    Ok(Prepared::read_only(alloc, Answer::SubListed(shown)))
 }
 
 /// The subscription that is read.
-pub fn sub_reading<S: Space>(space: &mut S, alloc: Global, sub: &Sub) -> Result<Made, Halt>
-    ensures { Looks S.Space space.old space.new result
+pub fn prepare_read_sub<S: Space>(
+    space: &mut S,
+    alloc: Global,
+    sub: &Sub,
+) -> Result<Prepared, CallFault>
+    ensures { LooksUp S.Space space.old space.new result
         (λ a. IsReading (Answer.SubFound (seen_sub a sub.now))) }
 {
     let shown = seen_sub(space, alloc, sub)?;
-    Ok(Made::reading(alloc, Answer::SubFound(shown)))
+    Ok(Prepared::read_only(alloc, Answer::SubFound(shown)))
 }
 
 // The change that puts a subscription, and its answer.
-fn sub_put<S: Space>(space: &mut S, alloc: Global, uss: &UssId, sub: Sub) -> Result<Made, Halt>
-    ensures { Looks S.Space space.old space.new result (λ a made. PutsSub sub a uss.now made) }
+fn sub_put<S: Space>(
+    space: &mut S,
+    alloc: Global,
+    uss: &UssId,
+    sub: Sub,
+) -> Result<Prepared, CallFault>
+    ensures { LooksUp S.Space space.old space.new result (λ a made. PutsSub sub a uss.now made) }
 {
     let answer = store_sub(space, alloc, uss, &sub)?;
-    Ok(Made::untold(alloc, Change::PutSub(sub), answer))
+    Ok(Prepared::without_notices(alloc, Change::PutSub(sub), answer))
 }
 
 /// The subscription that a creation puts, and what is seen of it.
-pub fn sub_creation<S: Space>(
+pub fn prepare_create_sub<S: Space>(
     space: &mut S,
     alloc: Global,
     salt: &Salt,
@@ -172,9 +186,9 @@ pub fn sub_creation<S: Space>(
     uss: &UssId,
     id: EntityId,
     put: &SubPut,
-) -> Result<Made, Halt>
-    ensures { Looks S.Space space.old space.new result
-        (λ a made. PutsSub (sub_kept_as salt.now serial uss.now 0 id put.now) a uss.now made) }
+) -> Result<Prepared, CallFault>
+    ensures { LooksUp S.Space space.old space.new result
+        (λ a made. PutsSub (sub_stored_as salt.now serial uss.now 0 id put.now) a uss.now made) }
 {
     let sub = sub_of(alloc, salt, serial, uss, NotificationIndex::zero(), id, put)?;
     sub_put(space, alloc, uss, sub)
@@ -182,7 +196,7 @@ pub fn sub_creation<S: Space>(
 
 /// The subscription that an update puts in the place of another of the supplier's, and what is seen
 /// of it.
-pub fn sub_update<S: Space>(
+pub fn prepare_update_sub<S: Space>(
     space: &mut S,
     alloc: Global,
     salt: &Salt,
@@ -191,9 +205,9 @@ pub fn sub_update<S: Space>(
     id: EntityId,
     put: &SubPut,
     old: &Sub,
-) -> Result<Made, Halt>
-    ensures { Looks S.Space space.old space.new result
-        (λ a made. PutsSub (sub_kept_as salt.now serial old.now.manager old.now.index id put.now)
+) -> Result<Prepared, CallFault>
+    ensures { LooksUp S.Space space.old space.new result
+        (λ a made. PutsSub (sub_stored_as salt.now serial old.now.manager old.now.index id put.now)
         a uss.now made) }
 {
     let sub = sub_of(alloc, salt, serial, &old.manager, old.index, id, put)?;
@@ -201,15 +215,15 @@ pub fn sub_update<S: Space>(
 }
 
 /// The removal of a subscription, and what was seen of it.
-pub fn sub_removal<S: Space>(
+pub fn prepare_delete_sub<S: Space>(
     space: &mut S,
     alloc: Global,
     id: EntityId,
     sub: &Sub,
-) -> Result<Made, Halt>
-    ensures { Looks S.Space space.old space.new result
-        (λ a. IsUntold (Change.RemoveSub id) (Answer.SubFound (seen_sub a sub.now))) }
+) -> Result<Prepared, CallFault>
+    ensures { LooksUp S.Space space.old space.new result
+        (λ a. NotifiesNobody (Change.RemoveSub id) (Answer.SubFound (seen_sub a sub.now))) }
 {
     let shown = seen_sub(space, alloc, sub)?;
-    Ok(Made::untold(alloc, Change::RemoveSub(id), Answer::SubFound(shown)))
+    Ok(Prepared::without_notices(alloc, Change::RemoveSub(id), Answer::SubFound(shown)))
 }

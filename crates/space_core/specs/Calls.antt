@@ -3,17 +3,17 @@ use Rattle.std.specs.Prelude.{Result}
 use Rattle.entity_core.specs.Airspace.{Airspace}
 use Rattle.space_core.specs.declared.space.Space.{Ghosts}
 use Rattle.space_core.specs.declared.space.SpaceFault.{SpaceFault}
-use Rattle.space_core.specs.Settle.{Settling}
-use Rattle.space_core.specs.Space.{Changes, Reads, TellsBy}
+use Rattle.space_core.specs.GroupCommit.{CommitEffect}
+use Rattle.space_core.specs.Space.{Changes, Reads, ReportsFaultBy}
 
 -- P, of each airspace that a sound space may hold
-abbrev pub OfEachHeld : {S : Type 0} → Ghosts S → S → (Airspace → Type 0) → Type 0
-OfEachHeld g s P = g.is_sound s → (a : Airspace) → g.holds s a → P a
+abbrev pub ForEachHeld : {S : Type 0} → Ghosts S → S → (Airspace → Type 0) → Type 0
+ForEachHeld g s P = g.is_sound s → (a : Airspace) → g.holds s a → P a
 
 module _ {S T : Type 0} (g : Ghosts S) (old new : S) (result : Result T SpaceFault) where
   -- what it tells of its faults
-  abbrev pub CallTells : Type 0
-  CallTells = TellsBy g.refusals g.is_broken old new result
+  abbrev pub CallReportsFault : Type 0
+  CallReportsFault = ReportsFaultBy g.refusals g.is_broken old new result
 
   -- It reads: an answer has P of each airspace that was held.
   abbrev pub CallReads : (Airspace → T → Type 0) → Type 0
@@ -25,5 +25,5 @@ module _ {S T : Type 0} (g : Ghosts S) (old new : S) (result : Result T SpaceFau
       Changes g.holds g.is_sound g.is_whole (g.is_broken old) old new result change
 
   -- What waited is kept, or none of it.
-  abbrev pub CallSettles : (S → Airspace → Type 0) → Type 0
-  CallSettles Keeps = Settling g.holds Keeps g.is_sound g.is_whole old new result
+  abbrev pub CallCommits : (S → Airspace → Type 0) → Type 0
+  CallCommits Keeps = CommitEffect g.holds Keeps g.is_sound g.is_whole old new result

@@ -1,5 +1,5 @@
 pub mod Calls
 pub mod Met
-pub mod Round
-pub mod Settle
+pub mod Batch
+pub mod GroupCommit
 pub mod Space

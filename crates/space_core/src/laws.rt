@@ -1,5 +1,5 @@
 //! Laws of spaces, each named by a function that does nothing.
-ghost use Rattle.entity_core.specs.Airspace.{Airspace, IsAirspace, ToldOnce};
+ghost use Rattle.entity_core.specs.Airspace.{Airspace, IsAirspace, NotifiedOnce};
 ghost use Rattle.entity_core.specs.Search.{FoundInOrder};
 
 /// What is sought among entities, all of a kind, what names a subscription, and a supplier's
@@ -9,6 +9,6 @@ pub fn found_in_order()
 {}
 
 /// Telling some subscriptions raises the index of each by one, and leaves all else as it was.
-pub fn told_once()
-    ensures { ToldOnce }
+pub fn notified_once()
+    ensures { NotifiedOnce }
 {}

@@ -4,7 +4,7 @@ ghost use Rattle.entity_core.specs.Airspace.{Airspace, IsAirspace};
 ghost use Rattle.entity_core.specs.Search.{all_in, dependents_in, subscribers_in, subscriptions_in};
 ghost use Rattle.std.specs.FinMap.{get};
 ghost use Rattle.space_core.specs.Met.{met_in};
-ghost use Rattle.space_core.specs.Space.{Code, TellsBy, Reads, Changes, Fits, changed};
+ghost use Rattle.space_core.specs.Space.{Code, ReportsFaultBy, Reads, Changes, Fits, changed};
 
 use crate::met::Met;
 use entity_core::availability::Availability;
@@ -88,7 +88,7 @@ pub trait Space {
     /// The entity of a kind and an id, if there is one.
     fn entity(&mut self, kind: Kind, id: EntityId) -> Result<Option<Entity>, SpaceFault>
         ensures fixed { fixed self.new ≡ fixed self.old }
-        ensures tells { TellsBy refusals is_broken self.old self.new result }
+        ensures tells { ReportsFaultBy refusals is_broken self.old self.new result }
         ensures reads { Reads holds is_sound is_whole self.old self.new result
             (λ a found. found ≡ get a.entities (kind, id)) };
 
@@ -101,35 +101,35 @@ pub trait Space {
         except: Option<EntityId>,
     ) -> Result<Vec<Met>, SpaceFault>
         ensures fixed { fixed self.new ≡ fixed self.old }
-        ensures tells { TellsBy refusals is_broken self.old self.new result }
+        ensures tells { ReportsFaultBy refusals is_broken self.old self.new result }
         ensures reads { Reads holds is_sound is_whole self.old self.new result
             (λ a found. found.items ≡ met_in a kind areas.now except) };
 
     /// The entities of a kind: each once, by rising ids.
     fn all(&mut self, kind: Kind) -> Result<Vec<Entity>, SpaceFault>
         ensures fixed { fixed self.new ≡ fixed self.old }
-        ensures tells { TellsBy refusals is_broken self.old self.new result }
+        ensures tells { ReportsFaultBy refusals is_broken self.old self.new result }
         ensures reads { Reads holds is_sound is_whole self.old self.new result
             (λ a found. found.items ≡ all_in a.entities kind) };
 
     /// What is kept of a supplier, if it has set its availability.
     fn availability(&mut self, uss: &UssId) -> Result<Option<(Availability, Ovn)>, SpaceFault>
         ensures fixed { fixed self.new ≡ fixed self.old }
-        ensures tells { TellsBy refusals is_broken self.old self.new result }
+        ensures tells { ReportsFaultBy refusals is_broken self.old self.new result }
         ensures reads { Reads holds is_sound is_whole self.old self.new result
             (λ a found. found ≡ get a.availabilities uss.now) };
 
     /// The subscription of an id, if there is one.
     fn subscription(&mut self, id: EntityId) -> Result<Option<Sub>, SpaceFault>
         ensures fixed { fixed self.new ≡ fixed self.old }
-        ensures tells { TellsBy refusals is_broken self.old self.new result }
+        ensures tells { ReportsFaultBy refusals is_broken self.old self.new result }
         ensures reads { Reads holds is_sound is_whole self.old self.new result
             (λ a found. found ≡ get a.subscriptions id) };
 
     /// The subscriptions of a supplier whose volumes meet an area: each once, by rising ids.
     fn subscriptions_of(&mut self, uss: &UssId, area: &Area) -> Result<Vec<Sub>, SpaceFault>
         ensures fixed { fixed self.new ≡ fixed self.old }
-        ensures tells { TellsBy refusals is_broken self.old self.new result }
+        ensures tells { ReportsFaultBy refusals is_broken self.old self.new result }
         ensures reads { Reads holds is_sound is_whole self.old self.new result
             (λ a found. found.items ≡ subscriptions_in a.subscriptions uss.now area.now) };
 
@@ -137,21 +137,21 @@ pub trait Space {
     /// them: each once, by rising ids.
     fn subscribers(&mut self, kind: Kind, areas: &[Area]) -> Result<Vec<Sub>, SpaceFault>
         ensures fixed { fixed self.new ≡ fixed self.old }
-        ensures tells { TellsBy refusals is_broken self.old self.new result }
+        ensures tells { ReportsFaultBy refusals is_broken self.old self.new result }
         ensures reads { Reads holds is_sound is_whole self.old self.new result
             (λ a found. found.items ≡ subscribers_in a.subscriptions kind areas.now) };
 
     /// The ids of the intents that name a subscription, rising.
     fn dependents(&mut self, id: EntityId) -> Result<Vec<EntityId>, SpaceFault>
         ensures fixed { fixed self.new ≡ fixed self.old }
-        ensures tells { TellsBy refusals is_broken self.old self.new result }
+        ensures tells { ReportsFaultBy refusals is_broken self.old self.new result }
         ensures reads { Reads holds is_sound is_whole self.old self.new result
             (λ a found. found.items ≡ dependents_in a.entities id) };
 
     /// How many changes there were.
     fn serial(&mut self) -> Result<u64, SpaceFault>
         ensures fixed { fixed self.new ≡ fixed self.old }
-        ensures tells { TellsBy refusals is_broken self.old self.new result }
+        ensures tells { ReportsFaultBy refusals is_broken self.old self.new result }
         ensures reads { Reads holds is_sound is_whole self.old self.new result
             (λ a serial. serial ≡ a.serial) };
 
@@ -162,22 +162,22 @@ pub trait Space {
         requires fits { is_sound self.old → (a : Airspace) → holds self.old a
             → Fits change notify.now a }
         ensures fixed { fixed self.new ≡ fixed self.old }
-        ensures tells { TellsBy refusals is_broken self.old self.new result }
+        ensures tells { ReportsFaultBy refusals is_broken self.old self.new result }
         ensures changes { Changes holds is_sound is_whole
             (is_broken self.old) self.old self.new result
             (changed change notify.now) };
 
     /// A sound space that is not broken holds no two airspaces.
-    ghost one: { (s : Self) (a b : Airspace) → is_sound s → is_broken s ≡ false → holds s a
+    ghost content_unique: { (s : Self) (a b : Airspace) → is_sound s → is_broken s ≡ false → holds s a
         → holds s b → a ≡ b };
 
     /// A sound space that is not broken and holds an airspace is whole.
-    ghost certain: { (s : Self) (a : Airspace) → is_sound s → is_broken s ≡ false → holds s a
+    ghost content_whole: { (s : Self) (a : Airspace) → is_sound s → is_broken s ≡ false → holds s a
         → is_whole s };
 
     /// A sound space that is whole, also a broken one, holds some airspace.
-    ghost some: { (s : Self) → is_sound s → is_whole s → ∥ ((a : Airspace) × holds s a) ∥₁ };
+    ghost content_exists: { (s : Self) → is_sound s → is_whole s → ∥ ((a : Airspace) × holds s a) ∥₁ };
 
     /// What a sound space holds is an airspace that may be kept.
-    ghost proper: { (s : Self) (a : Airspace) → is_sound s → holds s a → IsAirspace a };
+    ghost content_valid: { (s : Self) (a : Airspace) → is_sound s → holds s a → IsAirspace a };
 }

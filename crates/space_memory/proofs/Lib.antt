@@ -9,4 +9,4 @@ pub mod IndexedMaps
 pub mod SubscriptionIndexes
 pub mod SoughtMaps
 pub mod NamePairs
-pub mod EndedPieces
+pub mod EndedChunks

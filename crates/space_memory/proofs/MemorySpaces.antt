@@ -7,12 +7,12 @@ use Rattle.entity_core.specs.declared.entity.Entity.{Entity}
 use Rattle.entity_core.specs.declared.subscription.Sub.{Sub}
 use Rattle.entity_core.specs.Airspace.{Airspace, empty_at, is_one_of, IsAirspace, key_cmp, Subscriptions, text_cmp}
 use Rattle.entity_core.proofs.Changes.{proper_with_told, proper_without_told, proper_stated, proper_sub, proper_without_sub}
-use Rattle.entity_core.specs.Serial.{greatest_serial}
-use Rattle.entity_maps.specs.declared.availabilities.Setting.{Setting}
+use Rattle.entity_core.specs.Serial.{max_serial}
+use Rattle.entity_maps.specs.declared.availabilities.AvailabilityEntry.{AvailabilityEntry}
 use Rattle.entity_maps.specs.Entities.{entity_map}
 use Rattle.entity_maps.specs.Entities.{pair_of as entity_pair}
 use Rattle.entity_maps.specs.Availabilities.{availability_map}
-use Rattle.entity_maps.specs.Subscriptions.{AllTold, CanRise, subscription_map}
+use Rattle.entity_maps.specs.Subscriptions.{AllNotified, CanNotify, subscription_map}
 use Rattle.entity_maps.specs.Subscriptions.{pair_of as sub_pair}
 use Rattle.space_core.specs.Space.{Fits, changed}
 use Rattle.space_core.specs.declared.space.Change.{Change}
@@ -22,7 +22,7 @@ use Rattle.entity_maps.specs.Lists.{airspace_of}
 use Rattle.space_memory.specs.Memory.{CanFollow}
 use Rattle.entity_maps.proofs.Maps.{map_of_none}
 
-pub empty_content : (es : List Entity) (ss : List Sub) (settings : List Setting) (n : ℕ) → es ≡ [] → ss ≡ [] → settings ≡ [] → empty_at n ≡ airspace_of es ss settings n
+pub empty_content : (es : List Entity) (ss : List Sub) (settings : List AvailabilityEntry) (n : ℕ) → es ≡ [] → ss ≡ [] → settings ≡ [] → empty_at n ≡ airspace_of es ss settings n
 empty_content es ss settings n p r q = λ i. record {
   entities = (sym (ap entity_map p ∙ map_of_none key_cmp entity_pair)) i;
   subscriptions = (sym (ap subscription_map r ∙ map_of_none nat_cmp sub_pair)) i;
@@ -31,7 +31,7 @@ empty_content es ss settings n p r q = λ i. record {
 }
 
 -- no subscription has an index over any serial
-pub none_told : (ss : List Sub) (n : ℕ) → ss ≡ [] → AllTold ss n
+pub none_told : (ss : List Sub) (n : ℕ) → ss ≡ [] → AllNotified ss n
 none_told ss n e id s h =
     let none : None ≡ Some s = sym (get-empty nat_cmp id) ∙ (ap (λ (m : Subscriptions). get m id) (sym (ap subscription_map e ∙ map_of_none nat_cmp sub_pair)) ∙ h) in cc
 
@@ -52,9 +52,9 @@ proper_changed (PutSub s) told a can proper = proper_sub a s can.within proper
 proper_changed (RemoveSub id) told a can proper = proper_without_sub a id proper
 
 -- and so the indexes of a space in memory stay within its serial
-pub told_after : (change : Change) (told : List ℕ) (a : Airspace) (es : List Entity) (ss : List Sub) (settings : List Setting) (n : ℕ) → CanFollow change a → IsAirspace a → airspace_of es ss settings n ≡ changed change told a → AllTold ss n
+pub told_after : (change : Change) (told : List ℕ) (a : Airspace) (es : List Entity) (ss : List Sub) (settings : List AvailabilityEntry) (n : ℕ) → CanFollow change a → IsAirspace a → airspace_of es ss settings n ≡ changed change told a → AllNotified ss n
 told_after change told a es ss settings n can proper is = (subst IsAirspace (sym is) (proper_changed change told a can proper)).told
 
 -- below the greatest serial each index can rise
-pub can_rise : (ss : List Sub) (n : ℕ) → AllTold ss n → n < greatest_serial → CanRise ss
+pub can_rise : (ss : List Sub) (n : ℕ) → AllNotified ss n → n < max_serial → CanNotify ss
 can_rise ss n told room id s there = let within : s.index ≤ n = told id s there in omega (arith, within, room)

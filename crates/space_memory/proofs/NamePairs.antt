@@ -21,7 +21,7 @@ use Rattle.entity_core.specs.declared.nature.Nature.TheVariants as nature
 use Rattle.entity_core.specs.declared.nature.Kind.TheVariants.{Intent}
 use Rattle.entity_core.proofs.Keys.{key_exact, key_total}
 use Rattle.entity_maps.specs.Entities.{entity_map}
-use Rattle.entity_sweep.specs.Sweep.{is_named_in}
+use Rattle.entity_purge.specs.Purge.{is_named_in}
 use Rattle.space_memory.specs.Names.{ArePairsOf, HasPair, IsEntered, IsNameIndex, Naming, NamesMore, dependent_at, id_if_naming, naming_cmp}
 use Rattle.space_memory.proofs.CellSets.{any_kept, either, equal_is}
 use Rattle.space_memory.proofs.Named.{all_named}

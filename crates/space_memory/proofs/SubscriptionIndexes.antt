@@ -9,7 +9,7 @@ use Rattle.std.specs.BTreeSet.{BTreeSet}
 use Rattle.std.specs.FinMap as maps
 use Rattle.std.specs.FinMap.{entries, get, insert, remove, get-empty, get-from_entries, get-insert, get-remove, same_map, nat_cmp-IsAntisymmetric}
 use Rattle.std.specs.List.{All}
-use Rattle.entity_core.specs.Airspace.{Subscriptions, is_one_of, told_again, told_where}
+use Rattle.entity_core.specs.Airspace.{Subscriptions, is_one_of, notified_again, notified_where}
 use Rattle.entity_core.specs.declared.subscription.Sub.{Sub}
 use Rattle.entity_core.proofs.Changes.{one_id, told_was}
 use Rattle.entity_maps.specs.Sorted.{keyed}
@@ -81,11 +81,11 @@ removed_whole m n id (Some marks) is h = λ k s at.
     ] refl now
 
 -- telling changes no cell
-told_marked : (marks : BTreeSet Mark) (b : Bool) (s : Sub) → AllMarked marks s → AllMarked marks (cond b (told_again s) s)
+told_marked : (marks : BTreeSet Mark) (b : Bool) (s : Sub) → AllMarked marks s → AllMarked marks (cond b (notified_again s) s)
 told_marked marks true s h = h
 told_marked marks false s h = h
 
-pub told_whole : (m n : Subscriptions) (ids : List ℕ) (index : Option (BTreeSet Mark)) → n ≡ told_where (is_one_of ids) m → IsIndexIfAny m index → IsIndexIfAny n index
+pub told_whole : (m n : Subscriptions) (ids : List ℕ) (index : Option (BTreeSet Mark)) → n ≡ notified_where (is_one_of ids) m → IsIndexIfAny m index → IsIndexIfAny n index
 told_whole m n ids None is h = tt
 told_whole m n ids (Some marks) is h = λ k s at.
     let was = told_was (is_one_of ids) m k s (sym (ap (λ (l : Subscriptions). get l k) is) ∙ at) in

@@ -1,9 +1,9 @@
 pub mod Memory
 pub mod Proper
-pub mod Settled
+pub mod GroupCommit
 pub mod CellIndex
 pub mod Names
 pub mod Near
 pub mod Found
 pub mod IndexedSubscriptions
-pub mod Swept
+pub mod Purged

@@ -2,7 +2,7 @@
 use Rattle.std.specs.Prelude.{ℕ, ◌+◌, ◌<◌, ◌≤◌, IsSome}
 use Rattle.std.specs.FinMap.{get}
 use Rattle.entity_core.specs.Airspace.{Airspace}
-use Rattle.entity_core.specs.Serial.{greatest_serial}
+use Rattle.entity_core.specs.Serial.{max_serial}
 use Rattle.entity_maps.specs.Lists.{airspace_of}
 use Rattle.space_core.specs.declared.space.Change.{Change}
 use Rattle.space_core.specs.declared.space.Change.TheVariants.{Put, Remove, Avail, PutSub, RemoveSub}
@@ -34,5 +34,5 @@ IndexIsWithin serial (RemoveSub id) = Unit {0}
 -- what lists ask of a change that they make: their serial can go on, and no index comes to be over
 -- it
 pub record CanFollow (change : Change) (a : Airspace) : Type 0 where
-  pub room : a.serial < greatest_serial
+  pub room : a.serial < max_serial
   pub within : IndexIsWithin (a.serial + 1) change

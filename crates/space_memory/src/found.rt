@@ -52,7 +52,7 @@ fn is_found(
     ensures { Judges (entity_of (entity_map entities.now) kind) (λ e. e.volumes)
         (is_sought_of kind areas.now except.now) areas.now part bits result }
 {
-    match entities.at(kind, part.0) {
+    match entities.get(kind, part.0) {
         Some(entity) => {
             is_other(*except, kind, entity.id) && meets_at(entity, part.1, bits, areas)
         }
@@ -95,7 +95,7 @@ pub(crate) fn entities_of(
 {
     let mut found = Vec::new(alloc);
     for id in ids {
-        if let Some(entity) = entities.at(kind, *id) {
+        if let Some(entity) = entities.get(kind, *id) {
             found.push(entity.clone(alloc)?)?;
         }
     }

@@ -5,7 +5,7 @@ ghost use Rattle.std.specs.FinMap.{get, insert, remove};
 ghost use Rattle.entity_core.specs.Airspace.{key_of};
 ghost use Rattle.entity_core.specs.Search.{meeting_in, all_in, dependents_in};
 ghost use Rattle.entity_maps.specs.Entities.{entity_map};
-ghost use Rattle.entity_sweep.specs.Sweep.{is_named_in};
+ghost use Rattle.entity_purge.specs.Purge.{is_named_in};
 ghost use Rattle.space_memory.specs.CellIndex.{AllMarked, Grows, IsIndexOf};
 ghost use Rattle.space_memory.specs.Names.{IsEntered, IsNameIndex, NamesMore};
 
@@ -19,7 +19,7 @@ use entity_core::nature::Kind;
 use entity_maps::entities::Entities;
 use grid_core::sorted_area::sorted;
 use grid_core::volume::Area;
-use space_shown::counts::Counts;
+use space_snapshot::counts::EntityCounts;
 use std::alloc::{AllocError, Global};
 use std::collections::BTreeSet;
 use std::marker::Model;
@@ -31,7 +31,7 @@ pub(crate) struct IndexedEntities {
     entities: Entities,
     marks: BTreeSet<Mark>,
     names: BTreeSet<Naming>,
-    counts: Counts,
+    counts: EntityCounts,
 }
 
 impl Model for IndexedEntities {
@@ -180,7 +180,7 @@ impl IndexedEntities {
             entities: Entities::new(alloc),
             marks: BTreeSet::new(alloc),
             names: BTreeSet::new(alloc),
-            counts: Counts::nothing(),
+            counts: EntityCounts::nothing(),
         }
     }
 
@@ -190,7 +190,7 @@ impl IndexedEntities {
     {
         let mut marks = BTreeSet::new(alloc);
         let mut names = BTreeSet::new(alloc);
-        let mut counts = Counts::nothing();
+        let mut counts = EntityCounts::nothing();
         for entity in entities.iter() {
             add_entity(&mut marks, &mut names, entity)?;
             counts.add(entity.nature.kind());
@@ -211,7 +211,7 @@ impl IndexedEntities {
     }
 
     /// How many there are of each kind.
-    pub(crate) fn counts(&self) -> Counts {
+    pub(crate) fn counts(&self) -> EntityCounts {
         self.counts
     }
 
@@ -282,7 +282,7 @@ impl IndexedEntities {
         ensures err { OnErr result (self.new ≡ self.old) }
     {
         let kind = entity.nature.kind();
-        let is_new = self.entities.at(kind, entity.id.number()).is_none();
+        let is_new = self.entities.get(kind, entity.id.number()).is_none();
         put_entity(&mut self.entities, &mut self.marks, &mut self.names, entity)?;
         if is_new {
             self.counts.add(kind);
@@ -294,7 +294,7 @@ impl IndexedEntities {
     pub(crate) fn remove(&mut self, kind: Kind, id: EntityId)
         ensures { entity_map self.new ≡ remove (entity_map self.old) (kind, id) }
     {
-        let is_there = self.entities.at(kind, id.number()).is_some();
+        let is_there = self.entities.get(kind, id.number()).is_some();
         remove_entity(
             &mut self.entities,
             &mut self.marks,

@@ -3,10 +3,10 @@ ghost use Rattle.std.specs.Prelude.{◌≡◌, [], filter_map, is_some, OnOk, On
 ghost use Rattle.std.specs.FinMap.{get, insert, remove};
 ghost use Rattle.std.specs.BTreeSet.{IsOrdered, keys};
 ghost use Rattle.std.specs.Ordering.{nat_cmp};
-ghost use Rattle.entity_core.specs.Airspace.{is_one_of, told_where};
+ghost use Rattle.entity_core.specs.Airspace.{is_one_of, notified_where};
 ghost use Rattle.entity_core.specs.IdTexts.{same_text};
 ghost use Rattle.entity_core.specs.Search.{is_for_near, subscribers_in, subscriptions_in};
-ghost use Rattle.entity_maps.specs.Subscriptions.{CanRise, InOrder, subscription_map};
+ghost use Rattle.entity_maps.specs.Subscriptions.{CanNotify, InOrder, subscription_map};
 ghost use Rattle.space_memory.specs.CellIndex.{Grows};
 ghost use Rattle.space_memory.specs.Found.{is_own_of, AllPassing, Judges, OnlyPassing};
 ghost use Rattle.space_memory.specs.IndexedSubscriptions.{AllMarked, IsIndexBut, IsIndexIfAny, IsIndexOf, holder_of, volumes_of};
@@ -76,7 +76,7 @@ fn enter_sub(
         → IsIndexIfAny (subscription_map subscriptions.now) marks.new) }
 {
     match marks {
-        Some(marks) => match subscriptions.at(id.number()) {
+        Some(marks) => match subscriptions.get(id.number()) {
             Some(sub) => mark_sub(marks, sub),
             None => Ok(()),
         },
@@ -94,7 +94,7 @@ fn forget_sub(
     ensures kept { IsIndexBut id (subscription_map subscriptions.now) marks.old
         → IsIndexBut id (subscription_map subscriptions.now) marks.new }
 {
-    match subscriptions.at(id.number()) {
+    match subscriptions.get(id.number()) {
         Some(sub) => {
             if let Some(marks) = marks {
                 unmark_cells(marks, sub_holder(sub), 0, sub.volume.cells());
@@ -168,7 +168,7 @@ fn is_own(
     ensures { Judges (get (subscription_map subscriptions.now)) volumes_of
         (is_own_of uss.now areas.now) areas.now part bits result }
 {
-    match subscriptions.at(part.0) {
+    match subscriptions.get(part.0) {
         Some(sub) => is_of(sub, uss) && meets_one_of(&sub.volume, bits, areas),
         None => false,
     }
@@ -206,7 +206,7 @@ fn is_wanted(
     ensures { Judges (get (subscription_map subscriptions.now)) volumes_of
         (is_for_near kind areas.now) areas.now part bits result }
 {
-    match subscriptions.at(part.0) {
+    match subscriptions.get(part.0) {
         Some(sub) => sub.interest.wants(kind) && meets_one_of(&sub.volume, bits, areas),
         None => false,
     }
@@ -245,7 +245,7 @@ fn all_of(
 {
     let mut found = Vec::new(alloc);
     for id in ids {
-        if let Some(sub) = subscriptions.at(*id) {
+        if let Some(sub) = subscriptions.get(*id) {
             found.push(sub.clone()?)?;
         }
     }
@@ -343,7 +343,7 @@ impl IndexedSubscriptions {
     {
         match &self.marks {
             Some(marks) => own_by_index(alloc, &self.subscriptions, marks, uss, area),
-            None => self.subscriptions.own(alloc, uss, area),
+            None => self.subscriptions.subscriptions_of(alloc, uss, area),
         }
     }
 
@@ -360,18 +360,18 @@ impl IndexedSubscriptions {
     {
         match &self.marks {
             Some(marks) => wanted_by_index(alloc, &self.subscriptions, marks, kind, areas),
-            None => self.subscriptions.for_kind(alloc, kind, areas),
+            None => self.subscriptions.subscribers(alloc, kind, areas),
         }
     }
 
     /// Tells each subscription whose id is among these of one more change. It takes no memory. The
     /// index of each can rise.
     pub(crate) fn tell(&mut self, ids: &[EntityId])
-        requires { CanRise self.old }
+        requires { CanNotify self.old }
         ensures { subscription_map self.new
-            ≡ told_where (is_one_of ids.now) (subscription_map self.old) }
+            ≡ notified_where (is_one_of ids.now) (subscription_map self.old) }
     {
-        self.subscriptions.tell(ids)
+        self.subscriptions.notify(ids)
     }
 
     /// Puts a subscription in the place of the one that has its id, or among the others where its

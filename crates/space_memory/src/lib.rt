@@ -3,15 +3,15 @@
 #![tactic(auto)]
 
 mod cell_index;
-mod filled;
 mod found;
+mod from_parts;
+pub mod group_commit;
 mod indexed;
 mod indexed_subscriptions;
-pub mod listing;
 mod maps;
 pub mod memory;
 mod names;
 mod near;
-pub mod settled;
-mod shown;
-mod swept;
+mod purged;
+mod snapshot;
+pub mod to_memory;

@@ -6,7 +6,7 @@ ghost use Rattle.entity_maps.specs.Availabilities.{availability_map};
 ghost use Rattle.entity_maps.specs.Lists.{airspace_of};
 ghost use Rattle.space_core.specs.Met.{met_in, met_of};
 ghost use Rattle.space_core.specs.Space.{IsRemoval, changed};
-ghost use Rattle.entity_maps.specs.Subscriptions.{CanRise};
+ghost use Rattle.entity_maps.specs.Subscriptions.{CanNotify};
 ghost use Rattle.space_memory.specs.Memory.{IsOver};
 
 use crate::indexed::IndexedEntities;
@@ -66,7 +66,7 @@ pub(crate) fn make(
     change: Change,
     notify: &[EntityId],
 ) -> Result<(), AllocError>
-    requires { CanRise subscriptions.old }
+    requires { CanNotify subscriptions.old }
     ensures ok { OnOk result ((serial : ℕ)
         → airspace_of entities.new subscriptions.new availabilities.new (serial + 1)
         ≡ changed change notify.now

@@ -3,9 +3,9 @@
 ghost use Rattle.std.specs.Prelude.{◌≡◌, ◌≤◌, ℕ, false, ◌+◌, Ok, OnOk, OnErr, min, IfOk, IsOk, IsNone, IsTrue};
 ghost use Rattle.std.specs.FinMap.{get};
 ghost use Rattle.entity_core.specs.Airspace.{Airspace, IsAirspace, empty_at};
-ghost use Rattle.entity_core.specs.Serial.{greatest_serial};
-ghost use Rattle.space_core.specs.Space.{Fits, IsRemoval, Tells, changed, greatest_count, nothing_fixed};
-ghost use Rattle.entity_maps.specs.Subscriptions.{AllTold};
+ghost use Rattle.entity_core.specs.Serial.{max_serial};
+ghost use Rattle.space_core.specs.Space.{Fits, IsRemoval, ReportsFault, changed, max_count, nothing_fixed};
+ghost use Rattle.entity_maps.specs.Subscriptions.{AllNotified};
 ghost use Rattle.space_core.specs.declared.space.SpaceFault.TheVariants.{Unchanged};
 ghost use Rattle.std.proofs.Common.{sym, ◌∙◌, refl, subst};
 
@@ -17,11 +17,11 @@ use entity_core::entity::Entity;
 use entity_core::entity_id::EntityId;
 use entity_core::nature::Kind;
 use entity_core::ovn::Ovn;
-use entity_core::serial::GREATEST_SERIAL;
+use entity_core::serial::MAX_SERIAL;
 use entity_core::subscription::Sub;
 use entity_core::uss_id::UssId;
 use entity_maps::availabilities::Availabilities;
-use entity_sweep::gone::Gone;
+use entity_purge::purge_item::PurgeItem;
 use grid_core::volume::Area;
 use space_core::met::Met;
 use space_core::space::{Change, Space, SpaceFault};
@@ -37,8 +37,8 @@ pub struct MemorySpace {
     pub(crate) serial: u64,
     pub(crate) refusals: u64,
     // what was let go of last: where the next that has ended is looked for
-    pub(crate) last_gone: Option<Gone>,
-    ghost told: { AllTold subscriptions serial },
+    pub(crate) last_gone: Option<PurgeItem>,
+    ghost told: { AllNotified subscriptions serial },
 }
 
 impl MemorySpace {
@@ -55,7 +55,7 @@ impl MemorySpace {
 
     /// An empty airspace whose serial has gone on so far, in a space that has refused nothing.
     pub fn at_serial(alloc: Global, serial: u64) -> Self
-        requires { serial ≤ greatest_serial }
+        requires { serial ≤ max_serial }
         ensures content { IsContent ⟦<MemorySpace as Space>⟧.holds result (empty_at serial) }
         ensures fresh { ⟦<MemorySpace as Space>⟧.refusals result ≡ 0 }
     {
@@ -74,7 +74,7 @@ impl MemorySpace {
     fn refuse(&mut self) -> SpaceFault
         ensures fault { result ≡ Unchanged }
         ensures content { content_of self.new ≡ content_of self.old }
-        ensures counted { self.new.refusals ≡ min (self.old.refusals + 1) greatest_count }
+        ensures counted { self.new.refusals ≡ min (self.old.refusals + 1) max_count }
     {
         self.refusals = self.refusals.saturating_add(1);
         SpaceFault::Unchanged
@@ -84,7 +84,7 @@ impl MemorySpace {
     fn can_follow(&self, change: &Change) -> bool
         ensures { IsTrue result → CanFollow change.now (content_of self.now) }
     {
-        if self.serial >= GREATEST_SERIAL {
+        if self.serial >= MAX_SERIAL {
             return false;
         }
         match change {
@@ -99,7 +99,7 @@ impl MemorySpace {
         ensures done { OnOk result
             (content_of self.new ≡ changed change notify.now (content_of self.old)) }
         ensures refused { OnErr result (content_of self.new ≡ content_of self.old) }
-        ensures tells { Tells (refusals_of self.old) (refusals_of self.new) false false result }
+        ensures tells { ReportsFault (refusals_of self.old) (refusals_of self.new) false false result }
         ensures removed { IsRemoval change → IsOk result }
         ensures over { IsOver change (content_of self.old) → IsOk result }
     {
@@ -120,7 +120,7 @@ impl MemorySpace {
 
     /// Makes a change that another space has made, which told these subscriptions of it. Where the
     /// serial cannot go on, an index would be over it or memory lacks, it answers `Unchanged`.
-    pub fn follow(&mut self, change: Change, notify: &[EntityId]) -> Result<(), SpaceFault>
+    pub fn replicate(&mut self, change: Change, notify: &[EntityId]) -> Result<(), SpaceFault>
         ensures done { OnOk result
             (content_of self.new ≡ changed change notify.now (content_of self.old)) }
         ensures refused { OnErr result (content_of self.new ≡ content_of self.old) }
@@ -148,16 +148,16 @@ impl Space for MemorySpace {
 
     ghost fixed = { λ _. nothing_fixed };
 
-    ghost one = { λ s a b sound unbroken h k. h ∙ sym k };
+    ghost content_unique = { λ s a b sound unbroken h k. h ∙ sym k };
 
-    ghost certain = { λ s a sound unbroken h. tt };
+    ghost content_whole = { λ s a sound unbroken h. tt };
 
-    ghost some = { λ s sound whole. ∣ (content_of s, refl) ∣₁ };
+    ghost content_exists = { λ s sound whole. ∣ (content_of s, refl) ∣₁ };
 
-    ghost proper = { λ s a sound h. subst IsAirspace (sym h) (content_is_proper s) };
+    ghost content_valid = { λ s a sound h. subst IsAirspace (sym h) (content_is_proper s) };
 
     fn entity(&mut self, kind: Kind, id: EntityId) -> Result<Option<Entity>, SpaceFault>
-        ensures tells { Tells (refusals_of self.old) (refusals_of self.new) false false result }
+        ensures tells { ReportsFault (refusals_of self.old) (refusals_of self.new) false false result }
         ensures kept { content_of self.new ≡ content_of self.old }
         ensures found { IfOk result (λ found.
             found ≡ get (content_of self.old).entities (kind, id)) }
@@ -196,7 +196,7 @@ impl Space for MemorySpace {
     }
 
     fn availability(&mut self, uss: &UssId) -> Result<Option<(Availability, Ovn)>, SpaceFault>
-        ensures tells { Tells (refusals_of self.old) (refusals_of self.new) false false result }
+        ensures tells { ReportsFault (refusals_of self.old) (refusals_of self.new) false false result }
         ensures kept { content_of self.new ≡ content_of self.old }
         ensures found { IfOk result (λ found.
             found ≡ get (content_of self.old).availabilities uss.now) }
@@ -209,7 +209,7 @@ impl Space for MemorySpace {
     }
 
     fn subscription(&mut self, id: EntityId) -> Result<Option<Sub>, SpaceFault>
-        ensures tells { Tells (refusals_of self.old) (refusals_of self.new) false false result }
+        ensures tells { ReportsFault (refusals_of self.old) (refusals_of self.new) false false result }
         ensures kept { content_of self.new ≡ content_of self.old }
         ensures found { IfOk result (λ found.
             found ≡ get (content_of self.old).subscriptions id) }
@@ -254,7 +254,7 @@ impl Space for MemorySpace {
         ensures done { OnOk result
             (content_of self.new ≡ changed change notify.now (content_of self.old)) }
         ensures refused { OnErr result (content_of self.new ≡ content_of self.old) }
-        ensures tells { Tells (refusals_of self.old) (refusals_of self.new) false false result }
+        ensures tells { ReportsFault (refusals_of self.old) (refusals_of self.new) false false result }
         ensures removed { IsRemoval change → IsOk result }
         ensures over { IsOver change (content_of self.old) → IsOk result }
     {

@@ -3,7 +3,7 @@
 ghost use Rattle.std.specs.Prelude.{◌≡◌, IfOk, OnOk};
 ghost use Rattle.entity_core.specs.Search.{dependents_in};
 ghost use Rattle.entity_maps.specs.Entities.{entity_map};
-ghost use Rattle.entity_sweep.specs.Sweep.{is_named_in};
+ghost use Rattle.entity_purge.specs.Purge.{is_named_in};
 ghost use Rattle.space_memory.specs.Names.{ArePairsOf, IsEntered, IsNameIndex, NamesMore, dependent_at};
 
 use entity_core::entity::Entity;
@@ -34,7 +34,7 @@ pub(crate) fn enter_name(names: &mut BTreeSet<Naming>, entity: &Entity) -> Resul
 fn dependent_at(entities: &Entities, id: EntityId, intent: u128) -> Option<EntityId>
     ensures { result ≡ dependent_at (entity_map entities.now) id intent }
 {
-    match entities.at(Kind::Intent, intent) {
+    match entities.get(Kind::Intent, intent) {
         Some(entity) => match entity.nature.subscription() {
             Some(named) if named.is(id) => Some(entity.id),
             _ => None,

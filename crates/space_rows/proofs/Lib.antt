@@ -1,4 +1,4 @@
-pub mod Pieces
+pub mod Chunks
 pub mod ReadSoFar
 pub mod Digits
 pub mod OneEntity

@@ -15,7 +15,7 @@ use Rattle.space_rows.specs.declared.rows.VolumeRow.{VolumeRow}
 use Rattle.space_rows.specs.declared.rows.CellRow.{CellRow}
 use Rattle.space_rows.specs.Rows.{state_number, placed, PlacedCell, cells_at, placed_cells, all_cells, IsVolume, IsVolumeRow, IsCellRow}
 use Rattle.space_rows.specs.Laws.{OneEntity}
-use Rattle.space_rows.proofs.Pieces.{Borne, Differ, all_joined, all_turned, one_flat}
+use Rattle.space_rows.proofs.Chunks.{Borne, Differ, all_joined, all_turned, one_flat}
 
 -- the nature that a state's number is of
 nature_at : ℤ → Option ℕ → Nature

@@ -11,7 +11,7 @@ use Rattle.space_rows.specs.declared.rows.VolumeRow.{VolumeRow}
 use Rattle.space_rows.specs.declared.rows.CellRow.{CellRow}
 use Rattle.space_rows.specs.Rows.{IsVolume, PlacedCell, placed, placed_cells, IsCellRow, IsVolumeRow}
 use Rattle.space_rows.proofs.OneEntity.{one_bounds, one_number}
-use Rattle.space_rows.proofs.Pieces.{all_joined}
+use Rattle.space_rows.proofs.Chunks.{all_joined}
 use Rattle.space_rows.specs.Finds.{Finds}
 use Rattle.space_rows.specs.Volumes.{HasBounds, SpellsVolume, SpellsVolumes}
 use Rattle.space_rows.specs.Cells.{IsRowInVolume, SpellsCell, SpellsCells, StartsElse}

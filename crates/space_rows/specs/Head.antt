@@ -5,8 +5,8 @@ use Rattle.entity_core.specs.declared.entity.Entity.{Entity}
 use Rattle.entity_core.specs.declared.nature.Nature.{Nature}
 use Rattle.entity_core.specs.declared.id_fault.IdFault.{IdFault}
 use Rattle.entity_core.specs.IdTexts.{name_fault, ovn_fault, url_fault}
-use Rattle.entity_core.specs.Entity.{kind_of, subscription_of, greatest_version}
-use Rattle.entity_core.specs.Serial.{greatest_serial}
+use Rattle.entity_core.specs.Entity.{kind_of, subscription_of, max_version}
+use Rattle.entity_core.specs.Serial.{max_serial}
 use Rattle.entity_core.specs.EntityId.{printed}
 use Rattle.space_rows.specs.declared.rows.EntityRow.{EntityRow}
 use Rattle.space_rows.specs.declared.head.Head.{Head}
@@ -70,7 +70,7 @@ pub record SpellsHead (row : EntityRow) (named : Option ℕ) (h : Head) : Type 0
   pub nature : SpellsNature row.kind row.state named h.nature
   pub id : SpellsId row.id h.id
   pub manager : SpellsText name_fault row.manager h.manager
-  pub version : SpellsCount greatest_version row.version h.version
-  pub serial : SpellsCount greatest_serial row.serial h.serial
+  pub version : SpellsCount max_version row.version h.version
+  pub serial : SpellsCount max_serial row.serial h.serial
   pub ovn : SpellsText ovn_fault row.ovn h.ovn
   pub url : SpellsText url_fault row.url h.url

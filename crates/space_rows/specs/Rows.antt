@@ -10,8 +10,8 @@ use Rattle.entity_core.specs.declared.nature.State.TheVariants.{Accepted, Activa
 use Rattle.entity_core.specs.declared.nature.Nature.{Nature}
 use Rattle.entity_core.specs.declared.nature.Nature.TheVariants as nature
 use Rattle.entity_core.specs.declared.entity.Entity.{Entity}
-use Rattle.entity_core.specs.Entity.{kind_of, subscription_of, greatest_version}
-use Rattle.entity_core.specs.Serial.{greatest_serial}
+use Rattle.entity_core.specs.Entity.{kind_of, subscription_of, max_version}
+use Rattle.entity_core.specs.Serial.{max_serial}
 use Rattle.entity_core.specs.EntityId.{printed}
 use Rattle.entity_core.specs.IdTexts.{name_fault, ovn_fault, url_fault}
 use Rattle.space_rows.specs.declared.rows.EntityRow.{EntityRow}
@@ -65,8 +65,8 @@ pub record IsVolume (v : Extent) : Type 0 where
 pub record IsEntity (e : Entity) : Type 0 where
   pub id : e.id < 2 ^ 128
   pub manager : name_fault e.manager ≡ None
-  pub version : (1 ≤ e.version) × (e.version ≤ greatest_version)
-  pub serial : (1 ≤ e.serial) × (e.serial ≤ greatest_serial)
+  pub version : (1 ≤ e.version) × (e.version ≤ max_version)
+  pub serial : (1 ≤ e.serial) × (e.serial ≤ max_serial)
   pub ovn : ovn_fault e.ovn ≡ None
   pub count : (1 ≤ length e.volumes) × (length e.volumes ≤ 32)
   pub volumes : AllByRecursion IsVolume e.volumes

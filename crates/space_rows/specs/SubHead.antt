@@ -3,7 +3,7 @@ use Rattle.std.specs.Prelude.{◌≡◌, ℤ, ℕ, pos, ◌≤◌, ◌≤ℤ◌}
 use Rattle.grid_core.specs.Extent.{Extent}
 use Rattle.entity_core.specs.declared.subscription.Sub.{Sub}
 use Rattle.entity_core.specs.IdTexts.{name_fault, ovn_fault, url_fault}
-use Rattle.entity_core.specs.Serial.{greatest_serial}
+use Rattle.entity_core.specs.Serial.{max_serial}
 use Rattle.space_rows.specs.declared.rows.SubRow.{SubRow}
 use Rattle.space_rows.specs.declared.rows.VolumeRow.{VolumeRow}
 use Rattle.space_rows.specs.declared.sub_head.SubHead.{SubHead}
@@ -38,14 +38,14 @@ with_volume h v = record {
 -- a number from 0 to the greatest serial
 pub record SpellsIndex (column : ℤ) (n : ℕ) : Type 0 where
   pub number : column ≡ pos n
-  pub most : n ≤ greatest_serial
+  pub most : n ≤ max_serial
 
 pub record SpellsSubHead (row : SubRow) (h : SubHead) : Type 0 where
   pub least : pos 1 ≤ℤ row.num
   pub most : row.num ≤ℤ pos h.serial
   pub id : SpellsId row.id h.id
   pub manager : SpellsText name_fault row.manager h.manager
-  pub serial : SpellsCount greatest_serial row.serial h.serial
+  pub serial : SpellsCount max_serial row.serial h.serial
   pub version : SpellsText ovn_fault row.version h.version
   pub notes : SpellsIndex row.notes h.index
   pub url : SpellsText url_fault row.url h.url

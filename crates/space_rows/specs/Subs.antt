@@ -8,7 +8,7 @@ use Rattle.entity_core.specs.declared.nature.Kind.TheVariants.{Intent, Constrain
 use Rattle.entity_core.specs.declared.subscription.Sub.{Sub}
 use Rattle.entity_core.specs.EntityId.{printed}
 use Rattle.entity_core.specs.IdTexts.{name_fault, ovn_fault, url_fault}
-use Rattle.entity_core.specs.Serial.{greatest_serial}
+use Rattle.entity_core.specs.Serial.{max_serial}
 use Rattle.entity_core.specs.Subscription.{wants}
 use Rattle.space_rows.specs.declared.rows.SubRow.{SubRow}
 use Rattle.space_rows.specs.declared.rows.SubCellRow.{SubCellRow}
@@ -29,8 +29,8 @@ pub record IsSub (s : Sub) : Type 0 where
   pub id : s.id < 2 ^ 128
   pub manager : name_fault s.manager ≡ None
   pub version : ovn_fault s.version ≡ None
-  pub serial : (1 ≤ s.serial) × (s.serial ≤ greatest_serial)
-  pub index : s.index ≤ greatest_serial
+  pub serial : (1 ≤ s.serial) × (s.serial ≤ max_serial)
+  pub index : s.index ≤ max_serial
   pub volume : IsVolume s.volume
   pub url : url_fault s.url ≡ None
 

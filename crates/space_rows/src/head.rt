@@ -1,8 +1,8 @@
 //! What a row of the table `entity` spells, and the row of an entity.
 ghost use Rattle.std.specs.Prelude.{◌≡◌, ◌↔◌, ◌≤◌, ◌^◌, ◌≤ℤ◌, ℕ, pos, IsTrue, IfOk, Some, None};
 ghost use Rattle.entity_core.specs.EntityId.{spelled};
-ghost use Rattle.entity_core.specs.Entity.{greatest_version, subscription_of};
-ghost use Rattle.entity_core.specs.Serial.{greatest_serial};
+ghost use Rattle.entity_core.specs.Entity.{max_version, subscription_of};
+ghost use Rattle.entity_core.specs.Serial.{max_serial};
 ghost use Rattle.entity_core.specs.declared.nature.Nature.TheVariants.{Intent};
 ghost use Rattle.space_rows.specs.Rows.{kind_number, state_number};
 ghost use Rattle.space_rows.specs.Finds.{Finds};
@@ -102,7 +102,7 @@ pub(crate) fn id_of(alloc: Global, text: &str) -> Result<Option<EntityId>, Alloc
 }
 
 fn version_of(number: i64) -> Option<Version>
-    ensures { Finds (SpellsCount greatest_version number) result }
+    ensures { Finds (SpellsCount max_version number) result }
 {
     if number < 1 || number > 2147483647 {
         return None;
@@ -112,12 +112,12 @@ fn version_of(number: i64) -> Option<Version>
 
 /// The serial of a number.
 pub(crate) fn serial_of(number: i64) -> Option<Serial>
-    ensures { Finds (SpellsCount greatest_serial number) result }
+    ensures { Finds (SpellsCount max_serial number) result }
 {
     if number < 1 {
         return None;
     }
-    Serial::after(number as u64 - 1)
+    Serial::next_after(number as u64 - 1)
 }
 
 /// Whether the number of an entity or a subscription is from 1 to its serial.

@@ -12,16 +12,16 @@ use Rattle.entity_core.specs.Airspace.{Airspace}
 use Rattle.space_core.specs.declared.space.SpaceFault.{SpaceFault}
 use Rattle.space_core.specs.declared.space.SpaceFault.TheVariants.{Unchanged}
 use Rattle.space_core.specs.Space.{Changes, IsContent}
-use Rattle.space_tables.specs.Making.{IsUndone}
-use Rattle.space_tables.specs.Spelling.{Spells}
-use Rattle.space_tables.proofs.OneAirspace.{one_airspace}
-use Rattle.space_changes.specs.Committing.{Commits, MayBeChanged}
-use Rattle.space_sql.specs.Holding.{IsKeeping, Keeps, Kept, Rests, holds_in, is_whole_in, holds_of, is_sound_of, is_whole_of, with_tables}
+use Rattle.space_sql_schema.specs.Making.{IsUndone}
+use Rattle.space_sql_schema.specs.Spelling.{Spells}
+use Rattle.space_sql_schema.proofs.OneAirspace.{one_airspace}
+use Rattle.space_sql_write.specs.Committing.{Commits, MayBeChanged}
+use Rattle.space_sql.specs.Holding.{IsKeeping, AreTablesOf, SqlSpaceModel, Rests, holds_in, is_whole_in, holds_of, is_sound_of, is_whole_of, with_tables}
 use Rattle.space_sql.specs.Settling.{Settles}
 use Rattle.space_sql.proofs.Outcomes.{held_is_spelt, spelt_alone, spelt_is_held, whole_is_spelt}
 
 -- trees that a commit may have left keep the airspace that they spell
-keeps_of : (trees : Trees) (a : Airspace) → ((db : Database) × (trees ≡ db.trees) × IsDatabase db × Spells db a) → Keeps trees a
+keeps_of : (trees : Trees) (a : Airspace) → ((db : Database) × (trees ≡ db.trees) × IsDatabase db × Spells db a) → AreTablesOf trees a
 keeps_of trees a it =
     let path : it.0 ≡ with_tables trees = λ i. record { schema = it.3.schema i; trees = (sym it.1) i } in
     subst (λ d. IsDatabase d × Spells d a) path (it.2, it.3)
@@ -34,7 +34,7 @@ module _ (P : Airspace → Type 0) (change : Airspace → Airspace) (old mid new
   old_clean = omega (arith, went.clean, mid_clean)
 
   -- what was held is changed where trees may have been committed
-  committed : (db : Trees) → MayBeChanged P change old db → (a : Airspace) → holds_in old a → Keeps db (change a)
+  committed : (db : Trees) → MayBeChanged P change old db → (a : Airspace) → holds_in old a → AreTablesOf db (change a)
   committed db made a h = keeps_of db (change a) (made a (held_is_spelt old rests (live old_clean) a h) (fits old_clean a h))
 
   outcome : (db : Trees) → new.may_leave db → old.may_leave db ⊎ MayBeChanged P change old db
@@ -55,12 +55,12 @@ module _ (P : Airspace → Type 0) (change : Airspace → Airspace) (old mid new
   pub change_refused : IsUndone old mid → IsUnchanged mid new → (a : Airspace) → holds_in old a ↔ holds_in new a
   change_refused undone same a =
       let last : old.committed.trees ≡ new.committed.trees = ap (λ (d : Database). d.trees) (sym undone.1 ∙ sym same.0.committed_is) in (
-        (λ h. (new.committed.trees, after.stays same.0.is_open, subst (λ t. Keeps t a) (rests.no_other h.0 (live old_clean) h.1 ∙ last) h.2)),
-        (λ h. (old.committed.trees, rests.stays (live old_clean), subst (λ t. Keeps t a) (after.no_other h.0 same.0.is_open h.1 ∙ sym last) h.2)),
+        (λ h. (new.committed.trees, after.stays same.0.is_open, subst (λ t. AreTablesOf t a) (rests.no_other h.0 (live old_clean) h.1 ∙ last) h.2)),
+        (λ h. (old.committed.trees, rests.stays (live old_clean), subst (λ t. AreTablesOf t a) (after.no_other h.0 same.0.is_open h.1 ∙ sym last) h.2)),
       )
 
 -- a space that was not broken, and a change of its tables that was tried
-module _ {S : Type 0} (g : Ghosts S) (P : Airspace → Type 0) (change : Airspace → Airspace) (old new : Kept S) (mid : Held S) (works : old.broken ≡ false) (kept : IsKeeping (state g old.conn) old.broken) (keeping : IsKeeping (state g new.conn) new.broken) (fits : is_sound_of g old → (a : Airspace) → holds_of g old a → P a) where
+module _ {S : Type 0} (g : Ghosts S) (P : Airspace → Type 0) (change : Airspace → Airspace) (old new : SqlSpaceModel S) (mid : Held S) (works : old.broken ≡ false) (kept : IsKeeping (state g old.conn) old.broken) (keeping : IsKeeping (state g new.conn) new.broken) (fits : is_sound_of g old → (a : Airspace) → holds_of g old a → P a) where
   live : HasCleanDisk (state g old.conn) → IsTrue (state g old.conn).is_open
   live clean = kept.live clean works
 
@@ -103,17 +103,17 @@ module _ {S : Type 0} (g : Ghosts S) (P : Airspace → Type 0) (change : Airspac
   }
 
 -- the answer of a space, for what a change of its tables told
-pub changes_settled : {S : Type 0} (g : Ghosts S) (P : Airspace → Type 0) {change : Airspace → Airspace} {old seen new : Kept S} {mid : Held S} {told : Result (Unit {0}) Error} {r : Result (Unit {0}) SpaceFault} → old ≡ seen → IsKeeping (state g old.conn) old.broken → old.broken ≡ false
+pub changes_settled : {S : Type 0} (g : Ghosts S) (P : Airspace → Type 0) {change : Airspace → Airspace} {old seen new : SqlSpaceModel S} {mid : Held S} {told : Result (Unit {0}) Error} {r : Result (Unit {0}) SpaceFault} → old ≡ seen → IsKeeping (state g old.conn) old.broken → old.broken ≡ false
     → (is_sound_of g seen → (a : Airspace) → holds_of g seen a → P a) → Commits P change (state g old.conn) (state g mid) told → Settles g mid new.conn told r → IsKeeping (state g new.conn) new.broken
     → Changes (holds_of g) (is_sound_of g) (is_whole_of g) seen.broken seen new r change
 changes_settled {S} g P {change} {old} {seen} {new} {mid} {told} {r} is kept works fits it to keeping =
-    let due = subst (λ (k : Kept S). is_sound_of g k → (a : Airspace) → holds_of g k a → P a) (sym is) fits in
-    subst (λ (k : Kept S). Changes (holds_of g) (is_sound_of g) (is_whole_of g) k.broken k new r change) is (changes g P change old new mid works kept keeping due told r it to)
+    let due = subst (λ (k : SqlSpaceModel S). is_sound_of g k → (a : Airspace) → holds_of g k a → P a) (sym is) fits in
+    subst (λ (k : SqlSpaceModel S). Changes (holds_of g) (is_sound_of g) (is_whole_of g) k.broken k new r change) is (changes g P change old new mid works kept keeping due told r it to)
 
 -- ---- changes that are made together
 
 -- the same of a list of them, of which there is a first
-pub all_settled : {S X : Type 0} (g : Ghosts S) (P : List X → Airspace → Type 0) (change : List X → Airspace → Airspace) (all : List X) (first : X) (rest : List X) {old seen new : Kept S} {mid : Held S} {told : Result (Unit {0}) Error} {r : Result (Unit {0}) SpaceFault} → all ≡ first ∷ rest → old ≡ seen → IsKeeping (state g old.conn) old.broken → old.broken ≡ false
+pub all_settled : {S X : Type 0} (g : Ghosts S) (P : List X → Airspace → Type 0) (change : List X → Airspace → Airspace) (all : List X) (first : X) (rest : List X) {old seen new : SqlSpaceModel S} {mid : Held S} {told : Result (Unit {0}) Error} {r : Result (Unit {0}) SpaceFault} → all ≡ first ∷ rest → old ≡ seen → IsKeeping (state g old.conn) old.broken → old.broken ≡ false
     → (is_sound_of g seen → (a : Airspace) → holds_of g seen a → P all a) → Commits (P (first ∷ rest)) (change (first ∷ rest)) (state g old.conn) (state g mid) told → Settles g mid new.conn told r → IsKeeping (state g new.conn) new.broken
     → Changes (holds_of g) (is_sound_of g) (is_whole_of g) seen.broken seen new r (change all)
 all_settled {S} g P change all first rest {old} {seen} {new} {mid} {told} {r} whole is kept works fits it to keeping =
@@ -121,7 +121,7 @@ all_settled {S} g P change all first rest {old} {seen} {new} {mid} {told} {r} wh
     changes_settled g (P all) is kept works fits made to keeping
 
 -- no change
-nothing : {S : Type 0} (g : Ghosts S) (k : Kept S) → IsKeeping (state g k.conn) k.broken → k.broken ≡ false → Changes {T = Unit {0}} (holds_of g) (is_sound_of g) (is_whole_of g) k.broken k k (Ok tt) (λ a. a)
+nothing : {S : Type 0} (g : Ghosts S) (k : SqlSpaceModel S) → IsKeeping (state g k.conn) k.broken → k.broken ≡ false → Changes {T = Unit {0}} (holds_of g) (is_sound_of g) (is_whole_of g) k.broken k k (Ok tt) (λ a. a)
 nothing g k kept works = record {
   sound = λ s. s;
   whole = λ s whole. whole;
@@ -132,8 +132,8 @@ nothing g k kept works = record {
 }
 
 -- and of a list of none
-pub none_settled : {S X : Type 0} (g : Ghosts S) (change : List X → Airspace → Airspace) (all : List X) {old seen : Kept S} → change [] ≡ (λ a. a) → length all ≡ 0 → old ≡ seen → IsKeeping (state g old.conn) old.broken → old.broken ≡ false
+pub none_settled : {S X : Type 0} (g : Ghosts S) (change : List X → Airspace → Airspace) (all : List X) {old seen : SqlSpaceModel S} → change [] ≡ (λ a. a) → length all ≡ 0 → old ≡ seen → IsKeeping (state g old.conn) old.broken → old.broken ≡ false
     → Changes {T = Unit {0}} (holds_of g) (is_sound_of g) (is_whole_of g) seen.broken seen seen (Ok tt) (change all)
 none_settled {S} g change all {old} {seen} stays none is kept works =
     let same = subst (λ f. Changes {T = Unit {0}} (holds_of g) (is_sound_of g) (is_whole_of g) old.broken old old (Ok tt) f) (sym (ap change (nil_from_length all none) ∙ stays)) (nothing g old kept works) in
-    subst (λ (k : Kept S). Changes {T = Unit {0}} (holds_of g) (is_sound_of g) (is_whole_of g) k.broken k k (Ok tt) (change all)) is same
+    subst (λ (k : SqlSpaceModel S). Changes {T = Unit {0}} (holds_of g) (is_sound_of g) (is_whole_of g) k.broken k k (Ok tt) (change all)) is same

@@ -10,23 +10,23 @@ use Rattle.sqlite_value.specs.Order.{Row, column}
 use Rattle.sqlite.specs.Effect.{Database}
 use Rattle.sqlite.specs.State.{State, IsLive}
 use Rattle.entity_core.specs.Airspace.{Airspace}
-use Rattle.space_select.specs.Meta.{IsOtherFormat}
-use Rattle.space_tables.specs.declared.format.Format.{Format}
-use Rattle.space_tables.specs.declared.format.Format.TheVariants.{One, Two}
-use Rattle.space_tables.specs.Spelling.{Spells, SpellsAs}
-use Rattle.space_tables.specs.Tables.{dss_schema, schema_of}
-use Rattle.space_tables.proofs.OneAirspace.{one_airspace}
-use Rattle.space_format.specs.Opening.{Refuses}
-use Rattle.space_sql.specs.Holding.{Keeps, holds_in, is_whole_in, with_tables}
-use Rattle.space_format.specs.declared.open_fault.OpenFault.{OpenFault}
-use Rattle.space_format.specs.declared.open_fault.OpenFault.TheVariants.{NotADss, Version, Store}
+use Rattle.space_sql_select.specs.Meta.{IsOtherFormat}
+use Rattle.space_sql_schema.specs.declared.format.Format.{Format}
+use Rattle.space_sql_schema.specs.declared.format.Format.TheVariants.{One, Two}
+use Rattle.space_sql_schema.specs.Spelling.{Spells, SpellsAs}
+use Rattle.space_sql_schema.specs.Tables.{dss_schema, schema_of}
+use Rattle.space_sql_schema.proofs.OneAirspace.{one_airspace}
+use Rattle.space_sql_open.specs.Opening.{Refuses}
+use Rattle.space_sql.specs.Holding.{AreTablesOf, holds_in, is_whole_in, with_tables}
+use Rattle.space_sql_open.specs.declared.open_fault.OpenFault.{OpenFault}
+use Rattle.space_sql_open.specs.declared.open_fault.OpenFault.TheVariants.{NotADss, Version, Store}
 use Rattle.space_sql.proofs.Outcomes.{one_schema, respell}
 
-pub leaves_held : (s : State) → is_whole_in s → (db : Trees) → s.may_leave db → (a : Airspace) × holds_in s a × Keeps db a
+pub leaves_held : (s : State) → is_whole_in s → (db : Trees) → s.may_leave db → (a : Airspace) × holds_in s a × AreTablesOf db a
 leaves_held s whole db may = let it = whole db may in (it.0, (db, may, it.1), it.1)
 
-pub leaves_content : (s : State) (a : Airspace) → ((b : Airspace) → holds_in s b → b ≡ a) → is_whole_in s → (db : Trees) → s.may_leave db → Keeps db a
-leaves_content s a only whole db may = let it = leaves_held s whole db may in subst (λ b. Keeps db b) (only it.0 it.1) it.2
+pub leaves_content : (s : State) (a : Airspace) → ((b : Airspace) → holds_in s b → b ≡ a) → is_whole_in s → (db : Trees) → s.may_leave db → AreTablesOf db a
+leaves_content s a only whole db may = let it = leaves_held s whole db may in subst (λ b. AreTablesOf db b) (only it.0 it.1) it.2
 
 -- what a connection sees that was opened over what a crash left
 record Found (old opened : State) : Type 0 where

@@ -12,21 +12,21 @@ use Rattle.sqlite.proofs.ListingLemmas.{empty_is_sound}
 use Rattle.entity_core.specs.Airspace.{Airspace, empty_at}
 use Rattle.space_core.specs.Space.{IsContent}
 use Rattle.space_core.specs.declared.space.Space.{Ghosts}
-use Rattle.space_tables.specs.Making.{MayBeMade}
-use Rattle.space_tables.specs.Presence.{presence_in}
-use Rattle.space_tables.specs.Spelling.{SpellsAs, Spells}
-use Rattle.space_tables.specs.Tables.{no_schema, schema_of}
-use Rattle.space_tables.specs.declared.format.Format.{Format}
-use Rattle.space_tables.specs.declared.format.Format.TheVariants.{One, Two}
-use Rattle.space_tables.specs.declared.presence.Presence.TheVariants.{Missing, Whole}
-use Rattle.space_tables.proofs.OneAirspace.{one_airspace_of}
-use Rattle.space_tables.proofs.Presences.{none_stands}
-use Rattle.space_format.specs.Opening.{Refuses}
-use Rattle.space_format.specs.declared.open_fault.OpenFault.{OpenFault}
-use Rattle.space_format.specs.declared.open_fault.OpenFault.TheVariants.{Store}
+use Rattle.space_sql_schema.specs.Making.{MayBeMade}
+use Rattle.space_sql_schema.specs.Presence.{presence_in}
+use Rattle.space_sql_schema.specs.Spelling.{SpellsAs, Spells}
+use Rattle.space_sql_schema.specs.Tables.{no_schema, schema_of}
+use Rattle.space_sql_schema.specs.declared.format.Format.{Format}
+use Rattle.space_sql_schema.specs.declared.format.Format.TheVariants.{One, Two}
+use Rattle.space_sql_schema.specs.declared.presence.Presence.TheVariants.{Missing, Whole}
+use Rattle.space_sql_schema.proofs.OneAirspace.{one_airspace_of}
+use Rattle.space_sql_schema.proofs.Presences.{none_stands}
+use Rattle.space_sql_open.specs.Opening.{Refuses}
+use Rattle.space_sql_open.specs.declared.open_fault.OpenFault.{OpenFault}
+use Rattle.space_sql_open.specs.declared.open_fault.OpenFault.TheVariants.{Store}
 use Rattle.space_sql.specs.Found.{AreUnmade, FilesSpell, FindsSpelt, HasTables, IsOpenedOver, KeepsAs, RefusesFound, tables_of}
-use Rattle.space_sql.specs.Holding.{Kept, Rests}
-use Rattle.space_sql.specs.Opening.{HoldsSpelt, IsDueFault, IsFresh, MayBeOpened, MayBeTaken}
+use Rattle.space_sql.specs.Holding.{SqlSpaceModel, Rests}
+use Rattle.space_sql.specs.OpenResult.{HoldsSpelt, IsDueFault, IsFresh, MayBeOpened, MayBeTaken}
 use Rattle.space_sql.proofs.Openings.{stands_as}
 use Rattle.space_sql.proofs.Outcomes.{one_schema}
 
@@ -76,7 +76,7 @@ module _ (image : Image) (s : State) (it : IsOpenedOver image s) where
       let empty = found_empty none in
       ap (λ (d : Database). d.schema) it.settled ∙ one_schema s.committed.trees s.committed.schema no_schema (it.live it.is_open).1 (empty_is_sound s.committed.trees empty.1)
 
-  held_found : {S : Type 0} (space : Ghosts (Kept S)) (k : Kept S) → HoldsSpelt space s k → space.is_sound k → (format : Format) (a : Airspace) → FilesSpell format image a → IsContent space.holds k a
+  held_found : {S : Type 0} (space : Ghosts (SqlSpaceModel S)) (k : SqlSpaceModel S) → HoldsSpelt space s k → space.is_sound k → (format : Format) (a : Airspace) → FilesSpell format image a → IsContent space.holds k a
   held_found space k holds sound format a h =
       let own = holds format sound (found_schema format h.0 (h.1, h.2.0)) in
       subst (λ b. IsContent space.holds k b) (one_airspace_of format s.now s.now own.0 a refl own.1 (found_spelt format a h)) own.2
@@ -127,7 +127,7 @@ module _ (image : Image) (s : State) (it : IsOpenedOver image s) where
   ]
 
 -- what is known of a space that was taken
-pub finds : {S : Type 0} (image : Image) (s : State) (space : Ghosts (Kept S)) (k : Kept S) → (space.is_sound k → IsOpenedOver image s) → HoldsSpelt space s k → (space.is_sound k → s.now.schema ≡ no_schema → IsContent space.holds k (empty_at 0))
+pub finds : {S : Type 0} (image : Image) (s : State) (space : Ghosts (SqlSpaceModel S)) (k : SqlSpaceModel S) → (space.is_sound k → IsOpenedOver image s) → HoldsSpelt space s k → (space.is_sound k → s.now.schema ≡ no_schema → IsContent space.holds k (empty_at 0))
     → (space.is_sound k → (a : Airspace) → space.holds k a → space.is_whole k) → (IsTrue k.upgraded ↔ (presence_in s.now.schema.tables ≡ Whole One)) → FindsSpelt image space k
 finds image s space k opened holds made whole told = record {
   spelt = λ sound. held_found image s (opened sound) space k holds sound;
@@ -150,13 +150,13 @@ refuses image s back fault opened rests went due new =
 
 module _ {S L : Type 0} (g : stores.Ghosts S) (image : Image) (s : State) (opened : HasCleanDisk s → IsOpenedOver image s) where
   -- after a taking
-  pub finds_ok : (space : Ghosts (Kept S)) (clean : (k : Kept S) → space.is_sound k → HasCleanDisk (state g k.conn)) (certain : (k : Kept S) (a : Airspace) → space.is_sound k → space.is_broken k ≡ false → space.holds k a → space.is_whole k)
-      → (r : Result (Kept S × L) (OpenFault × Held S)) → IfOk r (λ t. IsFresh g space t.0) → IfOk r (λ t. HasCleanDisk (state g t.0.conn) → HasCleanDisk s) → IfOk r (λ t. HoldsSpelt space s t.0)
+  pub finds_ok : (space : Ghosts (SqlSpaceModel S)) (clean : (k : SqlSpaceModel S) → space.is_sound k → HasCleanDisk (state g k.conn)) (certain : (k : SqlSpaceModel S) (a : Airspace) → space.is_sound k → space.is_broken k ≡ false → space.holds k a → space.is_whole k)
+      → (r : Result (SqlSpaceModel S × L) (OpenFault × Held S)) → IfOk r (λ t. IsFresh g space t.0) → IfOk r (λ t. HasCleanDisk (state g t.0.conn) → HasCleanDisk s) → IfOk r (λ t. HoldsSpelt space s t.0)
       → IfOk r (λ t. space.is_sound t.0 → s.now.schema ≡ no_schema → IsContent space.holds t.0 (empty_at 0)) → IfOk r (λ t. IsTrue t.0.upgraded ↔ (presence_in s.now.schema.tables ≡ Whole One)) → IfOk r (λ t. FindsSpelt image space t.0)
   finds_ok space clean certain (Ok t) fresh before holds made told = finds image s space t.0 (λ sound. opened (before (clean t.0 sound))) holds made (λ sound a. certain t.0 a sound fresh.works) told
   finds_ok space clean certain (Err e) fresh before holds made told = tt
 
-  pub refuses_err : Rests s → (r : Result (Kept S × L) (OpenFault × Held S)) → IfErr r (λ e. Survives s (state g e.1) (MayBeOpened s e.0)) → IfErr r (λ e. IsDueFault s (state g e.1) e.0) → IfErr r (λ e. s.now.schema ≡ no_schema → e.0 ≡ Store)
+  pub refuses_err : Rests s → (r : Result (SqlSpaceModel S × L) (OpenFault × Held S)) → IfErr r (λ e. Survives s (state g e.1) (MayBeOpened s e.0)) → IfErr r (λ e. IsDueFault s (state g e.1) e.0) → IfErr r (λ e. s.now.schema ≡ no_schema → e.0 ≡ Store)
       → IfErr r (λ e. RefusesFound image (state g e.1) e.0)
   refuses_err rests (Ok t) went due new = tt
   refuses_err rests (Err e) went due new = refuses image s (state g e.1) e.0 opened rests went due new

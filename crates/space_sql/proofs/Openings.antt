@@ -7,19 +7,19 @@ use Rattle.sqlite.specs.Effect.{Database}
 use Rattle.sqlite.specs.State.{State, Survives}
 use Rattle.sqlite.proofs.StateLemmas.{survives_weaker}
 use Rattle.entity_core.specs.Airspace.{Airspace}
-use Rattle.space_tables.specs.Making.{MayBeMade}
-use Rattle.space_tables.specs.Presence.{presence_in}
-use Rattle.space_tables.specs.Spelling.{SpellsAs}
-use Rattle.space_tables.specs.Tables.{schema_of}
-use Rattle.space_tables.specs.declared.format.Format.{Format}
-use Rattle.space_tables.specs.declared.format.Format.TheVariants.{One, Two}
-use Rattle.space_tables.specs.declared.presence.Presence.{Presence}
-use Rattle.space_tables.specs.declared.presence.Presence.TheVariants.{Missing, Whole}
-use Rattle.space_tables.proofs.OneAirspace.{one_airspace_of}
-use Rattle.space_tables.proofs.Presences.{first_stands, second_stands}
-use Rattle.space_format.specs.declared.open_fault.OpenFault.{OpenFault}
-use Rattle.space_format.specs.declared.open_fault.OpenFault.TheVariants.{Store}
-use Rattle.space_sql.specs.Opening.{MayBeOpened, MayBeTaken}
+use Rattle.space_sql_schema.specs.Making.{MayBeMade}
+use Rattle.space_sql_schema.specs.Presence.{presence_in}
+use Rattle.space_sql_schema.specs.Spelling.{SpellsAs}
+use Rattle.space_sql_schema.specs.Tables.{schema_of}
+use Rattle.space_sql_schema.specs.declared.format.Format.{Format}
+use Rattle.space_sql_schema.specs.declared.format.Format.TheVariants.{One, Two}
+use Rattle.space_sql_schema.specs.declared.presence.Presence.{Presence}
+use Rattle.space_sql_schema.specs.declared.presence.Presence.TheVariants.{Missing, Whole}
+use Rattle.space_sql_schema.proofs.OneAirspace.{one_airspace_of}
+use Rattle.space_sql_schema.proofs.Presences.{first_stands, second_stands}
+use Rattle.space_sql_open.specs.declared.open_fault.OpenFault.{OpenFault}
+use Rattle.space_sql_open.specs.declared.open_fault.OpenFault.TheVariants.{Store}
+use Rattle.space_sql.specs.OpenResult.{MayBeOpened, MayBeTaken}
 
 pub ok_is_no_fault : {X : Type 0} (x : X) (fault : OpenFault) → ◌≢◌ {A = Result X OpenFault} (Ok x) (Err fault)
 ok_is_no_fault x fault = λ e. cc

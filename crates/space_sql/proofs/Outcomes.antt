@@ -8,10 +8,10 @@ use Rattle.sqlite_catalog.proofs.ReadLemmas.{lists_once}
 use Rattle.sqlite.specs.Effect.{Database, IsDatabase}
 use Rattle.sqlite.specs.State.{State, HasCleanDisk, Survives}
 use Rattle.entity_core.specs.Airspace.{Airspace}
-use Rattle.space_tables.specs.Spelling.{Spells}
-use Rattle.space_tables.specs.Tables.{dss_schema}
-use Rattle.space_tables.proofs.OneAirspace.{one_airspace}
-use Rattle.space_sql.specs.Holding.{Keeps, Rests, holds_in, is_whole_in, with_tables}
+use Rattle.space_sql_schema.specs.Spelling.{Spells}
+use Rattle.space_sql_schema.specs.Tables.{dss_schema}
+use Rattle.space_sql_schema.proofs.OneAirspace.{one_airspace}
+use Rattle.space_sql.specs.Holding.{AreTablesOf, Rests, holds_in, is_whole_in, with_tables}
 
 pub respell : (D E : Database) (a : Airspace) → E.schema ≡ dss_schema → D.trees ≡ E.trees → Spells D a → Spells E a
 respell D E a is same p = let path : D ≡ E = λ i. record { schema = (p.schema ∙ sym is) i; trees = same i } in subst (λ d. Spells d a) path p
@@ -65,4 +65,4 @@ module _ (old new : State) (went : Survives old new (λ _. ⊥)) (clean : HasCle
   stays_held before after was_open is_open a h =
       let may = after.stays is_open in
       let same : h.0 ≡ new.committed.trees = before.no_other h.0 was_open h.1 ∙ sym (before.no_other _ was_open (not_new _ may)) in
-      (new.committed.trees, may, subst (λ t. Keeps t a) same h.2)
+      (new.committed.trees, may, subst (λ t. AreTablesOf t a) same h.2)

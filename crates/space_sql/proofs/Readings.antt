@@ -10,21 +10,21 @@ use Rattle.entity_core.specs.Airspace.{Airspace}
 use Rattle.space_core.specs.declared.space.SpaceFault.{SpaceFault}
 use Rattle.space_core.specs.declared.space.SpaceFault.TheVariants.{Unchanged, Broken}
 use Rattle.space_core.specs.Space.{Reads, UnlessBroken, is_broken_after}
-use Rattle.space_load.specs.declared.judgement.Listed.{Listed}
-use Rattle.space_sql.specs.Holding.{IsKeeping, Kept, holds_of, is_sound_of, is_whole_of}
+use Rattle.space_sql_load.specs.declared.table_check.LoadedAirspace.{LoadedAirspace}
+use Rattle.space_sql.specs.Holding.{IsKeeping, SqlSpaceModel, holds_of, is_sound_of, is_whole_of}
 use Rattle.space_sql.specs.Settling.{Settles}
-use Rattle.space_load.specs.Judging.{listed_airspace}
-use Rattle.space_select.specs.Reading.{ReadsTables}
+use Rattle.space_sql_load.specs.Judging.{loaded_airspace}
+use Rattle.space_sql_select.specs.Reading.{ReadsTables}
 use Rattle.space_sql.proofs.Outcomes.{clean_before, held_is_spelt, no_other, stays_held, stays_whole}
 
 -- what is found in the airspace that was read
-pub found_in : {U : Type 0} (old new : State) (l : Listed) (r : Result U Error) (Q : Airspace → U → Type 0) → ReadsTables old new (Ok l) (λ a found. listed_airspace found ≡ a)
-    → IfOk r (Q (listed_airspace l)) → ReadsTables old new r Q
+pub found_in : {U : Type 0} (old new : State) (l : LoadedAirspace) (r : Result U Error) (Q : Airspace → U → Type 0) → ReadsTables old new (Ok l) (λ a found. loaded_airspace found ≡ a)
+    → IfOk r (Q (loaded_airspace l)) → ReadsTables old new r Q
 found_in old new l (Ok x) Q it ok = record { answer = λ clean a p. subst (λ b. Q b x) (it.answer clean a p) ok; rests = it.rests; is_open = it.is_open; survives = it.survives }
 found_in old new l (Err e) Q it ok = record { answer = λ clean. tt; rests = λ clean. tt; is_open = λ clean. tt; survives = it.survives }
 
 -- a space that was not broken, and a call that read its tables
-module _ {S T : Type 0} (g : Ghosts S) (P : Airspace → T → Type 0) (old new : Kept S) (mid : Held S) (works : old.broken ≡ false) (kept : IsKeeping (state g old.conn) old.broken) (keeping : IsKeeping (state g new.conn) new.broken) where
+module _ {S T : Type 0} (g : Ghosts S) (P : Airspace → T → Type 0) (old new : SqlSpaceModel S) (mid : Held S) (works : old.broken ≡ false) (kept : IsKeeping (state g old.conn) old.broken) (keeping : IsKeeping (state g new.conn) new.broken) where
   module _ (went : Survives (state g old.conn) (state g new.conn) (λ _. ⊥)) (clean : HasCleanDisk (state g new.conn)) where
     was_open : IsTrue (state g old.conn).is_open
     was_open = kept.live (clean_before (state g old.conn) (state g new.conn) went clean) works
@@ -59,7 +59,7 @@ module _ {S T : Type 0} (g : Ghosts S) (P : Airspace → T → Type 0) (old new 
       }
 
 -- the answer of a space, for what its connection told
-pub reads_settled : {S T : Type 0} (g : Ghosts S) {P : Airspace → T → Type 0} {old seen new : Kept S} {mid : Held S} {told : Result T Error} {r : Result T SpaceFault} → old ≡ seen → IsKeeping (state g old.conn) old.broken → old.broken ≡ false
+pub reads_settled : {S T : Type 0} (g : Ghosts S) {P : Airspace → T → Type 0} {old seen new : SqlSpaceModel S} {mid : Held S} {told : Result T Error} {r : Result T SpaceFault} → old ≡ seen → IsKeeping (state g old.conn) old.broken → old.broken ≡ false
     → Settles g mid new.conn told r → ReadsTables (state g old.conn) (state g mid) told P → IsKeeping (state g new.conn) new.broken → new.broken ≡ is_broken_after old.broken r
     → Reads (holds_of g) (is_sound_of g) (is_whole_of g) seen new r P
-reads_settled {S} {T} g {P} {old} {seen} {new} {mid} {told} {r} is kept works to it keeping breaks = subst (λ (k : Kept S). Reads (holds_of g) (is_sound_of g) (is_whole_of g) k new r P) is (reads g P old new mid works kept keeping told r it to breaks)
+reads_settled {S} {T} g {P} {old} {seen} {new} {mid} {told} {r} is kept works to it keeping breaks = subst (λ (k : SqlSpaceModel S). Reads (holds_of g) (is_sound_of g) (is_whole_of g) k new r P) is (reads g P old new mid works kept keeping told r it to breaks)

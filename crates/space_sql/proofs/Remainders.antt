@@ -18,13 +18,13 @@ use Rattle.sqlite.specs.declared.error.Error.TheVariants.{SqliteFailure}
 use Rattle.sqlite.specs.declared.error.ErrorCode.TheVariants.{NotADatabase}
 use Rattle.sqlite.specs.declared.file.Leftover.{Leftover}
 use Rattle.entity_core.specs.Airspace.{Airspace}
-use Rattle.space_tables.specs.declared.format.Format.{Format}
-use Rattle.space_format.specs.declared.open_fault.OpenFault.{OpenFault}
-use Rattle.space_format.specs.declared.open_fault.OpenFault.TheVariants.{Store, Version}
+use Rattle.space_sql_schema.specs.declared.format.Format.{Format}
+use Rattle.space_sql_open.specs.declared.open_fault.OpenFault.{OpenFault}
+use Rattle.space_sql_open.specs.declared.open_fault.OpenFault.TheVariants.{Store, Version}
 use Rattle.space_sql.specs.Found.{FilesSpell}
-use Rattle.space_sql.specs.Remains.{AreAt, CanBeOpened, IsCleanIn, RefusesFiles, RefusesOpening}
-use Rattle.space_sql.specs.declared.remains.Remains.{Remains}
-use Rattle.space_sql.specs.declared.remains.Remains.TheVariants as of
+use Rattle.space_sql.specs.FailedOpen.{AreAt, CanBeOpened, IsCleanIn, RefusesFiles, RefusesOpening}
+use Rattle.space_sql.specs.declared.failed_open.FailedOpen.{FailedOpen}
+use Rattle.space_sql.specs.declared.failed_open.FailedOpen.TheVariants as of
 use Rattle.space_sql.proofs.Crashes.{is_store}
 use Rattle.space_sql.proofs.Restarts.{next_fault}
 
@@ -66,7 +66,7 @@ module _ {D : Type 0} {g : disk.Ghosts D} where
   }
 
   -- files that spell an airspace are refused with `Store` alone
-  pub next_refused : (image : Image) (format : Format) (a : Airspace) → ∥ FilesSpell format image a ∥₁ → (remains : Remains D g) (fault : OpenFault) → RefusesOpening image remains fault → IsCleanIn remains → fault ≡ Store
+  pub next_refused : (image : Image) (format : Format) (a : Airspace) → ∥ FilesSpell format image a ∥₁ → (remains : FailedOpen D g) (fault : OpenFault) → RefusesOpening image remains fault → IsCleanIn remains → fault ≡ Store
   next_refused image format a files of.Nothing fault refuses clean = refuses
   next_refused image format a files (of.Files left) fault refuses clean = is_store fault (λ other. not_there files (λ it. other (refuses.due clean (inl (it.0, it.1)))))
   next_refused image format a files (of.Connection conn) fault refuses clean = next_fault image format a files (file_state conn) fault refuses clean

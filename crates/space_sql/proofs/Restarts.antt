@@ -19,12 +19,12 @@ use Rattle.sqlite.proofs.Theorems.{opens_again}
 use Rattle.entity_core.specs.Airspace.{Airspace}
 use Rattle.space_core.specs.Space.{IsContent}
 use Rattle.space_core.specs.declared.space.Space.{Ghosts}
-use Rattle.space_tables.specs.declared.format.Format.{Format}
-use Rattle.space_tables.specs.declared.format.Format.TheVariants.{Two}
-use Rattle.space_format.specs.declared.open_fault.OpenFault.{OpenFault}
-use Rattle.space_format.specs.declared.open_fault.OpenFault.TheVariants.{Store}
+use Rattle.space_sql_schema.specs.declared.format.Format.{Format}
+use Rattle.space_sql_schema.specs.declared.format.Format.TheVariants.{Two}
+use Rattle.space_sql_open.specs.declared.open_fault.OpenFault.{OpenFault}
+use Rattle.space_sql_open.specs.declared.open_fault.OpenFault.TheVariants.{Store}
 use Rattle.space_sql.specs.Found.{FilesSpell, FindsSpelt, RefusesFound, tables_of}
-use Rattle.space_sql.specs.Holding.{Kept, Rests, holds_of, is_whole_of}
+use Rattle.space_sql.specs.Holding.{SqlSpaceModel, Rests, holds_of, is_whole_of}
 use Rattle.space_sql.specs.Restart.{ClosesFiles, FilesHave, FilesLeft, LeavesFiles, LeavesTrees, NextFinds, without_log}
 use Rattle.space_sql.proofs.Crashes.{is_store, not_refused}
 
@@ -35,7 +35,7 @@ module _ {D : Type 0} {g : disk.Ghosts D} (conn : Held (FileStore D g)) (last : 
     found = λ clean image may. ∥∥₁_map (opens_again last (numbered clean) (sound clean) image may) (λ it. (it.0, quiet.outcomes it.0 it.1, it.2));
   }
 
-module _ {D : Type 0} {g : disk.Ghosts D} (k : Kept (FileStore D g)) (last : FileStore D g) (left : LeavesTrees k.conn last) (live : HasCleanDisk (state over_files k.conn) → k.broken ≡ false → IsTrue (state over_files k.conn).is_open) where
+module _ {D : Type 0} {g : disk.Ghosts D} (k : SqlSpaceModel (FileStore D g)) (last : FileStore D g) (left : LeavesTrees k.conn last) (live : HasCleanDisk (state over_files k.conn) → k.broken ≡ false → IsTrue (state over_files k.conn).is_open) where
   found_held : IsClean (store.view last) → is_whole_of over_files k → (image : Image) → FilesLeft last image → ∥ ((a : Airspace) × holds_of over_files k a × FilesSpell Two image a) ∥₁
   found_held clean whole image may = ∥∥₁_map (left.found clean image may) (λ it.
       let kept = whole it.0 it.1 in
@@ -49,7 +49,7 @@ module _ {D : Type 0} {g : disk.Ghosts D} (k : Kept (FileStore D g)) (last : Fil
     content = λ clean whole a is image may. ∥∥₁_map (found_held clean whole image may) (λ it. subst (λ b. FilesSpell Two image b) (is.only it.0 it.1) it.2);
   }
 
-module _ {D : Type 0} {g : disk.Ghosts D} (k : Kept (FileStore D g)) (files : Files D) (rests : Rests (file_state k.conn)) (copied : AreClean g files.log files.db → IsCopied k.conn files) where
+module _ {D : Type 0} {g : disk.Ghosts D} (k : SqlSpaceModel (FileStore D g)) (files : Files D) (rests : Rests (file_state k.conn)) (copied : AreClean g files.log files.db → IsCopied k.conn files) where
   is_copied : AreClean g files.log files.db → (image : Image) → FilesHave g files image → HoldsAlone image (file_state k.conn).committed.trees
   is_copied clean image have = elim have [
     | inl seen ↦ subst (λ i. HoldsAlone i (file_state k.conn).committed.trees) (sym seen) (copied clean).seen
@@ -70,16 +70,16 @@ module _ {D : Type 0} {g : disk.Ghosts D} (k : Kept (FileStore D g)) (files : Fi
     held = closes_held;
   }
 
-next_held : {S : Type 0} (space : Ghosts (Kept S)) (image : Image) (a : Airspace) → ∥ FilesSpell Two image a ∥₁ → (next : Kept S) → FindsSpelt image space next → space.is_sound next → ∥ IsContent space.holds next a ∥₁
+next_held : {S : Type 0} (space : Ghosts (SqlSpaceModel S)) (image : Image) (a : Airspace) → ∥ FilesSpell Two image a ∥₁ → (next : SqlSpaceModel S) → FindsSpelt image space next → space.is_sound next → ∥ IsContent space.holds next a ∥₁
 next_held space image a files next finds sound = ∥∥₁_map files (λ it. finds.spelt sound Two a it)
 
 pub next_fault : (image : Image) (format : Format) (a : Airspace) → ∥ FilesSpell format image a ∥₁ → (back : State) (fault : OpenFault) → RefusesFound image back fault → HasCleanDisk back → fault ≡ Store
 next_fault image format a files back fault refuses clean = is_store fault (λ other. not_there files (λ it. not_refused format (tables_of format it.0) a fault it.2.1 (refuses.due clean format it.0 (it.1, it.2.0)) other))
 
-pub next_finds : {S : Type 0} (g : stores.Ghosts S) (space : Ghosts (Kept S)) (image : Image) (a : Airspace) → ∥ FilesSpell Two image a ∥₁ → NextFinds g space image a
+pub next_finds : {S : Type 0} (g : stores.Ghosts S) (space : Ghosts (SqlSpaceModel S)) (image : Image) (a : Airspace) → ∥ FilesSpell Two image a ∥₁ → NextFinds g space image a
 next_finds g space image a files = record { found = next_held space image a files; refused = λ back fault. next_fault image Two a files (state g back) fault }
 
-module _ {D T : Type 0} {g : disk.Ghosts D} (again : Ghosts (Kept T)) (before after : Image) (back : Held (FileStore D g)) (fault : OpenFault) (last : FileStore D g) (next : Kept T) where
+module _ {D T : Type 0} {g : disk.Ghosts D} (again : Ghosts (SqlSpaceModel T)) (before after : Image) (back : Held (FileStore D g)) (fault : OpenFault) (last : FileStore D g) (next : SqlSpaceModel T) where
   pub refused_is_found : (format : Format) (a : Airspace) → FilesSpell format before a → RefusesFound before (file_state back) fault → LeavesTrees back last → IsClean (store.view last) → FilesLeft last after → FindsSpelt after again next → again.is_sound next → ∥ IsContent again.holds next a ∥₁
   refused_is_found format a spelt refuses left clean may finds sound = ∥∥₁_map (left.found clean after may) (λ it. elim (refuses.spelt (left.clean clean) format a spelt it.0 it.1) [
     | inl same ↦ finds.spelt sound format a (it.0, it.2, same)

@@ -10,9 +10,9 @@ use Rattle.space_core.specs.declared.space.SpaceFault.TheVariants.{Unchanged, Br
 use Rattle.space_core.specs.Space.{Reads, is_broken_after}
 use Rattle.space_memory.specs.Memory.{content_of}
 use Rattle.space_memory.specs.declared.memory.MemorySpace.{MemorySpace}
-use Rattle.space_load.specs.declared.judgement.Listed.{Listed}
-use Rattle.space_load.specs.Judging.{listed_airspace}
-use Rattle.space_sql.specs.Holding.{Kept, holds_in, holds_of, is_sound_of, is_whole_in, is_whole_of}
+use Rattle.space_sql_load.specs.declared.table_check.LoadedAirspace.{LoadedAirspace}
+use Rattle.space_sql_load.specs.Judging.{loaded_airspace}
+use Rattle.space_sql.specs.Holding.{SqlSpaceModel, holds_in, holds_of, is_sound_of, is_whole_in, is_whole_of}
 
 -- an answer that is no worse than a refusal breaks nothing
 unbroken : {T : Type 0} (b : Bool) (r : Result T SpaceFault) → IfErr r (λ fault. fault ≡ Unchanged) → is_broken_after b r ≡ b
@@ -21,8 +21,8 @@ unbroken b (Err Unchanged) fault = refl
 unbroken b (Err Broken) fault = absurd (let no : Broken ≡ Unchanged = fault in cc)
 
 -- the answer after the lists were read: what is counted then changes nothing that is held
-module _ {S : Type 0} (g : Ghosts S) (old mid new : Kept S) (listed : Listed) (conn : new.conn ≡ mid.conn) (broken : new.broken ≡ mid.broken)
-    (it : Reads (holds_of g) (is_sound_of g) (is_whole_of g) old mid (Ok listed) (λ a found. listed_airspace found ≡ a)) where
+module _ {S : Type 0} (g : Ghosts S) (old mid new : SqlSpaceModel S) (listed : LoadedAirspace) (conn : new.conn ≡ mid.conn) (broken : new.broken ≡ mid.broken)
+    (it : Reads (holds_of g) (is_sound_of g) (is_whole_of g) old mid (Ok listed) (λ a found. loaded_airspace found ≡ a)) where
   sound_before : is_sound_of g new → is_sound_of g mid
   sound_before s = record {
     clean = subst (λ (h : Held S). HasCleanDisk (state g h)) conn s.clean;
@@ -32,7 +32,7 @@ module _ {S : Type 0} (g : Ghosts S) (old mid new : Kept S) (listed : Listed) (c
   held_after : is_sound_of g new → (a : Airspace) → holds_of g old a → holds_of g new a
   held_after s a h = subst (λ (k : Held S). holds_in (state g k) a) (sym conn) (it.stays (sound_before s) a h)
 
-  reads_found : (r : Result MemorySpace SpaceFault) → IfOk r (λ list. content_of list ≡ listed_airspace listed) → IfErr r (λ fault. fault ≡ Unchanged)
+  reads_found : (r : Result MemorySpace SpaceFault) → IfOk r (λ list. content_of list ≡ loaded_airspace listed) → IfErr r (λ fault. fault ≡ Unchanged)
       → Reads (holds_of g) (is_sound_of g) (is_whole_of g) old new r (λ a list. content_of list ≡ a)
   reads_found (Ok list) content fault = record {
     sound = λ s. it.sound (sound_before s);
@@ -51,9 +51,9 @@ module _ {S : Type 0} (g : Ghosts S) (old mid new : Kept S) (listed : Listed) (c
   reads_found (Err Broken) content fault = absurd (let no : Broken ≡ Unchanged = fault in cc)
 
 -- the answer of a space that counted it
-pub reads_whole : {S : Type 0} (g : Ghosts S) {old seen mid new : Kept S} {listed : Listed} {r : Result MemorySpace SpaceFault} → mid ≡ seen → new.conn ≡ mid.conn → new.broken ≡ is_broken_after mid.broken r
-    → Reads (holds_of g) (is_sound_of g) (is_whole_of g) old seen (Ok listed) (λ a found. listed_airspace found ≡ a)
-    → IfOk r (λ list. content_of list ≡ listed_airspace listed) → IfErr r (λ fault. fault ≡ Unchanged)
+pub reads_whole : {S : Type 0} (g : Ghosts S) {old seen mid new : SqlSpaceModel S} {listed : LoadedAirspace} {r : Result MemorySpace SpaceFault} → mid ≡ seen → new.conn ≡ mid.conn → new.broken ≡ is_broken_after mid.broken r
+    → Reads (holds_of g) (is_sound_of g) (is_whole_of g) old seen (Ok listed) (λ a found. loaded_airspace found ≡ a)
+    → IfOk r (λ list. content_of list ≡ loaded_airspace listed) → IfErr r (λ fault. fault ≡ Unchanged)
     → Reads (holds_of g) (is_sound_of g) (is_whole_of g) old new r (λ a list. content_of list ≡ a)
 reads_whole {S} g {old} {seen} {mid} {new} {listed} {r} is conn breaks it content fault =
-    reads_found g old mid new listed conn (breaks ∙ unbroken mid.broken r fault) (subst (λ (k : Kept S). Reads (holds_of g) (is_sound_of g) (is_whole_of g) old k (Ok listed) (λ a found. listed_airspace found ≡ a)) (sym is) it) r content fault
+    reads_found g old mid new listed conn (breaks ∙ unbroken mid.broken r fault) (subst (λ (k : SqlSpaceModel S). Reads (holds_of g) (is_sound_of g) (is_whole_of g) old k (Ok listed) (λ a found. loaded_airspace found ≡ a)) (sym is) it) r content fault

@@ -9,14 +9,14 @@ use Rattle.sqlite.specs.State.{State, HasCleanDisk, IsLive}
 use Rattle.entity_core.specs.Airspace.{Airspace, empty_at}
 use Rattle.space_core.specs.Space.{IsContent}
 use Rattle.space_core.specs.declared.space.Space.{Ghosts}
-use Rattle.space_tables.specs.Spelling.{SpellsAs}
-use Rattle.space_tables.specs.Tables.{schema_of}
-use Rattle.space_tables.specs.declared.format.Format.{Format}
-use Rattle.space_tables.specs.declared.format.Format.TheVariants.{One, Two}
-use Rattle.space_format.specs.Opening.{Refuses}
-use Rattle.space_format.specs.declared.open_fault.OpenFault.{OpenFault}
-use Rattle.space_format.specs.declared.open_fault.OpenFault.TheVariants.{Store}
-use Rattle.space_sql.specs.Holding.{Kept}
+use Rattle.space_sql_schema.specs.Spelling.{SpellsAs}
+use Rattle.space_sql_schema.specs.Tables.{schema_of}
+use Rattle.space_sql_schema.specs.declared.format.Format.{Format}
+use Rattle.space_sql_schema.specs.declared.format.Format.TheVariants.{One, Two}
+use Rattle.space_sql_open.specs.Opening.{Refuses}
+use Rattle.space_sql_open.specs.declared.open_fault.OpenFault.{OpenFault}
+use Rattle.space_sql_open.specs.declared.open_fault.OpenFault.TheVariants.{Store}
+use Rattle.space_sql.specs.Holding.{SqlSpaceModel}
 
 -- the tables of a format, with these rows
 abbrev pub tables_of : Format → Trees → Database
@@ -58,7 +58,7 @@ IsOver image s = HasCleanDisk s → IsOpenedOver image s
 -- What is known of a space that was taken over files which held this: it holds exactly the airspace
 -- that was spelt there, or an empty one where there was no table, and where it holds one, it is
 -- whole; and it tells whether it was spelt in format 1.
-pub record FindsSpelt {S : Type 0} (image : Image) (space : Ghosts (Kept S)) (k : Kept S)
+pub record FindsSpelt {S : Type 0} (image : Image) (space : Ghosts (SqlSpaceModel S)) (k : SqlSpaceModel S)
     : Type 0 where
   pub spelt : space.is_sound k → (format : Format) (a : Airspace) → FilesSpell format image a
       → IsContent space.holds k a

@@ -16,20 +16,20 @@ use Rattle.entity_core.specs.declared.entity.Entity.{Entity}
 use Rattle.entity_core.specs.declared.subscription.Sub.{Sub}
 use Rattle.entity_core.proofs.Changes.{one_id}
 use Rattle.entity_core.proofs.Keys.{one_key}
-use Rattle.space_tables.specs.Spelling.{Group, IsSubGroup, Spells, SubGroup, pair_of, sub_pair_of}
-use Rattle.space_tables.proofs.OneAirspace.{one_airspace}
-use Rattle.space_sql.specs.Holding.{Keeps, with_tables}
+use Rattle.space_sql_schema.specs.Spelling.{Group, IsSubGroup, Spells, SubGroup, pair_of, sub_pair_of}
+use Rattle.space_sql_schema.proofs.OneAirspace.{one_airspace}
+use Rattle.space_sql.specs.Holding.{AreTablesOf, with_tables}
 
 -- outcomes that are one keep one airspace
-pub one_kept : {May : Trees → Type 0} (last : Trees) (a b : Airspace) → ((db : Trees) → May db → db ≡ last) → ((db : Trees) × May db × Keeps db a) → ((db : Trees) × May db × Keeps db b) → a ≡ b
+pub one_kept : {May : Trees → Type 0} (last : Trees) (a b : Airspace) → ((db : Trees) → May db → db ≡ last) → ((db : Trees) × May db × AreTablesOf db a) → ((db : Trees) × May db × AreTablesOf db b) → a ≡ b
 one_kept last a b one h k = one_airspace _ _ a b (one h.0 h.1 ∙ sym (one k.0 k.1)) h.2.1 k.2.1
 
 -- where there is one outcome, and it keeps an airspace, each does
-pub all_kept : {May : Trees → Type 0} (last : Trees) (a : Airspace) → ((db : Trees) → May db → db ≡ last) → ((db : Trees) × May db × Keeps db a) → (db : Trees) → May db → (b : Airspace) × Keeps db b
-all_kept last a one h db may = (a, subst (λ d. Keeps d a) (one h.0 h.1 ∙ sym (one db may)) h.2)
+pub all_kept : {May : Trees → Type 0} (last : Trees) (a : Airspace) → ((db : Trees) → May db → db ≡ last) → ((db : Trees) × May db × AreTablesOf db a) → (db : Trees) → May db → (b : Airspace) × AreTablesOf db b
+all_kept last a one h db may = (a, subst (λ d. AreTablesOf d a) (one h.0 h.1 ∙ sym (one db may)) h.2)
 
 -- where there is an outcome, and each keeps an airspace, some airspace is kept
-pub some_kept : {May : Trees → Type 0} → ∥ ((db : Trees) × May db) ∥₁ → ((db : Trees) → May db → (a : Airspace) × Keeps db a) → ∥ ((a : Airspace) × ((db : Trees) × May db × Keeps db a)) ∥₁
+pub some_kept : {May : Trees → Type 0} → ∥ ((db : Trees) × May db) ∥₁ → ((db : Trees) → May db → (a : Airspace) × AreTablesOf db a) → ∥ ((a : Airspace) × ((db : Trees) × May db × AreTablesOf db a)) ∥₁
 some_kept there whole = ∥∥₁_map there (λ it. let kept = whole it.0 it.1 in (kept.0, (it.0, it.1, kept.1)))
 
 abbrev IsUnderItsKey : EntityKey × Entity → Type 0
@@ -78,5 +78,5 @@ spelt_is_proper db a p =
     }
 
 -- what an outcome keeps is an airspace that may be kept
-pub kept_is_proper : {May : Trees → Type 0} (a : Airspace) → ((db : Trees) × May db × Keeps db a) → IsAirspace a
+pub kept_is_proper : {May : Trees → Type 0} (a : Airspace) → ((db : Trees) × May db × AreTablesOf db a) → IsAirspace a
 kept_is_proper a h = spelt_is_proper h.0 a h.2.1

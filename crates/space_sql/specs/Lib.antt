@@ -1,9 +1,9 @@
 pub mod Holding
 pub mod Settling
 pub mod Laws
-pub mod Opening
+pub mod OpenResult
 pub mod Crash
-pub mod Listed
+pub mod Load
 pub mod Found
-pub mod Remains
+pub mod FailedOpen
 pub mod Restart

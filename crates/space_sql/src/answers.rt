@@ -2,13 +2,13 @@
 ghost use Rattle.std.specs.Prelude.{◌≡◌, false, IsTrue, OnOk};
 ghost use Rattle.sqlite.specs.Held.{state};
 ghost use Rattle.sqlite.specs.State.{HasCleanDisk, IsUnchanged, Survives};
-ghost use Rattle.space_core.specs.Space.{Tells, is_broken_after, refusals_after};
+ghost use Rattle.space_core.specs.Space.{ReportsFault, is_broken_after, refusals_after};
 ghost use Rattle.space_core.specs.declared.space.SpaceFault.TheVariants.{Unchanged};
 ghost use Rattle.space_sql.specs.Holding.{IsKeeping, Rests};
 ghost use Rattle.space_sql.specs.Settling.{Settles};
 
 use space_core::space::SpaceFault;
-use space_select::reading::{alive, known};
+use space_sql_select::reading::{connection_facts, is_store_alive};
 use sqlite::{Alter, Connection, Error};
 
 /// What is known of a connection outside a transaction. It does nothing.
@@ -16,7 +16,7 @@ pub(crate) fn at_rest<S: Alter>(conn: &Connection<S>)
     requires { conn.now.in_transaction ≡ false }
     ensures { Rests (state S.Store conn.now) }
 {
-    known(conn);
+    connection_facts(conn);
 }
 
 // The fault of a call that failed: the store still works, or not.
@@ -27,7 +27,7 @@ fn fault<S: Alter>(conn: &mut Connection<S>) -> SpaceFault
         → IsUnchanged (state S.Store conn.old) (state S.Store conn.new) }
     ensures survives { Survives (state S.Store conn.old) (state S.Store conn.new) (λ _. ⊥) }
 {
-    match alive(conn) {
+    match is_store_alive(conn) {
         Ok(()) => SpaceFault::Unchanged,
         Err(_) => SpaceFault::Broken,
     }
@@ -72,7 +72,7 @@ pub(crate) fn answer_of<S: Alter, T>(
         → OnOk answer (IsTrue (state S.Store conn.old).is_open) }
     requires works { broken.old ≡ false }
     ensures keeping { IsKeeping (state S.Store conn.new) broken.new }
-    ensures tells { Tells refusals.old refusals.new broken.old broken.new result }
+    ensures tells { ReportsFault refusals.old refusals.new broken.old broken.new result }
     ensures settles { Settles S.Store conn.old conn.new answer result }
 {
     let result = answer_or_fault(conn, answer);

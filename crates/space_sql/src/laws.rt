@@ -3,12 +3,12 @@
 ghost use Rattle.std.specs.Prelude.{◌≡◌, false};
 ghost use Rattle.space_sql.specs.Crash.{LeavesContent, LeavesHeld, LeftIsFound};
 ghost use Rattle.space_sql.specs.Found.{NewIsUnmade};
-ghost use Rattle.space_sql.specs.Opening.{HoldsEachSpelt, OneAirspaceAs};
+ghost use Rattle.space_sql.specs.OpenResult.{HoldsEachSpelt, OneAirspaceAs};
 ghost use Rattle.space_sql.specs.Restart.{LeavesFiles, LeavesTrees, NextRefused, NextRun, RefusedIsFound};
 
 use crate::space::SqlSpace;
 use space_core::space::Space;
-use space_select::reading::known;
+use space_sql_select::reading::connection_facts;
 use sqlite::{Alter, Connection, FileFrom, FileStore, MemStore, Start};
 use sqlite_disk::Disk;
 
@@ -25,12 +25,12 @@ pub fn crash_leaves_what_is_held<S: Alter>(space: &SqlSpace<S>)
 /// A connection which sees what a crash may have left of a space is taken with an airspace that the
 /// space held, and with no other; and `NotADss` and `Version` do not come. It is said of whatever
 /// `SqlSpace::adopt` answers, by its clauses `taken` and `refused`.
-pub fn left_is_found<S: Alter, T: Alter>(before: &SqlSpace<S>, conn: &Connection<T>)
+pub fn crash_is_recovered<S: Alter, T: Alter>(before: &SqlSpace<S>, conn: &Connection<T>)
     requires { conn.now.in_transaction ≡ false }
     ensures { LeftIsFound S.Store before.now T.Store ⟦<SqlSpace<T> as Space>⟧ conn.now }
 {
     let _ = before;
-    known(conn);
+    connection_facts(conn);
 }
 
 /// A space over tables in memory is always sound: it has no disk.
@@ -58,21 +58,21 @@ pub fn trees_left<S: Start>(conn: Connection<FileStore<FileFrom<S>>>) -> FileSto
 }
 
 /// A database file without a byte is unmade, whatever its log holds.
-pub fn new_is_unmade()
+pub fn empty_file_has_no_tables()
     ensures { NewIsUnmade }
 {}
 
 /// Where files spell an airspace in format 2, a space that is opened over them holds that airspace and
 /// no other, and of the faults of opening only `Store` comes. It is said of whatever
 /// `SqlSpace::open` answers, by its clauses `finds` and `refuses`.
-pub fn next_finds<S: Alter>()
+pub fn reopen_recovers<S: Alter>()
     ensures { NextRun S.Store ⟦<SqlSpace<S> as Space>⟧ }
 {}
 
 /// Where an opening took nothing of files that spell an airspace, in either format, also where no
 /// connection came back, its fault is `Store`. It is said of whatever `SqlSpace::open` answers, by its
 /// clause `refuses`.
-pub fn next_refused<S: Start>()
+pub fn refused_open_keeps_airspace<S: Start>()
     ensures { NextRefused ⟦<FileFrom<S> as Disk>⟧ }
 {}
 

@@ -2,13 +2,13 @@
 #![tactic(auto)]
 
 mod answers;
+pub mod batch;
+pub mod failed_open;
 pub mod laws;
-pub mod let_go;
-mod listed;
-pub mod listing;
+mod load;
 pub mod open;
+pub mod purge;
 mod reading;
-pub mod remains;
-pub mod round;
 mod schema;
 pub mod space;
+pub mod to_memory;

@@ -10,33 +10,33 @@ ghost use Rattle.sqlite.specs.declared.error.Error.TheVariants.{SqliteFailure};
 ghost use Rattle.sqlite.specs.declared.error.ErrorCode.TheVariants.{NotADatabase};
 ghost use Rattle.entity_core.specs.Airspace.{Airspace, empty_at};
 ghost use Rattle.space_core.specs.Space.{IsContent};
-ghost use Rattle.space_tables.specs.Making.{IsSettled, MayBeMade};
-ghost use Rattle.space_tables.specs.Spelling.{Spells};
-ghost use Rattle.space_tables.specs.Presence.{presence_in};
-ghost use Rattle.space_tables.specs.Tables.{dss_schema, no_schema};
-ghost use Rattle.space_tables.specs.declared.format.Format.{Format};
-ghost use Rattle.space_tables.specs.declared.format.Format.TheVariants.{One, Two};
-ghost use Rattle.space_tables.specs.declared.presence.Presence.TheVariants.{Whole};
-ghost use Rattle.space_format.specs.Opening.{MayBeMoved};
-ghost use Rattle.space_format.specs.declared.open_fault.OpenFault.TheVariants.{Store, Version};
+ghost use Rattle.space_sql_schema.specs.Making.{IsSettled, MayBeMade};
+ghost use Rattle.space_sql_schema.specs.Spelling.{Spells};
+ghost use Rattle.space_sql_schema.specs.Presence.{presence_in};
+ghost use Rattle.space_sql_schema.specs.Tables.{dss_schema, no_schema};
+ghost use Rattle.space_sql_schema.specs.declared.format.Format.{Format};
+ghost use Rattle.space_sql_schema.specs.declared.format.Format.TheVariants.{One, Two};
+ghost use Rattle.space_sql_schema.specs.declared.presence.Presence.TheVariants.{Whole};
+ghost use Rattle.space_sql_open.specs.Opening.{MayHaveUpgraded};
+ghost use Rattle.space_sql_open.specs.declared.open_fault.OpenFault.TheVariants.{Store, Version};
 ghost use Rattle.space_sql.specs.Found.{FindsSpelt, IsOver, RefusesFound};
-ghost use Rattle.space_sql.specs.Remains.{RefusesOpening};
-ghost use Rattle.space_sql.specs.Listed.{IsAllOf};
-ghost use Rattle.space_sql.specs.Opening.{HoldsEmpty, HoldsSpelt, HoldsSpeltAs, IsDueFault, IsDueFaultAs, IsFresh, IsUnwritten, IsUnwrittenAs, MayBeOpened};
+ghost use Rattle.space_sql.specs.FailedOpen.{RefusesOpening};
+ghost use Rattle.space_sql.specs.Load.{IsAllOf};
+ghost use Rattle.space_sql.specs.OpenResult.{HoldsEmpty, HoldsSpelt, HoldsSpeltAs, IsDueFault, IsDueFaultAs, IsFresh, IsUnwritten, IsUnwrittenAs, MayBeOpened};
 ghost use Rattle.space_sql.specs.Restart.{ClosesFiles};
 
 use crate::answers::at_rest;
-use crate::listed::is_ours;
-use crate::remains::Remains;
+use crate::failed_open::FailedOpen;
+use crate::load::is_ours;
 use crate::space::SqlSpace;
 use space_core::space::{Space, SpaceFault};
-use space_format::examine::{examine_tables, partial_fault};
-use space_format::moving::move_format;
-use space_format::open_fault::OpenFault;
-use space_load::judgement::Listed;
-use space_tables::format::Format;
-use space_tables::make::make_tables;
-use space_tables::presence::{Presence, presence_of};
+use space_sql_load::table_check::LoadedAirspace;
+use space_sql_open::checking::{check_format_2, partial_schema_fault};
+use space_sql_open::open_fault::OpenFault;
+use space_sql_open::upgrading::upgrade_format;
+use space_sql_schema::format::Format;
+use space_sql_schema::make::make_tables;
+use space_sql_schema::presence::{Presence, presence_of};
 use sqlite::{Alter, Connection, Error, ErrorCode, FileFrom, FileStore, Files, MemStore, Start};
 use std::alloc::Global;
 use std::io::Read;
@@ -65,10 +65,10 @@ fn space_over<S: Alter>(alloc: Global, conn: Connection<S>, upgraded: bool) -> S
 
 /// A space over a connection, with all that its tables have where they were read; or a fault, with
 /// the connection that goes back.
-pub type Taking<S> = Result<(SqlSpace<S>, Option<Listed>), (OpenFault, Connection<S>)>;
+pub type AdoptResult<S> = Result<(SqlSpace<S>, Option<LoadedAirspace>), (OpenFault, Connection<S>)>;
 
 // Makes the tables in a database that has none of them.
-fn make_new<S: Alter>(alloc: Global, mut conn: Connection<S>) -> Taking<S>
+fn make_new<S: Alter>(alloc: Global, mut conn: Connection<S>) -> AdoptResult<S>
     requires { conn.in_transaction ≡ false }
     ensures clean { IfOk result (λ t. HasCleanDisk (state S.Store t.0.conn)
         → HasCleanDisk (state S.Store conn)) }
@@ -90,7 +90,7 @@ fn make_new<S: Alter>(alloc: Global, mut conn: Connection<S>) -> Taking<S>
 }
 
 // Takes tables of format 2 as they are.
-fn take_second<S: Alter>(alloc: Global, mut conn: Connection<S>) -> Taking<S>
+fn take_second<S: Alter>(alloc: Global, mut conn: Connection<S>) -> AdoptResult<S>
     requires { conn.in_transaction ≡ false }
     ensures clean { IfOk result (λ t. HasCleanDisk (state S.Store t.0.conn)
         → HasCleanDisk (state S.Store conn)) }
@@ -108,14 +108,14 @@ fn take_second<S: Alter>(alloc: Global, mut conn: Connection<S>) -> Taking<S>
     ensures left { IfErr result (λ e.
         Survives (state S.Store conn) (state S.Store e.1) (λ _. ⊥)) }
 {
-    match examine_tables(alloc, &mut conn) {
+    match check_format_2(alloc, &mut conn) {
         Ok(listed) => Ok((space_over(alloc, conn, false), Some(listed))),
         Err(fault) => Err((fault, conn)),
     }
 }
 
 // Brings tables of format 1 to format 2, and takes them.
-fn take_first<S: Alter>(alloc: Global, mut conn: Connection<S>) -> Taking<S>
+fn take_first<S: Alter>(alloc: Global, mut conn: Connection<S>) -> AdoptResult<S>
     requires { conn.in_transaction ≡ false }
     ensures clean { IfOk result (λ t. HasCleanDisk (state S.Store t.0.conn)
         → HasCleanDisk (state S.Store conn)) }
@@ -131,9 +131,9 @@ fn take_first<S: Alter>(alloc: Global, mut conn: Connection<S>) -> Taking<S>
     ensures unwritten { IfErr result
         (λ e. IsUnwrittenAs One (state S.Store conn) (state S.Store e.1) e.0) }
     ensures left { IfErr result (λ e. Survives (state S.Store conn) (state S.Store e.1)
-        (λ trees. (e.0 ≡ OpenFault.Store) × MayBeMoved (state S.Store conn) trees)) }
+        (λ trees. (e.0 ≡ OpenFault.Store) × MayHaveUpgraded (state S.Store conn) trees)) }
 {
-    match move_format(alloc, &mut conn) {
+    match upgrade_format(alloc, &mut conn) {
         Ok(()) => Ok((space_over(alloc, conn, true), None)),
         Err(fault) => Err((fault, conn)),
     }
@@ -145,7 +145,7 @@ fn refused<S: Alter>(mut conn: Connection<S>) -> (OpenFault, Connection<S>)
     ensures back { result.1.in_transaction ≡ false }
     ensures left { Survives (state S.Store conn) (state S.Store result.1) (λ _. ⊥) }
 {
-    let fault = partial_fault(&mut conn);
+    let fault = partial_schema_fault(&mut conn);
     (fault, conn)
 }
 
@@ -160,7 +160,7 @@ impl<S: Alter> SqlSpace<S> {
     /// With the space comes all that the tables have, where they were whole and of format 2 and so
     /// were read. That this is all that the space holds is said where they are as `make_tables`
     /// makes them, and no other stands beside them.
-    pub fn adopt(alloc: Global, conn: Connection<S>) -> Taking<S>
+    pub fn adopt(alloc: Global, conn: Connection<S>) -> AdoptResult<S>
         requires { conn.in_transaction ≡ false }
         ensures clean { IfOk result (λ t. HasCleanDisk (state S.Store t.0.conn)
             → HasCleanDisk (state S.Store conn)) }
@@ -215,7 +215,7 @@ impl<S: Alter> SqlSpace<S> {
 }
 
 // Takes a connection that was opened over files, whatever these held.
-fn taken_over<S: Alter>(alloc: Global, conn: Connection<S>) -> Taking<S>
+fn taken_over<S: Alter>(alloc: Global, conn: Connection<S>) -> AdoptResult<S>
     requires { conn.in_transaction ≡ false }
     ensures fresh { IfOk result (λ t. IsFresh S.Store ⟦<SqlSpace<S> as Space>⟧ t.0) }
     ensures all { IfOk result (λ t. (state S.Store conn).now.schema ≡ dss_schema
@@ -230,7 +230,7 @@ fn taken_over<S: Alter>(alloc: Global, conn: Connection<S>) -> Taking<S>
 }
 
 // Takes a connection, with all that the space then holds where its tables are as they are made.
-fn taken_whole<S: Alter>(alloc: Global, conn: Connection<S>) -> Taking<S>
+fn taken_whole<S: Alter>(alloc: Global, conn: Connection<S>) -> AdoptResult<S>
     requires { conn.in_transaction ≡ false }
     ensures fresh { IfOk result (λ t. IsFresh S.Store ⟦<SqlSpace<S> as Space>⟧ t.0) }
     ensures all { IfOk result (λ t. IfSome t.1 (IsAllOf S.Store t.0)) }
@@ -305,7 +305,7 @@ fn file<S: Start>(
     rt: &HostRuntime,
     path: &str,
     start: S,
-) -> Result<Connection<FileStore<FileFrom<S>>>, (OpenFault, Remains<FileFrom<S>>)>
+) -> Result<Connection<FileStore<FileFrom<S>>>, (OpenFault, FailedOpen<FileFrom<S>>)>
     ensures outside { IfOk result (λ conn. conn.in_transaction ≡ false) }
     ensures memory { path.now ≡ codes ":memory:"
         → IsErrAnd result (λ e. e.0 ≡ OpenFault.Store) }
@@ -314,16 +314,16 @@ fn file<S: Start>(
 {
     match Connection::open_from(rt, path, false, start) {
         Ok(conn) => Ok(conn),
-        Err((error, None)) => Err((unopened(rt, path, &error), Remains::Nothing)),
-        Err((error, Some(left))) => Err((unopened(rt, path, &error), Remains::Files(left))),
+        Err((error, None)) => Err((unopened(rt, path, &error), FailedOpen::Nothing)),
+        Err((error, Some(left))) => Err((unopened(rt, path, &error), FailedOpen::Files(left))),
     }
 }
 
 /// A space over a file, with all that it then holds where that was read; or a fault, with what there
 /// is of the files.
-pub type Opening<S> = Result<
-    (SqlSpace<FileStore<FileFrom<S>>>, Option<Listed>),
-    (OpenFault, Remains<FileFrom<S>>),
+pub type OpenResult<S> = Result<
+    (SqlSpace<FileStore<FileFrom<S>>>, Option<LoadedAirspace>),
+    (OpenFault, FailedOpen<FileFrom<S>>),
 >;
 
 impl<S: Start> SqlSpace<FileStore<FileFrom<S>>> {
@@ -332,7 +332,7 @@ impl<S: Start> SqlSpace<FileStore<FileFrom<S>>> {
     ///
     /// With the space comes all that it then holds. That is not told where the tables were made or
     /// moved, or are not as they are made.
-    pub fn open(rt: &HostRuntime, path: &str, start: S) -> Opening<S>
+    pub fn open(rt: &HostRuntime, path: &str, start: S) -> OpenResult<S>
         ensures fresh { IfOk result (λ t.
             IsFresh over_files ⟦<SqlSpace<FileStore<FileFrom<S>>> as Space>⟧ t.0) }
         ensures finds { IfOk result (λ t. FindsSpelt (image_at S.Start)
@@ -348,7 +348,7 @@ impl<S: Start> SqlSpace<FileStore<FileFrom<S>>> {
         };
         match taken_whole(rt.alloc(), conn) {
             Ok(taken) => Ok(taken),
-            Err((fault, conn)) => Err((fault, Remains::Connection(conn))),
+            Err((fault, conn)) => Err((fault, FailedOpen::Connection(conn))),
         }
     }
 

@@ -13,16 +13,16 @@ use entity_core::ovn::Ovn;
 use entity_core::subscription::Sub;
 use entity_core::uss_id::UssId;
 use grid_core::volume::Area;
-use space_changes::change::make_change;
 use space_core::met::Met;
 use space_core::space::{Change, Space, SpaceFault};
-use space_lookup::availability::read_availability;
-use space_lookup::dependents::read_dependents;
-use space_lookup::entity::read_entity;
-use space_lookup::serial::read_serial;
-use space_lookup::subscription::read_subscription;
-use space_search::meeting::read_meeting;
-use space_search::subscriptions::{find_subscribers, find_subscriptions_of};
+use space_sql_lookup::availability::read_availability;
+use space_sql_lookup::dependents::read_dependents;
+use space_sql_lookup::entity::read_entity;
+use space_sql_lookup::serial::read_serial;
+use space_sql_lookup::subscription::read_subscription;
+use space_sql_search::meeting::read_meeting;
+use space_sql_search::subscriptions::{find_subscribers, find_subscriptions_of};
+use space_sql_write::change::commit_change;
 use sqlite::{Alter, Connection};
 use std::alloc::Global;
 use std::marker::Model;
@@ -44,11 +44,11 @@ pub struct SqlSpace<S: Alter> {
 
 impl<S: Alter> Model for SqlSpace<S> {
     ghost use Rattle.sqlite.specs.Held.{state};
-    ghost use Rattle.space_sql.specs.Holding.{IsKeeping, Kept, kept_code};
+    ghost use Rattle.space_sql.specs.Holding.{IsKeeping, SqlSpaceModel, sql_space_code};
 
-    ghost Value = { Kept S };
+    ghost Value = { SqlSpaceModel S };
 
-    ghost coded = { kept_code S.code };
+    ghost coded = { sql_space_code S.code };
 
     ghost view = { λ s. record {
       conn = s.conn;
@@ -79,15 +79,15 @@ impl<S: Alter> Space for SqlSpace<S> {
 
     ghost fixed = { λ _. nothing_fixed };
 
-    ghost one = { λ s a b sound off h k.
+    ghost content_unique = { λ s a b sound off h k.
         one_kept _ a b (λ db may. S.Store.settled _ db (sound.live off) may) h k };
 
-    ghost certain = { λ s a sound off h.
+    ghost content_whole = { λ s a sound off h.
         all_kept _ a (λ db may. S.Store.settled _ db (sound.live off) may) h };
 
-    ghost some = { λ s sound whole. some_kept (S.Store.survives _ sound.clean) whole };
+    ghost content_exists = { λ s sound whole. some_kept (S.Store.survives _ sound.clean) whole };
 
-    ghost proper = { λ s a sound h. kept_is_proper a h };
+    ghost content_valid = { λ s a sound h. kept_is_proper a h };
 
     fn entity(&mut self, kind: Kind, id: EntityId) -> Result<Option<Entity>, SpaceFault> {
         if self.broken {
@@ -170,7 +170,7 @@ impl<S: Alter> Space for SqlSpace<S> {
         if self.broken {
             return Err(SpaceFault::Broken);
         }
-        let made = make_change(self.alloc, &mut self.conn, &change, notify);
+        let made = commit_change(self.alloc, &mut self.conn, &change, notify);
         answer_of(&mut self.conn, &mut self.refusals, &mut self.broken, made)
     }
 }

@@ -5,7 +5,7 @@ use Rattle.entity_core.specs.Airspace.{Airspace}
 use Rattle.space_core.specs.declared.space.Space.{Ghosts}
 use Rattle.space_core.specs.declared.space.SpaceFault.{SpaceFault}
 use Rattle.space_core.specs.declared.space.SpaceFault.TheVariants.{Broken}
-use Rattle.space_core.specs.Space.{IsContent, Reads, Changes, Tells}
+use Rattle.space_core.specs.Space.{IsContent, Reads, Changes, ReportsFault}
 use Rattle.test_libraries.specs.declared.breaking.Breaking.{Breaking}
 
 module _ {S : Type 0} (g : Ghosts S) where
@@ -20,7 +20,7 @@ module _ {S : Type 0} (g : Ghosts S) where
 
   -- a call at which it is broken
   pub tells_broken : {T : Type 0} (s t : S) (b c : Bool) → t ≡ s → c ≡ true
-      → Tells {T = T} (g.refusals s) (g.refusals t) (b || g.is_broken s) (c || g.is_broken t) (Err Broken)
+      → ReportsFault {T = T} (g.refusals s) (g.refusals t) (b || g.is_broken s) (c || g.is_broken t) (Err Broken)
   tells_broken s t b c same broke = record {
     counted = ap g.refusals same;
     breaks = ap (λ (x : Bool). x || g.is_broken t) broke;
@@ -50,12 +50,12 @@ module _ {S : Type 0} (g : Ghosts S) where
 
   -- a call that goes to the space
   pub tells_inside : {T : Type 0} (s m t : S) (b c : Bool) (r : Result T SpaceFault) → m ≡ s → b ≡ false → c ≡ false
-      → Tells (g.refusals m) (g.refusals t) (g.is_broken m) (g.is_broken t) r
-      → Tells (g.refusals s) (g.refusals t) (b || g.is_broken s) (c || g.is_broken t) r
+      → ReportsFault (g.refusals m) (g.refusals t) (g.is_broken m) (g.is_broken t) r
+      → ReportsFault (g.refusals s) (g.refusals t) (b || g.is_broken s) (c || g.is_broken t) r
   tells_inside s m t true c r same was goes h = absurd (let e = was in cc)
   tells_inside s m t false true r same was goes h = absurd (let e = goes in cc)
   tells_inside s m t false false r same was goes h =
-      subst (λ (x : S). Tells (g.refusals x) (g.refusals t) (g.is_broken x) (g.is_broken t) r) same h
+      subst (λ (x : S). ReportsFault (g.refusals x) (g.refusals t) (g.is_broken x) (g.is_broken t) r) same h
 
   pub reads_inside : {T : Type 0} (old new : Breaking S) (m : S) (r : Result T SpaceFault) (P : Airspace → T → Type 0)
       → m ≡ old.space → Reads g.holds g.is_sound g.is_whole m new.space r P

@@ -8,16 +8,16 @@ use Rattle.policy_core.specs.declared.call.Call.{Call}
 use Rattle.policy_core.specs.Missing.{key_shown, needed}
 use Rattle.service_step.specs.declared.reply.Reply.{Reply}
 use Rattle.service_calls.specs.Aware.{Aware}
-use Rattle.service_calls.specs.Run.{Timed, airspace_after, answered_calls}
+use Rattle.service_calls.specs.Run.{TimedCall, airspace_after, answered_calls}
 use Rattle.service_calls.specs.Stale.{DifferUpTo, FailsOrIsRefused, IsOfAnother}
 
 -- the airspace that calls with these replies leave
-abbrev pub airspace_told : List ℕ → List Timed → List Reply → Airspace
+abbrev pub airspace_told : List ℕ → List TimedCall → List Reply → Airspace
 airspace_told salt cs rs = airspace_after salt (empty_at 0) (answered_calls cs rs)
 
 -- The calls leave an airspace in which each later intent knew the earlier ones; and one more put
 -- there, whose key has OVNs of other serials alone, is refused for what it needs to know.
-pub record ToldAfter (salt : List ℕ) (cs : List Timed) (c : Call) (rs : List Reply) (r : Reply)
+pub record ToldAfter (salt : List ℕ) (cs : List TimedCall) (c : Call) (rs : List Reply) (r : Reply)
     : Type 0 where
   pub aware : Aware salt (empty_at 0) cs rs (airspace_told salt cs rs)
   pub stale : (kind : Kind) (y : Entity) → DifferUpTo salt (airspace_told salt cs rs).serial

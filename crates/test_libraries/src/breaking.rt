@@ -71,15 +71,15 @@ impl<S: Space + Drop> Space for Breaking<S> {
 
     ghost fixed = { λ s. S.fixed s.space };
 
-    ghost one = { λ s a b sound unbroken h k.
-        S.one s.space a b sound (unbroken_inside s.broken (S.is_broken s.space) unbroken) h k };
+    ghost content_unique = { λ s a b sound unbroken h k.
+        S.content_unique s.space a b sound (unbroken_inside s.broken (S.is_broken s.space) unbroken) h k };
 
-    ghost certain = { λ s a sound unbroken h.
-        S.certain s.space a sound (unbroken_inside s.broken (S.is_broken s.space) unbroken) h };
+    ghost content_whole = { λ s a sound unbroken h.
+        S.content_whole s.space a sound (unbroken_inside s.broken (S.is_broken s.space) unbroken) h };
 
-    ghost some = { λ s sound whole. S.some s.space sound whole };
+    ghost content_exists = { λ s sound whole. S.content_exists s.space sound whole };
 
-    ghost proper = { λ s a sound h. S.proper s.space a sound h };
+    ghost content_valid = { λ s a sound h. S.content_valid s.space a sound h };
 
     fn entity(&mut self, kind: Kind, id: EntityId) -> Result<Option<Entity>, SpaceFault> {
         if self.breaks() {

@@ -5,11 +5,11 @@ use entity_core::nature::Kind;
 use entity_core::salt::Salt;
 use entity_core::serial::Serial;
 use entity_core::uss_id::UssId;
-use entity_core::version::{GREATEST_VERSION, Version};
+use entity_core::version::{MAX_VERSION, Version};
 use policy_core::call::{Call, OpKind, Operation};
 use policy_core::rule::Rule;
 use policy_core::scope::{Caller, Scope, ScopeSet};
-use policy_core::standing::{Findings, LentFacts, standing};
+use policy_core::standing::{FactsRef, Findings, standing};
 use service_calls::service::Service;
 use service_step::reply::{Answer, Reply};
 use space_core::space::Space;
@@ -50,7 +50,7 @@ fn kept(alloc: Global, op: &Operation, number: u32) -> Option<Entity> {
     let Operation::Update(id, ovn, put) = op else {
         return None;
     };
-    let (version, serial) = (Version::from_number(number)?, Serial::after(0)?);
+    let (version, serial) = (Version::from_number(number)?, Serial::next_after(0)?);
     let manager = UssId::read(alloc, "uss-a").ok()?;
     let ovn = ovn.clone().ok()?;
     let url = put.url.clone().ok()?;
@@ -78,7 +78,7 @@ fn update(alloc: Global) -> Option<Call> {
 // What it breaks where the intent is there at that version, at a serial that is not the greatest.
 fn found_at(alloc: Global, update: &Call, number: u32) -> Option<Findings> {
     let entity = kept(alloc, &update.op, number)?;
-    let facts = LentFacts {
+    let facts = FactsRef {
         found: Some(&entity),
         stated: None,
         serial: 7,
@@ -100,8 +100,8 @@ fn is_limit(alloc: Global, update: &Call, number: u32, limit: bool) -> bool {
 fn is_limit_met(alloc: Global) -> bool {
     match update(alloc) {
         Some(update) => {
-            is_limit(alloc, &update, GREATEST_VERSION - 1, false)
-                && is_limit(alloc, &update, GREATEST_VERSION, true)
+            is_limit(alloc, &update, MAX_VERSION - 1, false)
+                && is_limit(alloc, &update, MAX_VERSION, true)
         }
         None => false,
     }

@@ -4,9 +4,9 @@ use entity_core::entity_id::EntityId;
 use entity_core::id_fault::IdFault;
 use entity_core::ovn::Ovn;
 use entity_core::salt::Salt;
-use entity_core::serial::{GREATEST_SERIAL, Serial};
+use entity_core::serial::{MAX_SERIAL, Serial};
 use entity_core::uss_id::UssId;
-use entity_core::version::{GREATEST_VERSION, Version};
+use entity_core::version::{MAX_VERSION, Version};
 use std::alloc::Global;
 
 const LONG: &str = "abcdefghijklmnopqrstuvwxyz-ABCDEFGHIJKLMNOPQRSTUVWXYZ_0123456789";
@@ -123,13 +123,13 @@ fn version_after(number: u32) -> Option<u32> {
 }
 
 fn next_serial(number: u64) -> Option<u64> {
-    Some(Serial::after(number)?.number())
+    Some(Serial::next_after(number)?.number())
 }
 
 #[test]
 fn versions_have_their_limit(rt: HostRuntime) {
     assert!(rt; Version::first().number() == 1);
-    for (number, next) in &[(1, Some(2)), (GREATEST_VERSION, None)] {
+    for (number, next) in &[(1, Some(2)), (MAX_VERSION, None)] {
         assert!(rt; version_after(*number) == *next, "after {number}");
     }
 }
@@ -138,8 +138,8 @@ fn versions_have_their_limit(rt: HostRuntime) {
 fn serials_have_their_limit(rt: HostRuntime) {
     for (number, next) in &[
         (0, Some(1)),
-        (9_223_372_036_854_775_806, Some(GREATEST_SERIAL)),
-        (GREATEST_SERIAL, None),
+        (9_223_372_036_854_775_806, Some(MAX_SERIAL)),
+        (MAX_SERIAL, None),
     ] {
         assert!(rt; next_serial(*number) == *next, "after {number}");
     }

@@ -42,7 +42,7 @@ fn volumes(alloc: Global) -> Option<Volumes> {
 // An entity with the OVN of a number.
 fn entity(alloc: Global, number: u64) -> Option<Entity> {
     let id = EntityId::read("00000000-0000-4000-8000-0000000000a1").ok()?;
-    let serial = Serial::after(0)?;
+    let serial = Serial::next_after(0)?;
     Some(Entity {
         nature: Nature::Constraint,
         id,

@@ -6,11 +6,11 @@ use entity_core::interest::Interest;
 use entity_core::nature::{Nature, State};
 use entity_core::notification_index::NotificationIndex;
 use entity_core::ovn::Ovn;
-use entity_core::serial::GREATEST_SERIAL;
+use entity_core::serial::MAX_SERIAL;
 use entity_core::uss_id::UssId;
 use entity_core::version::Version;
 use policy_core::reference::Reference;
-use policy_core::sub_view::{Ids, SubView};
+use policy_core::sub_view::{EntityIds, SubView};
 use service_step::reply::{Answer, Reply};
 use std::alloc::Global;
 use wire_reply::answer::{reply_text, status};
@@ -48,12 +48,12 @@ fn most_told(alloc: Global) -> Option<Reply> {
     Some(Reply::Done(Answer::SubFound(SubView {
         id: EntityId::read("F81D4FAE-7DEC-11D0-A765-00A0C91E6BF6").ok()?,
         version: Ovn::read(alloc, "0123456789abcdef").ok()?,
-        index: NotificationIndex::from_number(GREATEST_SERIAL)?,
-        interest: Interest::of(false, true)?,
+        index: NotificationIndex::from_number(MAX_SERIAL)?,
+        interest: Interest::from_flags(false, true)?,
         time_start: 0,
         time_end: 1,
         url: BaseUrl::read(alloc, "https://b.example").ok()?,
-        dependents: Ids::from_vec(Vec::new(alloc)),
+        dependents: EntityIds::from_vec(Vec::new(alloc)),
     })))
 }
 
@@ -64,7 +64,7 @@ const MOST_TOLD: &str = "{\"subscription\":{\"dependent_operational_intents\":[]
     \"uss_base_url\":\"https://b.example\",\"version\":\"0123456789abcdef\"}}";
 
 fn is_most_told(alloc: Global) -> bool {
-    let none = NotificationIndex::from_number(GREATEST_SERIAL + 1);
+    let none = NotificationIndex::from_number(MAX_SERIAL + 1);
     match most_told(alloc) {
         Some(reply) => none.is_none() && is_told(alloc, &reply, 200, MOST_TOLD),
         None => false,

@@ -28,7 +28,7 @@ fn flag_of(value: &Value, name: &str) -> Option<bool>
 fn interest_by(intents: bool, constraints: bool) -> Option<Interest>
     ensures { result ≡ interest_by intents constraints }
 {
-    Interest::of(intents, constraints)
+    Interest::from_flags(intents, constraints)
 }
 
 #[tactic(auto, unfolding(crate::specs::SubPut::interest_of))]

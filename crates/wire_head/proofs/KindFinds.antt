@@ -6,10 +6,10 @@ use Rattle.httparse.specs.declared.spans.HeaderSpan.{HeaderSpan}
 use Rattle.httparse.specs.declared.spans.RequestSpans.{RequestSpans}
 use Rattle.httparse.specs.Grammar.{ReadsRequest}
 use Rattle.httparse.proofs.GrammarLemmas.{ReadsRequest-append}
-use Rattle.wire_head.specs.Found.{Finds}
-use Rattle.wire_head.specs.declared.rest.HeadSoFar.TheVariants.{More, Head, Bad, Large}
-use Rattle.wire_head.specs.declared.rest.Found.{Found}
-use Rattle.wire_head.specs.declared.rest.Found.TheVariants as found
+use Rattle.wire_head.specs.FinalHead.{Finds}
+use Rattle.wire_head.specs.declared.rest.PartialHead.TheVariants.{More, Head, Bad, Large}
+use Rattle.wire_head.specs.declared.rest.FinalHead.{FinalHead}
+use Rattle.wire_head.specs.declared.rest.FinalHead.TheVariants as found
 use Rattle.wire_head.proofs.WindowLaws.{window_of, has_line-append, Never-append, Exceeds-append}
 use Rattle.std.proofs.lemmas.Bool.{cases_lt}
 use Rattle.wire_head.specs.Rest.{has_line, has_feed, window, feeds, skip_ends, IsSoFar, EndsAs, IsKind, IsOpen, HasNoWhole, HasManyLines, cut, large}
@@ -92,7 +92,7 @@ line_feeds (b ∷ x) e =
       ] refl h
     ] e
 
-ended : (x : List ℕ) (fields : List HeaderSpan) (f : Found) (ahead : List ℕ) → x ++ ahead ≡ x → length x < 8192 → IsSoFar x fields More → EndsAs x f → Finds ahead x fields f
+ended : (x : List ℕ) (fields : List HeaderSpan) (f : FinalHead) (ahead : List ℕ) → x ++ ahead ≡ x → length x < 8192 → IsSoFar x fields More → EndsAs x f → Finds ahead x fields f
 ended x fields found.Nothing ahead same lt part e = same ∙ e
 ended x fields found.Part ahead same lt part (some, few) =
     let w : window x ≡ x = take_all 8192 x (omega arith) in
@@ -104,7 +104,7 @@ ended x fields found.Large ahead same lt (inr (line, none, may)) (some, many) =
 ended x fields found.Bad ahead same lt part e = absurd e
 ended x fields (found.Head spans) ahead same lt part e = absurd e
 
-pub kind_end : (x y : List ℕ) (fields : List HeaderSpan) (f : Found) (ahead : List ℕ)
+pub kind_end : (x y : List ℕ) (fields : List HeaderSpan) (f : FinalHead) (ahead : List ℕ)
     → y ≡ x → ahead ≡ [] → length x < 8192 → IsSoFar x fields More → EndsAs y f → Finds ahead y fields f
 kind_end x y fields f ahead same none short part e =
     ended y fields f ahead (ap (λ v. y ++ v) none ∙ append-nil y) (rw same short) (rw same part) e

@@ -29,5 +29,5 @@ borne_by [] = None
 borne_by (value ∷ []) = borne value
 borne_by (a ∷ b ∷ more) = None
 
-abbrev pub token_of : Fields → Option (List ℕ)
-token_of fields = borne_by (values_of (codes "Authorization") fields)
+abbrev pub bearer_token : Fields → Option (List ℕ)
+bearer_token fields = borne_by (values_of (codes "Authorization") fields)

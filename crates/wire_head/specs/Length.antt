@@ -29,5 +29,5 @@ abbrev pub refuse_coded : List (List ℕ) → Result ℕ WireRule → Result ℕ
 refuse_coded [] told = told
 refuse_coded (a ∷ more) told = Err Transfer
 
-abbrev pub length_of : Fields → Result ℕ WireRule
-length_of fields = refuse_coded (values_of (codes "transfer-encoding") fields) (told_by (values_of (codes "content-length") fields))
+abbrev pub content_length : Fields → Result ℕ WireRule
+content_length fields = refuse_coded (values_of (codes "transfer-encoding") fields) (told_by (values_of (codes "content-length") fields))

@@ -1,7 +1,7 @@
 pub mod Bearer
 pub mod Close
 pub mod Fields
-pub mod Found
+pub mod FinalHead
 pub mod Length
 pub mod Rest
 pub mod Rule

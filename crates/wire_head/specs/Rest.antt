@@ -4,10 +4,10 @@ use Rattle.std.specs.List.{list_any}
 use Rattle.httparse.specs.declared.spans.HeaderSpan.{HeaderSpan}
 use Rattle.httparse.specs.Grammar.{RequestHead, ReadsRequest, NeverHasRequest, HasNoRequest, MayBecomeRequest, print_request}
 use Rattle.httparse.specs.Spans.{RequestExceeds, RequestOverflows, IsRequestAt, IsRequestWithin}
-use Rattle.wire_head.specs.declared.rest.HeadSoFar.{HeadSoFar}
-use Rattle.wire_head.specs.declared.rest.HeadSoFar.TheVariants.{More, Head, Bad, Large}
-use Rattle.wire_head.specs.declared.rest.Found.{Found}
-use Rattle.wire_head.specs.declared.rest.Found.TheVariants as found
+use Rattle.wire_head.specs.declared.rest.PartialHead.{PartialHead}
+use Rattle.wire_head.specs.declared.rest.PartialHead.TheVariants.{More, Head, Bad, Large}
+use Rattle.wire_head.specs.declared.rest.FinalHead.{FinalHead}
+use Rattle.wire_head.specs.declared.rest.FinalHead.TheVariants as found
 
 -- a line feed is there
 abbrev pub has_feed : List ℕ → Bool
@@ -91,7 +91,7 @@ AreSame rest large cut = ⊥
 AreSame rest large (whole h) = ⊥
 
 -- what the bytes so far say, with room for 64 fields
-abbrev pub IsSoFar : List ℕ → List HeaderSpan → HeadSoFar → Type 0
+abbrev pub IsSoFar : List ℕ → List HeaderSpan → PartialHead → Type 0
 IsSoFar w fields More = (has_line w ≡ false) ⊎ ((has_line w ≡ true) × HasNoRequest w
     × MayBecomeRequest w)
 IsSoFar w fields (Head spans) =
@@ -101,7 +101,7 @@ IsSoFar w fields Bad = (has_line w ≡ true) × NeverHasRequest w
 IsSoFar w fields Large = (has_line w ≡ true) × RequestExceeds 64 w × RequestOverflows 64 w
 
 -- the bytes at the end of the input
-abbrev pub EndsAs : List ℕ → Found → Type 0
+abbrev pub EndsAs : List ℕ → FinalHead → Type 0
 EndsAs bytes found.Nothing = bytes ≡ []
 EndsAs bytes found.Part = (0 < length bytes) × (HasManyLines bytes → ⊥)
 EndsAs bytes found.Large = (0 < length bytes) × HasManyLines bytes

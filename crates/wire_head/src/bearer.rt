@@ -3,7 +3,7 @@ ghost use Rattle.std.specs.Prelude.{◌≡◌, ◌≤◌, length, map, All, code
 ghost use Rattle.std.specs.List.{list_all};
 ghost use Rattle.std.specs.Char.{is_ascii_graphic};
 ghost use Rattle.httparse.specs.Spans.{header_bytes, IsHeaderWithin};
-ghost use Rattle.wire_head.specs.Bearer.{skip_spaces, visible, spaced, borne, token_of};
+ghost use Rattle.wire_head.specs.Bearer.{skip_spaces, visible, spaced, borne, bearer_token};
 
 use crate::fields::{Occurrence, is_same_word, only};
 use httparse::spans::HeaderSpan;
@@ -67,10 +67,10 @@ fn borne(value: &[u8]) -> Option<&str>
 }
 
 /// The token that the fields bear: exactly one field Authorization, of the scheme `Bearer`.
-pub fn token_of<'b>(buffer: &'b [u8], fields: &[HeaderSpan]) -> Option<&'b str>
+pub fn bearer_token<'b>(buffer: &'b [u8], fields: &[HeaderSpan]) -> Option<&'b str>
     requires { All (IsHeaderWithin (length buffer.now)) fields.now }
-    ensures { MatchOption result (token_of (map (header_bytes buffer.now) fields.now) ≡ None)
-        (λ token. token_of (map (header_bytes buffer.now) fields.now) ≡ Some token.now) }
+    ensures { MatchOption result (bearer_token (map (header_bytes buffer.now) fields.now) ≡ None)
+        (λ token. bearer_token (map (header_bytes buffer.now) fields.now) ≡ Some token.now) }
 {
     match only(buffer, fields, b"Authorization") {
         Occurrence::One(value) => borne(value.of(buffer)),

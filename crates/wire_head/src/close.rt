@@ -74,7 +74,7 @@ fn fields_close(buffer: &[u8], fields: &[HeaderSpan]) -> bool
 }
 
 /// Whether the connection closes after a request of that minor version and with these fields.
-pub fn closes(buffer: &[u8], minor: u8, fields: &[HeaderSpan]) -> bool
+pub fn closes_connection(buffer: &[u8], minor: u8, fields: &[HeaderSpan]) -> bool
     requires { All (IsHeaderWithin (length buffer.now)) fields.now }
     ensures { result ≡ closes_by minor (map (header_bytes buffer.now) fields.now) }
 {

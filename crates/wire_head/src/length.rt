@@ -4,7 +4,7 @@ ghost use Rattle.std.specs.List.{list_all};
 ghost use Rattle.std.specs.Char.{is_ascii_digit};
 ghost use Rattle.std.specs.Str.Parse.{digits_value};
 ghost use Rattle.httparse.specs.Spans.{header_bytes, IsHeaderWithin};
-ghost use Rattle.wire_head.specs.Length.{length_of, told_length};
+ghost use Rattle.wire_head.specs.Length.{content_length, told_length};
 
 use crate::fields::{Occurrence, only};
 use crate::rule::WireRule;
@@ -50,9 +50,9 @@ fn told_length(text: &[u8]) -> Result<usize, WireRule>
 }
 
 /// The length of the body that follows a head with these fields, or the first rule that they break.
-pub fn length_of(buffer: &[u8], fields: &[HeaderSpan]) -> Result<usize, WireRule>
+pub fn content_length(buffer: &[u8], fields: &[HeaderSpan]) -> Result<usize, WireRule>
     requires { All (IsHeaderWithin (length buffer.now)) fields.now }
-    ensures { result ≡ length_of (map (header_bytes buffer.now) fields.now) }
+    ensures { result ≡ content_length (map (header_bytes buffer.now) fields.now) }
 {
     let Occurrence::Absent = only(buffer, fields, b"transfer-encoding") else {
         return Err(WireRule::Transfer);

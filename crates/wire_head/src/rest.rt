@@ -10,7 +10,7 @@ pub const FIELD_LIMIT: usize = 64;
 
 /// What the bytes so far say of a head.
 #[derive(Clone, Copy)]
-pub enum HeadSoFar {
+pub enum PartialHead {
     /// Nothing yet.
     More,
     /// A whole head.
@@ -23,7 +23,7 @@ pub enum HeadSoFar {
 
 /// What an input begins with.
 #[derive(Clone, Copy)]
-pub enum Found {
+pub enum FinalHead {
     /// Nothing: the input has ended.
     Nothing,
     /// A part of a head, and then the end of the input.
@@ -80,31 +80,31 @@ fn feeds_in(bytes: &[u8]) -> usize
 }
 
 /// What the bytes so far say. Nothing is judged before a request line has ended.
-pub fn head_so_far(bytes: &[u8], fields: &mut [HeaderSpan]) -> HeadSoFar
+pub fn head_so_far(bytes: &[u8], fields: &mut [HeaderSpan]) -> PartialHead
     requires { length fields.old ≡ FIELD_LIMIT }
     ensures { IsSoFar bytes.now fields.new result }
 {
     if !line_in(bytes) {
-        return HeadSoFar::More;
+        return PartialHead::More;
     }
     match parse_request(bytes, fields) {
-        Ok(Status::Complete(head)) => HeadSoFar::Head(head),
-        Ok(Status::Partial) => HeadSoFar::More,
-        Err(Error::TooManyHeaders) => HeadSoFar::Large,
-        Err(_) => HeadSoFar::Bad,
+        Ok(Status::Complete(head)) => PartialHead::Head(head),
+        Ok(Status::Partial) => PartialHead::More,
+        Err(Error::TooManyHeaders) => PartialHead::Large,
+        Err(_) => PartialHead::Bad,
     }
 }
 
 /// What the bytes are where the input ends after them, and no head is whole or out of reach.
-pub fn at_end(bytes: &[u8]) -> Found
+pub fn at_end(bytes: &[u8]) -> FinalHead
     ensures { EndsAs bytes.now result }
 {
     if bytes.is_empty() {
-        return Found::Nothing;
+        return FinalHead::Nothing;
     }
     if feeds_in(skip_ends(bytes)) < FIELD_LIMIT + 2 {
-        Found::Part
+        FinalHead::Part
     } else {
-        Found::Large
+        FinalHead::Large
     }
 }

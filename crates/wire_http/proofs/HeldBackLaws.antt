@@ -6,14 +6,14 @@ use Rattle.service_step.specs.declared.reply.Reply.{Reply}
 use Rattle.std.proofs.Math.Seq.{take-append_seam}
 use Rattle.std.proofs.lemmas.List.{append-nil, drop-append-le, drop-drop, drop-take, length-drop, length-take, length-take-le, take-append-drop, take-append-le}
 use Rattle.wire_http.specs.declared.connection.Connection.{Connection}
-use Rattle.wire_http.specs.declared.connection.HeldBack.{HeldBack}
+use Rattle.wire_http.specs.declared.connection.DeferredResponse.{DeferredResponse}
 use Rattle.wire_http.specs.Connection.{held_back_of, holds_back, output_of, ready_of}
-use Rattle.wire_http.specs.HeldBack.{StandsWithin, before_last, last_alone, slot_at, text_at}
-use Rattle.wire_http.specs.Text.{answer_text}
+use Rattle.wire_http.specs.DeferredResponse.{StandsWithin, before_last, last_alone, slot_at, text_at}
+use Rattle.wire_http.specs.Text.{response_text}
 use Rattle.wire_http.proofs.StepLaws.{unsent_more}
 
 -- after so many bytes more, what is before the last answer is so many fewer
-pub ready_sent : (sent count : ℕ) (answers : List ℕ) (last : Option HeldBack) → count ≤ length (before_last sent (drop sent answers) last)
+pub ready_sent : (sent count : ℕ) (answers : List ℕ) (last : Option DeferredResponse) → count ≤ length (before_last sent (drop sent answers) last)
     → before_last (sent + count) (drop (sent + count) answers) last ≡ drop count (before_last sent (drop sent answers) last)
 ready_sent sent count answers None fits = sym (drop-drop count sent answers)
 ready_sent sent count answers (Some last) fits =
@@ -44,27 +44,27 @@ cut_then sent start answers cut q t behind within d w =
     let fits : sent ≤ length (take start answers) = omega (arith, behind, length-take-le start answers within) in
     ap (λ v. drop sent v) (w ∙ ap (λ v. v ++ t) d) ∙ drop-append-le sent (take start answers) t fits ∙ ap (λ v. v ++ t) (cut_off sent start answers behind)
 
-module _ (sent : ℕ) (answers cut q : List ℕ) (back : Option HeldBack) (last : HeldBack) (is : back ≡ Some last) (fits : ForSome back (StandsWithin sent (length answers))) (d : cut ≡ take last.start answers) where
-  pub replaces : (reply : Reply) → q ≡ cut ++ answer_text last.place last.closing reply
+module _ (sent : ℕ) (answers cut q : List ℕ) (back : Option DeferredResponse) (last : DeferredResponse) (is : back ≡ Some last) (fits : ForSome back (StandsWithin sent (length answers))) (d : cut ≡ take last.start answers) where
+  pub replaces : (reply : Reply) → q ≡ cut ++ response_text last.endpoint last.closing reply
       → drop sent q ≡ before_last sent (drop sent answers) back ++ text_at (option_map slot_at back) reply
   replaces reply w =
       let within = fits last is in
-      subst (λ (v : Option HeldBack). drop sent q ≡ before_last sent (drop sent answers) v ++ text_at (option_map slot_at v) reply) (sym is)
-      (cut_then sent last.start answers cut q (answer_text last.place last.closing reply) within.0 within.1 d w)
+      subst (λ (v : Option DeferredResponse). drop sent q ≡ before_last sent (drop sent answers) v ++ text_at (option_map slot_at v) reply) (sym is)
+      (cut_then sent last.start answers cut q (response_text last.endpoint last.closing reply) within.0 within.1 d w)
 
   pub cuts : q ≡ cut → drop sent q ≡ before_last sent (drop sent answers) back
   cuts w =
       let within = fits last is in
-      subst (λ (v : Option HeldBack). drop sent q ≡ before_last sent (drop sent answers) v) (sym is)
+      subst (λ (v : Option DeferredResponse). drop sent q ≡ before_last sent (drop sent answers) v) (sym is)
       (ap (λ v. drop sent v) (w ∙ d) ∙ cut_off sent last.start answers within.0)
 
 -- ---- of a connection
 
-both : (sent : ℕ) (output : List ℕ) (last : Option HeldBack) → before_last sent output last ++ last_alone sent output last ≡ output
+both : (sent : ℕ) (output : List ℕ) (last : Option DeferredResponse) → before_last sent output last ++ last_alone sent output last ≡ output
 both sent output None = append-nil output
 both sent output (Some last) = take-append-drop (last.start - sent) output
 
-none_back : (sent : ℕ) (output : List ℕ) (last : Option HeldBack) → is_some last ≡ false → before_last sent output last ≡ output
+none_back : (sent : ℕ) (output : List ℕ) (last : Option DeferredResponse) → is_some last ≡ false → before_last sent output last ≡ output
 none_back sent output None e = refl
 none_back sent output (Some last) e = let no : ⊥ = cc in absurd no
 

@@ -13,22 +13,22 @@ use Rattle.wire_http.specs.declared.end.End.{End}
 use Rattle.wire_http.specs.declared.end.End.TheVariants as ends
 use Rattle.wire_head.specs.declared.rule.WireRule.{WireRule}
 use Rattle.wire_head.specs.declared.rule.WireRule.TheVariants as rules
-use Rattle.wire_head.specs.declared.rest.Found.{Found}
-use Rattle.wire_head.specs.declared.rest.Found.TheVariants as found
-use Rattle.wire_head.specs.declared.rest.HeadSoFar.TheVariants.{More, Bad, Large}
-use Rattle.wire_http.specs.declared.held.Held.{Held}
-use Rattle.wire_http.specs.declared.held.Held.TheVariants.{Gives, Wants}
+use Rattle.wire_head.specs.declared.rest.FinalHead.{FinalHead}
+use Rattle.wire_head.specs.declared.rest.FinalHead.TheVariants as found
+use Rattle.wire_head.specs.declared.rest.PartialHead.TheVariants.{More, Bad, Large}
+use Rattle.wire_http.specs.declared.buffered.BufferState.{BufferState}
+use Rattle.wire_http.specs.declared.buffered.BufferState.TheVariants.{Gives, Wants}
 use Rattle.wire_http.specs.declared.request.Next.{Next}
 use Rattle.wire_http.specs.declared.request.Next.TheVariants.{Request, Stop}
 use Rattle.wire_head.specs.Rest.{IsKind, IsSoFar, EndsAs, has_line, whole, after, window}
-use Rattle.wire_head.specs.Found.{Covers, Finds}
+use Rattle.wire_head.specs.FinalHead.{Covers, Finds}
 use Rattle.wire_head.specs.Fields.{Fields, values_of}
-use Rattle.wire_head.specs.Length.{is_number, length_of, refuse_coded, told_by}
+use Rattle.wire_head.specs.Length.{is_number, content_length, refuse_coded, told_by}
 use Rattle.wire_http.specs.Asked.{fields_of}
 use Rattle.wire_http.specs.Input.{known_bytes}
 use Rattle.wire_http.specs.Next.{IsNext}
 use Rattle.wire_http.specs.Stop.{StopsAs}
-use Rattle.wire_http.specs.Held.{IsHeld, HeldFits, HasNoneBelow, HasNoRequest}
+use Rattle.wire_http.specs.BufferState.{IsHeld, HeldFits, HasNoneBelow, HasNoRequest}
 use Rattle.wire_head.proofs.KindFinds.{kind_bad, kind_large, kind_full, kind_end}
 use Rattle.wire_http.proofs.KnownBytes.{known_end, rest_at}
 use Rattle.wire_http.proofs.NextLaws.{refused, ended, taken, same_head, span_more}
@@ -61,21 +61,21 @@ stops bytes front over fields end e h = λ later may.
     subst (λ (v : List ℕ). StopsAs v end) (sym (rest_at front bytes (drop 8192 bytes) later (parts bytes front e))) (h (drop 8192 bytes ++ later))
 
 pub held_refused : (bytes front : List ℕ) (over : Bool) (fields : List HeaderSpan) (spans : RequestSpans) (rule : WireRule) → front ≡ window bytes
-    → length_of (map (header_bytes front) (take spans.headers fields)) ≡ Err rule
+    → content_length (map (header_bytes front) (take spans.headers fields)) ≡ Err rule
     → (h : RequestHead) → StandsIn front h → Covers front fields spans h → IsHeld bytes over fields (Gives (Stop (ends.Wire rule)))
 held_refused bytes front over fields spans rule e told h x c =
     stops bytes front over fields (ends.Wire rule) e (λ ahead. refused ahead front fields spans rule told h x c)
 
 pub held_taken : (bytes front : List ℕ) (over : Bool) (fields : List HeaderSpan) (spans : RequestSpans) (size : ℕ) → front ≡ window bytes
     → IsRequestWithin front fields spans → spans.len + size ≤ length bytes
-    → length_of (map (header_bytes front) (take spans.headers fields)) ≡ Ok size
+    → content_length (map (header_bytes front) (take spans.headers fields)) ≡ Ok size
     → (h : RequestHead) → StandsIn front h → Covers front fields spans h → IsHeld bytes over fields (Gives (Request spans size))
 held_taken bytes front over fields spans size e within fits told h x c = λ later may.
     taken later front (drop 8192 bytes) bytes fields spans size (parts bytes front e) within fits told h x c
 
 pub held_cut : (bytes front : List ℕ) (over : Bool) (fields : List HeaderSpan) (spans : RequestSpans) (size : ℕ) → front ≡ window bytes
     → over ≡ true → length bytes < spans.len + size
-    → length_of (map (header_bytes front) (take spans.headers fields)) ≡ Ok size
+    → content_length (map (header_bytes front) (take spans.headers fields)) ≡ Ok size
     → (h : RequestHead) → StandsIn front h → Covers front fields spans h → IsHeld bytes over fields (Gives (Stop ends.Cut))
 held_cut bytes front over fields spans size e is short told h x c = λ later may.
     ended later front (drop 8192 bytes) bytes fields spans size (parts bytes front e) (may is) short told h x c
@@ -97,19 +97,19 @@ told_most_by [] (text ∷ []) n h =
       | false ↦ λ k. let no : ⊥ = cc in absurd no
     ] h
 
-told_most : (fields : Fields) (n : ℕ) → length_of fields ≡ Ok n → n ≤ 1048576
+told_most : (fields : Fields) (n : ℕ) → content_length fields ≡ Ok n → n ≤ 1048576
 told_most fields n h = told_most_by (values_of (codes "transfer-encoding") fields) (values_of (codes "content-length") fields) n h
 
 -- a head and its body are at most so many bytes
 pub most_wanted : (bytes front : List ℕ) (fields : List HeaderSpan) (spans : RequestSpans) (size : ℕ) → front ≡ window bytes
-    → IsRequestWithin front fields spans → length_of (map (header_bytes front) (take spans.headers fields)) ≡ Ok size
+    → IsRequestWithin front fields spans → content_length (map (header_bytes front) (take spans.headers fields)) ≡ Ok size
     → spans.len + size ≤ 1056768
 most_wanted bytes front fields spans size e within told =
     omega (arith, within.section.len_fits, front_short bytes front e, told_most (map (header_bytes front) (take spans.headers fields)) size told)
 
 pub held_more : (bytes front : List ℕ) (over : Bool) (fields : List HeaderSpan) (spans : RequestSpans) (size : ℕ) → front ≡ window bytes
     → over ≡ false → IsRequestWithin front fields spans → length bytes < spans.len + size
-    → length_of (map (header_bytes front) (take spans.headers fields)) ≡ Ok size
+    → content_length (map (header_bytes front) (take spans.headers fields)) ≡ Ok size
     → (h : RequestHead) → StandsIn front h → Covers front fields spans h → IsHeld bytes over fields (Wants (spans.len + size))
 held_more bytes front over fields spans size e is within short told h x c = (
   is,
@@ -119,8 +119,8 @@ held_more bytes front over fields spans size e is within short told h x c = (
       let all : List ℕ = bytes ++ later in
       let here : IsKind all (whole h) = subst (λ (v : List ℕ). IsKind v (whole h)) (sym (rest_at front bytes (drop 8192 bytes) later (parts bytes front e))) (x (drop 8192 bytes ++ later)) in
       let same : k ≡ h = same_head all h k here r.head in
-      let told_k : length_of (fields_of h) ≡ Ok (length body) = subst (λ (v : RequestHead). length_of (fields_of v) ≡ Ok (length body)) same r.told in
-      let is_size : size ≡ length body = same_size (length_of (fields_of h)) size (length body) (sym (ap length_of c.fields) ∙ told) told_k in
+      let told_k : content_length (fields_of h) ≡ Ok (length body) = subst (λ (v : RequestHead). content_length (fields_of v) ≡ Ok (length body)) same r.told in
+      let is_size : size ≡ length body = same_size (content_length (fields_of h)) size (length body) (sym (ap content_length c.fields) ∙ told) told_k in
       let fit : take (length body) (after h all) ≡ body = subst (λ (v : RequestHead). take (length body) (after v all) ≡ body) same r.follows in
       omega (
         arith,
@@ -195,32 +195,32 @@ held_full bytes front over fields e full part =
 -- ---- the end of the input
 
 -- how the stream stops by what the bytes are at the end
-abbrev pub Stops : Found → End → Type 0
+abbrev pub Stops : FinalHead → End → Type 0
 Stops found.Nothing end = end ≡ ends.End
 Stops found.Part end = end ≡ ends.Cut
 Stops found.Large end = end ≡ ends.Wire rules.HeadSize
 Stops found.Bad end = ⊥
 Stops (found.Head spans) end = ⊥
 
-found_stops : (rest bytes : List ℕ) (fields : List HeaderSpan) (f : Found) (end : End) → Stops f end → Finds rest bytes fields f → StopsAs (bytes ++ rest) end
+found_stops : (rest bytes : List ℕ) (fields : List HeaderSpan) (f : FinalHead) (end : End) → Stops f end → Finds rest bytes fields f → StopsAs (bytes ++ rest) end
 found_stops rest bytes fields found.Nothing end is h = subst (λ (v : End). StopsAs (bytes ++ rest) v) (sym is) h
 found_stops rest bytes fields found.Part end is h = subst (λ (v : End). StopsAs (bytes ++ rest) v) (sym is) (inl h)
 found_stops rest bytes fields found.Large end is h = subst (λ (v : End). StopsAs (bytes ++ rest) v) (sym is) h
 found_stops rest bytes fields found.Bad end is h = absurd is
 found_stops rest bytes fields (found.Head spans) end is h = absurd is
 
-pub held_end : (bytes front : List ℕ) (over : Bool) (fields : List HeaderSpan) (f : Found) (end : End) → front ≡ window bytes → over ≡ true → length bytes < 8192
+pub held_end : (bytes front : List ℕ) (over : Bool) (fields : List HeaderSpan) (f : FinalHead) (end : End) → front ≡ window bytes → over ≡ true → length bytes < 8192
     → IsSoFar front fields More → EndsAs front f → Stops f end → IsHeld bytes over fields (Gives (Stop end))
 held_end bytes front over fields f end e is short part at_end stop = λ later may.
     let all : front ≡ bytes = e ∙ take_all 8192 bytes (omega (arith, short)) in
     subst (λ (v : List ℕ). StopsAs (v ++ later) end) all
     (found_stops later front fields f end stop (kind_end front front fields f later refl (may is) (omega (arith, ap length all, short)) part at_end))
 
-pub is_cut : (f : Found) → f ≡ found.Part → Stops f ends.Cut
-is_cut f e = subst (λ (v : Found). Stops v ends.Cut) (sym e) refl
+pub is_cut : (f : FinalHead) → f ≡ found.Part → Stops f ends.Cut
+is_cut f e = subst (λ (v : FinalHead). Stops v ends.Cut) (sym e) refl
 
-pub is_large : (f : Found) → f ≡ found.Large → Stops f (ends.Wire rules.HeadSize)
-is_large f e = subst (λ (v : Found). Stops v (ends.Wire rules.HeadSize)) (sym e) refl
+pub is_large : (f : FinalHead) → f ≡ found.Large → Stops f (ends.Wire rules.HeadSize)
+is_large f e = subst (λ (v : FinalHead). Stops v (ends.Wire rules.HeadSize)) (sym e) refl
 
 -- ---- bytes that come
 
@@ -247,9 +247,9 @@ none_here bytes count none fewer =
 -- ---- with a reader
 
 -- what is held is so whatever the reader gives next
-pub held_known : (bytes ahead : List ℕ) (fields : List HeaderSpan) (r : Held) (n : Next) → r ≡ Gives n → IsHeld bytes false fields r → IsNext ahead bytes fields n
+pub held_known : (bytes ahead : List ℕ) (fields : List HeaderSpan) (r : BufferState) (n : Next) → r ≡ Gives n → IsHeld bytes false fields r → IsNext ahead bytes fields n
 held_known bytes ahead fields r n e h =
-    let x : IsHeld bytes false fields (Gives n) = subst (λ (v : Held). IsHeld bytes false fields v) e h in
+    let x : IsHeld bytes false fields (Gives n) = subst (λ (v : BufferState). IsHeld bytes false fields v) e h in
     x ahead (λ over. let no : ⊥ = cc in absurd no)
 
 -- and where it has ended

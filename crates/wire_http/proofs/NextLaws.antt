@@ -14,9 +14,9 @@ use Rattle.wire_head.specs.declared.rule.WireRule.{WireRule}
 use Rattle.wire_head.specs.declared.rule.WireRule.TheVariants as rules
 use Rattle.wire_http.specs.declared.request.Next.TheVariants.{Request, Stop}
 use Rattle.wire_head.specs.Rest.{IsKind, whole, after}
-use Rattle.wire_head.specs.Found.{Covers}
+use Rattle.wire_head.specs.FinalHead.{Covers}
 use Rattle.wire_head.specs.Fields.{Fields, values_of}
-use Rattle.wire_head.specs.Length.{length_of, refuse_coded, told_by, is_number}
+use Rattle.wire_head.specs.Length.{content_length, refuse_coded, told_by, is_number}
 use Rattle.wire_http.specs.Asked.{fields_of}
 use Rattle.wire_http.specs.Stop.{Breaks, HasRefused, StopsAs}
 use Rattle.wire_http.specs.Next.{IsNext, body_at}
@@ -43,10 +43,10 @@ not_told [] (text ∷ []) e transfer length size h =
       | false ↦ λ k. length cc
     ] h
 
-not_head : (fields : Fields) → length_of fields ≡ Err rules.Head → ⊥
+not_head : (fields : Fields) → content_length fields ≡ Err rules.Head → ⊥
 not_head fields h = not_told (values_of (codes "transfer-encoding") fields) (values_of (codes "content-length") fields) rules.Head (λ e. cc) (λ e. cc) (λ e. cc) h
 
-not_size : (fields : Fields) → length_of fields ≡ Err rules.HeadSize → ⊥
+not_size : (fields : Fields) → content_length fields ≡ Err rules.HeadSize → ⊥
 not_size fields h = not_told (values_of (codes "transfer-encoding") fields) (values_of (codes "content-length") fields) rules.HeadSize (λ e. cc) (λ e. cc) (λ e. cc) h
 
 breaks_told : (rest : List ℕ) (e : WireRule) → HasRefused rest e → Breaks rest e
@@ -58,15 +58,15 @@ breaks_told rest rules.BodySize r = r
 
 -- the length that the spans tell is the length that the head tells
 told_by_head : (buffer : List ℕ) (fields : List HeaderSpan) (spans : RequestSpans) (h : RequestHead) → Covers buffer fields spans h
-    → length_of (map (header_bytes buffer) (take spans.headers fields)) ≡ length_of (fields_of h)
-told_by_head buffer fields spans h c = ap length_of c.fields
+    → content_length (map (header_bytes buffer) (take spans.headers fields)) ≡ content_length (fields_of h)
+told_by_head buffer fields spans h c = ap content_length c.fields
 
 -- a head stands there, whatever follows
 abbrev StandsIn : List ℕ → RequestHead → Type 0
 StandsIn buffer h = (later : List ℕ) → IsKind (buffer ++ later) (whole h)
 
 pub refused : (ahead buffer : List ℕ) (fields : List HeaderSpan) (spans : RequestSpans) (e : WireRule)
-    → length_of (map (header_bytes buffer) (take spans.headers fields)) ≡ Err e
+    → content_length (map (header_bytes buffer) (take spans.headers fields)) ≡ Err e
     → (h : RequestHead) → StandsIn buffer h → Covers buffer fields spans h → IsNext ahead buffer fields (Stop (ends.Wire e))
 refused ahead buffer fields spans e told h x c = breaks_told (buffer ++ ahead) e (h, x ahead, sym (told_by_head buffer fields spans h c) ∙ told)
 
@@ -75,7 +75,7 @@ head_fits rest h (line, (more, reads, few)) = omega (arith, length-take 8192 res
 
 pub ended : (ahead buffer more new : List ℕ) (fields : List HeaderSpan) (spans : RequestSpans) (size : ℕ)
     → new ≡ buffer ++ more → ahead ≡ [] → length new < spans.len + size
-    → length_of (map (header_bytes buffer) (take spans.headers fields)) ≡ Ok size
+    → content_length (map (header_bytes buffer) (take spans.headers fields)) ≡ Ok size
     → (h : RequestHead) → StandsIn buffer h → Covers buffer fields spans h → IsNext ahead new fields (Stop ends.Cut)
 ended ahead buffer more new fields spans size grown none short told h x c =
     let here : IsKind new (whole h) = subst (λ (v : List ℕ). IsKind v (whole h)) (sym grown) (x more) in
@@ -124,7 +124,7 @@ body_more new tail len size fits =
 
 pub taken : (ahead buffer more new : List ℕ) (fields : List HeaderSpan) (spans : RequestSpans) (size : ℕ)
     → new ≡ buffer ++ more → IsRequestWithin buffer fields spans → spans.len + size ≤ length new
-    → length_of (map (header_bytes buffer) (take spans.headers fields)) ≡ Ok size
+    → content_length (map (header_bytes buffer) (take spans.headers fields)) ≡ Ok size
     → (h : RequestHead) → StandsIn buffer h → Covers buffer fields spans h → IsNext ahead new fields (Request spans size)
 taken ahead buffer more new fields spans size grown within fits told h x c = (
   h,

@@ -8,11 +8,11 @@ use Rattle.policy_core.specs.declared.call.OpKind.{OpKind}
 use Rattle.space_core.specs.declared.space.Space.{Ghosts}
 use Rattle.service_calls.specs.declared.service.Service.{Service}
 use Rattle.service_step.specs.declared.reply.Reply.{Reply}
-use Rattle.wire_route.specs.declared.place.Place.{Place}
+use Rattle.wire_route.specs.declared.endpoint.Endpoint.{Endpoint}
 use Rattle.wire_http.specs.declared.end.End.{End}
-use Rattle.wire_http.specs.declared.held.Held.{Held}
-use Rattle.wire_http.specs.declared.held.Held.TheVariants.{Gives, Wants}
-use Rattle.wire_http.specs.declared.noted.Outcome.{Outcome}
+use Rattle.wire_http.specs.declared.buffered.BufferState.{BufferState}
+use Rattle.wire_http.specs.declared.buffered.BufferState.TheVariants.{Gives, Wants}
+use Rattle.wire_http.specs.declared.request_info.Outcome.{Outcome}
 use Rattle.wire_http.specs.declared.request.Next.{Next}
 use Rattle.wire_http.specs.declared.request.Next.TheVariants.{Request, Stop}
 use Rattle.wire_http.specs.declared.fault.StreamFault.{StreamFault}
@@ -20,17 +20,17 @@ use Rattle.wire_http.specs.declared.fault.StreamFault.TheVariants as faults
 use Rattle.wire_http.specs.Connection.{slot_for}
 use Rattle.wire_http.specs.Count.{one_more}
 use Rattle.wire_http.specs.Fault.{GaveUpAsking}
-use Rattle.wire_http.specs.Held.{IsHeld, MayCome}
-use Rattle.wire_http.specs.HeldBack.{Slot}
-use Rattle.wire_http.specs.Input.{Came}
+use Rattle.wire_http.specs.BufferState.{IsHeld, MayCome}
+use Rattle.wire_http.specs.DeferredResponse.{Slot}
+use Rattle.wire_http.specs.Input.{BufferGrew}
 use Rattle.wire_http.specs.Next.{IsNext}
-use Rattle.wire_http.specs.Noted.{kind_asked, noted_as, noted_for, outcome_of}
+use Rattle.wire_http.specs.RequestInfo.{kind_asked, noted_as, noted_for, outcome_of}
 use Rattle.wire_http.specs.Reply.{Replies, RepliesPart}
 use Rattle.wire_http.specs.Stop.{StopsAs}
-use Rattle.wire_http.specs.Wire.{Asked, Finishes}
+use Rattle.wire_http.specs.Wire.{RequestCall, Finishes}
 
 -- nothing came
-pub came_none : (x : List ℕ) → Came (Some []) (Some []) x x
+pub came_none : (x : List ℕ) → BufferGrew (Some []) (Some []) x x
 came_none x = ([], sym (append-nil x), refl)
 
 -- what is held is so with nothing ahead
@@ -38,19 +38,19 @@ pub held_next : (bytes : List ℕ) (over : Bool) (fields : List HeaderSpan) (n :
 held_next bytes over fields n h = h [] (λ _. refl)
 
 -- it stops the stream, whatever may still come
-pub held_stops : (bytes : List ℕ) (over : Bool) (fields : List HeaderSpan) (r : Held) (n : Next) (end : End) → r ≡ Gives n → n ≡ Stop end
+pub held_stops : (bytes : List ℕ) (over : Bool) (fields : List HeaderSpan) (r : BufferState) (n : Next) (end : End) → r ≡ Gives n → n ≡ Stop end
     → IsHeld bytes over fields r → (later : List ℕ) → MayCome over later → StopsAs (bytes ++ later) end
 held_stops bytes over fields r n end e f h later may =
-    let x : IsHeld bytes over fields (Gives (Stop end)) = subst (λ (v : Next). IsHeld bytes over fields (Gives v)) f (subst (λ (v : Held). IsHeld bytes over fields v) e h) in x later may
+    let x : IsHeld bytes over fields (Gives (Stop end)) = subst (λ (v : Next). IsHeld bytes over fields (Gives v)) f (subst (λ (v : BufferState). IsHeld bytes over fields v) e h) in x later may
 
 -- what was found there is held so
-pub held_request : (bytes : List ℕ) (over : Bool) (fields : List HeaderSpan) (r : Held) (n : Next) (spans : RequestSpans) (size : ℕ) → r ≡ Gives n → n ≡ Request spans size
+pub held_request : (bytes : List ℕ) (over : Bool) (fields : List HeaderSpan) (r : BufferState) (n : Next) (spans : RequestSpans) (size : ℕ) → r ≡ Gives n → n ≡ Request spans size
     → IsHeld bytes over fields r → IsHeld bytes over fields (Gives (Request spans size))
-held_request bytes over fields r n spans size e f h = subst (λ (v : Next). IsHeld bytes over fields (Gives v)) f (subst (λ (v : Held). IsHeld bytes over fields v) e h)
+held_request bytes over fields r n spans size e f h = subst (λ (v : Next). IsHeld bytes over fields (Gives v)) f (subst (λ (v : BufferState). IsHeld bytes over fields v) e h)
 
-pub held_wants : (bytes : List ℕ) (over : Bool) (fields : List HeaderSpan) (r : Held) (count : ℕ) → r ≡ Wants count → IsHeld bytes over fields r
+pub held_wants : (bytes : List ℕ) (over : Bool) (fields : List HeaderSpan) (r : BufferState) (count : ℕ) → r ≡ Wants count → IsHeld bytes over fields r
     → IsHeld bytes over fields (Wants count)
-held_wants bytes over fields r count e h = subst (λ (v : Held). IsHeld bytes over fields v) e h
+held_wants bytes over fields r count e h = subst (λ (v : BufferState). IsHeld bytes over fields v) e h
 
 pub finishes : (n : ℕ) (rest : List ℕ) (end : End) → 0 < n → StopsAs rest end → Finishes n rest end
 finishes zero rest end some h = absurd (omega (arith, some))
@@ -60,30 +60,30 @@ finishes (suc n) rest end some h = h
 pub unsent_more : (sent : ℕ) (p q t : List ℕ) → sent ≤ length p → q ≡ p ++ t → drop sent q ≡ drop sent p ++ t
 unsent_more sent p q t fits e = ap (λ v. drop sent v) e ∙ drop-append-le sent p t fits
 
-module _ {S : Type 0} (g : Ghosts S) (old new : Service S) (moment : ℕ) (call : Call) (place : Option Place) (closing : Bool) (sent : ℕ) (p q : List ℕ) (fits : sent ≤ length p) where
-  unfoldable pub replies_unsent : Replies g old new moment call place closing (Some p) (Some q) → Replies g old new moment call place closing (Some (drop sent p)) (Some (drop sent q))
+module _ {S : Type 0} (g : Ghosts S) (old new : Service S) (moment : ℕ) (call : Call) (endpoint : Option Endpoint) (closing : Bool) (sent : ℕ) (p q : List ℕ) (fits : sent ≤ length p) where
+  unfoldable pub replies_unsent : Replies g old new moment call endpoint closing (Some p) (Some q) → Replies g old new moment call endpoint closing (Some (drop sent p)) (Some (drop sent q))
   replies_unsent r = record { reply = r.reply; is_reply = r.is_reply; written = unsent_more sent p q _ fits r.written }
 
-  pub part_unsent : RepliesPart g old new moment call place closing (Some p) (Some q) → RepliesPart g old new moment call place closing (Some (drop sent p)) (Some (drop sent q))
+  pub part_unsent : RepliesPart g old new moment call endpoint closing (Some p) (Some q) → RepliesPart g old new moment call endpoint closing (Some (drop sent p)) (Some (drop sent q))
   part_unsent r = record { reply = r.reply; is_reply = r.is_reply; size = r.size; short = r.short; written = unsent_more sent p q _ fits r.written }
 
-abbrev slot : Option Place → Bool → Slot
-slot place closing = record { place = place; closing = closing }
+abbrev slot : Option Endpoint → Bool → Slot
+slot endpoint closing = record { endpoint = endpoint; closing = closing }
 
 -- what is held back answers a request at that place
-pub slot_is : (asked : Asked) (place : Option Place) (closing : Bool) → asked.place ≡ place → asked.closing ≡ closing
-    → Some (slot place closing) ≡ Some (slot_for asked)
-slot_is asked place closing e f = ap (λ v. Some (slot v closing)) (sym e) ∙ ap (λ v. Some (slot asked.place v)) (sym f)
+pub slot_is : (asked : RequestCall) (endpoint : Option Endpoint) (closing : Bool) → asked.endpoint ≡ endpoint → asked.closing ≡ closing
+    → Some (slot endpoint closing) ≡ Some (slot_for asked)
+slot_is asked endpoint closing e f = ap (λ v. Some (slot v closing)) (sym e) ∙ ap (λ v. Some (slot asked.endpoint v)) (sym f)
 
 -- what is noted is of that request and its reply
-pub noted_is : (asked : Asked) (reply made : Reply) (place : Option Place) (kind : Option OpKind) (method : List ℕ) (call : Call) (outcome : Outcome)
-    → asked.place ≡ place → asked.call ≡ call → reply ≡ made → kind ≡ kind_asked place method → method ≡ asked.head.method → outcome ≡ outcome_of made
+pub noted_is : (asked : RequestCall) (reply made : Reply) (endpoint : Option Endpoint) (kind : Option OpKind) (method : List ℕ) (call : Call) (outcome : Outcome)
+    → asked.endpoint ≡ endpoint → asked.call ≡ call → reply ≡ made → kind ≡ kind_asked endpoint method → method ≡ asked.head.method → outcome ≡ outcome_of made
     → Some (noted_as kind call outcome) ≡ Some (noted_for asked reply)
-noted_is asked reply made place kind method call outcome p c r k m o =
-    let kinds : kind ≡ kind_asked asked.place asked.head.method = k ∙ ap (λ v. kind_asked v method) (sym p) ∙ ap (λ v. kind_asked asked.place v) m in
+noted_is asked reply made endpoint kind method call outcome p c r k m o =
+    let kinds : kind ≡ kind_asked asked.endpoint asked.head.method = k ∙ ap (λ v. kind_asked v method) (sym p) ∙ ap (λ v. kind_asked asked.endpoint v) m in
     ap (λ v. Some (noted_as v call outcome)) kinds
-    ∙ ap (λ v. Some (noted_as (kind_asked asked.place asked.head.method) v outcome)) (sym c)
-    ∙ ap (λ v. Some (noted_as (kind_asked asked.place asked.head.method) asked.call v)) (o ∙ ap outcome_of (sym r))
+    ∙ ap (λ v. Some (noted_as (kind_asked asked.endpoint asked.head.method) v outcome)) (sym c)
+    ∙ ap (λ v. Some (noted_as (kind_asked asked.endpoint asked.head.method) asked.call v)) (o ∙ ap outcome_of (sym r))
 
 -- a clock that failed did so once
 pub clock_failed : (fault : StreamFault) (failures failures' : ℕ) → GaveUpAsking fault failures failures'

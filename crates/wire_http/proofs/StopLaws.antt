@@ -7,7 +7,7 @@ use Rattle.wire_http.specs.declared.end.End.TheVariants as ends
 use Rattle.wire_head.specs.declared.rule.WireRule.{WireRule}
 use Rattle.wire_head.specs.declared.rule.WireRule.TheVariants as rules
 use Rattle.wire_http.specs.Asked.{fields_of}
-use Rattle.wire_head.specs.Length.{length_of}
+use Rattle.wire_head.specs.Length.{content_length}
 use Rattle.wire_head.specs.Rest.{Kind, nothing, cut, bad, large, whole, IsKind, AreSame, after}
 use Rattle.wire_http.specs.Stop.{StopsAs, HasRefused, AreSameEnds}
 use Rattle.wire_http.specs.Wire.{IsRequest, Finishes}
@@ -24,7 +24,7 @@ IsEndAt rest nothing end = end ≡ ends.End
 IsEndAt rest cut end = end ≡ ends.Cut
 IsEndAt rest bad end = end ≡ ends.Wire rules.Head
 IsEndAt rest large end = end ≡ ends.Wire rules.HeadSize
-IsEndAt rest (whole h) end = IsTold (length (after h rest)) (length_of (fields_of h)) end
+IsEndAt rest (whole h) end = IsTold (length (after h rest)) (content_length (fields_of h)) end
 
 told_at : (rest : List ℕ) (rule : WireRule) → HasRefused rest rule → (j : Kind) × IsKind rest j × IsEndAt rest j (ends.Wire rule)
 told_at rest rule (h, x, told) = (whole h, x, subst (λ (v : Result ℕ WireRule). IsTold (length (after h rest)) v (ends.Wire rule)) (sym told) refl)
@@ -50,7 +50,7 @@ same_at rest nothing end other x y = y ∙ sym x
 same_at rest cut end other x y = y ∙ sym x
 same_at rest bad end other x y = y ∙ sym x
 same_at rest large end other x y = y ∙ sym x
-same_at rest (whole h) end other x y = same_told (length (after h rest)) (length_of (fields_of h)) end other x y
+same_at rest (whole h) end other x y = same_told (length (after h rest)) (content_length (fields_of h)) end other x y
 
 same_ends : (rest : List ℕ) (j k : Kind) (end other : End) → AreSame rest j k → IsEndAt rest j end → IsEndAt rest k other → AreSameEnds rest end other
 same_ends rest nothing k end other s x y = inl (same_at rest nothing end other x (subst (λ (v : Kind). IsEndAt rest v other) s y))
@@ -86,6 +86,6 @@ pub no_stop : (rest : List ℕ) (h : RequestHead) (body : List ℕ) (end : End) 
 no_stop rest h body end r x =
     let a = end_at rest end x in
     let same : a.0 ≡ whole h = one_kind rest (whole h) a.0 r.head a.1 in
-    let told : IsTold (length (after h rest)) (length_of (fields_of h)) end = subst (λ (v : Kind). IsEndAt rest v end) same a.2 in
+    let told : IsTold (length (after h rest)) (content_length (fields_of h)) end = subst (λ (v : Kind). IsEndAt rest v end) same a.2 in
     let cut_at : IsTold (length (after h rest)) (Ok (length body)) end = subst (λ (v : Result ℕ WireRule). IsTold (length (after h rest)) v end) r.told told in
     omega (arith, cut_at.1, short_body rest h body r.follows)

@@ -9,7 +9,7 @@ use Rattle.std.proofs.Math.Seq.{take-append-add, take-append_seam}
 use Rattle.space_core.specs.declared.space.Space.{Ghosts}
 use Rattle.service_calls.specs.declared.service.Service.{Service}
 use Rattle.service_step.specs.declared.reply.Reply.{Reply}
-use Rattle.service_calls.specs.Run.{AskedInOrder, IsReplyTo, Timed}
+use Rattle.service_calls.specs.Run.{AskedInOrder, IsReplyTo, TimedCall}
 use Rattle.service_calls.proofs.Runs.{answered, asked_more}
 use Rattle.token_conf.specs.TokenFile.{Callers}
 use Rattle.wire_http.specs.declared.end.End.{End}
@@ -19,9 +19,9 @@ use Rattle.wire_http.specs.declared.fault.StreamFault.{StreamFault}
 use Rattle.wire_http.specs.declared.serve.Turn.{Turn}
 use Rattle.wire_http.specs.declared.serve.Turn.TheVariants as turns
 use Rattle.wire_http.specs.Input.{IsInput, known_bytes}
-use Rattle.wire_http.specs.Text.{answer_text, rule_text, end_texts}
+use Rattle.wire_http.specs.Text.{response_text, rule_text, end_texts}
 use Rattle.wire_http.specs.Turn.{IsTurn, IsTurnPart, StopsInAnswer, StopsInRule, StopsUnasked}
-use Rattle.wire_http.specs.Wire.{Asked, AsksCall, Finishes, IsFront, Leads, MayFollow, Serves, ServesPart, answers, left_after, timed}
+use Rattle.wire_http.specs.Wire.{RequestCall, AsksCall, Finishes, IsFront, Leads, MayFollow, Serves, ServesPart, answers, left_after, timed}
 use Rattle.wire_http.proofs.KnownBytes.{Appends_more, Appends_nil, Consumes_more, Consumes_nil, input_known, input_more}
 
 length_more : {X Y : Type 0} (xs : List X) (ys : List Y) (x : X) (y : Y) → length xs ≡ length ys → length (xs ++ x ∷ []) ≡ length (ys ++ y ∷ [])
@@ -29,12 +29,12 @@ length_more xs ys x y h = omega (arith, h, length-append xs (x ∷ []), length-a
 
 -- ---- the texts
 
-pub answers_more : (all : List Asked) (replies : List Reply) (a : Asked) (r : Reply) → length replies ≡ length all
-    → answers (all ++ a ∷ []) (replies ++ r ∷ []) ≡ answers all replies ++ answer_text a.place a.closing r ∷ []
+pub answers_more : (all : List RequestCall) (replies : List Reply) (a : RequestCall) (r : Reply) → length replies ≡ length all
+    → answers (all ++ a ∷ []) (replies ++ r ∷ []) ≡ answers all replies ++ response_text a.endpoint a.closing r ∷ []
 answers_more [] [] a r e = refl
 answers_more [] (y ∷ replies) a r e = absurd (omega (arith, e))
 answers_more (x ∷ all) [] a r e = absurd (omega (arith, e))
-answers_more (x ∷ all) (y ∷ replies) a r e = ap (λ v. answer_text x.place x.closing y ∷ v) (answers_more all replies a r (omega (arith, e)))
+answers_more (x ∷ all) (y ∷ replies) a r e = ap (λ v. response_text x.endpoint x.closing y ∷ v) (answers_more all replies a r (omega (arith, e)))
 
 concat_one : (t : List ℕ) → concat (t ∷ []) ≡ t
 concat_one t = append-nil t
@@ -68,7 +68,7 @@ none_follows (suc n) left = inl refl
 -- ---- the requests
 
 module _ {M : Type 0} (Gives : M → ℕ → M → Type 0) (callers : Callers) where
-  pub leads_more : (bound : ℕ) (rest : List ℕ) (clock : M) (all : List Asked) (n k : ℕ) (left : List ℕ) (later : M) (a : Asked) (next : List ℕ) (mid : M)
+  pub leads_more : (bound : ℕ) (rest : List ℕ) (clock : M) (all : List RequestCall) (n k : ℕ) (left : List ℕ) (later : M) (a : RequestCall) (next : List ℕ) (mid : M)
       → Leads Gives callers bound rest clock all n left later → n ≡ suc k
       → AsksCall Gives callers left later a next mid → a.closing ≡ (left_after k a.head == 0)
       → Leads Gives callers bound rest clock (all ++ a ∷ []) (left_after k a.head) next mid
@@ -83,21 +83,21 @@ module _ {S M : Type 0} (sp : Ghosts S) (Gives : M → ℕ → M → Type 0) (ca
   -- ---- the calls
 
   -- one request more that was asked
-  asked_next : (old mid new : Service S) (all : List Asked) (rs : List Reply) (a : Asked) (r : Reply)
+  asked_next : (old mid new : Service S) (all : List RequestCall) (rs : List Reply) (a : RequestCall) (r : Reply)
       → AskedInOrder sp old (map timed all) rs mid → IsReplyTo sp mid new a.moment a.call r
       → AskedInOrder sp old (map timed (all ++ a ∷ [])) (rs ++ r ∷ []) new
   asked_next old mid new all rs a r h is_reply =
-      subst (λ (v : List Timed). AskedInOrder sp old v (rs ++ r ∷ []) new) (sym (map-append timed all (a ∷ [])))
+      subst (λ (v : List TimedCall). AskedInOrder sp old v (rs ++ r ∷ []) new) (sym (map-append timed all (a ∷ [])))
       (asked_more sp old (map timed all) rs mid new (timed a) r h is_reply)
 
-  count_of : (old now : Service S) (all : List Asked) (rs : List Reply) → AskedInOrder sp old (map timed all) rs now → length rs ≡ length all
+  count_of : (old now : Service S) (all : List RequestCall) (rs : List Reply) → AskedInOrder sp old (map timed all) rs now → length rs ≡ length all
   count_of old now all rs h = (answered sp old (map timed all) rs now h).one_each ∙ length-map all timed
 
   -- ---- the turns
 
   -- so far these bytes came, and these requests were asked and answered, whatever follows; so many may come
   pub record GoesOn (bound : ℕ) (old now : Service S) (clock later : M) (before text a u : Option (List ℕ)) (buffer : List ℕ) (n count : ℕ) : Type 0 where
-    pub all : List Asked
+    pub all : List RequestCall
     pub replies : List Reply
     pub came : List ℕ
     pub consumed : Consumes a u came
@@ -140,7 +140,7 @@ module _ {S M : Type 0} (sp : Ghosts S) (Gives : M → ℕ → M → Type 0) (ca
         in_order = asked_next old now new g.all g.replies asked reply g.in_order took.is_reply;
         count_is = omega (arith, g.count_is, length-append g.all (asked ∷ []));
         written = subst (λ (v : List ℕ). Appends w0 w2 v)
-            (sym (concat_more (answers g.all g.replies) (answer_text asked.place asked.closing reply)) ∙ ap concat (sym (answers_more g.all g.replies asked reply (count_of old now g.all g.replies g.in_order))))
+            (sym (concat_more (answers g.all g.replies) (response_text asked.endpoint asked.closing reply)) ∙ ap concat (sym (answers_more g.all g.replies asked reply (count_of old now g.all g.replies g.in_order))))
             (Appends_more w0 w1 w2 _ _ g.written wrote);
       }
 
@@ -194,7 +194,7 @@ module _ {S M : Type 0} (sp : Ghosts S) (Gives : M → ℕ → M → Type 0) (ca
   -- ---- a fault
 
   module _ (bound : ℕ) (input : List ℕ) (old now new : Service S) (clock later mid : M) (w0 w1 w2 : Option (List ℕ)) (n k : ℕ) (left : List ℕ) (fault : StreamFault)
-      (all : List Asked) (replies : List Reply) (leads : Leads Gives callers bound input clock all n left later)
+      (all : List RequestCall) (replies : List Reply) (leads : Leads Gives callers bound input clock all n left later)
       (in_order : AskedInOrder sp old (map timed all) replies now) (written : Appends w0 w1 (concat (answers all replies))) (some : n ≡ suc k) where
     part_unasked : StopsUnasked sp Gives callers k now new later mid w1 w2 left fault → ServesPart sp Gives callers bound input old new clock mid w0 w2 fault
     part_unasked p = record {
@@ -220,7 +220,7 @@ module _ {S M : Type 0} (sp : Ghosts S) (Gives : M → ℕ → M → Type 0) (ca
         let asked = p.asked in
         let reply = p.reply in
         let closing : asked.closing ≡ (left_after k asked.head == 0) = p.took.closing ∙ ap (λ v. v == 0) p.took.n_is in
-        let texts : answers (all ++ asked ∷ []) (replies ++ reply ∷ []) ≡ answers all replies ++ answer_text asked.place asked.closing reply ∷ [] =
+        let texts : answers (all ++ asked ∷ []) (replies ++ reply ∷ []) ≡ answers all replies ++ response_text asked.endpoint asked.closing reply ∷ [] =
         answers_more all replies asked reply (count_of old now all replies in_order) in
         record {
           all = all ++ asked ∷ [];
@@ -230,15 +230,15 @@ module _ {S M : Type 0} (sp : Ghosts S) (Gives : M → ℕ → M → Type 0) (ca
           later = mid;
           leads = leads_more Gives callers bound input clock all n k left later asked p.next mid leads some p.asks closing;
           answered = answered sp old (map timed (all ++ asked ∷ [])) (replies ++ reply ∷ []) new (asked_next old now new all replies asked reply in_order p.took.is_reply);
-          bytes = concat (answers all replies) ++ take p.size (answer_text asked.place asked.closing reply);
+          bytes = concat (answers all replies) ++ take p.size (response_text asked.endpoint asked.closing reply);
           gives_up = inr (record {
             fault_is = p.fault_is;
             clock_is = refl;
             tail = [];
             follows = none_follows (left_after k asked.head) p.next;
-            front = subst (λ (v : List (List ℕ)). IsFront v (concat (answers all replies) ++ take p.size (answer_text asked.place asked.closing reply)))
+            front = subst (λ (v : List (List ℕ)). IsFront v (concat (answers all replies) ++ take p.size (response_text asked.endpoint asked.closing reply)))
                 (sym texts ∙ sym (append-nil (answers (all ++ asked ∷ []) (replies ++ reply ∷ []))))
-                (front_more (answers all replies) (answer_text asked.place asked.closing reply) p.size p.short);
+                (front_more (answers all replies) (response_text asked.endpoint asked.closing reply) p.size p.short);
           });
           written = Appends_more w0 w1 w2 _ _ written p.written;
         }

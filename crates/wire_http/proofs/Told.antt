@@ -5,11 +5,11 @@ use Rattle.wire_http.specs.declared.fault.StreamFault.{StreamFault}
 use Rattle.wire_http.specs.declared.fault.StreamFault.TheVariants as faults
 use Rattle.wire_http.specs.declared.source.Source.{Source}
 use Rattle.wire_http.specs.Counted.{failures_of, has_failed}
-use Rattle.wire_http.specs.Fault.{GaveUpAnswering, Tells}
+use Rattle.wire_http.specs.Fault.{GaveUpAnswering, ReportsFailure}
 
 module _ {R W T : Type 0} (old new : Source R) (writer writer' : Counted W) (clock clock' : ℕ) (reads : failures_of new.reader.now ≡ failures_of old.reader.now) (ticks : clock' ≡ clock) where
   -- nothing failed
-  pub tells_good : (x : T) → failures_of writer' ≡ failures_of writer → Tells old new writer writer' clock clock' (Ok x)
+  pub tells_good : (x : T) → failures_of writer' ≡ failures_of writer → ReportsFailure old new writer writer' clock clock' (Ok x)
   tells_good x writes = record {
     read = λ e. absurd (let is = e in cc);
     write = λ e. absurd (let is = e in cc);
@@ -21,7 +21,7 @@ module _ {R W T : Type 0} (old new : Source R) (writer writer' : Counted W) (clo
   }
 
   -- answering gave up
-  pub tells_answering : (fault : StreamFault) → GaveUpAnswering (failures_of writer) (failures_of writer') (has_failed writer') fault → Tells {T = T} old new writer writer' clock clock' (Err fault)
+  pub tells_answering : (fault : StreamFault) → GaveUpAnswering (failures_of writer) (failures_of writer') (has_failed writer') fault → ReportsFailure {T = T} old new writer writer' clock clock' (Err fault)
   tells_answering faults.Write failed = record {
     read = λ e. absurd (let is = e in cc);
     write = λ e. failed;

@@ -18,7 +18,7 @@ use Rattle.wire_http.specs.declared.end.End.{End}
 use Rattle.wire_http.specs.declared.end.End.TheVariants as ends
 use Rattle.wire_http.specs.declared.fault.StreamFault.{StreamFault}
 use Rattle.wire_http.specs.declared.fault.StreamFault.TheVariants as faults
-use Rattle.wire_route.specs.declared.place.Place.{Place}
+use Rattle.wire_route.specs.declared.endpoint.Endpoint.{Endpoint}
 use Rattle.wire_http.specs.declared.request.Next.{Next}
 use Rattle.wire_http.specs.declared.request.Next.TheVariants.{Request, Stop}
 use Rattle.wire_http.specs.declared.serve.Turn.{Turn}
@@ -27,8 +27,8 @@ use Rattle.wire_http.specs.declared.source.Source.{Source}
 use Rattle.wire_http.specs.Asked.{IsCallOf}
 use Rattle.wire_head.specs.Close.{closes_by}
 use Rattle.wire_http.specs.Fault.{GaveUpAnswering, GaveUpAsking, GaveUpReading, IsOfAnswering, IsOfAsking}
-use Rattle.wire_http.specs.Input.{Came, known_bytes}
-use Rattle.wire_head.specs.Found.{Covers}
+use Rattle.wire_http.specs.Input.{BufferGrew, known_bytes}
+use Rattle.wire_head.specs.FinalHead.{Covers}
 use Rattle.wire_http.specs.Next.{IsNext, NextFits, body_at}
 use Rattle.wire_http.specs.Reply.{Replies, RepliesPart}
 use Rattle.wire_head.specs.Rest.{after}
@@ -36,7 +36,7 @@ use Rattle.wire_http.specs.Source.{HasGivenUp}
 use Rattle.wire_http.specs.Stop.{StopsAs}
 use Rattle.wire_http.specs.Text.{end_texts, rule_text}
 use Rattle.wire_http.specs.Turn.{Took, IsTurn, IsTurnPart, MayGoOn, StopsInRule}
-use Rattle.wire_http.specs.Wire.{Asked, AsksCall, ClockAfter, IsRequest, left_after}
+use Rattle.wire_http.specs.Wire.{RequestCall, AsksCall, ClockAfter, IsRequest, left_after}
 use Rattle.wire_http.proofs.KnownBytes.{Appends_nil, input_known, input_more, rest_at}
 use Rattle.wire_http.proofs.NextLaws.{body_size}
 
@@ -134,7 +134,7 @@ module _ {S M : Type 0} (sp : Ghosts S) (Gives : M → ℕ → M → Type 0) (ca
       }
 
   pub part_end : (a b : Option (List ℕ)) (old buffer : List ℕ) (fields : List HeaderSpan) (n : Next) (end : End) (s : Service S) (clock : M) (w v : Option (List ℕ)) (fault : StreamFault)
-      → n ≡ Stop end → Came a b old buffer → IsNext (known_bytes b) buffer fields n → IsOfAnswering fault
+      → n ≡ Stop end → BufferGrew a b old buffer → IsNext (known_bytes b) buffer fields n → IsOfAnswering fault
       → (size : ℕ) × (size < length (concat (end_texts end))) × Appends w v (take size (concat (end_texts end)))
       → IsTurnPart sp Gives callers k s s clock clock w v a old fault
   part_end a b old buffer fields n end s clock w v fault e (came, grown, p) h of (size, short, written) = (
@@ -145,7 +145,7 @@ module _ {S M : Type 0} (sp : Ghosts S) (Gives : M → ℕ → M → Type 0) (ca
   )
 
   pub part_ask : (a b : Option (List ℕ)) (old buffer : List ℕ) (fields : List HeaderSpan) (n : Next) (spans : RequestSpans) (size : ℕ) (s : Service S) (clock clock' : M) (w : Option (List ℕ)) (fault : StreamFault) (f f' : ℕ)
-      → n ≡ Request spans size → Came a b old buffer → IsNext (known_bytes b) buffer fields n
+      → n ≡ Request spans size → BufferGrew a b old buffer → IsNext (known_bytes b) buffer fields n
       → GaveUpAsking fault f f' → (fault ≡ faults.Memory → (moment : ℕ) × Gives clock moment clock')
       → IsTurnPart sp Gives callers k s s clock clock' w w a old fault
   part_ask a b old buffer fields n spans size s clock clock' w fault f f' e (came, grown, p) h g t =
@@ -162,7 +162,7 @@ module _ {S M : Type 0} (sp : Ghosts S) (Gives : M → ℕ → M → Type 0) (ca
       )
 
   pub turn_stopped : (a b : Option (List ℕ)) (old buffer left : List ℕ) (fields : List HeaderSpan) (n : Next) (end : End) (s : Service S) (clock : M) (w v : Option (List ℕ))
-      → n ≡ Stop end → Came a b old buffer → IsNext (known_bytes b) buffer fields n → Appends w v (concat (end_texts end))
+      → n ≡ Stop end → BufferGrew a b old buffer → IsNext (known_bytes b) buffer fields n → Appends w v (concat (end_texts end))
       → IsTurn sp Gives callers k s s clock clock w v a b old left (Ended end)
   turn_stopped a b old buffer left fields n end s clock w v e (came, grown, p) h written = (
     came ++ known_bytes b,
@@ -176,9 +176,9 @@ module _ {S M : Type 0} (sp : Ghosts S) (Gives : M → ℕ → M → Type 0) (ca
   -- ---- one request
 
   -- the call that the head makes
-  abbrev Makes : List ℕ → List HeaderSpan → RequestSpans → ℕ → Option Place → Call → Type 0
-  Makes bytes fields spans size place call =
-      (h : RequestHead) → Covers bytes fields spans h → IsCallOf callers h (body_at bytes spans.len size) place call
+  abbrev Makes : List ℕ → List HeaderSpan → RequestSpans → ℕ → Option Endpoint → Call → Type 0
+  Makes bytes fields spans size endpoint call =
+      (h : RequestHead) → Covers bytes fields spans h → IsCallOf callers h (body_at bytes spans.len size) endpoint call
 
   -- how many may follow
   abbrev Leaves : List ℕ → List HeaderSpan → RequestSpans → ℕ → Type 0
@@ -189,49 +189,49 @@ module _ {S M : Type 0} (sp : Ghosts S) (Gives : M → ℕ → M → Type 0) (ca
       e ∙ ap (λ v. cond (closes_by v (map (header_bytes bytes) (take spans.headers fields))) 0 k) c.version
       ∙ ap (λ v. cond (closes_by h.minor v) 0 k) c.fields
 
-  took : (buffer bytes : List ℕ) (fields : List HeaderSpan) (spans : RequestSpans) (place : Option Place) (moment : ℕ) (call : Call) (n : ℕ)
+  took : (buffer bytes : List ℕ) (fields : List HeaderSpan) (spans : RequestSpans) (endpoint : Option Endpoint) (moment : ℕ) (call : Call) (n : ℕ)
       (old new : Service S) (clock later : M) (before text : Option (List ℕ)) (reply : Reply) (h : RequestHead)
       → bytes ≡ buffer → Covers buffer fields spans h → Leaves bytes fields spans n → IsReplyTo sp old new moment call reply
       → Took sp Gives callers k old new clock later before text
-      (record { head = h; place = place; moment = moment; call = call; closing = n == 0 }) reply n
-  took buffer bytes fields spans place moment call n old new clock later before text reply h g c leaves is_reply = record {
+      (record { head = h; endpoint = endpoint; moment = moment; call = call; closing = n == 0 }) reply n
+  took buffer bytes fields spans endpoint moment call n old new clock later before text reply h g c leaves is_reply = record {
     n_is = leaves_head buffer fields spans n h c (subst (λ (v : List ℕ). Leaves v fields spans n) g leaves);
     closing = refl;
     is_reply = is_reply;
   }
 
-  asks : (rest buffer bytes next : List ℕ) (fields : List HeaderSpan) (spans : RequestSpans) (size : ℕ) (place : Option Place) (moment : ℕ) (call : Call) (n : ℕ) (clock later : M) (h : RequestHead)
-      → bytes ≡ buffer → IsRequest rest h (body_at buffer spans.len size) → Covers buffer fields spans h → Makes bytes fields spans size place call → Gives clock moment later
+  asks : (rest buffer bytes next : List ℕ) (fields : List HeaderSpan) (spans : RequestSpans) (size : ℕ) (endpoint : Option Endpoint) (moment : ℕ) (call : Call) (n : ℕ) (clock later : M) (h : RequestHead)
+      → bytes ≡ buffer → IsRequest rest h (body_at buffer spans.len size) → Covers buffer fields spans h → Makes bytes fields spans size endpoint call → Gives clock moment later
       → next ≡ drop (length (body_at buffer spans.len size)) (after h rest)
-      → AsksCall Gives callers rest clock (record { head = h; place = place; moment = moment; call = call; closing = n == 0 }) next later
-  asks rest buffer bytes next fields spans size place moment call n clock later h g x c made gives after_it = record {
+      → AsksCall Gives callers rest clock (record { head = h; endpoint = endpoint; moment = moment; call = call; closing = n == 0 }) next later
+  asks rest buffer bytes next fields spans size endpoint moment call n clock later h g x c made gives after_it = record {
     body = body_at buffer spans.len size;
     request = x;
-    call = subst (λ (v : List ℕ). Makes v fields spans size place call) g made h c;
+    call = subst (λ (v : List ℕ). Makes v fields spans size endpoint call) g made h c;
     moment = gives;
     next_is = after_it;
   }
 
   -- the request that was answered is at that place
-  pub turn_answered_at : (a b : Option (List ℕ)) (front buffer bytes left : List ℕ) (fields : List HeaderSpan) (m : Next) (spans : RequestSpans) (size : ℕ) (place : Option Place) (moment : ℕ) (call : Call) (n : ℕ)
+  pub turn_answered_at : (a b : Option (List ℕ)) (front buffer bytes left : List ℕ) (fields : List HeaderSpan) (m : Next) (spans : RequestSpans) (size : ℕ) (endpoint : Option Endpoint) (moment : ℕ) (call : Call) (n : ℕ)
       (old new : Service S) (clock clock' : M) (before text : Option (List ℕ))
-      → m ≡ Request spans size → bytes ≡ buffer → Came a b front buffer → IsNext (known_bytes b) buffer fields m
+      → m ≡ Request spans size → bytes ≡ buffer → BufferGrew a b front buffer → IsNext (known_bytes b) buffer fields m
       → spans.len + size ≤ length buffer → left ≡ drop (spans.len + size) buffer
-      → Makes bytes fields spans size place call → Leaves bytes fields spans n → Gives clock moment clock'
-      → (r : Replies sp old new moment call place (n == 0) before text)
-      → (turn : IsTurn sp Gives callers k old new clock clock' before text a b front left (Answered n)) × (turn.0.place ≡ place) × (turn.0.closing ≡ (n == 0))
+      → Makes bytes fields spans size endpoint call → Leaves bytes fields spans n → Gives clock moment clock'
+      → (r : Replies sp old new moment call endpoint (n == 0) before text)
+      → (turn : IsTurn sp Gives callers k old new clock clock' before text a b front left (Answered n)) × (turn.0.endpoint ≡ endpoint) × (turn.0.closing ≡ (n == 0))
       × (turn.0.call ≡ call) × (turn.1 ≡ r.reply) × Covers buffer fields spans turn.0.head
-  turn_answered_at a b front buffer bytes left fields m spans size place moment call n old new clock clock' before text e g (came, grown, p) h fits d made leaves gives r =
+  turn_answered_at a b front buffer bytes left fields m spans size endpoint moment call n old new clock clock' before text e g (came, grown, p) h fits d made leaves gives r =
       let x : IsNext (known_bytes b) buffer fields (Request spans size) = known_next (known_bytes b) buffer fields m (Request spans size) e h in
-      let asked : Asked = record { head = x.0; place = place; moment = moment; call = call; closing = n == 0 } in (
+      let asked : RequestCall = record { head = x.0; endpoint = endpoint; moment = moment; call = call; closing = n == 0 } in (
         (
           asked,
           r.reply,
           came,
-          took buffer bytes fields spans place moment call n old new clock clock' before text r.reply x.0 g x.2 leaves r.is_reply,
+          took buffer bytes fields spans endpoint moment call n old new clock clock' before text r.reply x.0 g x.2 leaves r.is_reply,
           p,
           λ later. subst (λ (rest : List ℕ). AsksCall Gives callers rest clock asked (left ++ later) clock') (rest_at front buffer came later grown)
-              (asks (buffer ++ later) buffer bytes (left ++ later) fields spans size place moment call n clock clock' x.0 g (x.1 later) x.2 made gives
+              (asks (buffer ++ later) buffer bytes (left ++ later) fields spans size endpoint moment call n clock clock' x.0 g (x.1 later) x.2 made gives
               (unread_next later buffer (buffer ++ later) left x.0 spans.len size refl x.2.len fits d)),
           r.written,
         ),
@@ -242,27 +242,27 @@ module _ {S M : Type 0} (sp : Ghosts S) (Gives : M → ℕ → M → Type 0) (ca
         x.2,
       )
 
-  pub turn_answered : (a b : Option (List ℕ)) (front buffer bytes left : List ℕ) (fields : List HeaderSpan) (m : Next) (spans : RequestSpans) (size : ℕ) (place : Option Place) (moment : ℕ) (call : Call) (n : ℕ)
+  pub turn_answered : (a b : Option (List ℕ)) (front buffer bytes left : List ℕ) (fields : List HeaderSpan) (m : Next) (spans : RequestSpans) (size : ℕ) (endpoint : Option Endpoint) (moment : ℕ) (call : Call) (n : ℕ)
       (old new : Service S) (clock clock' : M) (before text : Option (List ℕ))
-      → m ≡ Request spans size → bytes ≡ buffer → Came a b front buffer → IsNext (known_bytes b) buffer fields m
+      → m ≡ Request spans size → bytes ≡ buffer → BufferGrew a b front buffer → IsNext (known_bytes b) buffer fields m
       → spans.len + size ≤ length buffer → left ≡ drop (spans.len + size) buffer
-      → Makes bytes fields spans size place call → Leaves bytes fields spans n → Gives clock moment clock'
-      → Replies sp old new moment call place (n == 0) before text
+      → Makes bytes fields spans size endpoint call → Leaves bytes fields spans n → Gives clock moment clock'
+      → Replies sp old new moment call endpoint (n == 0) before text
       → IsTurn sp Gives callers k old new clock clock' before text a b front left (Answered n)
-  turn_answered a b front buffer bytes left fields m spans size place moment call n old new clock clock' before text e g p h fits d made leaves gives r =
-      (turn_answered_at a b front buffer bytes left fields m spans size place moment call n old new clock clock' before text e g p h fits d made leaves gives r).0
+  turn_answered a b front buffer bytes left fields m spans size endpoint moment call n old new clock clock' before text e g p h fits d made leaves gives r =
+      (turn_answered_at a b front buffer bytes left fields m spans size endpoint moment call n old new clock clock' before text e g p h fits d made leaves gives r).0
 
-  pub part_answered : (a b : Option (List ℕ)) (front buffer bytes : List ℕ) (fields : List HeaderSpan) (m : Next) (spans : RequestSpans) (size : ℕ) (place : Option Place) (moment : ℕ) (call : Call) (n : ℕ)
+  pub part_answered : (a b : Option (List ℕ)) (front buffer bytes : List ℕ) (fields : List HeaderSpan) (m : Next) (spans : RequestSpans) (size : ℕ) (endpoint : Option Endpoint) (moment : ℕ) (call : Call) (n : ℕ)
       (old new : Service S) (clock clock' : M) (before text : Option (List ℕ)) (fault : StreamFault)
-      → m ≡ Request spans size → bytes ≡ buffer → IsOfAnswering fault → Came a b front buffer → IsNext (known_bytes b) buffer fields m
-      → Makes bytes fields spans size place call → Leaves bytes fields spans n → Gives clock moment clock'
-      → RepliesPart sp old new moment call place (n == 0) before text
+      → m ≡ Request spans size → bytes ≡ buffer → IsOfAnswering fault → BufferGrew a b front buffer → IsNext (known_bytes b) buffer fields m
+      → Makes bytes fields spans size endpoint call → Leaves bytes fields spans n → Gives clock moment clock'
+      → RepliesPart sp old new moment call endpoint (n == 0) before text
       → IsTurnPart sp Gives callers k old new clock clock' before text a front fault
-  part_answered a b front buffer bytes fields m spans size place moment call n old new clock clock' before text fault e g of (came, grown, p) h made leaves gives r =
+  part_answered a b front buffer bytes fields m spans size endpoint moment call n old new clock clock' before text fault e g of (came, grown, p) h made leaves gives r =
       let x : IsNext (known_bytes b) buffer fields (Request spans size) = known_next (known_bytes b) buffer fields m (Request spans size) e h in
       let rest : List ℕ = buffer ++ known_bytes b in
       let next : List ℕ = drop (length (body_at buffer spans.len size)) (after x.0 rest) in
-      let asked : Asked = record { head = x.0; place = place; moment = moment; call = call; closing = n == 0 } in (
+      let asked : RequestCall = record { head = x.0; endpoint = endpoint; moment = moment; call = call; closing = n == 0 } in (
         came ++ known_bytes b,
         input_more a b came (known_bytes b) p (input_known b),
         inr (inl (record {
@@ -271,9 +271,9 @@ module _ {S M : Type 0} (sp : Ghosts S) (Gives : M → ℕ → M → Type 0) (ca
           reply = r.reply;
           n = n;
           next = next;
-          took = took buffer bytes fields spans place moment call n old new clock clock' before text r.reply x.0 g x.2 leaves r.is_reply;
+          took = took buffer bytes fields spans endpoint moment call n old new clock clock' before text r.reply x.0 g x.2 leaves r.is_reply;
           asks = subst (λ (v : List ℕ). AsksCall Gives callers v clock asked next clock') (rest_at front buffer came (known_bytes b) grown)
-              (asks rest buffer bytes next fields spans size place moment call n clock clock' x.0 g (x.1 (known_bytes b)) x.2 made gives refl);
+              (asks rest buffer bytes next fields spans size endpoint moment call n clock clock' x.0 g (x.1 (known_bytes b)) x.2 made gives refl);
           size = r.size;
           short = r.short;
           written = r.written;

@@ -14,10 +14,10 @@ use Rattle.wire_http.specs.declared.connection.Step.{Step}
 use Rattle.wire_http.specs.declared.connection.Step.TheVariants as steps
 use Rattle.wire_http.specs.declared.fault.StreamFault.{StreamFault}
 use Rattle.wire_http.specs.Connection.{held_of, is_done, left_of, output_of, ready_of, slot_of, IsStep, IsStepPart}
-use Rattle.wire_http.specs.HeldBack.{text_at}
+use Rattle.wire_http.specs.DeferredResponse.{text_at}
 use Rattle.wire_http.specs.Many.{HoldsBackLast, IsServed}
 use Rattle.wire_http.specs.Turns.{AreServed, AreServedAfter, MadeCall, asked_for, made_for, retold, set_at, told_for}
-use Rattle.wire_http.specs.Wire.{Asked, timed}
+use Rattle.wire_http.specs.Wire.{RequestCall, timed}
 use Rattle.wire_http.proofs.ManyLaws.{one_more_call, served_answered, served_replaced, served_rests}
 
 made_append : (who : ℕ) (xs ys : List MadeCall) → made_for who (xs ++ ys) ≡ made_for who xs ++ made_for who ys
@@ -34,7 +34,7 @@ asked_more who log x = ap (λ v. map (λ call. call.asked) v) (made_append who l
 told_more : (who : ℕ) (log : List MadeCall) (x : MadeCall) → told_for who (log ++ x ∷ []) ≡ told_for who log ++ told_for who (x ∷ [])
 told_more who log x = ap (λ v. map (λ call. call.told) v) (made_append who log (x ∷ [])) ∙ map-append (λ (call : MadeCall). call.told) (made_for who log) (made_for who (x ∷ []))
 
-own : (who : ℕ) (asked : Asked) (reply : Reply) → made_for who (record { connection = who; asked = asked; reply = reply; told = reply } ∷ []) ≡ record { connection = who; asked = asked; reply = reply; told = reply } ∷ []
+own : (who : ℕ) (asked : RequestCall) (reply : Reply) → made_for who (record { connection = who; asked = asked; reply = reply; told = reply } ∷ []) ≡ record { connection = who; asked = asked; reply = reply; told = reply } ∷ []
 own who asked reply = ap (λ v. cond v (record { connection = who; asked = asked; reply = reply; told = reply } ∷ []) []) (eq-eqb who who refl)
 
 -- the calls for one connection, where that is the last of them; and for another
@@ -68,7 +68,7 @@ module _ {S : Type 0} (g : Ghosts S) (callers : Callers) (first : Service S) whe
   }
 
   -- one connection is another, and a call was made for it
-  pub put_call : (old new : Service S) (log : List MadeCall) (came sent : ℕ → List ℕ) (conns : ℕ → Connection) (who : ℕ) (asked : Asked) (reply : Reply) (c' : Connection)
+  pub put_call : (old new : Service S) (log : List MadeCall) (came sent : ℕ → List ℕ) (conns : ℕ → Connection) (who : ℕ) (asked : RequestCall) (reply : Reply) (c' : Connection)
       → AreServed g callers first old log came sent conns
       → IsReplyTo g old new asked.moment asked.call reply
       → (is_done c' ≡ false → IsServed callers (came who) (asked_for who log ++ asked ∷ []) (told_for who log ++ reply ∷ []) (sent who) c')
@@ -153,7 +153,7 @@ module _ {S : Type 0} (g : Ghosts S) (callers : Callers) (first : Service S) whe
   module _ {M : Type 0} (Gives : M → ℕ → M → Type 0) (old new : Service S) (clock clock' : M) (log : List MadeCall) (came sent : ℕ → List ℕ) (conns : ℕ → Connection) (who : ℕ) (c' : Connection)
       (s : AreServed g callers first old log came sent conns) (goes : is_done (conns who) ≡ false) where
     pub turn_of : (step : Step) → IsStep g Gives callers old new clock clock' (conns who) c' step → AreServedAfter g callers first new log came sent conns who c'
-    turn_of steps.Waits (asked, ticks, same, some, goes_on, none, room) =
+    turn_of steps.NeedsInput (asked, ticks, same, some, goes_on, none, room) =
         put_none old new log came sent conns who c' s asked
         (λ _. served_rests callers (came who) (asked_for who log) (told_for who log) (sent who) (conns who) c' (s.each who goes) same.held same.output same.left same.done)
     turn_of (steps.Answered n) h =

@@ -10,11 +10,11 @@ use Rattle.policy_core.specs.declared.call.Operation.TheVariants.{NoRoute, NoMet
 use Rattle.policy_core.specs.declared.call.Call.{Call}
 use Rattle.token_conf.specs.TokenFile.{Callers}
 use Rattle.wire_body.specs.Body.{IsBody, Words}
-use Rattle.wire_route.specs.declared.place.Place.{Place}
-use Rattle.wire_route.specs.Place.{kind_at}
+use Rattle.wire_route.specs.declared.endpoint.Endpoint.{Endpoint}
+use Rattle.wire_route.specs.Endpoint.{kind_at}
 use Rattle.wire_route.specs.Route.{IsRoute, HasNoRoute}
 use Rattle.wire_head.specs.Fields.{Fields}
-use Rattle.wire_head.specs.Bearer.{token_of}
+use Rattle.wire_head.specs.Bearer.{bearer_token}
 use Rattle.wire_head.specs.Target.{path_of}
 
 -- the names and the values of a head's fields
@@ -23,7 +23,7 @@ fields_of h = map name_and_value h.fields
 
 -- the caller of the token that the fields bear
 abbrev pub caller_of : Callers → Fields → Option Caller
-caller_of callers fields = option_and_then (get callers) (token_of fields)
+caller_of callers fields = option_and_then (get callers) (bearer_token fields)
 
 -- the operation of the kind, or malformed exactly where the words and the body ask for none
 abbrev pub IsReadAs : OpKind → Words → List ℕ → Operation → Type 0
@@ -38,13 +38,13 @@ IsAskedAs (Some kind) words body op = IsReadAs kind words body op
 
 -- the place that a path leads to, if there is one, and the operation that path, method and body ask
 -- for
-abbrev pub IsAsked : List ℕ → List ℕ → List ℕ → Option Place → Operation → Type 0
+abbrev pub IsAsked : List ℕ → List ℕ → List ℕ → Option Endpoint → Operation → Type 0
 IsAsked path method body None op = HasNoRoute path × (op ≡ NoRoute)
-IsAsked path method body (Some place) op = (words : Words) × IsRoute path place words
-    × IsAskedAs (kind_at place method) words body op
+IsAsked path method body (Some endpoint) op = (words : Words) × IsRoute path endpoint words
+    × IsAskedAs (kind_at endpoint method) words body op
 
 -- the call that a request makes, at the place of its path
-pub record IsCallOf (callers : Callers) (h : RequestHead) (body : List ℕ) (place : Option Place)
+pub record IsCallOf (callers : Callers) (h : RequestHead) (body : List ℕ) (endpoint : Option Endpoint)
     (call : Call) : Type 0 where
   pub caller : call.caller ≡ caller_of callers (fields_of h)
-  pub op : IsAsked (path_of h.target) h.method body place call.op
+  pub op : IsAsked (path_of h.target) h.method body endpoint call.op

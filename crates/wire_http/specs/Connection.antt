@@ -9,13 +9,13 @@ use Rattle.wire_http.specs.declared.connection.Step.{Step}
 use Rattle.wire_http.specs.declared.connection.Step.TheVariants as steps
 use Rattle.wire_http.specs.declared.fault.StreamFault.{StreamFault}
 use Rattle.wire_http.specs.declared.serve.Turn.TheVariants as turns
-use Rattle.wire_http.specs.Held.{HasNoRequest, MayCome, most_held}
-use Rattle.wire_http.specs.declared.noted.Noted.{Noted}
-use Rattle.wire_http.specs.Noted.{noted_after, noted_for}
-use Rattle.wire_http.specs.HeldBack.{Slot, before_last, last_alone, slot_at}
+use Rattle.wire_http.specs.BufferState.{HasNoRequest, MayCome, max_buffered}
+use Rattle.wire_http.specs.declared.request_info.RequestInfo.{RequestInfo}
+use Rattle.wire_http.specs.RequestInfo.{noted_after, noted_for}
+use Rattle.wire_http.specs.DeferredResponse.{Slot, before_last, last_alone, slot_at}
 use Rattle.wire_http.specs.Text.{end_texts}
 use Rattle.wire_http.specs.Turn.{IsTurn, IsTurnPart}
-use Rattle.wire_http.specs.Wire.{Asked, Finishes}
+use Rattle.wire_http.specs.Wire.{RequestCall, Finishes}
 
 -- the bytes that came and belong to no earlier request
 abbrev pub held_of : Connection → List ℕ
@@ -38,7 +38,7 @@ abbrev pub output_of : Connection → List ℕ
 output_of c = drop c.sent c.answers.items
 
 -- what the last answer was to, if there was one
-abbrev pub noted_of : Connection → Option Noted
+abbrev pub noted_of : Connection → Option RequestInfo
 noted_of c = c.noted
 
 -- whether the last answer is held back, and what it answers
@@ -56,12 +56,12 @@ abbrev pub held_back_of : Connection → List ℕ
 held_back_of c = last_alone c.sent (output_of c) c.held_back
 
 -- what is held back answers that request
-abbrev pub slot_for : Asked → Slot
-slot_for asked = record { place = asked.place; closing = asked.closing }
+abbrev pub slot_for : RequestCall → Slot
+slot_for asked = record { endpoint = asked.endpoint; closing = asked.closing }
 
 -- there is room for these bytes
 abbrev pub HasRoom : Connection → List ℕ → Type 0
-HasRoom c bytes = length bytes ≤ most_held - length (held_of c)
+HasRoom c bytes = length bytes ≤ max_buffered - length (held_of c)
 
 -- nothing that a connection holds has changed
 pub record IsSame (c c' : Connection) : Type 0 where
@@ -79,9 +79,9 @@ module _ {S M : Type 0} (g : Ghosts S) (Gives : M → ℕ → M → Type 0) (cal
   -- one more was answered, as one turn of a stream whose reader has nothing more to give, and its
   -- answer is held back. Or the stream ended, whatever may still come.
   abbrev pub IsStep : Step → Type 0
-  IsStep steps.Waits =
+  IsStep steps.NeedsInput =
       (new ≡ old) × (clock' ≡ clock) × IsSame c c' × (0 < left_of c) × (has_ended c ≡ false)
-      × HasNoRequest (held_of c) × (length (held_of c) < most_held)
+      × HasNoRequest (held_of c) × (length (held_of c) < max_buffered)
   IsStep (steps.Answered n) =
       (0 < left_of c)
       × (turn : IsTurn g Gives callers (left_of c - 1) old new clock clock' (Some (output_of c))
@@ -99,7 +99,7 @@ module _ {S M : Type 0} (g : Ghosts S) (Gives : M → ℕ → M → Type 0) (cal
   -- What is noted is of that request and its reply, or of the rule of the wire that ended the
   -- stream.
   abbrev pub IsNotedAs : (step : Step) → IsStep step → Type 0
-  IsNotedAs steps.Waits is = noted_of c' ≡ noted_of c
+  IsNotedAs steps.NeedsInput is = noted_of c' ≡ noted_of c
   IsNotedAs (steps.Answered n) is = noted_of c' ≡ Some (noted_for is.1.0 is.1.1)
   IsNotedAs (steps.Ended end) is = noted_of c' ≡ noted_after end (noted_of c)
 

@@ -65,7 +65,7 @@ GaveUpAnswering failures failures' failed Turns = ⊥
 
 -- What is told to have failed did so once, and a reader or a writer was not called after it; no
 -- other count of failures has risen; and where no turn is told to be left, none is.
-pub record Tells {R W T : Type 0} (old new : Source R) (writer writer' : Counted W)
+pub record ReportsFailure {R W T : Type 0} (old new : Source R) (writer writer' : Counted W)
     (clock clock' : ℕ) (result : Result T StreamFault) : Type 0 where
   pub read : result ≡ Err Read → FailsLast (failures_of old.reader.now)
       (failures_of new.reader.now) (has_failed new.reader.now)

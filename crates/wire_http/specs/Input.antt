@@ -13,6 +13,6 @@ IsInput None input = Unit {0}
 IsInput (Some bytes) input = input ≡ bytes
 
 -- the buffer grew by bytes that the reader gave
-abbrev pub Came : Option (List ℕ) → Option (List ℕ) → List ℕ → List ℕ → Type 0
-Came remaining remaining' buffer buffer' =
+abbrev pub BufferGrew : Option (List ℕ) → Option (List ℕ) → List ℕ → List ℕ → Type 0
+BufferGrew remaining remaining' buffer buffer' =
     (more : List ℕ) × (buffer' ≡ buffer ++ more) × Consumes remaining remaining' more

@@ -2,7 +2,7 @@
 use Rattle.std.specs.Prelude.{◌≡◌, ◌≤◌, ℕ, List, [], ◌∷◌, ◌++◌, length, take, drop, false, true}
 use Rattle.space_core.specs.declared.space.Space.{Ghosts}
 use Rattle.service_calls.specs.declared.service.Service.{Service}
-use Rattle.service_calls.specs.Run.{Answered, IsReplyTo, Timed}
+use Rattle.service_calls.specs.Run.{Answered, IsReplyTo, TimedCall}
 use Rattle.service_step.specs.declared.reply.Reply.{Reply}
 use Rattle.token_conf.specs.TokenFile.{Callers}
 use Rattle.wire_http.specs.declared.connection.Connection.{Connection}
@@ -12,12 +12,12 @@ use Rattle.wire_http.specs.declared.end.End.{End}
 use Rattle.wire_http.specs.declared.fault.StreamFault.{StreamFault}
 use Rattle.wire_http.specs.Connection.{IsStep, IsStepPart, has_ended, held_of, is_done, left_of, output_of, ready_of, slot_of}
 use Rattle.wire_http.specs.Count.{most_requests}
-use Rattle.wire_http.specs.Held.{MayCome}
-use Rattle.wire_http.specs.HeldBack.{text_at}
+use Rattle.wire_http.specs.BufferState.{MayCome}
+use Rattle.wire_http.specs.DeferredResponse.{text_at}
 use Rattle.wire_http.specs.Many.{HoldsBackLast, IsNextCall, IsServed, IsServedAfter, IsServedWhole}
 use Rattle.wire_http.specs.Stop.{AreSameEnds}
 use Rattle.wire_http.specs.Turns.{AreServed, AreServedAfter, MadeCall, asked_for, made_for, retold, set_at, told_for}
-use Rattle.wire_http.specs.Wire.{Asked, Finishes, Leads}
+use Rattle.wire_http.specs.Wire.{RequestCall, Finishes, Leads}
 
 -- ---- one stream
 
@@ -30,7 +30,7 @@ OneMoment {M} Gives = (c : M) (m n : ℕ) (d e : M) → Gives c m d → Gives c 
 abbrev pub OneStream : {M : Type 0} → (M → ℕ → M → Type 0) → Type 0
 OneStream {M} Gives = OneMoment Gives
     → (callers : Callers) (bound : ℕ) (rest : List ℕ) (clock : M)
-    → (all others : List Asked) (n m : ℕ) (left last : List ℕ) (d e : M) (end other : End)
+    → (all others : List RequestCall) (n m : ℕ) (left last : List ℕ) (d e : M) (end other : End)
     → Leads Gives callers bound rest clock all n left d → Finishes n left end
     → Leads Gives callers bound rest clock others m last e → Finishes m last other
     → (others ≡ all) × (last ≡ left) × (e ≡ d) × AreSameEnds left end other
@@ -44,14 +44,14 @@ ServedAtFirst = (callers : Callers) (c : Connection) → held_of c ≡ [] → ou
 
 -- It stays so where nothing came or went, and nothing was asked.
 abbrev pub ServedAsItRests : Type 0
-ServedAsItRests = (callers : Callers) (came : List ℕ) (all : List Asked) (replies : List Reply)
+ServedAsItRests = (callers : Callers) (came : List ℕ) (all : List RequestCall) (replies : List Reply)
     (sent : List ℕ) (c next : Connection) → IsServed callers came all replies sent c
     → held_of next ≡ held_of c → output_of next ≡ output_of c → left_of next ≡ left_of c
     → is_done next ≡ is_done c → IsServed callers came all replies sent next
 
 -- It stays so as bytes come.
 abbrev pub ServedAsBytesCome : Type 0
-ServedAsBytesCome = (callers : Callers) (came more : List ℕ) (all : List Asked)
+ServedAsBytesCome = (callers : Callers) (came more : List ℕ) (all : List RequestCall)
     (replies : List Reply) (sent : List ℕ) (c next : Connection)
     → IsServed callers came all replies sent c
     → held_of next ≡ held_of c ++ more → output_of next ≡ output_of c
@@ -60,7 +60,7 @@ ServedAsBytesCome = (callers : Callers) (came more : List ℕ) (all : List Asked
 
 -- It stays so as bytes are sent.
 abbrev pub ServedAsBytesGo : Type 0
-ServedAsBytesGo = (callers : Callers) (came : List ℕ) (all : List Asked) (replies : List Reply)
+ServedAsBytesGo = (callers : Callers) (came : List ℕ) (all : List RequestCall) (replies : List Reply)
     (sent : List ℕ) (n : ℕ) (c next : Connection) → IsServed callers came all replies sent c
     → held_of next ≡ held_of c → output_of next ≡ drop n (output_of c)
     → left_of next ≡ left_of c → is_done next ≡ is_done c
@@ -68,22 +68,22 @@ ServedAsBytesGo = (callers : Callers) (came : List ℕ) (all : List Asked) (repl
 
 -- An answer stays held back where nothing was sent.
 abbrev pub HeldBackAsItRests : Type 0
-HeldBackAsItRests = (all : List Asked) (replies : List Reply) (asked : Asked) (sent : List ℕ)
+HeldBackAsItRests = (all : List RequestCall) (replies : List Reply) (asked : RequestCall) (sent : List ℕ)
     (c next : Connection) → HoldsBackLast all replies asked sent c
     → slot_of next ≡ slot_of c → ready_of next ≡ ready_of c
     → HoldsBackLast all replies asked sent next
 
 -- It stays so as the bytes before it are sent.
 abbrev pub HeldBackAsBytesGo : Type 0
-HeldBackAsBytesGo = (all : List Asked) (replies : List Reply) (asked : Asked) (sent : List ℕ)
+HeldBackAsBytesGo = (all : List RequestCall) (replies : List Reply) (asked : RequestCall) (sent : List ℕ)
     (n : ℕ) (c next : Connection) → HoldsBackLast all replies asked sent c
     → n ≤ length (ready_of c) → slot_of next ≡ slot_of c → ready_of next ≡ drop n (ready_of c)
     → HoldsBackLast all replies asked (sent ++ take n (output_of c)) next
 
 -- Where it is replaced, the connection is served so with the other reply to its last request.
 abbrev pub ServedAsReplaced : Type 0
-ServedAsReplaced = (callers : Callers) (came : List ℕ) (all : List Asked) (replies : List Reply)
-    (asked : Asked) (reply other : Reply) (sent : List ℕ) (c next : Connection)
+ServedAsReplaced = (callers : Callers) (came : List ℕ) (all : List RequestCall) (replies : List Reply)
+    (asked : RequestCall) (reply other : Reply) (sent : List ℕ) (c next : Connection)
     → IsServed callers came (all ++ asked ∷ []) (replies ++ reply ∷ []) sent c
     → HoldsBackLast all replies asked sent c → held_of next ≡ held_of c
     → output_of next ≡ ready_of c ++ text_at (slot_of c) other
@@ -94,7 +94,7 @@ ServedAsReplaced = (callers : Callers) (came : List ℕ) (all : List Asked) (rep
 abbrev pub ServedAsAnswered : {S M : Type 0} → Ghosts S → (M → ℕ → M → Type 0) → Type 0
 ServedAsAnswered {S} {M} g Gives =
     (callers : Callers) (old new : Service S) (clock later : M) (came : List ℕ)
-    (all : List Asked) (replies : List Reply) (sent : List ℕ) (n : ℕ) (c next : Connection)
+    (all : List RequestCall) (replies : List Reply) (sent : List ℕ) (n : ℕ) (c next : Connection)
     → IsServed callers came all replies sent c
     → IsStep g Gives callers old new clock later c next (steps.Answered n)
     → IsNextCall g Gives callers old new clock later came all replies sent next
@@ -103,7 +103,7 @@ ServedAsAnswered {S} {M} g Gives =
 abbrev pub ServedWhole : {S M : Type 0} → Ghosts S → (M → ℕ → M → Type 0) → Type 0
 ServedWhole {S} {M} g Gives =
     (callers : Callers) (old new : Service S) (clock later : M) (came : List ℕ)
-    (all : List Asked) (replies : List Reply) (sent : List ℕ) (end : End) (c next : Connection)
+    (all : List RequestCall) (replies : List Reply) (sent : List ℕ) (end : End) (c next : Connection)
     → IsServed callers came all replies sent c
     → IsStep g Gives callers old new clock later c next (steps.Ended end)
     → (more : List ℕ) → MayCome (has_ended c) more
@@ -113,7 +113,7 @@ ServedWhole {S} {M} g Gives =
 abbrev pub ServedAtEachStep : {S M : Type 0} → Ghosts S → (M → ℕ → M → Type 0) → Type 0
 ServedAtEachStep {S} {M} g Gives =
     (callers : Callers) (old new : Service S) (clock later : M) (came : List ℕ)
-    (all : List Asked) (replies : List Reply) (sent : List ℕ) (step : Step) (c next : Connection)
+    (all : List RequestCall) (replies : List Reply) (sent : List ℕ) (step : Step) (c next : Connection)
     → IsServed callers came all replies sent c
     → IsStep g Gives callers old new clock later c next step
     → IsServedAfter g Gives callers old new clock later came all replies sent c next step
@@ -123,7 +123,7 @@ ServedAtEachStep {S} {M} g Gives =
 -- The calls of all connections, in the order in which they were made, are answered as one list.
 abbrev pub OneList : {S : Type 0} → Ghosts S → Type 0
 OneList {S} g =
-    (first old new : Service S) (cs : List Timed) (rs : List Reply) (c : Timed) (r : Reply)
+    (first old new : Service S) (cs : List TimedCall) (rs : List Reply) (c : TimedCall) (r : Reply)
     → Answered g first cs rs old → IsReplyTo g old new c.0 c.1 r
     → Answered g first (cs ++ c ∷ []) (rs ++ r ∷ []) new
 

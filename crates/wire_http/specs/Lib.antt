@@ -4,12 +4,12 @@ pub mod Count
 pub mod Connection
 pub mod Counted
 pub mod Fault
-pub mod Held
-pub mod HeldBack
+pub mod BufferState
+pub mod DeferredResponse
 pub mod Many
 pub mod Moments
 pub mod Next
-pub mod Noted
+pub mod RequestInfo
 pub mod Received
 pub mod Reply
 pub mod Source

@@ -12,9 +12,9 @@ use Rattle.wire_http.specs.declared.connection.Step.TheVariants as steps
 use Rattle.wire_http.specs.declared.end.End.{End}
 use Rattle.wire_http.specs.Connection.{has_ended, held_of, is_done, left_of, output_of, ready_of, slot_for, slot_of}
 use Rattle.wire_http.specs.Count.{most_requests}
-use Rattle.wire_http.specs.Held.{MayCome}
+use Rattle.wire_http.specs.BufferState.{MayCome}
 use Rattle.wire_http.specs.Text.{end_texts}
-use Rattle.wire_http.specs.Wire.{Asked, Finishes, Leads, answers}
+use Rattle.wire_http.specs.Wire.{RequestCall, Finishes, Leads, answers}
 
 -- the moments are those of a clock that the other connections ask, too
 abbrev pub AnyMoment : Unit {0} → ℕ → Unit {0} → Type 0
@@ -22,12 +22,12 @@ AnyMoment clock moment clock' = Unit {0}
 
 -- Of what came, whatever follows, these requests are the first, and they lead to so many that may
 -- still come and to that rest.
-abbrev pub Spells : Callers → List ℕ → List Asked → ℕ → List ℕ → Type 0
+abbrev pub Spells : Callers → List ℕ → List RequestCall → ℕ → List ℕ → Type 0
 Spells callers came all n rest = Leads AnyMoment callers most_requests came tt all n rest tt
 
 -- These bytes have come, these requests of them were asked and answered so, and the answers are
 -- what was sent and what is to be sent.
-pub record IsServed (callers : Callers) (came : List ℕ) (all : List Asked) (replies : List Reply)
+pub record IsServed (callers : Callers) (came : List ℕ) (all : List RequestCall) (replies : List Reply)
     (sent : List ℕ) (c : Connection) : Type 0 where
   pub one_each : length replies ≡ length all
   pub spells : (later : List ℕ)
@@ -37,14 +37,14 @@ pub record IsServed (callers : Callers) (came : List ℕ) (all : List Asked) (re
 
 -- The answer to that request is held back, and it is the last: what was sent and what may be sent
 -- are the answers to the requests before it.
-pub record HoldsBackLast (all : List Asked) (replies : List Reply) (asked : Asked) (sent : List ℕ)
+pub record HoldsBackLast (all : List RequestCall) (replies : List Reply) (asked : RequestCall) (sent : List ℕ)
     (c : Connection) : Type 0 where
   pub slot : slot_of c ≡ Some (slot_for asked)
   pub before : sent ++ ready_of c ≡ concat (answers all replies)
 
 -- The whole of an input was served so: its requests were asked and answered, and then it ended, as
 -- a stream of that input is served alone.
-pub record IsServedWhole (callers : Callers) (input : List ℕ) (all : List Asked)
+pub record IsServedWhole (callers : Callers) (input : List ℕ) (all : List RequestCall)
     (replies : List Reply) (end : End) (text : List ℕ) : Type 0 where
   pub n : ℕ
   pub rest : List ℕ
@@ -55,9 +55,9 @@ pub record IsServedWhole (callers : Callers) (input : List ℕ) (all : List Aske
 -- the next call: at the clock's next moment, its request is the next of the connection, and it is
 -- answered there, where its answer is held back
 pub record IsNextCall {S M : Type 0} (g : Ghosts S) (Gives : M → ℕ → M → Type 0)
-    (callers : Callers) (old new : Service S) (clock clock' : M) (came : List ℕ) (all : List Asked)
+    (callers : Callers) (old new : Service S) (clock clock' : M) (came : List ℕ) (all : List RequestCall)
     (replies : List Reply) (sent : List ℕ) (c : Connection) : Type 0 where
-  pub asked : Asked
+  pub asked : RequestCall
   pub reply : Reply
   pub moment : Gives clock asked.moment clock'
   pub is_reply : IsReplyTo g old new asked.moment asked.call reply
@@ -67,9 +67,9 @@ pub record IsNextCall {S M : Type 0} (g : Ghosts S) (Gives : M → ℕ → M →
 -- how a connection is served after a step: as before it, with its next call, or whole, whatever may
 -- still come
 abbrev pub IsServedAfter : {S M : Type 0} → Ghosts S → (M → ℕ → M → Type 0) → Callers → Service S
-    → Service S → M → M → List ℕ → List Asked → List Reply → List ℕ → Connection → Connection → Step
+    → Service S → M → M → List ℕ → List RequestCall → List Reply → List ℕ → Connection → Connection → Step
     → Type 0
-IsServedAfter g Gives callers old new clock clock' came all replies sent c c' steps.Waits =
+IsServedAfter g Gives callers old new clock clock' came all replies sent c c' steps.NeedsInput =
     IsServed callers came all replies sent c'
 IsServedAfter g Gives callers old new clock clock' came all replies sent c c' (steps.Answered n) =
     IsNextCall g Gives callers old new clock clock' came all replies sent c'

@@ -6,11 +6,11 @@ use Rattle.policy_core.specs.declared.call.Call.{Call}
 use Rattle.policy_core.specs.declared.call.OpKind.{OpKind}
 use Rattle.token_conf.specs.TokenFile.{Callers}
 use Rattle.wire_http.specs.declared.call.Received.{Received}
-use Rattle.wire_route.specs.declared.place.Place.{Place}
-use Rattle.wire_head.specs.Found.{Covers}
+use Rattle.wire_route.specs.declared.endpoint.Endpoint.{Endpoint}
+use Rattle.wire_head.specs.FinalHead.{Covers}
 use Rattle.wire_http.specs.Next.{body_at}
 use Rattle.wire_http.specs.Asked.{IsCallOf}
-use Rattle.wire_http.specs.Noted.{kind_asked}
+use Rattle.wire_http.specs.RequestInfo.{kind_asked}
 
 -- the request lies in the bytes, and its target is text
 abbrev pub IsReceived : Received → Type 0
@@ -20,11 +20,11 @@ IsReceived r =
     × (r.spans.len + r.size ≤ length r.buffer.now)
 
 -- the head that the spans cover makes that call, at that place
-abbrev pub IsMadeBy : Callers → Received → Option Place → Call → Type 0
-IsMadeBy callers r place call =
+abbrev pub IsMadeBy : Callers → Received → Option Endpoint → Call → Type 0
+IsMadeBy callers r endpoint call =
     (h : RequestHead) → Covers r.buffer.now r.fields.now r.spans h
-    → IsCallOf callers h (body_at r.buffer.now r.spans.len r.size) place call
+    → IsCallOf callers h (body_at r.buffer.now r.spans.len r.size) endpoint call
 
 -- that is what its method asks at the place
-abbrev pub IsKindIn : Received → Option Place → Option OpKind → Type 0
-IsKindIn r place kind = kind ≡ kind_asked place (span_bytes r.buffer.now r.spans.method)
+abbrev pub IsKindIn : Received → Option Endpoint → Option OpKind → Type 0
+IsKindIn r endpoint kind = kind ≡ kind_asked endpoint (span_bytes r.buffer.now r.spans.method)

@@ -6,21 +6,21 @@ use Rattle.space_core.specs.declared.space.Space.{Ghosts}
 use Rattle.service_calls.specs.declared.service.Service.{Service}
 use Rattle.service_step.specs.declared.reply.Reply.{Reply}
 use Rattle.service_calls.specs.Run.{IsReplyTo}
-use Rattle.wire_route.specs.declared.place.Place.{Place}
-use Rattle.wire_http.specs.Text.{answer_text}
+use Rattle.wire_route.specs.declared.endpoint.Endpoint.{Endpoint}
+use Rattle.wire_http.specs.Text.{response_text}
 
 -- a reply was made, and its text was written
 pub record Replies {S : Type 0} (g : Ghosts S) (old new : Service S) (moment : ℕ) (call : Call)
-    (place : Option Place) (closing : Bool) (before text : Option (List ℕ)) : Type 0 where
+    (endpoint : Option Endpoint) (closing : Bool) (before text : Option (List ℕ)) : Type 0 where
   pub reply : Reply
   pub is_reply : IsReplyTo g old new moment call reply
-  pub written : Appends before text (answer_text place closing reply)
+  pub written : Appends before text (response_text endpoint closing reply)
 
 -- a reply was made, and the first bytes of its text were written, but not all
 pub record RepliesPart {S : Type 0} (g : Ghosts S) (old new : Service S) (moment : ℕ) (call : Call)
-    (place : Option Place) (closing : Bool) (before text : Option (List ℕ)) : Type 0 where
+    (endpoint : Option Endpoint) (closing : Bool) (before text : Option (List ℕ)) : Type 0 where
   pub reply : Reply
   pub is_reply : IsReplyTo g old new moment call reply
   pub size : ℕ
-  pub short : size < length (answer_text place closing reply)
-  pub written : Appends before text (take size (answer_text place closing reply))
+  pub short : size < length (response_text endpoint closing reply)
+  pub written : Appends before text (take size (response_text endpoint closing reply))

@@ -5,7 +5,7 @@ use Rattle.wire_http.specs.declared.source.Source.{Source}
 use Rattle.wire_http.specs.Count.{Spends}
 use Rattle.wire_http.specs.Counted.{inner_of, calls_of, failures_of}
 use Rattle.wire_http.specs.Fault.{GaveUpReading}
-use Rattle.wire_http.specs.Input.{Came}
+use Rattle.wire_http.specs.Input.{BufferGrew}
 
 -- the bytes that were read and belong to no earlier request
 abbrev pub bytes_of : {R : Type 0} → Source R → List ℕ
@@ -24,7 +24,7 @@ pub record HasSpent {R : Type 0} (old new : Source R) : Type 0 where
 pub record HasRead {R : Type 0} (remaining : R → Option (List ℕ)) (old new : Source R)
     : Type 0 where
   pub spent : HasSpent old new
-  pub came : Came (ahead_of remaining old) (ahead_of remaining new) (bytes_of old) (bytes_of new)
+  pub came : BufferGrew (ahead_of remaining old) (ahead_of remaining new) (bytes_of old) (bytes_of new)
   pub good : failures_of new.reader.now ≡ failures_of old.reader.now
 
 -- reading took turns and gave up

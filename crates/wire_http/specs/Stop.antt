@@ -7,13 +7,13 @@ use Rattle.wire_http.specs.declared.end.End.TheVariants as ends
 use Rattle.wire_head.specs.declared.rule.WireRule.{WireRule}
 use Rattle.wire_head.specs.declared.rule.WireRule.TheVariants as rules
 use Rattle.wire_head.specs.Rest.{IsKind, cut, bad, large, whole, after, window}
-use Rattle.wire_head.specs.Length.{length_of}
+use Rattle.wire_head.specs.Length.{content_length}
 use Rattle.wire_http.specs.Asked.{fields_of}
 
 -- a whole head stands there, and this is the first rule that its fields break
 abbrev pub HasRefused : List ℕ → WireRule → Type 0
 HasRefused rest rule = (h : RequestHead) × IsKind rest (whole h)
-    × (length_of (fields_of h) ≡ Err rule)
+    × (content_length (fields_of h) ≡ Err rule)
 
 -- the rest breaks that rule of the wire
 abbrev pub Breaks : List ℕ → WireRule → Type 0
@@ -27,7 +27,7 @@ Breaks rest rules.BodySize = HasRefused rest rules.BodySize
 abbrev pub IsCut : List ℕ → Type 0
 IsCut rest =
     IsKind rest cut
-    ⊎ ((h : RequestHead) × (size : ℕ) × IsKind rest (whole h) × (length_of (fields_of h) ≡ Ok size)
+    ⊎ ((h : RequestHead) × (size : ℕ) × IsKind rest (whole h) × (content_length (fields_of h) ≡ Ok size)
     × (length (after h rest) < size))
 
 -- how the stream ends there

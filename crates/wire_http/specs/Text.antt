@@ -6,8 +6,8 @@ use Rattle.policy_core.specs.declared.rule.Rule.TheVariants.{Method, Token}
 use Rattle.service_step.specs.declared.reply.Reply.{Reply}
 use Rattle.service_step.specs.declared.reply.Reply.TheVariants.{Denied}
 use Rattle.wire_reply.specs.Answer.{reply_text, status_of}
-use Rattle.wire_route.specs.declared.place.Place.{Place}
-use Rattle.wire_route.specs.Place.{allow_of}
+use Rattle.wire_route.specs.declared.endpoint.Endpoint.{Endpoint}
+use Rattle.wire_route.specs.Endpoint.{allow_of}
 use Rattle.wire_http.specs.declared.end.End.{End}
 use Rattle.wire_http.specs.declared.end.End.TheVariants as ends
 use Rattle.wire_head.specs.declared.rule.WireRule.{WireRule}
@@ -35,20 +35,20 @@ reason_of status =
     else (if status == 503 then codes "Service Unavailable" else []))))))))))))
 
 -- the methods that the place takes
-abbrev pub methods_text : Option Place → List ℕ
-methods_text (Some place) = allow_of place
+abbrev pub methods_text : Option Endpoint → List ℕ
+methods_text (Some endpoint) = allow_of endpoint
 methods_text None = []
 
 -- the field that a denial adds: the methods for one that the place does not take, the scheme for a
 -- missing token
-abbrev pub rule_field : Option Place → Rule → List ℕ
-rule_field place Method = line (codes "Allow: " ++ methods_text place)
-rule_field place Token = line (codes "WWW-Authenticate: Bearer")
-rule_field place _ = []
+abbrev pub rule_field : Option Endpoint → Rule → List ℕ
+rule_field endpoint Method = line (codes "Allow: " ++ methods_text endpoint)
+rule_field endpoint Token = line (codes "WWW-Authenticate: Bearer")
+rule_field endpoint _ = []
 
-abbrev pub reply_field : Option Place → Reply → List ℕ
-reply_field place (Denied rule missing) = rule_field place rule
-reply_field place reply = []
+abbrev pub reply_field : Option Endpoint → Reply → List ℕ
+reply_field endpoint (Denied rule missing) = rule_field endpoint rule
+reply_field endpoint reply = []
 
 unfoldable pub status_line : ℕ → List ℕ
 status_line status = line (codes "HTTP/1.1 " ++ decimal status ++ codes " " ++ reason_of status)
@@ -75,9 +75,9 @@ abbrev pub message : ℕ → List ℕ → Bool → List ℕ → List ℕ
 message status field closing body = front_of status field closing (length body) ++ body
 
 -- the answer to a request whose path leads to that place
-abbrev pub answer_text : Option Place → Bool → Reply → List ℕ
-answer_text place closing reply =
-    message (status_of reply) (reply_field place reply) closing (reply_text reply)
+abbrev pub response_text : Option Endpoint → Bool → Reply → List ℕ
+response_text endpoint closing reply =
+    message (status_of reply) (reply_field endpoint reply) closing (reply_text reply)
 
 -- the body that tells a rule of the wire: its number and its name
 unfoldable pub rule_body : WireRule → List ℕ

@@ -14,8 +14,8 @@ use Rattle.wire_http.specs.declared.serve.Turn.TheVariants.{Answered, Ended}
 use Rattle.wire_http.specs.Fault.{IsOfAnswering, IsOfAsking}
 use Rattle.wire_http.specs.Input.{IsInput}
 use Rattle.wire_http.specs.Stop.{Breaks, StopsAs}
-use Rattle.wire_http.specs.Text.{answer_text, end_texts, rule_text}
-use Rattle.wire_http.specs.Wire.{Asked, AsksCall, ClockAfter, left_after}
+use Rattle.wire_http.specs.Text.{response_text, end_texts, rule_text}
+use Rattle.wire_http.specs.Wire.{RequestCall, AsksCall, ClockAfter, left_after}
 
 -- after an answer fewer requests may follow
 abbrev pub MayGoOn : ℕ → Turn → Type 0
@@ -25,7 +25,7 @@ MayGoOn count (Ended end) = Unit {0}
 module _ {S M : Type 0} (g : Ghosts S) (Gives : M → ℕ → M → Type 0) (callers : Callers)
     (bound : ℕ) (old new : Service S) (clock clock' : M) (before text : Option (List ℕ)) where
   -- the service was asked a call, and this is the reply; after it so many requests may come
-  pub record Took (asked : Asked) (reply : Reply) (n : ℕ) : Type 0 where
+  pub record Took (asked : RequestCall) (reply : Reply) (n : ℕ) : Type 0 where
     pub n_is : n ≡ left_after bound asked.head
     pub closing : asked.closing ≡ (n == 0)
     pub is_reply : IsReplyTo g old new asked.moment asked.call reply
@@ -34,11 +34,11 @@ module _ {S M : Type 0} (g : Ghosts S) (Gives : M → ℕ → M → Type 0) (cal
   -- bytes, and the buffer those that belong to no earlier request.
   abbrev pub IsTurn : Option (List ℕ) → Option (List ℕ) → List ℕ → List ℕ → Turn → Type 0
   IsTurn remaining remaining' buffer buffer' (Answered n) =
-      (asked : Asked) × (reply : Reply) × (came : List ℕ)
+      (asked : RequestCall) × (reply : Reply) × (came : List ℕ)
       × Took asked reply n × Consumes remaining remaining' came
       × ((later : List ℕ) → AsksCall Gives callers (buffer ++ (came ++ later)) clock asked
       (buffer' ++ later) clock')
-      × Appends before text (answer_text asked.place asked.closing reply)
+      × Appends before text (response_text asked.endpoint asked.closing reply)
   IsTurn remaining remaining' buffer buffer' (Ended end) =
       (ahead : List ℕ) × IsInput remaining ahead × StopsAs (buffer ++ ahead) end
       × (new ≡ old) × (clock' ≡ clock) × Appends before text (concat (end_texts end))
@@ -53,15 +53,15 @@ module _ {S M : Type 0} (g : Ghosts S) (Gives : M → ℕ → M → Type 0) (cal
   -- it was given up in the answer to a request of the rest
   pub record StopsInAnswer (rest : List ℕ) (fault : StreamFault) : Type 0 where
     pub fault_is : IsOfAnswering fault
-    pub asked : Asked
+    pub asked : RequestCall
     pub reply : Reply
     pub n : ℕ
     pub next : List ℕ
     pub took : Took asked reply n
     pub asks : AsksCall Gives callers rest clock asked next clock'
     pub size : ℕ
-    pub short : size < length (answer_text asked.place asked.closing reply)
-    pub written : Appends before text (take size (answer_text asked.place asked.closing reply))
+    pub short : size < length (response_text asked.endpoint asked.closing reply)
+    pub written : Appends before text (take size (response_text asked.endpoint asked.closing reply))
 
   -- it was given up in the text of the rule that the rest breaks
   pub record StopsInRule (rest : List ℕ) (fault : StreamFault) : Type 0 where

@@ -8,13 +8,13 @@ use Rattle.token_conf.specs.TokenFile.{Callers}
 use Rattle.wire_http.specs.declared.connection.Connection.{Connection}
 use Rattle.wire_http.specs.Connection.{is_done}
 use Rattle.wire_http.specs.Many.{HoldsBackLast, IsServed}
-use Rattle.wire_http.specs.Wire.{Asked, timed}
+use Rattle.wire_http.specs.Wire.{RequestCall, timed}
 
 -- A call that was made: for which connection, what was asked, the reply, and what the caller is
 -- told: that reply, unless the answer was replaced.
 pub record MadeCall : Type 0 where
   pub connection : ℕ
-  pub asked : Asked
+  pub asked : RequestCall
   pub reply : Reply
   pub told : Reply
 
@@ -33,7 +33,7 @@ made_for who [] = []
 made_for who (call ∷ log) =
     if who == call.connection then call ∷ made_for who log else made_for who log
 
-abbrev pub asked_for : ℕ → List MadeCall → List Asked
+abbrev pub asked_for : ℕ → List MadeCall → List RequestCall
 asked_for who log = map (λ call. call.asked) (made_for who log)
 
 abbrev pub told_for : ℕ → List MadeCall → List Reply

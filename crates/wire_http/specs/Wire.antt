@@ -7,7 +7,7 @@ use Rattle.policy_core.specs.declared.call.Call.{Call}
 use Rattle.space_core.specs.declared.space.Space.{Ghosts}
 use Rattle.service_calls.specs.declared.service.Service.{Service}
 use Rattle.service_step.specs.declared.reply.Reply.{Reply}
-use Rattle.service_calls.specs.Run.{Answered, Timed}
+use Rattle.service_calls.specs.Run.{Answered, TimedCall}
 use Rattle.wire_http.specs.declared.fault.StreamFault.{StreamFault}
 use Rattle.wire_http.specs.declared.fault.StreamFault.TheVariants as faults
 use Rattle.wire_head.specs.declared.rule.WireRule.{WireRule}
@@ -15,19 +15,19 @@ use Rattle.wire_http.specs.Fault.{IsOfAnswering, IsOfAsking}
 use Rattle.wire_http.specs.declared.end.End.{End}
 use Rattle.wire_http.specs.declared.end.End.TheVariants as ends
 use Rattle.wire_http.specs.declared.end.Served.{Served}
-use Rattle.wire_route.specs.declared.place.Place.{Place}
+use Rattle.wire_route.specs.declared.endpoint.Endpoint.{Endpoint}
 use Rattle.wire_head.specs.Rest.{IsKind, whole, after}
-use Rattle.wire_head.specs.Length.{length_of}
+use Rattle.wire_head.specs.Length.{content_length}
 use Rattle.token_conf.specs.TokenFile.{Callers}
 use Rattle.wire_http.specs.Asked.{IsCallOf, fields_of}
-use Rattle.wire_http.specs.Text.{answer_text, rule_text, end_texts}
+use Rattle.wire_http.specs.Text.{response_text, rule_text, end_texts}
 use Rattle.wire_head.specs.Close.{closes_by}
 use Rattle.wire_http.specs.Stop.{Breaks, StopsAs}
 
 -- the rest begins with a whole request: a head, and then as many bytes of a body as its fields tell
 pub record IsRequest (rest : List ℕ) (h : RequestHead) (body : List ℕ) : Type 0 where
   pub head : IsKind rest (whole h)
-  pub told : length_of (fields_of h) ≡ Ok (length body)
+  pub told : content_length (fields_of h) ≡ Ok (length body)
   pub follows : take (length body) (after h rest) ≡ body
 
 -- the connection closes after a request with that head
@@ -40,30 +40,30 @@ left_after n h = if closes h then 0 else n
 
 -- a request that was asked: its head, the place of its path, its moment and its call, and whether
 -- the connection closes after it
-pub record Asked : Type 0 where
+pub record RequestCall : Type 0 where
   pub head : RequestHead
-  pub place : Option Place
+  pub endpoint : Option Endpoint
   pub moment : ℕ
   pub call : Call
   pub closing : Bool
 
-abbrev pub timed : Asked → Timed
+abbrev pub timed : RequestCall → TimedCall
 timed asked = (asked.moment, asked.call)
 
 module _ {M : Type 0} (Gives : M → ℕ → M → Type 0) (callers : Callers) where
   -- The rest begins with a request that asks this call, at the next moment of the clock. After it
   -- stands next.
-  pub record AsksCall (rest : List ℕ) (clock : M) (asked : Asked) (next : List ℕ) (clock' : M)
+  pub record AsksCall (rest : List ℕ) (clock : M) (asked : RequestCall) (next : List ℕ) (clock' : M)
       : Type 0 where
     pub body : List ℕ
     pub request : IsRequest rest asked.head body
-    pub call : IsCallOf callers asked.head body asked.place asked.call
+    pub call : IsCallOf callers asked.head body asked.endpoint asked.call
     pub moment : Gives clock asked.moment clock'
     pub next_is : next ≡ drop (length body) (after asked.head rest)
 
   -- Of at most so many requests of the rest these are the first, one after the other. They lead to
   -- where so many may still come, to that rest and that clock.
-  abbrev pub Leads : ℕ → List ℕ → M → List Asked → ℕ → List ℕ → M → Type 0
+  abbrev pub Leads : ℕ → List ℕ → M → List RequestCall → ℕ → List ℕ → M → Type 0
   Leads bound rest clock [] n left later = (n ≡ bound) × (left ≡ rest) × (later ≡ clock)
   Leads zero rest clock (asked ∷ more) n left later = ⊥
   Leads (suc bound) rest clock (asked ∷ more) n left later =
@@ -90,10 +90,10 @@ Finishes zero left end = end ≡ ends.Close
 Finishes (suc n) left end = StopsAs left end
 
 -- the texts of the answers, one after the other
-abbrev pub answers : List Asked → List Reply → List (List ℕ)
+abbrev pub answers : List RequestCall → List Reply → List (List ℕ)
 answers [] replies = []
 answers (asked ∷ more) [] = []
-answers (asked ∷ more) (reply ∷ replies) = answer_text asked.place asked.closing reply
+answers (asked ∷ more) (reply ∷ replies) = response_text asked.endpoint asked.closing reply
     ∷ answers more replies
 
 -- what may follow the answers before a fault: nothing, or the text of the rule that the rest breaks
@@ -138,7 +138,7 @@ pub record Serves
     (bound : ℕ) (input : List ℕ)
     (old new : Service S) (clock clock' : M) (before text : Option (List ℕ)) (served : Served)
     : Type 0 where
-  pub all : List Asked
+  pub all : List RequestCall
   pub replies : List Reply
   pub n : ℕ
   pub left : List ℕ
@@ -155,7 +155,7 @@ pub record ServesPart
     (bound : ℕ) (input : List ℕ)
     (old new : Service S) (clock clock' : M) (before text : Option (List ℕ)) (fault : StreamFault)
     : Type 0 where
-  pub all : List Asked
+  pub all : List RequestCall
   pub replies : List Reply
   pub n : ℕ
   pub left : List ℕ

@@ -6,7 +6,7 @@ ghost use Rattle.token_conf.specs.TokenFile.{callers_of};
 ghost use Rattle.wire_body.specs.Body.{words_of};
 ghost use Rattle.wire_http.specs.Fault.{GaveUpAsking};
 ghost use Rattle.wire_http.specs.Received.{IsKindIn, IsMadeBy, IsReceived};
-ghost use Rattle.wire_http.specs.Noted.{kind_asked};
+ghost use Rattle.wire_http.specs.RequestInfo.{kind_asked};
 ghost use Rattle.wire_head.specs.Close.{closes_by};
 ghost use Rattle.wire_http.specs.Asked.{caller_of, IsReadAs, IsAsked};
 
@@ -19,10 +19,10 @@ use std::alloc::{AllocError, Global};
 use token_conf::token_table::TokenTable;
 use wire_body::body::{PathWords, read_body};
 use wire_body::body_fault::BodyFault;
-use wire_head::bearer::token_of;
-use wire_head::close::closes;
+use wire_head::bearer::bearer_token;
+use wire_head::close::closes_connection;
 use wire_head::target::path_of;
-use wire_route::place::Place;
+use wire_route::endpoint::Endpoint;
 use wire_route::routes::{Route, Routes};
 
 // The operation of a kind, or malformed where the words and the body ask for none.
@@ -44,8 +44,8 @@ fn read_as(
 // What a path, a method and a body ask for: the place of the path, the kind that the place has of
 // the method, and the operation.
 #[derive(Drop)]
-struct Sought {
-    place: Option<Place>,
+struct RoutedOperation {
+    endpoint: Option<Endpoint>,
     kind: Option<OpKind>,
     op: Operation,
 }
@@ -57,27 +57,27 @@ fn seek(
     path: &str,
     method: &[u8],
     body: &[u8],
-) -> Result<Sought, AllocError>
-    ensures asked { IfOk result (λ s. IsAsked path.now method.now body.now s.place s.op) }
-    ensures kind { IfOk result (λ s. s.kind ≡ kind_asked s.place method.now) }
+) -> Result<RoutedOperation, AllocError>
+    ensures asked { IfOk result (λ s. IsAsked path.now method.now body.now s.endpoint s.op) }
+    ensures kind { IfOk result (λ s. s.kind ≡ kind_asked s.endpoint method.now) }
 {
-    let Some(Route { place, words }) = routes.find(path) else {
-        return Ok(Sought {
-            place: None,
+    let Some(Route { endpoint, words }) = routes.find(path) else {
+        return Ok(RoutedOperation {
+            endpoint: None,
             kind: None,
             op: Operation::NoRoute,
         });
     };
-    let Some(kind) = place.kind(method) else {
-        return Ok(Sought {
-            place: Some(place),
+    let Some(kind) = endpoint.kind(method) else {
+        return Ok(RoutedOperation {
+            endpoint: Some(endpoint),
             kind: None,
             op: Operation::NoMethod,
         });
     };
     let op = read_as(alloc, kind, &words, body)?;
-    Ok(Sought {
-        place: Some(place),
+    Ok(RoutedOperation {
+        endpoint: Some(endpoint),
         kind: Some(kind),
         op,
     })
@@ -93,7 +93,7 @@ fn caller_of(
     ensures { IfOk result (λ caller. caller
         ≡ caller_of (callers_of tokens.now) (map (header_bytes buffer.now) fields.now)) }
 {
-    let Some(token) = token_of(buffer, fields) else {
+    let Some(token) = bearer_token(buffer, fields) else {
         return Ok(None);
     };
     let Some(caller) = tokens.caller(token) else {
@@ -119,8 +119,8 @@ pub(crate) struct Received<'b> {
 /// The call that a request makes, with the place of its path, the kind that the place has of its
 /// method, and its moment.
 #[derive(Drop)]
-pub(crate) struct Pending {
-    pub(crate) place: Option<Place>,
+pub(crate) struct RoutedCall {
+    pub(crate) endpoint: Option<Endpoint>,
     pub(crate) kind: Option<OpKind>,
     pub(crate) moment: u64,
     pub(crate) call: Call,
@@ -133,11 +133,11 @@ fn call_of(
     tokens: &TokenTable,
     received: Received<'_>,
     moment: u64,
-) -> Result<Pending, AllocError>
+) -> Result<RoutedCall, AllocError>
     requires { IsReceived received }
     ensures made { IfOk result (λ p.
-        IsMadeBy (callers_of tokens.now) received.entry p.place p.call) }
-    ensures kind { IfOk result (λ p. IsKindIn received.entry p.place p.kind) }
+        IsMadeBy (callers_of tokens.now) received.entry p.endpoint p.call) }
+    ensures kind { IfOk result (λ p. IsKindIn received.entry p.endpoint p.kind) }
     ensures moment { IfOk result (λ p. p.moment ≡ moment) }
 {
     let Received {
@@ -151,10 +151,16 @@ fn call_of(
     };
     let path = path_of(target);
     let body = &buffer[spans.len..spans.len + size];
-    let Sought { place, kind, op } = seek(alloc, routes, path, spans.method.of(buffer), body)?;
+    let RoutedOperation { endpoint, kind, op } = seek(
+        alloc,
+        routes,
+        path,
+        spans.method.of(buffer),
+        body,
+    )?;
     let caller = caller_of(tokens, buffer, &fields[..spans.headers])?;
-    Ok(Pending {
-        place,
+    Ok(RoutedCall {
+        endpoint,
         kind,
         moment,
         call: Call { caller, op },
@@ -175,7 +181,7 @@ pub(crate) fn left_after(received: Received<'_>, count: u32) -> u32
         spans,
         size: _,
     } = received;
-    if closes(buffer, spans.version, &fields[..spans.headers]) {
+    if closes_connection(buffer, spans.version, &fields[..spans.headers]) {
         0
     } else {
         count
@@ -189,11 +195,11 @@ pub(crate) fn ask<M: Moments>(
     tokens: &TokenTable,
     moments: &mut M,
     received: Received<'_>,
-) -> Result<Pending, StreamFault>
+) -> Result<RoutedCall, StreamFault>
     requires { IsReceived received }
     ensures made { IfOk result (λ p.
-        IsMadeBy (callers_of tokens.now) received.entry p.place p.call) }
-    ensures kind { IfOk result (λ p. IsKindIn received.entry p.place p.kind) }
+        IsMadeBy (callers_of tokens.now) received.entry p.endpoint p.call) }
+    ensures kind { IfOk result (λ p. IsKindIn received.entry p.endpoint p.kind) }
     ensures moment { IfOk result (λ p. M.gives moments.old p.moment moments.new) }
     ensures good { OnOk result (M.failures moments.new ≡ M.failures moments.old) }
     ensures taken { result ≡ Err StreamFault.Memory

@@ -4,29 +4,29 @@ ghost use Rattle.std.specs.Prelude.{◌++◌, IfOk, OnOk, OnErr, vec_len, vec_ca
 ghost use Rattle.std.specs.List.{concat};
 ghost use Rattle.std.specs.Option.{ForSome};
 ghost use Rattle.service_calls.specs.Held.{Stays};
-ghost use Rattle.wire_http.specs.Held.{HasNoneBelow, HeldFits, IsHeld, IsLight, most_held};
-ghost use Rattle.wire_http.specs.HeldBack.{StandsWithin};
-ghost use Rattle.wire_http.specs.Noted.{outcome_of};
+ghost use Rattle.wire_http.specs.BufferState.{HasNoneBelow, HeldFits, IsHeld, IsLight, max_buffered};
+ghost use Rattle.wire_http.specs.DeferredResponse.{StandsWithin};
+ghost use Rattle.wire_http.specs.RequestInfo.{outcome_of};
 ghost use Rattle.wire_http.specs.Reply.{Replies, RepliesPart};
-ghost use Rattle.wire_http.specs.Text.{answer_text, end_texts};
+ghost use Rattle.wire_http.specs.Text.{response_text, end_texts};
 
-use crate::call::{Pending, Received, ask, left_after};
+use crate::buffered::{BufferState, next_held};
+use crate::call::{Received, RoutedCall, ask, left_after};
 use crate::end::End;
 use crate::fault::StreamFault;
-use crate::held::{Held, next_held};
 use crate::moments::Moments;
-use crate::noted::{Noted, Outcome, note_end, note_instead, noted_as, outcome_of};
 use crate::request::Next;
+use crate::request_info::{Outcome, RequestInfo, note_end, note_instead, noted_as, outcome_of};
 use crate::serve::REQUESTS;
 use crate::source::shift;
-use crate::text::{answer_text, rule_text};
+use crate::text::{response_text, rule_text};
 use httparse::spans::{EMPTY_HEADER_SPAN, HeaderSpan, RequestSpans};
 use service_calls::service::Service;
 use service_step::reply::Reply;
 use space_core::space::Space;
 use std::alloc::{AllocError, Global};
 use token_conf::token_table::TokenTable;
-use wire_route::place::Place;
+use wire_route::endpoint::Endpoint;
 use wire_route::routes::Routes;
 
 // The most bytes that are held: those of a head and of a body.
@@ -39,7 +39,7 @@ const MOST_KEPT: usize = 65_536;
 #[derive(Clone, Copy, Debug, PartialEq, Eq)]
 pub enum Step {
     /// Nothing: no whole request is held, and more may come.
-    Waits,
+    NeedsInput,
     /// A request was answered, and at most so many may follow it.
     Answered(u32),
     /// No request more is answered: the stream ended so.
@@ -73,17 +73,17 @@ fn put_behind(buffer: &mut Vec<u8>, bytes: &[u8]) -> Result<(), AllocError>
 fn answer_behind(
     alloc: Global,
     output: &mut Vec<u8>,
-    place: Option<Place>,
+    endpoint: Option<Endpoint>,
     closing: bool,
     reply: &Reply,
 ) -> Result<(), AllocError>
     requires light { IsLight (vec_len output.old) (vec_capacity output.old) }
     ensures whole { OnOk result
-        (output.new.items ≡ output.old.items ++ answer_text place closing reply.now) }
+        (output.new.items ≡ output.old.items ++ response_text endpoint closing reply.now) }
     ensures same { OnErr result (output.new.items ≡ output.old.items) }
     ensures light { IsLight (vec_len output.new) (vec_capacity output.new) }
 {
-    let Ok(text) = answer_text(alloc, place, closing, reply) else {
+    let Ok(text) = response_text(alloc, endpoint, closing, reply) else {
         return Err(AllocError);
     };
     match put_behind(output, text.as_slice()) {
@@ -97,16 +97,16 @@ fn reply_behind<S: Space + Drop>(
     alloc: Global,
     service: &mut Service<S>,
     output: &mut Vec<u8>,
-    pending: &Pending,
+    pending: &RoutedCall,
     closing: bool,
 ) -> Result<Outcome, AllocError>
     requires light { IsLight (vec_len output.old) (vec_capacity output.old) }
     ensures replies { IfOk result (λ outcome. (made : Replies S.Space service.old service.new
-        pending.now.moment pending.now.call pending.now.place closing
+        pending.now.moment pending.now.call pending.now.endpoint closing
         (Some output.old.items) (Some output.new.items))
         × (outcome ≡ outcome_of made.reply)) }
     ensures part { OnErr result (RepliesPart S.Space service.old service.new
-        pending.now.moment pending.now.call pending.now.place closing
+        pending.now.moment pending.now.call pending.now.endpoint closing
         (Some output.old.items) (Some output.new.items)) }
     ensures stays { Stays S.Space service.old service.new }
     ensures same { OnErr result (output.new.items ≡ output.old.items) }
@@ -114,7 +114,7 @@ fn reply_behind<S: Space + Drop>(
     ensures light { IsLight (vec_len output.new) (vec_capacity output.new) }
 {
     let reply = service.call(alloc, pending.moment, &pending.call);
-    match answer_behind(alloc, output, pending.place, closing, &reply) {
+    match answer_behind(alloc, output, pending.endpoint, closing, &reply) {
         Ok(()) => Ok(outcome_of(&reply)),
         Err(_) => Err(AllocError),
     }
@@ -143,9 +143,9 @@ fn end_behind(alloc: Global, output: &mut Vec<u8>, end: End) -> Result<(), Alloc
 // The answer that is held back, the last of all: where its text begins, the place of its request,
 // and whether the connection closes after it.
 #[derive(Clone, Copy)]
-struct HeldBack {
+struct DeferredResponse {
     start: usize,
-    place: Option<Place>,
+    endpoint: Option<Endpoint>,
     closing: bool,
 }
 
@@ -164,10 +164,10 @@ pub struct Connection {
     done: bool,
     answers: Vec<u8>,
     sent: usize,
-    held_back: Option<HeldBack>,
-    noted: Option<Noted>,
-    ghost held_fits: { length held.items ≤ most_held },
-    ghost wanted_fits: { wanted ≤ most_held },
+    held_back: Option<DeferredResponse>,
+    noted: Option<RequestInfo>,
+    ghost held_fits: { length held.items ≤ max_buffered },
+    ghost wanted_fits: { wanted ≤ max_buffered },
     ghost none_below: { HasNoneBelow held.items wanted },
     ghost sent_fits: { sent ≤ length answers.items },
     ghost last_fits: { ForSome held_back (StandsWithin sent (length answers.items)) },
@@ -183,9 +183,9 @@ impl Connection {
     ghost use Rattle.wire_http.specs.Connection.{output_of, ready_of, held_back_of};
     ghost use Rattle.wire_http.specs.Connection.{holds_back, slot_of, noted_of, HasRoom};
     ghost use Rattle.wire_http.specs.Connection.{IsStep, IsNotedStep, IsStepPart};
-    ghost use Rattle.wire_http.specs.HeldBack.{text_at};
+    ghost use Rattle.wire_http.specs.DeferredResponse.{text_at};
     ghost use Rattle.wire_http.specs.Count.{one_more};
-    ghost use Rattle.wire_http.specs.Noted.{noted_instead};
+    ghost use Rattle.wire_http.specs.RequestInfo.{noted_instead};
 
     /// A connection from which nothing has come. It takes no memory.
     pub fn new(alloc: Global) -> Connection
@@ -212,22 +212,22 @@ impl Connection {
 
     /// How many bytes more it takes in: none where a head and a body of the greatest sizes are
     /// held.
-    pub fn room(&self) -> usize
-        ensures { result ≡ most_held - length (held_of self.now) }
+    pub fn remaining_capacity(&self) -> usize
+        ensures { result ≡ max_buffered - length (held_of self.now) }
     {
         MOST_HELD - self.held.len()
     }
 
     /// How many bytes are held.
-    pub fn bytes_held(&self) -> usize
+    pub fn buffered_len(&self) -> usize
         ensures held { result ≡ length (held_of self.now) }
-        ensures most { result ≤ most_held }
+        ensures most { result ≤ max_buffered }
     {
         self.held.len()
     }
 
     /// Whether bytes are held.
-    pub fn holds_any(&self) -> bool
+    pub fn has_buffered(&self) -> bool
         ensures { IsTrue result ↔ (0 < length (held_of self.now)) }
     {
         !self.held.is_empty()
@@ -235,7 +235,7 @@ impl Connection {
 
     /// What its last answer was to, and how that ended: nothing before the first. The text of a
     /// rule of the wire is an answer, too.
-    pub fn noted(&self) -> Option<&Noted>
+    pub fn last_request(&self) -> Option<&RequestInfo>
         ensures { option_map (λ noted. noted.now) result ≡ noted_of self.now }
     {
         self.noted.as_ref()
@@ -299,7 +299,7 @@ impl Connection {
     }
 
     /// Says that so many of them were sent.
-    pub fn sent(&mut self, count: usize)
+    pub fn mark_sent(&mut self, count: usize)
         requires { count ≤ length (ready_of self.old) }
         ensures held { held_of self.new ≡ held_of self.old }
         ensures output { output_of self.new ≡ drop count (output_of self.old) }
@@ -320,14 +320,14 @@ impl Connection {
     }
 
     /// Whether an answer is held back.
-    pub fn holds_back(&self) -> bool
+    pub fn has_deferred(&self) -> bool
         ensures { result ≡ holds_back self.now }
     {
         self.held_back.is_some()
     }
 
     /// The answer that is held back; no bytes where none is.
-    pub fn held_back(&self) -> &[u8]
+    pub fn deferred(&self) -> &[u8]
         ensures { result.now ≡ held_back_of self.now }
     {
         match self.held_back {
@@ -337,7 +337,7 @@ impl Connection {
     }
 
     /// Lets the answer that is held back go.
-    pub fn let_go(&mut self)
+    pub fn release_deferred(&mut self)
         ensures held { held_of self.new ≡ held_of self.old }
         ensures output { output_of self.new ≡ output_of self.old }
         ensures ready { ready_of self.new ≡ output_of self.old }
@@ -353,7 +353,7 @@ impl Connection {
     /// Puts the answer to this reply in the place of the one that is held back, and lets it go.
     ///
     /// For want of memory no byte of either is to be sent, and no request more is answered.
-    pub fn replace(&mut self, alloc: Global, reply: &Reply) -> Result<(), AllocError>
+    pub fn replace_deferred(&mut self, alloc: Global, reply: &Reply) -> Result<(), AllocError>
         ensures held { held_of self.new ≡ held_of self.old }
         ensures output { OnOk result
             (output_of self.new ≡ ready_of self.old ++ text_at (slot_of self.old) reply.now) }
@@ -374,7 +374,7 @@ impl Connection {
         note_instead(&mut self.noted, reply);
         self.answers.truncate(last.start);
         give_back(&mut self.answers);
-        match answer_behind(alloc, &mut self.answers, last.place, last.closing, reply) {
+        match answer_behind(alloc, &mut self.answers, last.endpoint, last.closing, reply) {
             Ok(()) => Ok(()),
             Err(_) => {
                 self.done = true;
@@ -398,9 +398,9 @@ impl Connection {
         requires none_back { holds_back self.old ≡ false }
         requires some { 0 < left_of self.old }
         requires held { IsHeld (held_of self.old) (has_ended self.old) fields.now
-            (Held.Gives (Next.Request spans size)) }
+            (BufferState.Gives (Next.Request spans size)) }
         requires fits { HeldFits (held_of self.old) fields.now
-            (Held.Gives (Next.Request spans size)) }
+            (BufferState.Gives (Next.Request spans size)) }
         ensures step { IfOk result (IsStep S.Space M.gives (callers_of tokens.now)
             service.old service.new moments.old moments.new self.old self.new) }
         ensures noted { IfOk result (IsNotedStep S.Space M.gives (callers_of tokens.now)
@@ -438,9 +438,9 @@ impl Connection {
         give_back(&mut self.held);
         self.wanted = 0;
         self.left = left;
-        self.held_back = Some(HeldBack {
+        self.held_back = Some(DeferredResponse {
             start,
-            place: pending.place,
+            endpoint: pending.endpoint,
             closing: left == 0,
         });
         self.noted = Some(noted_as(pending, outcome));
@@ -479,16 +479,16 @@ impl Connection {
         }
         // What was read once of these bytes tells that too few are held.
         if !self.ended && self.held.len() < self.wanted {
-            return Ok(Step::Waits);
+            return Ok(Step::NeedsInput);
         }
         let mut fields = [EMPTY_HEADER_SPAN; 64];
         match next_held(self.held.as_slice(), self.ended, &mut fields) {
-            Held::Gives(Next::Request(spans, size)) => {
+            BufferState::Gives(Next::Request(spans, size)) => {
                 self.answer_first(
                     alloc, routes, service, tokens, moments, &fields, spans, size,
                 )
             }
-            Held::Gives(Next::Stop(end)) => {
+            BufferState::Gives(Next::Stop(end)) => {
                 self.done = true;
                 match end_behind(alloc, &mut self.answers, end) {
                     Ok(()) => {
@@ -498,9 +498,9 @@ impl Connection {
                     Err(_) => Err(StreamFault::Memory),
                 }
             }
-            Held::Wants(count) => {
+            BufferState::Wants(count) => {
                 self.wanted = count;
-                Ok(Step::Waits)
+                Ok(Step::NeedsInput)
             }
         }
     }

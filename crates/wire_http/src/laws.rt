@@ -8,7 +8,7 @@ ghost use Rattle.wire_http.specs.Laws.{OneStream};
 ghost use Rattle.wire_http.specs.Wire.{IsRequest};
 ghost use Rattle.wire_head.specs.Rest.{Kind, IsKind, AreSame};
 ghost use Rattle.wire_head.specs.Target.{path_of};
-ghost use Rattle.wire_route.specs.declared.place.Place.{Place};
+ghost use Rattle.wire_route.specs.declared.endpoint.Endpoint.{Endpoint};
 
 use crate::moments::Moments;
 
@@ -26,7 +26,7 @@ pub fn one_request()
 
 /// A request makes one call at most, at one place.
 pub fn one_call()
-    ensures { (callers : Callers) (h : RequestHead) (body : List ℕ) (a b : Option Place)
+    ensures { (callers : Callers) (h : RequestHead) (body : List ℕ) (a b : Option Endpoint)
         (c d : Call)
         → IsCallOf callers h body a c → IsCallOf callers h body b d → (b ≡ a) × (d ≡ c) }
 {}

@@ -25,23 +25,23 @@ pub trait Moments {
 
 /// A clock that stands still: each moment is the same. It never fails.
 #[derive(Clone, Copy, Debug, PartialEq, Eq)]
-pub struct Fixed {
+pub struct FixedClock {
     moment: u64,
 }
 
-impl Fixed {
+impl FixedClock {
     ghost use Rattle.std.specs.Prelude.{◌≡◌};
     ghost use Rattle.wire_http.specs.Moments.{moment_of};
 
     /// A clock that stands at that moment.
-    pub fn new(moment: u64) -> Fixed
+    pub fn new(moment: u64) -> FixedClock
         ensures { moment_of result ≡ moment }
     {
-        Fixed { moment }
+        FixedClock { moment }
     }
 }
 
-impl Moments for Fixed {
+impl Moments for FixedClock {
     ghost use Rattle.std.specs.Prelude.{◌≡◌};
     ghost use Rattle.wire_http.specs.Moments.{moment_of};
 

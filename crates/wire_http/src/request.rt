@@ -1,13 +1,13 @@
 //! The next request of a stream.
 ghost use Rattle.std.specs.Prelude.{◌≡◌, length, true, IfOk};
-ghost use Rattle.wire_http.specs.Held.{HeldFits, IsHeld};
+ghost use Rattle.wire_http.specs.BufferState.{HeldFits, IsHeld};
 ghost use Rattle.wire_http.specs.Input.{known_bytes};
 ghost use Rattle.wire_http.specs.Next.{IsNext, NextFits};
 ghost use Rattle.wire_http.specs.Source.{ReadsSource, ahead_of, bytes_of};
 
+use crate::buffered::{BufferState, next_held};
 use crate::end::End;
 use crate::fault::StreamFault;
-use crate::held::{Held, next_held};
 use crate::source::Source;
 use httparse::spans::{HeaderSpan, RequestSpans};
 use std::io::Read;
@@ -25,12 +25,12 @@ pub(crate) enum Next {
 // What the bytes give where the input ends after them.
 fn last_held(bytes: &[u8], fields: &mut [HeaderSpan]) -> Next
     requires room { length fields.old ≡ FIELD_LIMIT }
-    ensures held { IsHeld bytes.now true fields.new (Held.Gives result) }
+    ensures held { IsHeld bytes.now true fields.new (BufferState.Gives result) }
     ensures fits { NextFits bytes.now fields.new result }
 {
     match next_held(bytes, true, fields) {
-        Held::Gives(next) => next,
-        Held::Wants(_) => unreachable!(),
+        BufferState::Gives(next) => next,
+        BufferState::Wants(_) => unreachable!(),
     }
 }
 
@@ -48,8 +48,8 @@ pub(crate) fn next_request<R: Read>(
 {
     'reading: loop {
         match next_held(source.buffer.as_slice(), false, fields) {
-            Held::Gives(next) => return Ok(next),
-            Held::Wants(count) => {
+            BufferState::Gives(next) => return Ok(next),
+            BufferState::Wants(count) => {
                 if !source.fill(count)? {
                     return Ok(last_held(source.buffer.as_slice(), fields));
                 }

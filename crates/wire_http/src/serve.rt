@@ -8,21 +8,21 @@ ghost use Rattle.service_calls.specs.Held.{Stays};
 ghost use Rattle.wire_http.specs.Counted.{inner_of, calls_of, failures_of, has_failed};
 ghost use Rattle.wire_http.specs.Count.{FailsLast, IsGreatest, one_more};
 ghost use Rattle.wire_http.specs.Count.{most_reads, most_requests};
-ghost use Rattle.wire_http.specs.Fault.{GaveUpAnswering, Tells};
+ghost use Rattle.wire_http.specs.Fault.{GaveUpAnswering, ReportsFailure};
 ghost use Rattle.wire_http.specs.Reply.{Replies, RepliesPart};
 ghost use Rattle.wire_http.specs.Source.{HasSpent, ahead_of, bytes_of};
 ghost use Rattle.wire_http.specs.Stream.{ServesStream, ServesStreamPart};
 ghost use Rattle.wire_http.specs.Text.{end_texts};
 ghost use Rattle.wire_http.specs.Turn.{IsTurn, IsTurnPart, MayGoOn};
 
-use crate::call::{Pending, Received, ask, left_after};
+use crate::call::{Received, RoutedCall, ask, left_after};
 use crate::counted::Counted;
 use crate::end::{End, Served};
 use crate::fault::StreamFault;
 use crate::moments::Moments;
 use crate::request::{Next, next_request};
 use crate::source::{Source, shift};
-use crate::text::{answer_text, rule_text};
+use crate::text::{response_text, rule_text};
 use crate::write::write_whole;
 use httparse::spans::EMPTY_HEADER_SPAN;
 use service_calls::service::Service;
@@ -43,14 +43,14 @@ fn answer<S: Space + Drop, W: Write>(
     alloc: Global,
     service: &mut Service<S>,
     writer: &mut Counted<W>,
-    pending: &Pending,
+    pending: &RoutedCall,
     closing: bool,
 ) -> Result<(), StreamFault>
     ensures replies { OnOk result (Replies S.Space service.old service.new
-        pending.now.moment pending.now.call pending.now.place closing
+        pending.now.moment pending.now.call pending.now.endpoint closing
         (W.contents (inner_of writer.old)) (W.contents (inner_of writer.new))) }
     ensures part { OnErr result (RepliesPart S.Space service.old service.new
-        pending.now.moment pending.now.call pending.now.place closing
+        pending.now.moment pending.now.call pending.now.endpoint closing
         (W.contents (inner_of writer.old)) (W.contents (inner_of writer.new))) }
     ensures good { OnOk result (failures_of writer.new ≡ failures_of writer.old) }
     ensures err { IfErr result (GaveUpAnswering (failures_of writer.old) (failures_of writer.new)
@@ -59,7 +59,7 @@ fn answer<S: Space + Drop, W: Write>(
     ensures stays { Stays S.Space service.old service.new }
 {
     let reply = service.call(alloc, pending.moment, &pending.call);
-    let Ok(text) = answer_text(alloc, pending.place, closing, &reply) else {
+    let Ok(text) = response_text(alloc, pending.endpoint, closing, &reply) else {
         return Err(StreamFault::Memory);
     };
     match write_whole(writer, text.as_slice()) {
@@ -123,7 +123,7 @@ fn serve_one<S: Space + Drop, M: Moments, R: Read, W: Write>(
         (W.contents (inner_of writer.old)) (W.contents (inner_of writer.new))
         (ahead_of R.remaining source.old) (bytes_of source.old)) }
     ensures goes_on { IfOk result (MayGoOn count) }
-    ensures tells { Tells source.old source.new writer.old writer.new
+    ensures tells { ReportsFailure source.old source.new writer.old writer.new
         (M.failures moments.old) (M.failures moments.new) result }
     ensures rises { calls_of writer.old ≤ calls_of writer.new }
     ensures spends { HasSpent source.old source.new }

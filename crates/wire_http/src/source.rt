@@ -3,13 +3,13 @@ ghost use Rattle.std.specs.Prelude.{◌≡◌, ◌<◌, ◌≤◌, ◌+◌, max,
 ghost use Rattle.std.specs.Io.KnownBytes.{IsAtEnd};
 ghost use Rattle.wire_http.specs.Source.{ReadsSource, ahead_of, bytes_of};
 
+use crate::buffered::HEAD_LIMIT;
 use crate::counted::Counted;
 use crate::fault::StreamFault;
-use crate::held::HEAD_LIMIT;
 use std::io::Read;
 
 // The most bytes that one read asks for: those of a whole head, and more of a body.
-const PIECE: usize = 16_384;
+const CHUNK: usize = 16_384;
 
 /// The input of a stream.
 #[derive(Drop)]
@@ -26,7 +26,7 @@ pub(crate) struct Source<'s, R> {
 impl<R: Read> Source<'_, R> {
     // Reads at most `room` bytes more to the end of the buffer, by way of the piece, in one turn.
     // `false` is the end of the input.
-    fn read_more(&mut self, piece: &mut [u8; PIECE], room: usize) -> Result<bool, StreamFault>
+    fn read_more(&mut self, chunk: &mut [u8; CHUNK], room: usize) -> Result<bool, StreamFault>
         requires { 0 < room }
         ensures reads { ReadsSource R.remaining self.old self.new result }
         ensures short { OnOk result
@@ -39,10 +39,10 @@ impl<R: Read> Source<'_, R> {
             return Err(StreamFault::Turns);
         }
         self.turns -= 1;
-        let most = room.min(PIECE);
-        match self.reader.read(&mut piece[..most]) {
+        let most = room.min(CHUNK);
+        match self.reader.read(&mut chunk[..most]) {
             Ok(0) => Ok(false),
-            Ok(n) => match self.buffer.extend_from_slice(&piece[..n]) {
+            Ok(n) => match self.buffer.extend_from_slice(&chunk[..n]) {
                 Ok(()) => Ok(true),
                 Err(_) => Err(StreamFault::Memory),
             },
@@ -62,10 +62,10 @@ impl<R: Read> Source<'_, R> {
         ensures fewer { IfOk result (λ whole. whole ≡ true → length (bytes_of self.old) < count
             → self.new.turns < self.old.turns) }
     {
-        let mut piece = [0u8; PIECE];
+        let mut chunk = [0u8; CHUNK];
         'filling: while self.buffer.len() < count {
             let room = count.max(HEAD_LIMIT) - self.buffer.len();
-            if !self.read_more(&mut piece, room)? {
+            if !self.read_more(&mut chunk, room)? {
                 return Ok(false);
             }
         }

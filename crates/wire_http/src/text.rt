@@ -1,7 +1,7 @@
 //! The text of an answer (RFC 9112, section 2.1; this project's profile).
 ghost use Rattle.std.specs.Prelude.{◌≡◌, IfOk};
 ghost use Rattle.std.specs.String.{string_bytes};
-ghost use Rattle.wire_http.specs.Text.{answer_text, reason_of, rule_field};
+ghost use Rattle.wire_http.specs.Text.{response_text, reason_of, rule_field};
 ghost use Rattle.wire_http.specs.Text.{reply_field, status_line, length_line};
 ghost use Rattle.wire_http.specs.Text.{close_field, front_of, rule_body, rule_text};
 
@@ -10,7 +10,7 @@ use service_step::reply::Reply;
 use std::alloc::{AllocError, Global};
 use wire_head::rule::WireRule;
 use wire_reply::answer::{reply_text, status};
-use wire_route::place::Place;
+use wire_route::endpoint::Endpoint;
 
 // The reason phrase of a status.
 #[tactic(auto, unfolding(crate::specs::Text::reason_of))]
@@ -36,11 +36,11 @@ fn reason_of(status: u16) -> &'static str
 }
 
 // The line of the field that tells which methods the place takes.
-fn allow_field(alloc: Global, place: Option<Place>) -> Result<String, AllocError>
-    ensures { IfOk result (λ field. string_bytes field ≡ rule_field place Rule.Method) }
+fn allow_field(alloc: Global, endpoint: Option<Endpoint>) -> Result<String, AllocError>
+    ensures { IfOk result (λ field. string_bytes field ≡ rule_field endpoint Rule.Method) }
 {
-    let methods = match place {
-        Some(place) => place.allow(),
+    let methods = match endpoint {
+        Some(endpoint) => endpoint.allow(),
         None => "",
     };
     let mut field = String::from_str(alloc, "Allow: ")?;
@@ -50,22 +50,26 @@ fn allow_field(alloc: Global, place: Option<Place>) -> Result<String, AllocError
 }
 
 // The line of the field that a denial adds.
-fn rule_field(alloc: Global, place: Option<Place>, rule: Rule) -> Result<String, AllocError>
-    ensures { IfOk result (λ field. string_bytes field ≡ rule_field place rule) }
+fn rule_field(alloc: Global, endpoint: Option<Endpoint>, rule: Rule) -> Result<String, AllocError>
+    ensures { IfOk result (λ field. string_bytes field ≡ rule_field endpoint rule) }
 {
     match rule {
-        Rule::Method => allow_field(alloc, place),
+        Rule::Method => allow_field(alloc, endpoint),
         Rule::Token => String::from_str(alloc, "WWW-Authenticate: Bearer\r\n"),
         _ => Ok(String::new(alloc)),
     }
 }
 
 // The line of the field that a reply adds.
-fn reply_field(alloc: Global, place: Option<Place>, reply: &Reply) -> Result<String, AllocError>
-    ensures { IfOk result (λ field. string_bytes field ≡ reply_field place reply.now) }
+fn reply_field(
+    alloc: Global,
+    endpoint: Option<Endpoint>,
+    reply: &Reply,
+) -> Result<String, AllocError>
+    ensures { IfOk result (λ field. string_bytes field ≡ reply_field endpoint reply.now) }
 {
     match reply {
-        Reply::Denied(rule, _) => rule_field(alloc, place, *rule),
+        Reply::Denied(rule, _) => rule_field(alloc, endpoint, *rule),
         _ => Ok(String::new(alloc)),
     }
 }
@@ -118,16 +122,16 @@ fn front_of(
 }
 
 /// The answer to a request at a place.
-pub(crate) fn answer_text(
+pub(crate) fn response_text(
     alloc: Global,
-    place: Option<Place>,
+    endpoint: Option<Endpoint>,
     closing: bool,
     reply: &Reply,
 ) -> Result<Vec<u8>, AllocError>
-    ensures { IfOk result (λ text. text.items ≡ answer_text place closing reply.now) }
+    ensures { IfOk result (λ text. text.items ≡ response_text endpoint closing reply.now) }
 {
     let body = reply_text(alloc, reply)?;
-    let field = reply_field(alloc, place, reply)?;
+    let field = reply_field(alloc, endpoint, reply)?;
     let front = front_of(alloc, status(reply), field.as_str(), closing, body.len())?;
     let mut text = front.into_bytes();
     text.extend_from_slice(body.as_slice())?;

@@ -12,7 +12,7 @@ use Rattle.entity_core.specs.declared.nature.Kind.{Kind}
 use Rattle.entity_core.specs.declared.nature.Kind.TheVariants as kinds
 use Rattle.entity_core.specs.declared.nature.Nature.{Nature}
 use Rattle.entity_core.specs.declared.nature.Nature.TheVariants.{Intent, Constraint}
-use Rattle.service_notices.specs.declared.notice.Notify.{Notify}
+use Rattle.service_notify.specs.declared.notice.Notify.{Notify}
 use Rattle.policy_core.specs.declared.reference.Missing.{Missing}
 use Rattle.policy_core.specs.declared.reference.Reference.{Reference}
 use Rattle.policy_core.specs.declared.rule.Rule.{Rule}

@@ -12,7 +12,7 @@ use Rattle.policy_core.specs.declared.rule.Rule.{Rule}
 use Rattle.policy_core.specs.declared.rule.Rule.TheVariants.{Key}
 use Rattle.policy_core.specs.declared.sub_view.SubView.{SubView}
 use Rattle.policy_core.specs.Rule as rules
-use Rattle.service_notices.specs.declared.notice.Notify.{Notify}
+use Rattle.service_notify.specs.declared.notice.Notify.{Notify}
 use Rattle.service_step.specs.declared.reply.Answer.{Answer}
 use Rattle.service_step.specs.declared.reply.Answer.TheVariants.{Created, Changed, Found, Listed, Avail, SubStored, SubFound, SubListed}
 use Rattle.service_step.specs.declared.reply.Reply.{Reply}

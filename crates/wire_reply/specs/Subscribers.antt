@@ -2,7 +2,7 @@
 use Rattle.std.specs.Prelude.{ℕ, List, [], ◌∷◌, map, codes}
 use Rattle.std.specs.Fmt.{decimal}
 use Rattle.json.specs.Print.{quoted}
-use Rattle.service_notices.specs.declared.notice.Notify.{Notify}
+use Rattle.service_notify.specs.declared.notice.Notify.{Notify}
 use Rattle.wire_reply.specs.Json.{object_text, array_text}
 use Rattle.wire_reply.specs.SubView.{id_text}
 

@@ -13,7 +13,7 @@ use policy_core::reference::{Missing, Reference, References};
 use policy_core::rule::Rule;
 use policy_core::sub_view::{SubView, SubViews};
 use serde_json::{Value, json};
-use service_notices::notice::Notices;
+use service_notify::notice::Notices;
 use service_step::reply::{Answer, Reply};
 use std::alloc::{AllocError, Global};
 use wire_body::availability::name_of;

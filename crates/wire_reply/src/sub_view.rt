@@ -7,7 +7,7 @@ ghost use Rattle.wire_reply.specs.Built.{id_data, ids_data, sub_data, subs_data}
 use crate::reference::{put_number, put_text};
 use entity_core::entity_id::EntityId;
 use entity_core::nature::Kind;
-use policy_core::sub_view::{Ids, SubView, SubViews};
+use policy_core::sub_view::{EntityIds, SubView, SubViews};
 use serde_json::{Map, Value, put};
 use std::alloc::{AllocError, Global};
 
@@ -31,7 +31,7 @@ fn id_json(alloc: Global, id: EntityId) -> Result<Value, AllocError>
 }
 
 // Ids as JSON, in their order.
-fn ids_json(alloc: Global, ids: &Ids) -> Result<Value, AllocError>
+fn ids_json(alloc: Global, ids: &EntityIds) -> Result<Value, AllocError>
     ensures { IfOk result (λ v. view v ≡ ids_data ids.now) }
 {
     let mut values = Vec::new(alloc);

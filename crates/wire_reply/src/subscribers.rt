@@ -5,7 +5,7 @@ ghost use Rattle.wire_reply.specs.Built.{state_data, states_data, notify_data, s
 
 use entity_core::entity_id::EntityId;
 use serde_json::{Value, json};
-use service_notices::notice::{Notices, Notify, States};
+use service_notify::notice::{Notices, Notify, SubIndexes};
 use std::alloc::{AllocError, Global};
 
 fn state_json(alloc: Global, state: (EntityId, u64)) -> Result<Value, AllocError>
@@ -18,7 +18,7 @@ fn state_json(alloc: Global, state: (EntityId, u64)) -> Result<Value, AllocError
 }
 
 // Subscriptions as JSON, in their order.
-fn states_json(alloc: Global, states: &States) -> Result<Value, AllocError>
+fn states_json(alloc: Global, states: &SubIndexes) -> Result<Value, AllocError>
     ensures { IfOk result (λ v. view v ≡ states_data states.now) }
 {
     let mut values = Vec::new(alloc);

@@ -15,9 +15,9 @@ use Rattle.matchit.specs.Seek as seek
 use Rattle.entity_core.specs.declared.nature.Kind.{Kind}
 use Rattle.entity_core.specs.declared.nature.Kind.TheVariants.{Intent, Constraint}
 use Rattle.wire_body.specs.Body.{Words}
-use Rattle.wire_route.specs.declared.place.Place.{Place}
-use Rattle.wire_route.specs.declared.place.Place.TheVariants.{Query, Entity, EntityAtOvn, Availability, SubscriptionQuery, Subscription, SubscriptionAtVersion}
-use Rattle.wire_route.specs.Place.{references_of, subscriptions, front_of}
+use Rattle.wire_route.specs.declared.endpoint.Endpoint.{Endpoint}
+use Rattle.wire_route.specs.declared.endpoint.Endpoint.TheVariants.{Query, Entity, EntityAtOvn, Availability, SubscriptionQuery, Subscription, SubscriptionAtVersion}
+use Rattle.wire_route.specs.Endpoint.{references_of, subscriptions, front_of}
 use Rattle.wire_route.specs.Route.{has_slash, is_part, may_be_id, two_words, AreTwoWords, AreWordsOf, IsRoute, HasNoRoute}
 use Rattle.wire_route.specs.Table.{table, with_route, named_place}
 use Rattle.wire_route.proofs.Seeks.{is_plain, steps, pass, seek-empty, leaf, single, two_parts, last_part}
@@ -46,10 +46,10 @@ lacks (x ∷ s) e = by (x == 47) refl e (lacks s)
     by false q e2 ih = ih (omega (arith, e2))
 
 -- a text stands round its first slash
-pub round : (s : List ℕ) → position_or_len (λ b. b == 47) s < length s
+pub around_slash : (s : List ℕ) → position_or_len (λ b. b == 47) s < length s
     → (s ≡ before_first (λ b. b == 47) s ++ 47 ∷ after_first (λ b. b == 47) s) × (has_slash (before_first (λ b. b == 47) s) ≡ false)
-round [] l = absurd (omega arith)
-round (x ∷ s) l = by (x == 47) refl l (round s)
+around_slash [] l = absurd (omega arith)
+around_slash (x ∷ s) l = by (x == 47) refl l (around_slash s)
   where
     by : (c : Bool) → (x == 47) ≡ c → cond (not c) (1 + position_or_len (λ b. b == 47) s) 0 < suc (length s)
         → (position_or_len (λ b. b == 47) s < length s
@@ -107,7 +107,7 @@ same_two rest v w x y =
     let same = two_are rest x.id x.ovn w x.splits (part_lacks x.id (and_parts _ _ x.names).0) y in
     y.words_are ∙ ap (λ i. two_words i y.ovn) same.0 ∙ ap (two_words x.id) same.1 ∙ sym x.words_are
 
-one_words : (place : Place) (rest : List ℕ) (v w : Words) → AreWordsOf place rest v → AreWordsOf place rest w → w ≡ v
+one_words : (endpoint : Endpoint) (rest : List ℕ) (v w : Words) → AreWordsOf endpoint rest v → AreWordsOf endpoint rest w → w ≡ v
 one_words (Query kind) rest v w x y = y.1 ∙ sym x.1
 one_words (Entity kind) rest v w x y = y.1 ∙ sym x.1
 one_words (EntityAtOvn kind) rest v w x y = same_two rest v w x y
@@ -118,10 +118,10 @@ one_words SubscriptionAtVersion rest v w x y = same_two rest v w x y
 
 -- ---- the table
 
-places : RowsOf Place
-places = rename (λ (r : RouteOf Place). r.value) table
+places : RowsOf Endpoint
+places = rename (λ (r : RouteOf Endpoint). r.value) table
 
-mapped : (x : Option (RouteOf Place)) → option_map (λ r. r.value) x ≡ map_key (λ r. r.value) x
+mapped : (x : Option (RouteOf Endpoint)) → option_map (λ r. r.value) x ≡ map_key (λ r. r.value) x
 mapped None = refl
 mapped (Some r) = refl
 
@@ -156,7 +156,7 @@ unfolding places matchit_on_literals table with_route
 subscriptions_steps = refl
 
 -- a front, and the places of its query, of an id and of an id with a part after it
-record LeadsTo (front : List ℕ) (query id at : Place) : Type 0 where
+record LeadsTo (front : List ℕ) (query id at : Endpoint) : Type 0 where
   plain : is_plain front places ≡ true
   rest_is : steps front places ≡ leaf query at id
 
@@ -167,25 +167,25 @@ subscriptions_lead : LeadsTo subscriptions SubscriptionQuery Subscription Subscr
 subscriptions_lead = record { plain = subscriptions_plain; rest_is = subscriptions_steps }
 
 -- what stands after such a front
-named_after : (front : List ℕ) (query id at : Place) → LeadsTo front query id at → (rest : List ℕ) → named_place (front ++ rest) ≡ seek.seek 0 (leaf query at id) rest
+named_after : (front : List ℕ) (query id at : Endpoint) → LeadsTo front query id at → (rest : List ℕ) → named_place (front ++ rest) ≡ seek.seek 0 (leaf query at id) rest
 named_after front query id at leads rest =
-    named_is (front ++ rest) ∙ pass front places rest leads.plain ∙ ap (λ (rows : RowsOf Place). seek.seek 0 rows rest) leads.rest_is
+    named_is (front ++ rest) ∙ pass front places rest leads.plain ∙ ap (λ (rows : RowsOf Endpoint). seek.seek 0 rows rest) leads.rest_is
 
-query_named : (query id at : Place) → seek.seek 0 (leaf query at id) (codes "query") ≡ Some query
+query_named : (query id at : Endpoint) → seek.seek 0 (leaf query at id) (codes "query") ≡ Some query
 unfolding matchit_on_literals
 query_named query id at = refl
 
-query_found : (front : List ℕ) (query id at : Place) → LeadsTo front query id at → (rest : List ℕ) → rest ≡ codes "query" → named_place (front ++ rest) ≡ Some query
+query_found : (front : List ℕ) (query id at : Endpoint) → LeadsTo front query id at → (rest : List ℕ) → rest ≡ codes "query" → named_place (front ++ rest) ≡ Some query
 query_found front query id at leads rest e =
     ap (λ v. named_place (front ++ v)) e ∙ named_after front query id at leads (codes "query") ∙ query_named query id at
 
-id_found : (front : List ℕ) (query id at : Place) → LeadsTo front query id at → (w : List ℕ) → may_be_id w ≡ true → named_place (front ++ w) ≡ Some id
+id_found : (front : List ℕ) (query id at : Endpoint) → LeadsTo front query id at → (w : List ℕ) → may_be_id w ≡ true → named_place (front ++ w) ≡ Some id
 id_found front query id at leads [] e = absurd (false≢true e)
 id_found front query id at leads (b ∷ w) e =
     named_after front query id at leads (b ∷ w)
     ∙ single query at id b w (no_slash (b ∷ w) (part_lacks (b ∷ w) (and_parts _ _ e).0)) (not_query (b ∷ w) e)
 
-parts_found : (front : List ℕ) (query id at : Place) → LeadsTo front query id at → (first second : List ℕ) → may_be_id first ≡ true → is_part second ≡ true
+parts_found : (front : List ℕ) (query id at : Endpoint) → LeadsTo front query id at → (first second : List ℕ) → may_be_id first ≡ true → is_part second ≡ true
     → named_place (front ++ (first ++ 47 ∷ second)) ≡ Some at
 parts_found front query id at leads [] second e f = absurd (false≢true e)
 parts_found front query id at leads (b ∷ first) [] e f = absurd (false≢true f)
@@ -194,7 +194,7 @@ parts_found front query id at leads (b ∷ first) (c ∷ second) e f =
     ∙ two_parts query at id b first c second (no_slash (b ∷ first) (part_lacks (b ∷ first) (and_parts _ _ e).0))
     (no_slash (c ∷ second) (part_lacks (c ∷ second) f))
 
-two_found : (front : List ℕ) (query id at : Place) → LeadsTo front query id at → (rest : List ℕ) (words : Words) → AreTwoWords rest words → named_place (front ++ rest) ≡ Some at
+two_found : (front : List ℕ) (query id at : Endpoint) → LeadsTo front query id at → (rest : List ℕ) (words : Words) → AreTwoWords rest words → named_place (front ++ rest) ≡ Some at
 two_found front query id at leads rest words x =
     ap (λ v. named_place (front ++ v)) x.splits ∙ parts_found front query id at leads x.id x.ovn x.names x.part
 
@@ -202,10 +202,10 @@ supplier_found : (w : List ℕ) → is_part w ≡ true → named_place (front_of
 supplier_found [] e = absurd (false≢true e)
 supplier_found (b ∷ w) e =
     named_is (front_of Availability ++ b ∷ w) ∙ pass (front_of Availability) places (b ∷ w) availability_plain
-    ∙ ap (λ (rows : RowsOf Place). seek.seek 0 rows (b ∷ w)) availability_steps ∙ last_part Availability b w (no_slash (b ∷ w) (part_lacks (b ∷ w) e))
+    ∙ ap (λ (rows : RowsOf Endpoint). seek.seek 0 rows (b ∷ w)) availability_steps ∙ last_part Availability b w (no_slash (b ∷ w) (part_lacks (b ∷ w) e))
 
 -- the router finds every path of a place
-at_rest : (place : Place) (rest : List ℕ) (words : Words) → AreWordsOf place rest words → named_place (front_of place ++ rest) ≡ Some place
+at_rest : (endpoint : Endpoint) (rest : List ℕ) (words : Words) → AreWordsOf endpoint rest words → named_place (front_of endpoint ++ rest) ≡ Some endpoint
 at_rest (Query kind) rest words x = query_found (references_of kind) (Query kind) (Entity kind) (EntityAtOvn kind) (references_lead kind) rest x.0
 at_rest (Entity kind) rest words x = id_found (references_of kind) (Query kind) (Entity kind) (EntityAtOvn kind) (references_lead kind) rest x.0
 at_rest (EntityAtOvn kind) rest words x = two_found (references_of kind) (Query kind) (Entity kind) (EntityAtOvn kind) (references_lead kind) rest words x
@@ -214,21 +214,21 @@ at_rest SubscriptionQuery rest words x = query_found subscriptions SubscriptionQ
 at_rest Subscription rest words x = id_found subscriptions SubscriptionQuery Subscription SubscriptionAtVersion subscriptions_lead rest x.0
 at_rest SubscriptionAtVersion rest words x = two_found subscriptions SubscriptionQuery Subscription SubscriptionAtVersion subscriptions_lead rest words x
 
-pub found : (path : List ℕ) (place : Place) (words : Words) → IsRoute path place words → named_place path ≡ Some place
-found path place words (rest, e, x) = ap named_place e ∙ at_rest place rest words x
+pub found : (path : List ℕ) (endpoint : Endpoint) (words : Words) → IsRoute path endpoint words → named_place path ≡ Some endpoint
+found path endpoint words (rest, e, x) = ap named_place e ∙ at_rest endpoint rest words x
 
 -- a path leads to one place, and has one list of words there
-one_rest : (place : Place) (path a b : List ℕ) → path ≡ front_of place ++ a → path ≡ front_of place ++ b → b ≡ a
-one_rest place path a b x y = append-cancel (front_of place) b a (sym y ∙ x)
+one_rest : (endpoint : Endpoint) (path a b : List ℕ) → path ≡ front_of endpoint ++ a → path ≡ front_of endpoint ++ b → b ≡ a
+one_rest endpoint path a b x y = append-cancel (front_of endpoint) b a (sym y ∙ x)
 
-pub one_route : (path : List ℕ) (p q : Place) (v w : Words) → IsRoute path p v → IsRoute path q w → (q ≡ p) × (w ≡ v)
+pub one_route : (path : List ℕ) (p q : Endpoint) (v w : Words) → IsRoute path p v → IsRoute path q w → (q ≡ p) × (w ≡ v)
 one_route path p q v w x y =
     let named : Some q ≡ Some p = sym (found path q w y) ∙ found path p v x in
-    let place : q ≡ p = cc in
-    let at : IsRoute path p w = subst (λ (z : Place). IsRoute path z w) place y in
+    let endpoint : q ≡ p = cc in
+    let at : IsRoute path p w = subst (λ (z : Endpoint). IsRoute path z w) endpoint y in
     let rest : at.0 ≡ x.0 = one_rest p path x.0 at.0 x.1 at.1 in
     let words : AreWordsOf p x.0 w = subst (λ (z : List ℕ). AreWordsOf p z w) rest at.2 in
-    (place, one_words p x.0 v w x.2 words)
+    (endpoint, one_words p x.0 v w x.2 words)
 
 -- ---- what the code finds
 
@@ -241,7 +241,7 @@ pub halved : (s : List ℕ) (r : Option (Bor (List ℕ) × Bor (List ℕ)))
     (λ x. (x.0.now ≡ before_first (λ b. b == 47) s) × (x.1.now ≡ after_first (λ b. b == 47) s) × (position_or_len (λ b. b == 47) s < length s))
     → MatchOption r (has_slash s ≡ false) (λ half. (s ≡ half.0.now ++ 47 ∷ half.1.now) × (has_slash half.0.now ≡ false))
 halved s None h = lacks s h
-halved s (Some x) h = let r = round s h.2 in rw (h.0, h.1) r
+halved s (Some x) h = let r = around_slash s h.2 in rw (h.0, h.1) r
 
 pub not_halved : (rest : List ℕ) (words : Words) → has_slash rest ≡ false → AreTwoWords rest words → ⊥
 not_halved rest words e a =
@@ -261,22 +261,22 @@ not_part rest id ovn words e p n a =
     false≢true (sym n ∙ bad)
 
 pub nowhere : (path : List ℕ) → named_place path ≡ None → HasNoRoute path
-nowhere path e place words x = let bad : Some place ≡ None = sym (found path place words x) ∙ e in cc
+nowhere path e endpoint words x = let bad : Some endpoint ≡ None = sym (found path endpoint words x) ∙ e in cc
 
 -- a path that is led to a place without being one of its paths has no route
-pub not_there : (path : List ℕ) (place : Place) → named_place path ≡ Some place → ((words : Words) → IsRoute path place words → ⊥) → HasNoRoute path
-not_there path place e none other words x =
-    let same : Some other ≡ Some place = sym (found path other words x) ∙ e in
-    let is : other ≡ place = cc in
-    none words (subst (λ (z : Place). IsRoute path z words) is x)
+pub not_there : (path : List ℕ) (endpoint : Endpoint) → named_place path ≡ Some endpoint → ((words : Words) → IsRoute path endpoint words → ⊥) → HasNoRoute path
+not_there path endpoint e none other words x =
+    let same : Some other ≡ Some endpoint = sym (found path other words x) ∙ e in
+    let is : other ≡ endpoint = cc in
+    none words (subst (λ (z : Endpoint). IsRoute path z words) is x)
 
-pub wrong_front : (path : List ℕ) (place : Place) → named_place path ≡ Some place → ((rest : List ℕ) → path ≡ front_of place ++ rest → ⊥) → HasNoRoute path
-wrong_front path place e none = not_there path place e (λ words x. none x.0 x.1)
+pub wrong_front : (path : List ℕ) (endpoint : Endpoint) → named_place path ≡ Some endpoint → ((rest : List ℕ) → path ≡ front_of endpoint ++ rest → ⊥) → HasNoRoute path
+wrong_front path endpoint e none = not_there path endpoint e (λ words x. none x.0 x.1)
 
-pub wrong_words : (path rest : List ℕ) (place : Place) → named_place path ≡ Some place → path ≡ front_of place ++ rest
-    → ((words : Words) → AreWordsOf place rest words → ⊥) → HasNoRoute path
-wrong_words path rest place e split none =
-    not_there path place e (λ words x. none words (subst (λ (z : List ℕ). AreWordsOf place z words) (one_rest place path rest x.0 split x.1) x.2))
+pub wrong_words : (path rest : List ℕ) (endpoint : Endpoint) → named_place path ≡ Some endpoint → path ≡ front_of endpoint ++ rest
+    → ((words : Words) → AreWordsOf endpoint rest words → ⊥) → HasNoRoute path
+wrong_words path rest endpoint e split none =
+    not_there path endpoint e (λ words x. none words (subst (λ (z : List ℕ). AreWordsOf endpoint z words) (one_rest endpoint path rest x.0 split x.1) x.2))
 
 -- ---- samples
 
@@ -306,7 +306,7 @@ both id ovn e f = record { id = id; ovn = ovn; splits = refl; names = e; part = 
 lost : (text rest : List ℕ) → is_plain text places ≡ true → steps text places ≡ [] → HasNoRoute (text ++ rest)
 lost text rest plain none =
     nowhere (text ++ rest)
-    (named_is (text ++ rest) ∙ pass text places rest plain ∙ ap (λ (rows : RowsOf Place). seek.seek 0 rows rest) none ∙ seek-empty 0 rest)
+    (named_is (text ++ rest) ∙ pass text places rest plain ∙ ap (λ (rows : RowsOf Endpoint). seek.seek 0 rows rest) none ∙ seek-empty 0 rest)
 
 pub other : HasNoRoute (codes "/dss/v1/reports/a")
 unfolding places matchit_on_literals table with_route
@@ -366,7 +366,7 @@ supplier_gap : (rest : List ℕ) → seek.seek 0 ((256 ∷ [], Availability) ∷
 supplier_gap rest e =
     nowhere (front_of Availability ++ rest)
     (named_is (front_of Availability ++ rest) ∙ pass (front_of Availability) places rest availability_plain
-    ∙ ap (λ (rows : RowsOf Place). seek.seek 0 rows rest) availability_steps ∙ e)
+    ∙ ap (λ (rows : RowsOf Endpoint). seek.seek 0 rows rest) availability_steps ∙ e)
 
 pub no_supplier : HasNoRoute (codes "/dss/v1/uss_availability/")
 unfolding matchit_on_literals

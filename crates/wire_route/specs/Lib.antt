@@ -1,3 +1,3 @@
-pub mod Place
+pub mod Endpoint
 pub mod Route
 pub mod Table

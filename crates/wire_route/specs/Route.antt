@@ -4,9 +4,9 @@ use Rattle.std.specs.Prelude.{◌≡◌, ◌==◌, ◌&&◌, ◌++◌, ℕ, Bool
 use Rattle.std.specs.Str.{bytes_eq}
 use Rattle.std.specs.List.{list_any}
 use Rattle.wire_body.specs.Body.{Words}
-use Rattle.wire_route.specs.declared.place.Place.{Place}
-use Rattle.wire_route.specs.declared.place.Place.TheVariants.{Query, Entity, EntityAtOvn, Availability, SubscriptionQuery, Subscription, SubscriptionAtVersion}
-use Rattle.wire_route.specs.Place.{front_of}
+use Rattle.wire_route.specs.declared.endpoint.Endpoint.{Endpoint}
+use Rattle.wire_route.specs.declared.endpoint.Endpoint.TheVariants.{Query, Entity, EntityAtOvn, Availability, SubscriptionQuery, Subscription, SubscriptionAtVersion}
+use Rattle.wire_route.specs.Endpoint.{front_of}
 
 abbrev pub has_slash : List ℕ → Bool
 has_slash text = list_any (λ b. b == 47) text
@@ -35,7 +35,7 @@ pub record AreTwoWords (rest : List ℕ) (words : Words) : Type 0 where
   pub words_are : words ≡ two_words id ovn
 
 -- what may follow the front of a place's path, and the words that it is
-abbrev pub AreWordsOf : Place → List ℕ → Words → Type 0
+abbrev pub AreWordsOf : Endpoint → List ℕ → Words → Type 0
 AreWordsOf (Query kind) rest words = (rest ≡ codes "query") × (words ≡ one_word rest)
 AreWordsOf (Entity kind) rest words = (may_be_id rest ≡ true) × (words ≡ one_word rest)
 AreWordsOf (EntityAtOvn kind) rest words = AreTwoWords rest words
@@ -45,10 +45,10 @@ AreWordsOf Subscription rest words = (may_be_id rest ≡ true) × (words ≡ one
 AreWordsOf SubscriptionAtVersion rest words = AreTwoWords rest words
 
 -- the path leads to the place, and has these words there
-abbrev pub IsRoute : List ℕ → Place → Words → Type 0
-IsRoute path place words = (rest : List ℕ) × (path ≡ front_of place ++ rest)
-    × AreWordsOf place rest words
+abbrev pub IsRoute : List ℕ → Endpoint → Words → Type 0
+IsRoute path endpoint words = (rest : List ℕ) × (path ≡ front_of endpoint ++ rest)
+    × AreWordsOf endpoint rest words
 
 -- the path leads nowhere
 abbrev pub HasNoRoute : List ℕ → Type 0
-HasNoRoute path = (place : Place) (words : Words) → IsRoute path place words → ⊥
+HasNoRoute path = (endpoint : Endpoint) (words : Words) → IsRoute path endpoint words → ⊥

@@ -8,28 +8,28 @@ use Rattle.matchit.specs.Order.{placed}
 use Rattle.matchit.specs.Seek.{first}
 use Rattle.matchit.specs.declared.error.InsertError.{InsertError}
 use Rattle.entity_core.specs.declared.nature.Kind.TheVariants.{Intent, Constraint}
-use Rattle.wire_route.specs.declared.place.Place.{Place}
-use Rattle.wire_route.specs.declared.place.Place.TheVariants.{Query, Entity, EntityAtOvn, Availability, SubscriptionQuery, Subscription, SubscriptionAtVersion}
-use Rattle.wire_route.specs.Place.{route_of}
+use Rattle.wire_route.specs.declared.endpoint.Endpoint.{Endpoint}
+use Rattle.wire_route.specs.declared.endpoint.Endpoint.TheVariants.{Query, Entity, EntityAtOvn, Availability, SubscriptionQuery, Subscription, SubscriptionAtVersion}
+use Rattle.wire_route.specs.Endpoint.{route_of}
 
 abbrev pub Rows : Type 0
-Rows = RowsOf (RouteOf Place)
+Rows = RowsOf (RouteOf Endpoint)
 
-abbrev on_read : Result Scan InsertError → Place → Rows → Rows
-on_read (Ok s) place rows = placed (s.pattern, route_from s place) rows
-on_read (Err e) place rows = rows
+abbrev on_read : Result Scan InsertError → Endpoint → Rows → Rows
+on_read (Ok s) endpoint rows = placed (s.pattern, route_from s endpoint) rows
+on_read (Err e) endpoint rows = rows
 
 -- the rows with the route of a place
-unfoldable pub with_route : Place → Rows → Rows
-with_route place rows = on_read (parse_route (route_of place)) place rows
+unfoldable pub with_route : Endpoint → Rows → Rows
+with_route endpoint rows = on_read (parse_route (route_of endpoint)) endpoint rows
 
 abbrev fits_read : Result Scan InsertError → Rows → Type 0
 fits_read (Ok s) rows = nearest s.pattern rows ≡ None
 fits_read (Err e) rows = ⊥
 
 -- the route of the place can be read, and no row is in its way
-unfoldable pub Fits : Place → Rows → Type 0
-Fits place rows = fits_read (parse_route (route_of place)) rows
+unfoldable pub Fits : Endpoint → Rows → Type 0
+Fits endpoint rows = fits_read (parse_route (route_of endpoint)) rows
 
 -- the routes
 unfoldable pub table : Rows
@@ -45,5 +45,5 @@ table =
     (with_route (Entity Intent) (with_route (Query Intent) [])))))))))
 
 -- the place to which the router leads a path
-abbrev pub named_place : List ℕ → Option Place
+abbrev pub named_place : List ℕ → Option Endpoint
 named_place path = option_map (λ r. r.value) (first table path)

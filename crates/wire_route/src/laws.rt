@@ -2,14 +2,14 @@
 ghost use Rattle.std.specs.Prelude.{◌≡◌, ℕ, List, codes};
 ghost use Rattle.entity_core.specs.declared.nature.Kind.TheVariants.{Intent, Constraint};
 ghost use Rattle.wire_body.specs.Body.{Words};
-ghost use Rattle.wire_route.specs.declared.place.Place.{Place};
-ghost use Rattle.wire_route.specs.declared.place.Place.TheVariants.{Query, Entity, EntityAtOvn, Availability, SubscriptionQuery, Subscription, SubscriptionAtVersion};
-ghost use Rattle.wire_route.specs.Place.{allow_of};
+ghost use Rattle.wire_route.specs.declared.endpoint.Endpoint.{Endpoint};
+ghost use Rattle.wire_route.specs.declared.endpoint.Endpoint.TheVariants.{Query, Entity, EntityAtOvn, Availability, SubscriptionQuery, Subscription, SubscriptionAtVersion};
+ghost use Rattle.wire_route.specs.Endpoint.{allow_of};
 ghost use Rattle.wire_route.specs.Route.{one_word, two_words, IsRoute, HasNoRoute};
 
 /// A path leads to one place at most, and has one list of words there.
 pub fn one_route()
-    ensures { (path : List ℕ) (p q : Place) (v w : Words)
+    ensures { (path : List ℕ) (p q : Endpoint) (v w : Words)
         → IsRoute path p v → IsRoute path q w → (q ≡ p) × (w ≡ v) }
 {}
 

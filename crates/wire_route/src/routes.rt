@@ -2,10 +2,10 @@
 ghost use Rattle.std.specs.Prelude.{◌≡◌, ◌++◌, List, ℕ, false, codes, IfOk, OnOk, MatchOption, option_map, if◌then◌else◌, Some, None};
 ghost use Rattle.wire_body.specs.Body.{Words, words_of};
 ghost use Rattle.wire_route.specs.Route.{has_slash, is_part, may_be_id, one_word, AreTwoWords, AreWordsOf, IsRoute, HasNoRoute};
-ghost use Rattle.wire_route.specs.Place.{front_of};
+ghost use Rattle.wire_route.specs.Endpoint.{front_of};
 ghost use Rattle.wire_route.specs.Table.{Fits, table, with_route, named_place};
 
-use crate::place::Place;
+use crate::endpoint::Endpoint;
 use entity_core::nature::Kind;
 use matchit::{InsertError, Router};
 use std::alloc::{AllocError, Global};
@@ -15,7 +15,7 @@ use wire_body::body::PathWords;
 /// The routes of the service, ready to look paths up.
 #[derive(Drop)]
 pub struct Routes {
-    router: Router<Place>,
+    router: Router<Endpoint>,
 }
 
 impl Model for Routes {
@@ -32,18 +32,18 @@ impl Model for Routes {
 /// A place, and the words that a path has there.
 #[derive(Clone, Copy, Debug)]
 pub struct Route<'p> {
-    pub place: Place,
+    pub endpoint: Endpoint,
     pub words: PathWords<'p>,
 }
 
 // The route of a place more, which no other is in the way of: it is refused for want of memory
 // alone.
 #[tactic(auto, unfolding(crate::specs::Table::with_route, crate::specs::Table::Fits))]
-fn put(router: &mut Router<Place>, place: Place) -> Result<(), AllocError>
-    requires { Fits place router.old }
-    ensures { OnOk result (router.new ≡ with_route place router.old) }
+fn put(router: &mut Router<Endpoint>, endpoint: Endpoint) -> Result<(), AllocError>
+    requires { Fits endpoint router.old }
+    ensures { OnOk result (router.new ≡ with_route endpoint router.old) }
 {
-    match router.insert(place.route(), place) {
+    match router.insert(endpoint.route_pattern(), endpoint) {
         Ok(()) => Ok(()),
         Err(InsertError::OutOfMemory) => Err(AllocError),
         Err(_) => unreachable!(),
@@ -112,18 +112,18 @@ fn two_words(rest: &str) -> Option<PathWords<'_>>
 }
 
 // The words that follow the front of a place's path.
-fn words_at(place: Place, rest: &str) -> Option<PathWords<'_>>
-    ensures { MatchOption result ((words : Words) → AreWordsOf place rest.now words → ⊥)
-        (λ words. AreWordsOf place rest.now (words_of words)) }
+fn words_at(endpoint: Endpoint, rest: &str) -> Option<PathWords<'_>>
+    ensures { MatchOption result ((words : Words) → AreWordsOf endpoint rest.now words → ⊥)
+        (λ words. AreWordsOf endpoint rest.now (words_of words)) }
 {
-    match place {
-        Place::Query(_) => one_word(rest, rest == "query"),
-        Place::Entity(_) => one_word(rest, may_be_id(rest)),
-        Place::EntityAtOvn(_) => two_words(rest),
-        Place::Availability => one_word(rest, is_part(rest)),
-        Place::SubscriptionQuery => one_word(rest, rest == "query"),
-        Place::Subscription => one_word(rest, may_be_id(rest)),
-        Place::SubscriptionAtVersion => two_words(rest),
+    match endpoint {
+        Endpoint::Query(_) => one_word(rest, rest == "query"),
+        Endpoint::Entity(_) => one_word(rest, may_be_id(rest)),
+        Endpoint::EntityAtOvn(_) => two_words(rest),
+        Endpoint::Availability => one_word(rest, is_part(rest)),
+        Endpoint::SubscriptionQuery => one_word(rest, rest == "query"),
+        Endpoint::Subscription => one_word(rest, may_be_id(rest)),
+        Endpoint::SubscriptionAtVersion => two_words(rest),
     }
 }
 
@@ -131,21 +131,21 @@ impl Routes {
     /// The routes. Only want of memory is a fault.
     pub fn new(alloc: Global) -> Result<Routes, AllocError> {
         let mut router = Router::new(alloc);
-        put(&mut router, Place::Query(Kind::Intent))?;
-        put(&mut router, Place::Entity(Kind::Intent))?;
-        put(&mut router, Place::EntityAtOvn(Kind::Intent))?;
-        put(&mut router, Place::Query(Kind::Constraint))?;
-        put(&mut router, Place::Entity(Kind::Constraint))?;
-        put(&mut router, Place::EntityAtOvn(Kind::Constraint))?;
-        put(&mut router, Place::Availability)?;
-        put(&mut router, Place::SubscriptionQuery)?;
-        put(&mut router, Place::Subscription)?;
-        put(&mut router, Place::SubscriptionAtVersion)?;
+        put(&mut router, Endpoint::Query(Kind::Intent))?;
+        put(&mut router, Endpoint::Entity(Kind::Intent))?;
+        put(&mut router, Endpoint::EntityAtOvn(Kind::Intent))?;
+        put(&mut router, Endpoint::Query(Kind::Constraint))?;
+        put(&mut router, Endpoint::Entity(Kind::Constraint))?;
+        put(&mut router, Endpoint::EntityAtOvn(Kind::Constraint))?;
+        put(&mut router, Endpoint::Availability)?;
+        put(&mut router, Endpoint::SubscriptionQuery)?;
+        put(&mut router, Endpoint::Subscription)?;
+        put(&mut router, Endpoint::SubscriptionAtVersion)?;
         Ok(Routes { router })
     }
 
     // The place to which the router leads a path.
-    fn place_at(&self, path: &str) -> Option<Place>
+    fn place_at(&self, path: &str) -> Option<Endpoint>
         ensures { result ≡ named_place path.now }
     {
         match self.router.at(path) {
@@ -158,17 +158,17 @@ impl Routes {
     /// them is decoded (this project's profile).
     pub fn find<'p>(&self, path: &'p str) -> Option<Route<'p>>
         ensures { MatchOption result (HasNoRoute path.now)
-            (λ route. IsRoute path.now route.place (words_of route.words)) }
+            (λ route. IsRoute path.now route.endpoint (words_of route.words)) }
     {
-        let Some(place) = self.place_at(path) else {
+        let Some(endpoint) = self.place_at(path) else {
             return None;
         };
-        let Some(rest) = path.strip_prefix(place.front()) else {
+        let Some(rest) = path.strip_prefix(endpoint.path_prefix()) else {
             return None;
         };
-        let Some(words) = words_at(place, rest) else {
+        let Some(words) = words_at(endpoint, rest) else {
             return None;
         };
-        Some(Route { place, words })
+        Some(Route { endpoint, words })
     }
 }

@@ -2,14 +2,14 @@ use Rattle.std.proofs.Common.{Some, ap, ◌∙◌}
 use Rattle.std.proofs.lemmas.Cmp.{nat_list_cmp_total}
 use Rattle.entity_core.specs.Airspace.{text_cmp}
 use Rattle.entity_maps.specs.Availabilities.{pair_of}
-use Rattle.entity_maps.specs.declared.availabilities.Setting.{Setting}
+use Rattle.entity_maps.specs.declared.availabilities.AvailabilityEntry.{AvailabilityEntry}
 use Rattle.entity_maps.proofs.Places.{found_hit, found_gap, not_none, read_hit}
 use Rattle.entity_maps.proofs.availabilities.find_setting.Goals as goal
 
 pub returns-in_ok-stated-in-Ok-clause-found : goal.returns-in_ok-stated-in-Ok-clause-found
 returns-in_ok-stated-in-Ok-clause-found c =
     let hit = c.in-Ok.ensures.hit c.requires in
-    ap Some (c.in_ok-stated-in-Ok.ensures ∙ ap (λ (e : Setting). (pair_of e).1) (read_hit text_cmp pair_of c.args.items.now c.args.uss.now c.in-Ok.i hit c.index-items-i.result c.index-items-i.is))
+    ap Some (c.in_ok-stated-in-Ok.ensures ∙ ap (λ (e : AvailabilityEntry). (pair_of e).1) (read_hit text_cmp pair_of c.args.items.now c.args.uss.now c.in-Ok.i hit c.index-items-i.result c.index-items-i.is))
     ∙ found_hit text_cmp pair_of nat_list_cmp_total c.args.items.now c.args.uss.now c.in-Ok.i hit
 
 pub returns-in-Err-clause-found : goal.returns-in-Err-clause-found

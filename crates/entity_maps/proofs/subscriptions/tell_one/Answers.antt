@@ -3,8 +3,8 @@ use Rattle.std.specs.BTreeMap as tree
 use Rattle.std.specs.BTreeMap.{is_at}
 use Rattle.std.specs.Ordering.{nat_cmp}
 use Rattle.std.specs.Prelude.{Option, IfSome, IsSome, ◌<◌, cond, refl}
-use Rattle.entity_core.specs.Airspace.{told_again}
-use Rattle.entity_core.specs.Serial.{greatest_serial}
+use Rattle.entity_core.specs.Airspace.{notified_again}
+use Rattle.entity_core.specs.Serial.{max_serial}
 use Rattle.entity_core.specs.declared.subscription.Sub.{Sub}
 use Rattle.entity_maps.specs.Subscriptions.{AreKeyed}
 use Rattle.entity_maps.proofs.SubscriptionTrees.{keyed_set, own_id}
@@ -15,9 +15,9 @@ pub returns-in-Some : goal.returns-in-Some
 returns-in-Some c =
     let m = c.args.tree.now in
     let s = c.in-Some.sub.now in
-    let w = c.tell.new.self in
+    let w = c.notify.new.self in
     let found : tree.get nat_cmp m c.args.id ≡ Some s = ap (tree.get nat_cmp m) (sym c.number.ensures) ∙ sym c.in-Some.ensures.value in
-    let new : w ≡ told_again s = c.tell.ensures (subst (λ (o : Option Sub). IfSome o (λ x. x.index < greatest_serial)) found c.requires.rises) in
+    let new : w ≡ notified_again s = c.notify.ensures (subst (λ (o : Option Sub). IfSome o (λ x. x.index < max_serial)) found c.requires.rises) in
     let own : w.id ≡ c.number.result = ap (λ (x : Sub). x.id) new ∙ (own_id c.args.id m.entries s c.requires.keyed found ∙ sym c.number.ensures) in
     let written = c.get_mut.follows.holds w in
     record {

@@ -2,7 +2,7 @@ use Rattle.std.proofs.Common.{◌≡◌, false, sym, ◌∙◌, subst, take}
 use Rattle.std.specs.BTreeMap.{BTreeMap}
 use Rattle.std.specs.Prelude.{ℕ, ◌+◌}
 use Rattle.entity_core.specs.declared.subscription.Sub.{Sub}
-use Rattle.entity_maps.specs.Subscriptions.{AreKeyed, Tells}
+use Rattle.entity_maps.specs.Subscriptions.{AreKeyed, Notifies}
 use Rattle.entity_maps.proofs.Told.{has, not_among, rises_next, tell_more, tell_same}
 use Rattle.entity_maps.proofs.subscriptions.tell_those.Goals as goal
 use Rattle.entity_maps.proofs.subscriptions.tell_those.Goals.{then-rising, then-rising-via-then-rising, then-rising-via-else-rising+then-not-is_among, else-rising+else-not-is_among}
@@ -32,10 +32,10 @@ loop-i-preserved c =
           ] in
           record {
             keyed = subst (λ (m : BTreeMap ℕ Sub). AreKeyed m.entries) (sym w.tree-is) w.tell_one.ensures.keyed;
-            told = subst (Tells (take (i + 1) ids) old) (sym w.tree-is) (tell_more ids i id old c.loop-i.tree w.tell_one.new.tree c.loop-i-test.true c.index-ids-i.is new c.loop-i.invariant.told w.tell_one.ensures.told);
+            told = subst (Notifies (take (i + 1) ids) old) (sym w.tree-is) (tell_more ids i id old c.loop-i.tree w.tell_one.new.tree c.loop-i-test.true c.index-ids-i.is new c.loop-i.invariant.told w.tell_one.ensures.told);
           }
       | else-rising+else-not-is_among w ↦ record {
         keyed = subst (λ (m : BTreeMap ℕ Sub). AreKeyed m.entries) (sym w.tree-is) c.loop-i.invariant.keyed;
-        told = subst (Tells (take (i + 1) ids) old) (sym w.tree-is) (tell_same ids i id old c.loop-i.tree c.loop-i-test.true c.index-ids-i.is (sym w.is_among.ensures ∙ w.if-not-is_among.false) c.loop-i.invariant.told);
+        told = subst (Notifies (take (i + 1) ids) old) (sym w.tree-is) (tell_same ids i id old c.loop-i.tree c.loop-i-test.true c.index-ids-i.is (sym w.is_among.ensures ∙ w.if-not-is_among.false) c.loop-i.invariant.told);
       }
     ]

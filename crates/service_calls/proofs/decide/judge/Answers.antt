@@ -9,7 +9,7 @@ returns-in-Some-clause-looks g c =
     let q = c.args.admitted.now in
     let facts = c.args.facts.now in
     looks_none g.S.Space c.args.space.now _ _
-    (λ a regards. judged_standing q c.requires facts a regards c.in-Some.broken c.nothing.result (lent_first q facts _ _ c.lent-lent.ensures c.standing-findings.ensures.first ∙ c.in-Some.is) c.nothing.ensures)
+    (λ a regards. judged_standing q c.requires facts a regards c.in-Some.broken c.empty.result (lent_first q facts _ _ c.lent-lent.ensures c.standing-findings.ensures.first ∙ c.in-Some.is) c.empty.ensures)
 
 pub returns-then-breaks_key-clause-looks : goal.returns-then-breaks_key-clause-looks
 returns-then-breaks_key-clause-looks g c =
@@ -28,7 +28,7 @@ returns-then-findings-clause-looks g c =
       last_limit q c.requires facts a regards c.in_ok-missing.missing limit (lent_first q facts _ _ c.lent-lent.ensures c.standing-findings.ensures.first ∙ c.in_default.is) p c.if-breaks_key.ensures
           (lent_limit q facts _ limit c.lent-lent.ensures c.standing-findings.ensures.limit)
           ∙ ap (λ (b : Bool). cond b (Some Limit) None) c.if-findings.true,
-      c.nothing-then-findings.ensures,
+      c.empty-then-findings.ensures,
     ))
 
 pub returns-clause-looks : goal.returns-clause-looks

@@ -5,5 +5,5 @@ use Rattle.service_calls.proofs.decide.missing_with.Goals as goal
 
 pub returns-then-not-needs_key : goal.returns-then-not-needs_key
 returns-then-not-needs_key g c =
-    looks_none g.S.Space c.args.space.now c.nothing.result _
-    (λ a. needs_nothing a c.args.judged.now c.nothing.result (sym c.if-not-needs_key.ensures) c.nothing.ensures)
+    looks_none g.S.Space c.args.space.now c.empty.result _
+    (λ a. needs_nothing a c.args.judged.now c.empty.result (sym c.if-not-needs_key.ensures) c.empty.ensures)

@@ -2,4 +2,4 @@ use Rattle.service_calls.proofs.Segments.{segments_policy}
 use Rattle.service_calls.proofs.laws.segments_are_the_policy.Goals as goal
 
 pub returns : goal.returns
-returns g c = segments_policy g.S.Space g.S.Settles (record { quiet = g.met.S.Settles.quiet; rests = g.met.S.Settles.rests; works = g.met.S.Settles.works; live = g.met.S.Settles.live })
+returns g c = segments_policy g.S.Space g.S.GroupCommit (record { quiet = g.met.S.GroupCommit.persists_held; rests = g.met.S.GroupCommit.persists_while_pending; works = g.met.S.GroupCommit.unbroken_while_pending; live = g.met.S.GroupCommit.pending_is_unbroken })

@@ -1,5 +1,5 @@
 use Rattle.std.proofs.Common.{subst, sym, ap, Ok, Err}
-use Rattle.service_step.specs.Looks.{Looks}
+use Rattle.service_step.specs.Looks.{LooksUp}
 use Rattle.service_calls.specs.Decision.{Decides}
 use Rattle.service_calls.specs.declared.decide.Decision.{Decision}
 use Rattle.service_calls.specs.Service.{AnswersTo}
@@ -9,7 +9,7 @@ use Rattle.service_calls.proofs.service.answer_admitted.Goals as goal
 pub returns-in-Ok-Refused-clause-answers : goal.returns-in-Ok-Refused-clause-answers
 returns-in-Ok-Refused-clause-answers g c =
     denied_answers g.S.Space c.args.admitted.now c.args.space.now c.decide.new.space c.in-Ok-Refused.broken c.in-Ok-Refused.missing
-    (subst (λ (v : Decision). Looks g.S.Space c.args.space.now c.decide.new.space (Ok v) (Decides c.args.admitted.now)) c.in-Ok-Refused.field-0-is c.in-Ok-Refused.ensures.looks)
+    (subst (λ (v : Decision). LooksUp g.S.Space c.args.space.now c.decide.new.space (Ok v) (Decides c.args.admitted.now)) c.in-Ok-Refused.field-0-is c.in-Ok-Refused.ensures.looks)
 
 pub returns-in-Err-clause-answers : goal.returns-in-Err-clause-answers
 returns-in-Err-clause-answers g c =

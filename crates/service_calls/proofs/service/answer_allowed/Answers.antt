@@ -13,4 +13,4 @@ returns-in-Err g c =
 pub returns : goal.returns
 returns g c =
     read_answers g.S.Space c.args.admitted.now c.args.space.now c.prepare.new.space c.args.facts.now c.in-Ok.made c.in-None.is c.in-Ok.ensures
-    (λ s a h. g.met.S.Space.proper c.args.space.now a s h) c.requires.given
+    (λ s a h. g.met.S.Space.content_valid c.args.space.now a s h) c.requires.given

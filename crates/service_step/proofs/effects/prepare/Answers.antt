@@ -11,21 +11,21 @@ unreachable-requires-in_default g c =
 
 pub returns-in-Create : goal.returns-in-Create
 returns-in-Create g c =
-    looks_map g.S.Space c.args.space.now c.creation.new.space c.creation.result _ _ c.creation.ensures
+    looks_map g.S.Space c.args.space.now c.prepare_create.new.space c.prepare_create.result _ _ c.prepare_create.ensures
     (λ a made h. makes_create c.args.admitted.now c.requires.admitted c.args.facts.now a c.in-Create.id c.in-Create.put c.next_serial-serial.result made c.in-Create.is c.next_serial-serial.ensures h)
 
 pub returns-in-Some-found : goal.returns-in-Some-found
 returns-in-Some-found g c =
-    looks_map g.S.Space c.args.space.now c.update.new.space c.update.result _ _ c.update.ensures
+    looks_map g.S.Space c.args.space.now c.prepare_update.new.space c.prepare_update.result _ _ c.prepare_update.ensures
     (λ a made h. makes_update c.args.admitted.now c.requires.admitted c.args.facts.now a c.in-Update.id c.in-Update.field-1 c.in-Update.put c.in-Some-found.entity c.next_serial-serial.result made c.in-Update.is c.in-Some-found.is c.next_serial-serial.ensures h)
 
 pub returns-in-Some-found-2 : goal.returns-in-Some-found-2
 returns-in-Some-found-2 g c =
-    looks_map g.S.Space c.args.space.now c.removal.new.space c.removal.result _ _ c.removal.ensures
+    looks_map g.S.Space c.args.space.now c.prepare_delete.new.space c.prepare_delete.result _ _ c.prepare_delete.ensures
     (λ a made h. makes_delete c.args.admitted.now c.requires.admitted c.args.facts.now a c.in-Delete.kind c.in-Delete.id c.in-Delete.field-2 c.in-Some-found-2.entity made c.in-Delete.is c.in-Some-found-2.is h)
 
-pub returns-in_ok-setting-in-SetAvail : goal.returns-in_ok-setting-in-SetAvail
-returns-in_ok-setting-in-SetAvail g c =
-    let made = c.in_ok-setting-in-SetAvail in
+pub returns-in_ok-prepare_set_availability-in-SetAvail : goal.returns-in_ok-prepare_set_availability-in-SetAvail
+returns-in_ok-prepare_set_availability-in-SetAvail g c =
+    let made = c.in_ok-prepare_set_availability-in-SetAvail in
     looks_none g.S.Space c.args.space.now made.field-0 _
     (λ a. makes_set c.args.admitted.now c.requires.admitted c.args.facts.now a c.in-SetAvail.named c.in-SetAvail.field-1 c.in-SetAvail.availability c.next_serial-serial.result made.field-0 c.in-SetAvail.is c.next_serial-serial.ensures made.ensures.0 made.ensures.1 made.ensures.2)

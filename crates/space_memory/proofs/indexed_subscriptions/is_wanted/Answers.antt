@@ -12,5 +12,5 @@ use Rattle.space_memory.proofs.indexed_subscriptions.is_wanted.Goals as goal
 pub returns-then-wants : goal.returns-then-wants
 returns-then-wants c =
     let s = c.in-Some.sub.now in
-    sub_judged (get (subscription_map c.args.subscriptions.now)) c.args.areas.now (is_for_near c.args.kind c.args.areas.now) c.args.part c.args.bits s c.meets_one_of.result (sym c.at.ensures ∙ ap option_copied c.in-Some.is)
+    sub_judged (get (subscription_map c.args.subscriptions.now)) c.args.areas.now (is_for_near c.args.kind c.args.areas.now) c.args.part c.args.bits s c.meets_one_of.result (sym c.get.ensures ∙ ap option_copied c.in-Some.is)
     (λ yes. both (wants s.interest c.args.kind) (meets_some s.volume c.args.areas.now) (sym c.wants.ensures ∙ c.if-wants.true) (c.meets_one_of.ensures.sound yes)) c.meets_one_of.ensures.whole

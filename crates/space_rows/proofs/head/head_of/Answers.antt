@@ -1,6 +1,6 @@
 use Rattle.std.proofs.Common.{◌≡◌, sym, subst, List, ℕ, ℤ, pos, ◌≤ℤ◌, to_z, of_z, w64, rules}
-use Rattle.entity_core.specs.Entity.{greatest_version}
-use Rattle.entity_core.specs.Serial.{greatest_serial}
+use Rattle.entity_core.specs.Entity.{max_version}
+use Rattle.entity_core.specs.Serial.{max_serial}
 use Rattle.entity_core.specs.IdTexts.{name_fault, ovn_fault, url_fault}
 use Rattle.space_rows.specs.Head.{SpellsId, SpellsText, SpellsNature, SpellsCount}
 use Rattle.space_rows.proofs.head.head_of.Goals as goal
@@ -26,8 +26,8 @@ returns c =
       nature = subst (λ (z : ℤ). SpellsNature z r.state c.args.named c.in-Some.nature) k (subst (λ (z : ℤ). SpellsNature (to_z w64 (of_z w64 r.kind)) z c.args.named c.in-Some.nature) s c.in-Some.ensures);
       id = subst (λ (l : List ℕ). SpellsId l c.in-Some-2.id) c.text.ensures (rw c.in-Some-2.is at c.in_ok-id.ensures);
       manager = subst (λ (l : List ℕ). SpellsText name_fault l c.in-Some-3.manager) c.text-2.ensures (rw c.in-Some-3.is at c.in_ok-manager.ensures);
-      version = subst (λ (z : ℤ). SpellsCount greatest_version z c.in-Some-version_of.version) v c.in-Some-version_of.ensures;
-      serial = subst (λ (z : ℤ). SpellsCount greatest_serial z c.in-Some-serial_of.serial) t c.in-Some-serial_of.ensures;
+      version = subst (λ (z : ℤ). SpellsCount max_version z c.in-Some-version_of.version) v c.in-Some-version_of.ensures;
+      serial = subst (λ (z : ℤ). SpellsCount max_serial z c.in-Some-serial_of.serial) t c.in-Some-serial_of.ensures;
       ovn = subst (λ (l : List ℕ). SpellsText ovn_fault l c.in-Some-4.ovn) c.text-3.ensures (rw c.in-Some-4.is at c.in_ok-ovn.ensures);
       url = subst (λ (l : List ℕ). SpellsText url_fault l c.in-Some-5.url) c.text-4.ensures (rw c.in-Some-5.is at c.in_ok-url.ensures);
     }

@@ -1,5 +1,5 @@
 use Rattle.std.proofs.Common.{◌≡◌, sym, subst, List, ℕ, ℤ, pos, ◌≤ℤ◌, to_z, of_z, w64, rules}
-use Rattle.entity_core.specs.Serial.{greatest_serial}
+use Rattle.entity_core.specs.Serial.{max_serial}
 use Rattle.entity_core.specs.IdTexts.{name_fault, ovn_fault, url_fault}
 use Rattle.space_rows.specs.Head.{SpellsId, SpellsText, SpellsCount}
 use Rattle.space_rows.specs.Subs.{SpellsInterest}
@@ -27,7 +27,7 @@ returns c =
       most = subst (λ (z : ℤ). z ≤ℤ pos c.in-Some.serial) m n.1;
       id = subst (λ (l : List ℕ). SpellsId l c.in-Some-2.id) c.text.ensures (rw c.in-Some-2.is at c.in_ok-id.ensures);
       manager = subst (λ (l : List ℕ). SpellsText name_fault l c.in-Some-3.manager) c.text-2.ensures (rw c.in-Some-3.is at c.in_ok-manager.ensures);
-      serial = subst (λ (z : ℤ). SpellsCount greatest_serial z c.in-Some.serial) t c.in-Some.ensures;
+      serial = subst (λ (z : ℤ). SpellsCount max_serial z c.in-Some.serial) t c.in-Some.ensures;
       version = subst (λ (l : List ℕ). SpellsText ovn_fault l c.in-Some-4.version) c.text-3.ensures (rw c.in-Some-4.is at c.in_ok-version.ensures);
       notes = subst (λ (z : ℤ). SpellsIndex z c.in-Some-index_of.index) k c.in-Some-index_of.ensures;
       url = subst (λ (l : List ℕ). SpellsText url_fault l c.in-Some-5.url) c.text-4.ensures (rw c.in-Some-5.is at c.in_ok-url.ensures);

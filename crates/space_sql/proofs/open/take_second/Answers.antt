@@ -1,8 +1,8 @@
 use Rattle.std.proofs.Common.{sym, subst}
 use Rattle.sqlite.specs.Held.{state}
 use Rattle.sqlite.specs.State.{HasCleanDisk}
-use Rattle.space_load.specs.Judging.{listed_airspace}
-use Rattle.space_tables.specs.Spelling.{Spells}
+use Rattle.space_sql_load.specs.Judging.{loaded_airspace}
+use Rattle.space_sql_schema.specs.Spelling.{Spells}
 use Rattle.space_sql.proofs.Openings.{ok_is_no_fault}
 use Rattle.space_sql.proofs.open.take_second.Goals as goal
 
@@ -11,7 +11,7 @@ returns-in-Ok-clause-taken g c = λ sound schema.
     let clean = subst (λ h. HasCleanDisk (state g.S.Store h)) c.space_over.ensures.same sound.clean in
     let it = c.in-Ok.ensures.examines clean schema in
     let rest = c.in-Ok.ensures.at_rest clean schema (ok_is_no_fault _ _) in
-    (listed_airspace c.in-Ok.listed, it, c.space_over.ensures.content sound rest.0 (listed_airspace c.in-Ok.listed) (subst (λ d. Spells d (listed_airspace c.in-Ok.listed)) (sym rest.1) it))
+    (loaded_airspace c.in-Ok.listed, it, c.space_over.ensures.content sound rest.0 (loaded_airspace c.in-Ok.listed) (subst (λ d. Spells d (loaded_airspace c.in-Ok.listed)) (sym rest.1) it))
 
 pub returns-in-Ok-clause-all : goal.returns-in-Ok-clause-all
 returns-in-Ok-clause-all g c = λ schema. record {
@@ -20,5 +20,5 @@ returns-in-Ok-clause-all g c = λ schema. record {
       let clean = subst (λ h. HasCleanDisk (state g.S.Store h)) c.space_over.ensures.same sound.clean in
       let it = c.in-Ok.ensures.examines clean schema in
       let rest = c.in-Ok.ensures.at_rest clean schema (ok_is_no_fault _ _) in
-      c.space_over.ensures.content sound rest.0 (listed_airspace c.in-Ok.listed) (subst (λ d. Spells d (listed_airspace c.in-Ok.listed)) (sym rest.1) it);
+      c.space_over.ensures.content sound rest.0 (loaded_airspace c.in-Ok.listed) (subst (λ d. Spells d (loaded_airspace c.in-Ok.listed)) (sym rest.1) it);
 }

@@ -1,16 +1,16 @@
 use Rattle.std.proofs.Common.{◌∙◌, ap}
 use Rattle.token_conf.specs.TokenFile.{callers_of}
 use Rattle.wire_head.specs.Target.{path_of}
-use Rattle.wire_http.specs.Noted.{kind_asked}
+use Rattle.wire_http.specs.RequestInfo.{kind_asked}
 use Rattle.wire_http.proofs.CallLaws.{call_made}
 use Rattle.wire_http.proofs.call.call_of.Goals as goal
 
 pub returns-clause-made : goal.returns-clause-made
 returns-clause-made c = λ h cover.
     call_made (callers_of c.args.tokens.now) c.args.received.buffer.now c.args.received.fields.now c.args.received.spans c.args.received.size h
-    c.in_ok-place.field-0.op c.in_ok-caller.caller c.in_ok-place.field-0.place c.path_of-path.result.now c.of-2.result.now
+    c.in_ok-endpoint.field-0.op c.in_ok-caller.caller c.in_ok-endpoint.field-0.endpoint c.path_of-path.result.now c.of-2.result.now
     (c.path_of-path.ensures ∙ ap path_of (c.in-Ok.ensures.cases.0 ∙ c.of.ensures))
-    c.of-2.ensures c.in_ok-place.ensures.asked c.in_ok-caller.ensures cover
+    c.of-2.ensures c.in_ok-endpoint.ensures.asked c.in_ok-caller.ensures cover
 
 pub returns-clause-kind : goal.returns-clause-kind
-returns-clause-kind c = c.in_ok-place.ensures.kind ∙ ap (λ v. kind_asked c.in_ok-place.field-0.place v) c.of-2.ensures
+returns-clause-kind c = c.in_ok-endpoint.ensures.kind ∙ ap (λ v. kind_asked c.in_ok-endpoint.field-0.endpoint v) c.of-2.ensures

@@ -27,7 +27,7 @@ pub returns-in_err-answer-clause-part : goal.returns-in_err-answer-clause-part
 returns-in_err-answer-clause-part g c = let p = err_from_is_err_and c.from_residual-in_err-answer.result c.from_residual-in_err-answer.ensures.1 in rw (p.1, p.2) (
     part_answered g.S.Space g.M.Moments.gives (callers_of c.args.tokens.now) (c.args.count - 1)
     _ _ (bytes_of c.args.source.now) (bytes_of c.next_request.new.source) c.as_slice.result.now c.next_request.new.fields c.in_ok-spans.field-0 c.in-Request.spans c.in-Request.size
-    c.in_ok-pending.pending.place c.in_ok-pending.pending.moment c.in_ok-pending.pending.call c.left_after-left.result
+    c.in_ok-pending.pending.endpoint c.in_ok-pending.pending.moment c.in_ok-pending.pending.call c.left_after-left.result
     c.args.service.now c.answer.new.service c.args.moments.now c.ask.new.moments _ _ _
     c.in-Request.is c.as_slice.ensures.value (of_answering _ _ _ _ c.in_err-answer.ensures.err) c.in_ok-spans.ensures.reads.came c.in_ok-spans.ensures.next
     c.in_ok-pending.ensures.made c.left_after-left.ensures c.in_ok-pending.ensures.moment c.in_err-answer.ensures.part)
@@ -42,7 +42,7 @@ pub returns-clause-turn : goal.returns-clause-turn
 returns-clause-turn g c =
     turn_answered g.S.Space g.M.Moments.gives (callers_of c.args.tokens.now) (c.args.count - 1)
     _ _ (bytes_of c.args.source.now) (bytes_of c.next_request.new.source) c.as_slice.result.now c.shift.new.buffer.items c.next_request.new.fields c.in_ok-spans.field-0 c.in-Request.spans c.in-Request.size
-    c.in_ok-pending.pending.place c.in_ok-pending.pending.moment c.in_ok-pending.pending.call c.left_after-left.result
+    c.in_ok-pending.pending.endpoint c.in_ok-pending.pending.moment c.in_ok-pending.pending.call c.left_after-left.result
     c.args.service.now c.answer.new.service c.args.moments.now c.ask.new.moments _ _
     c.in-Request.is c.as_slice.ensures.value c.in_ok-spans.ensures.reads.came c.in_ok-spans.ensures.next
     (fits_at (bytes_of c.next_request.new.source) c.next_request.new.fields c.in_ok-spans.field-0 c.in-Request.spans c.in-Request.size c.in-Request.is c.in_ok-spans.ensures.within) c.shift.ensures

@@ -28,13 +28,13 @@ returns-in-Some-clause-reply g c = record {
   shut = λ n. cc (n, c.if-self.false);
   shuts = λ n. n;
   early = λ n a t.
-      subst (λ (e : Option Rule). IfSome e (λ p. (Denied c.in-Some.broken c.nothing.result ≡ Denied p nothing_missing) × (c.args.self.now ≡ c.args.self.now))) (c.in-Some.ensures a t)
-      (ap (Denied c.in-Some.broken) c.nothing.ensures, refl);
+      subst (λ (e : Option Rule). IfSome e (λ p. (Denied c.in-Some.broken c.empty.result ≡ Denied p nothing_missing) × (c.args.self.now ≡ c.args.self.now))) (c.in-Some.ensures a t)
+      (ap (Denied c.in-Some.broken) c.empty.ensures, refl);
   broken = λ n b a t none. let bad : true ≡ false = subst (λ (e : Option Rule). IsNone e) (sym (c.in-Some.ensures a t)) none in cc;
   answers = λ n.
       early_answers g.S.Space c.args.self.now.salt c.args.now c.args.call.now c.args.self.now.space
-      c.in-Some.broken c.nothing.result (λ a. first_early a c.args.now c.args.call.now c.in-Some.broken (sym (c.in-Some.ensures a c.args.now)))
-      (λ a. c.nothing.ensures ∙ sym (told_early a c.args.now c.args.call.now c.in-Some.broken (sym (c.in-Some.ensures a c.args.now))));
+      c.in-Some.broken c.empty.result (λ a. first_early a c.args.now c.args.call.now c.in-Some.broken (sym (c.in-Some.ensures a c.args.now)))
+      (λ a. c.empty.ensures ∙ sym (told_early a c.args.now c.args.call.now c.in-Some.broken (sym (c.in-Some.ensures a c.args.now))));
 }
 
 pub returns-clause-reply : goal.returns-clause-reply
@@ -65,7 +65,7 @@ answer_admitted-reply-requires g c = record {
 
 pub returns-in-Some-clause-stale : goal.returns-in-Some-clause-stale
 returns-in-Some-clause-stale g c n s a content kind y is =
-    stale_reply g.S.Space c.args.self.now.salt a c.args.now c.args.call.now kind y (Denied c.in-Some.broken c.nothing.result) c.args.self.now.space is (((returns-in-Some-clause-reply g c).answers n).step s a content)
+    stale_reply g.S.Space c.args.self.now.salt a c.args.now c.args.call.now kind y (Denied c.in-Some.broken c.empty.result) c.args.self.now.space is (((returns-in-Some-clause-reply g c).answers n).step s a content)
 
 pub returns-clause-stale : goal.returns-clause-stale
 returns-clause-stale g c n s a content kind y is =

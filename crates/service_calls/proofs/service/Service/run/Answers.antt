@@ -1,7 +1,7 @@
 use Rattle.std.proofs.Common.{arith, ◌≡◌, ◌∙◌, sym, ap, subst, ◌+◌, List, [], ◌∷◌, ◌++◌, take, length, length-append}
 use Rattle.std.proofs.lemmas.List.{take_more, take_all}
 use Rattle.entity_core.specs.Airspace.{empty_at}
-use Rattle.service_calls.specs.Run.{AskedInOrder, Timed}
+use Rattle.service_calls.specs.Run.{AskedInOrder, TimedCall}
 use Rattle.service_calls.proofs.Awares.{held_aware, run_numbered, same_numbered}
 use Rattle.service_calls.proofs.Counts.{held_counts}
 use Rattle.service_calls.proofs.Runs.{answered, asked_more}
@@ -15,7 +15,7 @@ loop-entry-preserved g c =
     let d = c.entry-item.result in
     let r = c.call-reply.result in
     let inv = c.loop-entry.invariant in
-    let calls : take (i + 1) c.args.calls.now ≡ cs ++ d ∷ [] = take_more c.args.calls.now i d c.loop-entry-test.true ∙ ap (λ (x : Timed). cs ++ x ∷ []) (sym c.entry-item.is) in
+    let calls : take (i + 1) c.args.calls.now ≡ cs ++ d ∷ [] = take_more c.args.calls.now i d c.loop-entry-test.true ∙ ap (λ (x : TimedCall). cs ++ x ∷ []) (sym c.entry-item.is) in
     let items : c.push.new.self.items ≡ rs ++ r ∷ [] = c.in-Ok.ensures.items in
     record {
       count = ap length items ∙ omega (arith, length-append rs (r ∷ []), inv.count);
@@ -27,7 +27,7 @@ pub returns-clause-answered : goal.returns-clause-answered
 returns-clause-answered g c =
     let all : take c.loop-entry.entry-index c.args.calls.now ≡ c.args.calls.now = take_all c.loop-entry.entry-index c.args.calls.now (omega arith) in
     answered g.S.Space c.args.self.now c.args.calls.now c.loop-entry.replies.items c.loop-entry.self
-    (subst (λ (cs : List Timed). AskedInOrder g.S.Space c.args.self.now cs c.loop-entry.replies.items c.loop-entry.self) all c.loop-entry.invariant.in_order)
+    (subst (λ (cs : List TimedCall). AskedInOrder g.S.Space c.args.self.now cs c.loop-entry.replies.items c.loop-entry.self) all c.loop-entry.invariant.in_order)
 
 pub returns-clause-aware : goal.returns-clause-aware
 returns-clause-aware g c n s stops serial content a held =

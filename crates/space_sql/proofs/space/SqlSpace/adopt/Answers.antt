@@ -3,11 +3,11 @@ use Rattle.std.proofs.lemmas.Result.{IfErr-weaker, IfOk-weaker}
 use Rattle.sqlite.specs.Held.{state}
 use Rattle.entity_core.specs.Airspace.{Airspace}
 use Rattle.space_core.specs.Space.{IsContent}
-use Rattle.space_tables.specs.Spelling.{SpellsAs}
-use Rattle.space_tables.specs.declared.format.Format.TheVariants.{One, Two}
-use Rattle.space_tables.specs.declared.presence.Presence.TheVariants.{Whole}
-use Rattle.space_format.specs.Opening.{MayBeMoved, Refuses}
-use Rattle.space_format.specs.declared.open_fault.OpenFault.TheVariants.{Store}
+use Rattle.space_sql_schema.specs.Spelling.{SpellsAs}
+use Rattle.space_sql_schema.specs.declared.format.Format.TheVariants.{One, Two}
+use Rattle.space_sql_schema.specs.declared.presence.Presence.TheVariants.{Whole}
+use Rattle.space_sql_open.specs.Opening.{MayHaveUpgraded, Refuses}
+use Rattle.space_sql_open.specs.declared.open_fault.OpenFault.TheVariants.{Store}
 use Rattle.space_sql.specs.Holding.{holds_of}
 use Rattle.space_sql.proofs.Openings.{left_as, left_made, of_format, stands_seen}
 use Rattle.space_sql.proofs.space.SqlSpace.adopt.Goals as goal
@@ -32,7 +32,7 @@ pub returns-in-Whole-One-clause-left : goal.returns-in-Whole-One-clause-left
 returns-in-Whole-One-clause-left g c =
     let old = state g.S.Store c.args.conn in
     let stands = stands_seen c.schema.ensures.value (rw c.in-Whole-One.field-0-is at c.in-Whole-One.ensures.exact) in
-    left_as old (λ h. state g.S.Store h) (Whole One) (λ fault trees. (fault ≡ Store) × MayBeMoved old trees) c.take_first.result stands (λ fault trees it. it) c.take_first.ensures.left
+    left_as old (λ h. state g.S.Store h) (Whole One) (λ fault trees. (fault ≡ Store) × MayHaveUpgraded old trees) c.take_first.result stands (λ fault trees it. it) c.take_first.ensures.left
 
 pub returns-in-Whole-Two-clause-taken : goal.returns-in-Whole-Two-clause-taken
 returns-in-Whole-Two-clause-taken g c =

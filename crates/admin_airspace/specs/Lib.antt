@@ -1,0 +1,4 @@
+pub mod Cursor
+pub mod Reference
+pub mod Page
+pub mod PageQuery

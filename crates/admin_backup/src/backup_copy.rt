@@ -1,0 +1,322 @@
+//! One backup, as it is made beside the service: a copy of the database's file, then of its log.
+use crate::log_frames::LogHeader;
+use crate::page_set::PageSet;
+use admin_http::backup::BackupResult;
+use std::alloc::Global;
+use std::fs::{self, DirBuilder, File, OpenOptions};
+use std::io::ErrorKind;
+use std::os::unix::fs::{DirBuilderExt, FileExt, OpenOptionsExt};
+use std::{io, mem};
+
+// The names of the files in a backup.
+const FILE_NAME: &str = "dss.db";
+
+const LOG_NAME: &str = "dss.db-wal";
+
+// The bytes of pages changed meanwhile that are copied at once with the log, at most.
+const LAST_PAGES: u64 = 2_097_152;
+
+// A new log has overwritten of the one before it at most so many bytes more than its frames have:
+// it writes zeros ahead.
+const WRITTEN_AHEAD: u64 = 1_048_576;
+
+// How often a backup is begun anew, and how many pieces of changed pages are copied, at most.
+const MOST_STARTS: u32 = 8;
+
+const MOST_CHANGED: u32 = 10_000;
+
+// What a reading of the database's files that failed comes to.
+fn unread(cause: io::Error) -> BackupResult {
+    match cause.kind() {
+        ErrorKind::OutOfMemory => BackupResult::Memory,
+        _ => BackupResult::ReadFailed,
+    }
+}
+
+/// What a writing into the folder of backups that failed comes to.
+pub(crate) fn unwritten(cause: io::Error) -> BackupResult {
+    match cause.kind() {
+        ErrorKind::OutOfMemory => BackupResult::Memory,
+        _ => BackupResult::WriteFailed,
+    }
+}
+
+// A new file that only its owner reads.
+fn new_file(rt: &HostRuntime, name: &str) -> io::Result<File> {
+    OpenOptions::new()
+        .write(true)
+        .create_new(true)
+        .mode(0o600)
+        .open(rt, name)
+}
+
+// Makes the folder of a backup that is begun, and its files.
+fn begun_files(rt: &HostRuntime, begun: &str) -> io::Result<(File, File)> {
+    DirBuilder::new().mode(0o700).create(rt, begun)?;
+    let alloc = rt.alloc();
+    let copied = new_file(rt, format!(in alloc; "{begun}/{FILE_NAME}")?.as_str())?;
+    let copied_log = new_file(rt, format!(in alloc; "{begun}/{LOG_NAME}")?.as_str())?;
+    Ok((copied, copied_log))
+}
+
+// Writes to the disk what a folder holds.
+fn sync_folder(rt: &HostRuntime, name: &str) -> io::Result<()> {
+    File::open(rt, name)?.sync_all()
+}
+
+// What is to be done next.
+#[derive(Drop)]
+enum Stage {
+    // the file is copied, up to this many bytes
+    File(u64),
+    // this is the log, of which so many bytes are written
+    Log(Vec<u8>, usize),
+    // all is written
+    Written,
+    // all is on the disk
+    Synced,
+}
+
+/// The database whose backups are made, by the names of its files.
+#[derive(Drop)]
+pub(crate) struct SourcePaths {
+    pub(crate) file: String,
+    pub(crate) log: String,
+}
+
+/// Where a backup is made, and where it stands once it is.
+#[derive(Drop)]
+pub(crate) struct BackupPaths {
+    pub(crate) begun: String,
+    pub(crate) whole: String,
+    pub(crate) folder: String,
+}
+
+/// One backup that goes on.
+#[derive(Drop)]
+pub(crate) struct BackupCopy {
+    places: BackupPaths,
+    file: File,
+    log: File,
+    copied: File,
+    copied_log: File,
+    stage: Stage,
+    // the log when it was looked at last: its header, its frames, and their pages
+    header: LogHeader,
+    frames: u64,
+    logged: PageSet,
+    // the pages that checkpoints wrote into the file since it was begun to be copied
+    changed: PageSet,
+    page: Vec<u8>,
+    starts: u32,
+    changed_chunks: u32,
+    size: u64,
+}
+
+impl BackupCopy {
+    /// Begins one. Its folder is made here.
+    pub(crate) fn begin(
+        rt: &HostRuntime,
+        sources: &SourcePaths,
+        places: BackupPaths,
+    ) -> Result<BackupCopy, BackupResult> {
+        let alloc = rt.alloc();
+        let file = File::open(rt, sources.file.as_str()).map_err(unread)?;
+        let log = File::open(rt, sources.log.as_str()).map_err(unread)?;
+        let Some(header) = LogHeader::read(&log).map_err(unread)? else {
+            return Err(BackupResult::ReadFailed);
+        };
+        let page_size = usize::try_from(header.page_size()).unwrap_or(0);
+        let page = vec![in alloc; 0; page_size].map_err(|_| BackupResult::Memory)?;
+        let (copied, copied_log) = begun_files(rt, places.begun.as_str()).map_err(unwritten)?;
+        Ok(BackupCopy {
+            places,
+            file,
+            log,
+            copied,
+            copied_log,
+            stage: Stage::File(0),
+            header,
+            frames: 0,
+            logged: PageSet::new(alloc),
+            changed: PageSet::new(alloc),
+            page,
+            starts: 1,
+            changed_chunks: 0,
+            size: 0,
+        })
+    }
+
+    /// Removes what there is of it.
+    pub(crate) fn give_up(self, rt: &HostRuntime) {
+        let _ = fs::remove_dir_all(rt, self.places.begun.as_str());
+    }
+
+    // Looks at the log, and notes what checkpoints may have changed in the file since it was looked
+    // at last. `false`: that is not known.
+    fn look(&mut self, alloc: Global) -> io::Result<bool> {
+        let Some(header) = LogHeader::read(&self.log)? else {
+            return Err(io::Error::from(ErrorKind::InvalidData));
+        };
+        if header == self.header {
+            self.frames = header.mark_from(&self.log, self.frames, &mut self.logged)?;
+            return Ok(true);
+        }
+        let mut logged = PageSet::new(alloc);
+        let frames = header.mark_from(&self.log, 0, &mut logged)?;
+        let overwritten = header.length(frames).saturating_add(WRITTEN_AHEAD);
+        let is_known = header.is_next_of(self.header)
+            && overwritten <= self.header.length(self.frames);
+        if is_known {
+            self.header
+                .mark_from(&self.log, self.frames, &mut self.logged)?;
+            self.changed.absorb(&mut self.logged)?;
+        }
+        self.header = header;
+        self.frames = frames;
+        self.logged = logged;
+        Ok(is_known)
+    }
+
+    // Begins anew with the file.
+    fn start_anew(&mut self) -> Result<(), BackupResult> {
+        if self.starts >= MOST_STARTS {
+            return Err(BackupResult::TooManyChanges);
+        }
+        self.starts = self.starts.saturating_add(1);
+        self.changed.clear();
+        self.stage = Stage::File(0);
+        Ok(())
+    }
+
+    // Copies a piece of the file.
+    fn copy_chunk(&mut self, from: u64, chunk: &mut [u8]) -> Result<(), BackupResult> {
+        let count = self.file.read_at(chunk, from).map_err(unread)?;
+        self.copied
+            .write_all_at(&chunk[..count], from)
+            .map_err(unwritten)?;
+        self.copied.sync_data().map_err(unwritten)?;
+        self.stage = Stage::File(from.saturating_add(count as u64));
+        Ok(())
+    }
+
+    // Copies one page of the file.
+    fn copy_page(&mut self, number: u32) -> Result<(), BackupResult> {
+        let at = u64::from(number)
+            .saturating_sub(1)
+            .saturating_mul(self.header.page_size());
+        let count = self.file.read_at(&mut self.page, at).map_err(unread)?;
+        self.copied
+            .write_all_at(&self.page[..count], at)
+            .map_err(unwritten)
+    }
+
+    // Copies pages that were changed, of so many bytes together.
+    fn copy_changed(&mut self, bytes: u64) -> Result<(), BackupResult> {
+        let most = bytes / self.header.page_size().max(1);
+        for _ in 0..most.max(1) {
+            let Some(number) = self.changed.pop() else {
+                return Ok(());
+            };
+            self.copy_page(number)?;
+        }
+        Ok(())
+    }
+
+    // Copies a piece of what was changed, where that is much.
+    fn catch_up(&mut self, bytes: u64) -> Result<(), BackupResult> {
+        if self.changed_chunks >= MOST_CHANGED {
+            return Err(BackupResult::TooManyChanges);
+        }
+        self.changed_chunks = self.changed_chunks.saturating_add(1);
+        self.copy_changed(bytes)?;
+        self.copied.sync_data().map_err(unwritten)
+    }
+
+    // Takes the rest of what was changed, and the log, between the same two rounds.
+    fn take_log(&mut self, alloc: Global, length: u64) -> Result<(), BackupResult> {
+        self.copy_changed(u64::MAX)?;
+        self.copied.set_len(length).map_err(unwritten)?;
+        let Ok(size) = usize::try_from(self.header.length(self.frames)) else {
+            return Err(BackupResult::Memory);
+        };
+        let mut log = vec![in alloc; 0; size].map_err(|_| BackupResult::Memory)?;
+        self.log.read_exact_at(&mut log, 0).map_err(unread)?;
+        self.size = length.saturating_add(self.header.length(self.frames));
+        self.stage = Stage::Log(log, 0);
+        Ok(())
+    }
+
+    // Does the next piece of copying the file, which is so far copied.
+    fn go_on_with_file(
+        &mut self,
+        alloc: Global,
+        copied: u64,
+        chunk: &mut [u8],
+    ) -> Result<(), BackupResult> {
+        self.stage = Stage::File(copied);
+        if !self.look(alloc).map_err(unread)? {
+            return self.start_anew();
+        }
+        let length = self.file.metadata().map_err(unread)?.len();
+        if copied < length {
+            return self.copy_chunk(copied, chunk);
+        }
+        let changed = self
+            .header
+            .page_size()
+            .saturating_mul(self.changed.len() as u64);
+        if changed > LAST_PAGES {
+            return self.catch_up(chunk.len() as u64);
+        }
+        self.take_log(alloc, length)
+    }
+
+    // Writes the next piece of the log.
+    fn write_log(&mut self, log: Vec<u8>, written: usize, most: usize) -> Result<(), BackupResult> {
+        let from = written.min(log.len());
+        let until = from.saturating_add(most).min(log.len());
+        self.copied_log
+            .write_all_at(&log[from..until], from as u64)
+            .map_err(unwritten)?;
+        self.copied_log.sync_data().map_err(unwritten)?;
+        self.stage = if until < log.len() {
+            Stage::Log(log, until)
+        } else {
+            Stage::Written
+        };
+        Ok(())
+    }
+
+    // Has the disk hold all of it.
+    fn sync(&mut self, rt: &HostRuntime) -> io::Result<()> {
+        self.copied.sync_all()?;
+        self.copied_log.sync_all()?;
+        self.stage = Stage::Synced;
+        sync_folder(rt, self.places.begun.as_str())
+    }
+
+    // Gives it its name.
+    fn name_it(&self, rt: &HostRuntime) -> io::Result<()> {
+        fs::rename(rt, self.places.begun.as_str(), self.places.whole.as_str())?;
+        sync_folder(rt, self.places.folder.as_str())
+    }
+
+    /// Makes the next piece. The size of the backup, once it is there.
+    pub(crate) fn go_on(
+        &mut self,
+        rt: &HostRuntime,
+        chunk: &mut [u8],
+    ) -> Result<Option<u64>, BackupResult> {
+        match mem::replace(&mut self.stage, Stage::Written) {
+            Stage::File(copied) => self.go_on_with_file(rt.alloc(), copied, chunk)?,
+            Stage::Log(log, written) => self.write_log(log, written, chunk.len())?,
+            Stage::Written => self.sync(rt).map_err(unwritten)?,
+            Stage::Synced => {
+                self.name_it(rt).map_err(unwritten)?;
+                return Ok(Some(self.size));
+            }
+        }
+        Ok(None)
+    }
+}

@@ -1,0 +1,102 @@
+//! The log of a database, as far as a backup reads it: its header, and whose pages its frames are.
+use crate::page_set::PageSet;
+use std::fs::File;
+use std::io;
+use std::os::unix::fs::FileExt;
+
+const HEADER: usize = 32;
+
+const FRAME_HEADER: usize = 24;
+
+// The number in the header's salt that each checkpoint counts up begins with a byte of 1 or more.
+const LEAST_COUNT: u32 = 0x100_0000;
+
+// The number of no page: a frame with it tells of those beside it.
+const NO_PAGE: u32 = 0xff00_0000;
+
+// The number of four bytes, the highest first.
+fn number(bytes: &[u8], at: usize) -> u32 {
+    let mut found = 0_u32;
+    for place in at..at.saturating_add(4) {
+        if let Some(byte) = bytes.get(place) {
+            found = found.wrapping_mul(256).wrapping_add(u32::from(*byte));
+        }
+    }
+    found
+}
+
+// Reads as many bytes as there are, up to the length of the piece.
+fn read_up_to(file: &File, chunk: &mut [u8], at: u64) -> io::Result<usize> {
+    file.read_at(chunk, at)
+}
+
+/// The header of a log. A checkpoint writes a new one.
+#[derive(Clone, Copy, Debug, PartialEq, Eq)]
+pub(crate) struct LogHeader {
+    page_size: u32,
+    // counted up by each checkpoint
+    count: u32,
+    random: u32,
+}
+
+impl LogHeader {
+    /// The header of the log in that file, where there is one.
+    pub(crate) fn read(log: &File) -> io::Result<Option<LogHeader>> {
+        let mut bytes = [0; HEADER];
+        let found = read_up_to(log, &mut bytes, 0)?;
+        if found < HEADER || number(&bytes, 0) & 0xffff_fffe != 0x377f_0682 {
+            return Ok(None);
+        }
+        Ok(Some(LogHeader {
+            page_size: number(&bytes, 8),
+            count: number(&bytes, 16),
+            random: number(&bytes, 20),
+        }))
+    }
+
+    /// The bytes of a page.
+    pub(crate) fn page_size(self) -> u64 {
+        u64::from(self.page_size)
+    }
+
+    /// Whether there was one checkpoint since the log had that header.
+    pub(crate) fn is_next_of(self, earlier: LogHeader) -> bool {
+        self.page_size == earlier.page_size
+            && self.count == earlier.count.wrapping_add(1).max(LEAST_COUNT)
+    }
+
+    /// The length of a log of so many frames.
+    pub(crate) fn length(self, frames: u64) -> u64 {
+        let frame = self.page_size().saturating_add(FRAME_HEADER as u64);
+        frame.saturating_mul(frames).saturating_add(HEADER as u64)
+    }
+
+    // The page of a frame, and whether a change ends with it. None: no frame of this log is there.
+    fn frame(self, log: &File, index: u64) -> io::Result<Option<(u32, bool)>> {
+        let mut bytes = [0; FRAME_HEADER];
+        let found = read_up_to(log, &mut bytes, self.length(index))?;
+        let is_of_this = number(&bytes, 8) == self.count && number(&bytes, 12) == self.random;
+        if found < FRAME_HEADER || !is_of_this {
+            return Ok(None);
+        }
+        Ok(Some((number(&bytes, 0), number(&bytes, 4) != 0)))
+    }
+
+    /// Goes over the frames of this log from that one on, and puts their pages into the set. How
+    /// many frames there are up to the last change.
+    pub(crate) fn mark_from(self, log: &File, from: u64, pages: &mut PageSet) -> io::Result<u64> {
+        let mut frames = from;
+        for index in from..u64::MAX {
+            let Some((page, ends)) = self.frame(log, index)? else {
+                return Ok(frames);
+            };
+            if page < NO_PAGE {
+                pages.insert(page)?;
+            }
+            if ends {
+                frames = index.saturating_add(1);
+            }
+        }
+        Ok(frames)
+    }
+}

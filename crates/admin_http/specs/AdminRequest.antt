@@ -1,0 +1,49 @@
+-- What the operator's port has, by path and method.
+use Rattle.std.specs.Prelude.{◌≡◌, ◌≢◌, ℕ, List, codes}
+use Rattle.admin_http.specs.declared.admin_route.AdminRequest.{AdminRequest}
+use Rattle.admin_http.specs.declared.admin_route.AdminRequest.TheVariants.{Does, Refuses, Unknown}
+use Rattle.admin_http.specs.declared.admin_route.Health.{Health}
+use Rattle.admin_http.specs.declared.admin_route.Health.TheVariants as state
+use Rattle.admin_http.specs.declared.admin_route.AdminRoute.{AdminRoute}
+use Rattle.admin_http.specs.declared.admin_route.AdminRoute.TheVariants as page
+
+abbrev pub path_of : AdminRoute → List ℕ
+path_of page.Health = codes "/health"
+path_of page.Metrics = codes "/metrics"
+path_of page.Stop = codes "/stop"
+path_of page.Backup = codes "/backup"
+path_of page.Airspace = codes "/airspace"
+
+abbrev pub method_of : AdminRoute → List ℕ
+method_of page.Health = codes "GET"
+method_of page.Metrics = codes "GET"
+method_of page.Stop = codes "POST"
+method_of page.Backup = codes "POST"
+method_of page.Airspace = codes "GET"
+
+-- no page has this path
+abbrev pub IsNoPath : List ℕ → Type 0
+IsNoPath path = (p : AdminRoute) → path ≢ path_of p
+
+-- a page is asked for by its path and its method
+abbrev pub IsAsked : (method path : List ℕ) → AdminRequest → Type 0
+IsAsked method path (Does p) = (path ≡ path_of p) × (method ≡ method_of p)
+IsAsked method path (Refuses p) = (path ≡ path_of p) × (method ≢ method_of p)
+IsAsked method path Unknown = IsNoPath path
+
+-- the status of a page's answer: its health alone tells how the service is; of backups this is the
+-- answer where there is no folder for them, and of the airspace that where nothing is shown
+abbrev pub status_at : AdminRoute → Health → ℕ
+status_at page.Health state.Serving = 200
+status_at page.Health state.Failing = 503
+status_at page.Health state.Stopped = 503
+status_at page.Health state.Stopping = 503
+status_at page.Metrics health = 200
+status_at page.Stop health = 200
+status_at page.Backup health = 404
+status_at page.Airspace health = 503
+
+abbrev pub status_of : AdminRequest → Health → ℕ
+status_of (Does p) health = status_at p health
+status_of (Refuses p) health = 405
+status_of Unknown health = 404

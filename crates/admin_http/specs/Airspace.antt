@@ -1,0 +1,18 @@
+-- The answer to one who asks for the airspace.
+use Rattle.std.specs.Prelude.{◌≡◌, ◌⊎◌, ℕ, List, None, Some, Result, Ok, Err, codes}
+use Rattle.space_snapshot.specs.declared.snapshot.NoMirror.{NoMirror}
+use Rattle.space_snapshot.specs.declared.snapshot.NoMirror.TheVariants as copies
+use Rattle.admin_http.specs.declared.admin_route.AdminRoute.TheVariants as page
+use Rattle.admin_http.specs.Answer.{text_of, type_of}
+
+-- why there is no copy in memory, in words
+abbrev pub words_of : NoMirror → List ℕ
+words_of copies.None = codes "no copy in memory: there was no memory for one\n"
+words_of copies.Dropped = codes "no copy in memory: it was lost with changes that were not kept\n"
+
+-- a page, or that there is no such query; or why nothing is shown
+abbrev pub AnswersAirspace : {T : Type 0} → Result T NoMirror → (text : List ℕ) → Type 0
+AnswersAirspace (Ok shown) text =
+    ((body : List ℕ) × (text ≡ text_of 200 (type_of (Some page.Airspace)) None body))
+    ⊎ (text ≡ text_of 400 (type_of None) None (codes "no such query\n"))
+AnswersAirspace (Err why) text = text ≡ text_of 503 (type_of None) None (words_of why)

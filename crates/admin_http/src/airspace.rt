@@ -1,0 +1,40 @@
+//! The answer to one who asks for the airspace.
+ghost use Rattle.std.specs.Prelude.{◌≡◌, IfOk};
+ghost use Rattle.admin_http.specs.Airspace.{AnswersAirspace, words_of};
+
+use crate::admin_route::AdminRoute;
+use crate::answer::whole;
+use admin_airspace::query::PageQuery;
+use admin_airspace::shown_page::page_text;
+use space_snapshot::snapshot::{NoMirror, Snapshot};
+use std::alloc::{AllocError, Global};
+
+// Why nothing is shown, in words.
+fn no_copy_words(why: NoMirror) -> &'static str
+    ensures { result.now ≡ words_of why }
+{
+    match why {
+        NoMirror::None => "no copy in memory: there was no memory for one\n",
+        NoMirror::Dropped => "no copy in memory: it was lost with changes that were not kept\n",
+    }
+}
+
+/// The answer to one who asks for the airspace with a query: a page of what is shown, or why
+/// nothing is, or that there is no such query.
+pub fn airspace_answer(
+    alloc: Global,
+    query: &str,
+    shown: Result<Snapshot<'_>, NoMirror>,
+) -> Result<Vec<u8>, AllocError>
+    ensures { IfOk result (λ text. AnswersAirspace shown.entry text.items) }
+{
+    let shown = match shown {
+        Ok(shown) => shown,
+        Err(why) => return whole(alloc, 503, None, None, no_copy_words(why)),
+    };
+    let Some(query) = PageQuery::read(query) else {
+        return whole(alloc, 400, None, None, "no such query\n");
+    };
+    let text = page_text(alloc, shown, query)?;
+    whole(alloc, 200, Some(AdminRoute::Airspace), None, text.as_str())
+}

@@ -1,0 +1,203 @@
+//! The answers of the operator's port.
+ghost use Rattle.std.specs.Prelude.{◌≡◌, IfOk};
+ghost use Rattle.std.specs.String.{string_bytes};
+ghost use Rattle.admin_http.specs.Answer.{Answers, AnswersBackup, allow_line, front_of, length_line, reason_of, status_line, text_of, type_line, type_of, words_of};
+ghost use Rattle.admin_http.specs.ServiceMetrics.{health_of};
+
+use crate::admin_route::{AdminRequest, AdminRoute, Health, request_status};
+use crate::backup::{self, BackupResult};
+use crate::build::BuildInfo;
+use crate::metrics::metrics;
+use crate::service_metrics::ServiceMetrics;
+use std::alloc::{AllocError, Global};
+use wire_head::rule::WireRule;
+
+// The reason phrase of a status.
+#[tactic(auto, unfolding(crate::specs::Answer::reason_of))]
+fn reason_of(status: u16) -> &'static str
+    ensures { result.now ≡ reason_of status }
+{
+    match status {
+        200 => "OK",
+        404 => "Not Found",
+        405 => "Method Not Allowed",
+        409 => "Conflict",
+        413 => "Content Too Large",
+        431 => "Request Header Fields Too Large",
+        501 => "Not Implemented",
+        503 => "Service Unavailable",
+        _ => "Bad Request",
+    }
+}
+
+// The media type of a body.
+fn type_of(page: Option<AdminRoute>) -> &'static str
+    ensures { result.now ≡ type_of page }
+{
+    match page {
+        Some(AdminRoute::Metrics) => "text/plain; version=0.0.4; charset=utf-8",
+        Some(AdminRoute::Airspace) => "application/json",
+        _ => "text/plain; charset=utf-8",
+    }
+}
+
+// The line that tells which method a page takes, where one was refused.
+fn allow_line(alloc: Global, refused: Option<AdminRoute>) -> Result<String, AllocError>
+    ensures { IfOk result (λ line. string_bytes line ≡ allow_line refused) }
+{
+    let Some(page) = refused else {
+        return Ok(String::new(alloc));
+    };
+    let mut line = String::from_str(alloc, "Allow: ")?;
+    line.push_str(page.method())?;
+    line.push_str("\r\n")?;
+    Ok(line)
+}
+
+// The status line.
+#[tactic(auto, unfolding(crate::specs::Answer::status_line))]
+fn status_line(alloc: Global, status: u16) -> Result<String, AllocError>
+    ensures { IfOk result (λ text. string_bytes text ≡ status_line status) }
+{
+    let mut text = format!(in alloc; "HTTP/1.1 {status} ")?;
+    text.push_str(reason_of(status))?;
+    text.push_str("\r\n")?;
+    Ok(text)
+}
+
+// The line that tells what the body is.
+#[tactic(auto, unfolding(crate::specs::Answer::type_line))]
+fn type_line(alloc: Global, media: &str) -> Result<String, AllocError>
+    ensures { IfOk result (λ text. string_bytes text ≡ type_line media.now) }
+{
+    let mut text = String::from_str(alloc, "Content-Type: ")?;
+    text.push_str(media)?;
+    text.push_str("\r\n")?;
+    Ok(text)
+}
+
+// The line that tells the length of the body.
+#[tactic(auto, unfolding(crate::specs::Answer::length_line))]
+fn length_line(alloc: Global, size: usize) -> Result<String, AllocError>
+    ensures { IfOk result (λ text. string_bytes text ≡ length_line size) }
+{
+    format!(in alloc; "Content-Length: {size}\r\n")
+}
+
+// What stands before the body.
+#[tactic(auto, unfolding(crate::specs::Answer::front_of))]
+fn front_of(
+    alloc: Global,
+    status: u16,
+    media: &str,
+    refused: Option<AdminRoute>,
+    size: usize,
+) -> Result<String, AllocError>
+    ensures { IfOk result (λ front. string_bytes front ≡ front_of status media.now refused size) }
+{
+    let mut front = status_line(alloc, status)?;
+    front.push_str(type_line(alloc, media)?.as_str())?;
+    front.push_str(length_line(alloc, size)?.as_str())?;
+    front.push_str(allow_line(alloc, refused)?.as_str())?;
+    front.push_str("Connection: close\r\n")?;
+    front.push_str("\r\n")?;
+    Ok(front)
+}
+
+// The answer of these parts.
+pub(crate) fn whole(
+    alloc: Global,
+    status: u16,
+    page: Option<AdminRoute>,
+    refused: Option<AdminRoute>,
+    body: &str,
+) -> Result<Vec<u8>, AllocError>
+    ensures { IfOk result (λ text. text.items ≡ text_of status (type_of page) refused body.now) }
+{
+    let front = front_of(alloc, status, type_of(page), refused, body.len())?;
+    let mut text = front.into_bytes();
+    text.extend_from_slice(body.as_bytes())?;
+    Ok(text)
+}
+
+// How the service is, in words.
+fn health_words(health: Health) -> &'static str
+    ensures { result.now ≡ words_of health }
+{
+    match health {
+        Health::Serving => "serving\n",
+        Health::Failing =>
+            "failing: the database did not keep the last changes that it was given\n",
+        Health::Stopped => "stopped: the database failed, and no call is answered any more\n",
+        Health::Stopping => "stopping: it was told to end\n",
+    }
+}
+
+/// The answer to what was asked. To one who asks for a backup it is that where there is no folder
+/// for them, and to one who asks for the airspace that where nothing is shown.
+pub fn answer(
+    alloc: Global,
+    asked: AdminRequest,
+    figures: &ServiceMetrics,
+    build: BuildInfo<'_>,
+) -> Result<Vec<u8>, AllocError>
+    ensures { IfOk result (λ text. Answers asked (health_of figures.now) text.items) }
+{
+    let health = figures.health;
+    let status = request_status(asked, health);
+    match asked {
+        AdminRequest::Does(AdminRoute::Health) => whole(
+            alloc,
+            status,
+            None,
+            None,
+            health_words(health),
+        ),
+        AdminRequest::Does(AdminRoute::Metrics) => {
+            let text = metrics(alloc, figures, build)?;
+            whole(
+                alloc,
+                status,
+                Some(AdminRoute::Metrics),
+                None,
+                text.as_str(),
+            )
+        }
+        AdminRequest::Does(AdminRoute::Stop) => whole(alloc, status, None, None, "stopping\n"),
+        AdminRequest::Does(AdminRoute::Backup) => whole(
+            alloc,
+            status,
+            None,
+            None,
+            "no such path\n",
+        ),
+        AdminRequest::Does(AdminRoute::Airspace) => whole(
+            alloc,
+            status,
+            None,
+            None,
+            "nothing is shown\n",
+        ),
+        AdminRequest::Refuses(page) => whole(alloc, status, None, Some(page), "no such method\n"),
+        AdminRequest::Unknown => whole(alloc, status, None, None, "no such path\n"),
+    }
+}
+
+/// The answer to one who asked for a backup, by what became of it.
+pub fn backup_answer(alloc: Global, backup: BackupResult) -> Result<Vec<u8>, AllocError>
+    ensures { IfOk result (λ text. AnswersBackup backup text.items) }
+{
+    let words = backup::backup_words(alloc, backup)?;
+    whole(
+        alloc,
+        backup::backup_status(backup),
+        None,
+        None,
+        words.as_str(),
+    )
+}
+
+/// The answer where a rule of the wire is broken.
+pub fn refusal(alloc: Global, rule: WireRule) -> Result<Vec<u8>, AllocError> {
+    whole(alloc, rule.status(), None, None, "no such request\n")
+}

@@ -1,0 +1,88 @@
+//! Backups that are asked for at the operator's port: their names, and what is answered.
+ghost use Rattle.std.specs.Prelude.{◌≡◌, List, ℕ, IfOk, IfNone, IfSome};
+ghost use Rattle.std.specs.List.{list_all};
+ghost use Rattle.std.specs.String.{string_bytes};
+ghost use Rattle.admin_http.specs.BackupResult.{Names, is_name_byte, status_of, words_of};
+
+use std::alloc::{AllocError, Global};
+
+/// The most bytes of a backup's name.
+pub const MAX_NAME_BYTES: usize = 64;
+
+/// What became of a backup that was asked for.
+#[derive(Clone, Copy, Debug, PartialEq, Eq)]
+pub enum BackupResult {
+    /// It is there, with so many bytes.
+    Made(u64),
+    /// Its name is not 1 to 64 letters, digits, `-` and `_`.
+    InvalidName,
+    /// There is no folder for backups.
+    NoDirectory,
+    /// One of its name is there.
+    Exists,
+    /// Another one is being made.
+    Busy,
+    /// It cannot be written.
+    WriteFailed,
+    /// The database's files cannot be read.
+    ReadFailed,
+    /// The database was changed faster than it is read.
+    TooManyChanges,
+    /// Memory ran out.
+    Memory,
+}
+
+fn has_name_bytes(text: &str) -> bool
+    ensures { result ≡ list_all is_name_byte text.now }
+{
+    text.as_bytes()
+        .iter()
+        .all(|b| b.is_ascii_alphanumeric() || *b == b'-' || *b == b'_')
+}
+
+/// The backup's name in a query `name=WORD`, of 1 to 64 letters, digits, `-` and `_`.
+pub fn name_in(query: &str) -> Option<&str>
+    ensures some { IfSome result (λ name. Names query.now name.now) }
+    ensures none { IfNone result (¬ ((name : List ℕ) × Names query.now name)) }
+{
+    let name = query.strip_prefix("name=")?;
+    if name.is_empty() || name.len() > MAX_NAME_BYTES || !has_name_bytes(name) {
+        return None;
+    }
+    Some(name)
+}
+
+/// The status of the answer.
+pub fn backup_status(backup: BackupResult) -> u16
+    ensures { result ≡ status_of backup }
+{
+    match backup {
+        BackupResult::Made(_) => 200,
+        BackupResult::InvalidName => 400,
+        BackupResult::NoDirectory => 404,
+        BackupResult::Exists => 409,
+        BackupResult::Busy
+        | BackupResult::WriteFailed
+        | BackupResult::ReadFailed
+        | BackupResult::TooManyChanges
+        | BackupResult::Memory => 503,
+    }
+}
+
+// The body of the answer.
+pub(crate) fn backup_words(alloc: Global, backup: BackupResult) -> Result<String, AllocError>
+    ensures { IfOk result (λ text. string_bytes text ≡ words_of backup) }
+{
+    let text = match backup {
+        BackupResult::Made(size) => return format!(in alloc; "made: {size} bytes\n"),
+        BackupResult::InvalidName => "name: 1 to 64 letters, digits, - and _\n",
+        BackupResult::NoDirectory => "no such path\n",
+        BackupResult::Exists => "exists: a backup of that name is there\n",
+        BackupResult::Busy => "busy: another backup is being made\n",
+        BackupResult::WriteFailed => "not made: the folder of backups cannot be written\n",
+        BackupResult::ReadFailed => "not made: the database's files cannot be read\n",
+        BackupResult::TooManyChanges => "not made: the database changes too fast\n",
+        BackupResult::Memory => "not made: memory\n",
+    };
+    String::from_str(alloc, text)
+}

@@ -1,0 +1,107 @@
+//! How long things took, by bounds.
+ghost use Rattle.std.specs.Duration.{as_nanos};
+ghost use Rattle.admin_http.specs.Durations.{IsPlace};
+
+use crate::exposition::{Exposition, Label};
+use std::alloc::AllocError;
+use std::time::Duration;
+
+// The bounds, in nanoseconds, and how each is written in seconds.
+const BOUNDS: [u128; 12] = [
+    500_000,
+    1_000_000,
+    2_500_000,
+    5_000_000,
+    10_000_000,
+    25_000_000,
+    50_000_000,
+    100_000_000,
+    250_000_000,
+    500_000_000,
+    1_000_000_000,
+    2_500_000_000,
+];
+
+const WRITTEN: [&str; 13] = [
+    "0.0005", "0.001", "0.0025", "0.005", "0.01", "0.025", "0.05", "0.1", "0.25", "0.5", "1",
+    "2.5", "+Inf",
+];
+
+/// How long things took: how many between each two bounds, and their sum.
+#[derive(Clone, Copy, Debug)]
+pub(crate) struct Durations {
+    between: [u64; 13],
+    sum: Duration,
+}
+
+// The place of the first bound that it does not exceed; behind all of them where there is none.
+fn place_of(took: Duration) -> usize
+    ensures { IsPlace (as_nanos took) result }
+{
+    let time = took.as_nanos();
+    for place in 0..BOUNDS.len() {
+        if time <= BOUNDS[place] {
+            return place;
+        }
+    }
+    BOUNDS.len()
+}
+
+// Puts the sample of those that took at most so long.
+fn put_bucket(
+    text: &mut Exposition,
+    operation: &str,
+    bound: &str,
+    count: u64,
+) -> Result<(), AllocError> {
+    let labels = [
+        Label {
+            name: "operation",
+            value: operation,
+        },
+        Label {
+            name: "le",
+            value: bound,
+        },
+    ];
+    text.sample("dss_request_duration_seconds_bucket", &labels, count)
+}
+
+impl Durations {
+    /// Nothing was done.
+    pub(crate) fn new() -> Durations {
+        Durations {
+            between: [0; 13],
+            sum: Duration::from_millis(0),
+        }
+    }
+
+    /// Something took so long.
+    pub(crate) fn note(&mut self, took: Duration) {
+        if let Some(count) = self.between.get_mut(place_of(took)) {
+            *count = (*count).saturating_add(1);
+        }
+        self.sum = self.sum.saturating_add(took);
+    }
+
+    /// Whether nothing was done.
+    pub(crate) fn is_empty(&self) -> bool {
+        self.between.iter().all(|count| *count == 0)
+    }
+
+    /// Puts its samples behind the text, under three names: the counts of those that took at most
+    /// so long, the sum, and the count of all.
+    pub(crate) fn put(&self, text: &mut Exposition, operation: &str) -> Result<(), AllocError> {
+        let mut count = 0_u64;
+        for (bound, between) in WRITTEN.iter().zip(self.between.iter()) {
+            count = count.saturating_add(*between);
+            put_bucket(text, operation, bound, count)?;
+        }
+        let label = Label {
+            name: "operation",
+            value: operation,
+        };
+        text.sample_seconds("dss_request_duration_seconds_sum", &[label], self.sum)?;
+        text.sample("dss_request_duration_seconds_count", &[label], count)
+    }
+}

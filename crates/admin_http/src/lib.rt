@@ -1,0 +1,21 @@
+//! The operator's port, below sockets: what bytes ask for there, and the answer.
+#![tactic(auto)]
+
+pub mod admin_route;
+pub mod airspace;
+pub mod answer;
+pub mod backup;
+pub mod build;
+pub mod connections;
+mod durations;
+mod exposition;
+pub mod faults;
+mod metrics;
+pub mod operation;
+pub mod purged;
+pub mod query;
+pub mod request;
+pub mod requests;
+pub mod service_metrics;
+pub mod store_metrics;
+pub mod tokens;

@@ -1,0 +1,81 @@
+//! What the bytes of a connection to the operator's port ask for.
+ghost use Rattle.std.specs.Prelude.{◌≤◌, length};
+ghost use Rattle.httparse.specs.Spans.{IsRequestWithin};
+
+use crate::admin_route::{AdminRequest, route_request};
+use crate::query::query_of;
+use httparse::spans::{EMPTY_HEADER_SPAN, HeaderSpan, RequestSpans};
+use wire_head::length::content_length;
+use wire_head::rest::{PartialHead, head_so_far};
+use wire_head::rule::WireRule;
+use wire_head::target::path_of;
+
+/// The most bytes of a head, the empty lines before it among them.
+pub const HEAD_LIMIT: usize = 8192;
+
+/// The most bytes of a body.
+pub const BODY_LIMIT: usize = 1024;
+
+/// What bytes so far say.
+#[derive(Clone, Copy, Debug, PartialEq, Eq)]
+pub enum RequestParse<'a> {
+    /// Nothing yet.
+    Incomplete,
+    /// This, with the query of its target.
+    Request(AdminRequest, &'a str),
+    /// That they are no request, by this rule of the wire.
+    Invalid(WireRule),
+}
+
+// What a method and a target ask for.
+fn said_by_line<'a>(method: &[u8], target: &'a [u8]) -> RequestParse<'a> {
+    match str::from_utf8(target) {
+        Ok(target) => {
+            let asked = route_request(method, path_of(target).as_bytes());
+            RequestParse::Request(asked, query_of(target))
+        }
+        Err(_) => RequestParse::Request(AdminRequest::Unknown, ""),
+    }
+}
+
+// What a whole head asks for, once its body is there.
+fn said_by_head<'a>(
+    bytes: &[u8],
+    front: &'a [u8],
+    fields: &[HeaderSpan],
+    spans: RequestSpans,
+) -> RequestParse<'a>
+    requires within { IsRequestWithin front.now fields.now spans }
+    requires front { length front.now ≤ length bytes.now }
+{
+    let size = match content_length(front, &fields[..spans.headers]) {
+        Ok(size) => size,
+        Err(rule) => return RequestParse::Invalid(rule),
+    };
+    if size > BODY_LIMIT {
+        return RequestParse::Invalid(WireRule::BodySize);
+    }
+    if bytes.len().saturating_sub(spans.len) < size {
+        return RequestParse::Incomplete;
+    }
+    said_by_line(spans.method.of(front), spans.path.of(front))
+}
+
+/// What the bytes so far say. A request has a head of at most 8 KiB and a body of at most 1 KiB,
+/// which nobody looks at.
+pub fn parse_admin_request(bytes: &[u8]) -> RequestParse<'_> {
+    let front = &bytes[..bytes.len().min(HEAD_LIMIT)];
+    let mut fields = [EMPTY_HEADER_SPAN; 64];
+    match head_so_far(front, &mut fields) {
+        PartialHead::Head(spans) => said_by_head(bytes, front, &fields, spans),
+        PartialHead::Bad => RequestParse::Invalid(WireRule::Head),
+        PartialHead::Large => RequestParse::Invalid(WireRule::HeadSize),
+        PartialHead::More => {
+            if bytes.len() < HEAD_LIMIT {
+                RequestParse::Incomplete
+            } else {
+                RequestParse::Invalid(WireRule::HeadSize)
+            }
+        }
+    }
+}

@@ -1,0 +1,92 @@
+//! How much is kept, as its copy in memory tells.
+use crate::exposition::{Exposition, Label, Metric, MetricKind};
+use crate::service_metrics::wide;
+use entity_core::nature;
+use space_snapshot::snapshot::{NoMirror, Snapshot};
+use std::alloc::AllocError;
+
+// What a copy in memory has.
+#[derive(Clone, Copy, Debug)]
+struct Numbers {
+    intents: u64,
+    constraints: u64,
+    subscriptions: u64,
+    serial: u64,
+}
+
+/// How much is kept, where there is a copy of it in memory.
+#[derive(Clone, Copy, Debug)]
+pub struct StoreMetrics {
+    numbers: Option<Numbers>,
+}
+
+impl StoreMetrics {
+    /// Nothing is known of it.
+    pub(crate) fn unknown() -> StoreMetrics {
+        StoreMetrics { numbers: None }
+    }
+
+    /// What is shown, counted.
+    pub fn of(shown: Result<Snapshot<'_>, NoMirror>) -> StoreMetrics {
+        match shown {
+            Ok(shown) => StoreMetrics {
+                numbers: Some(Numbers {
+                    intents: shown.counts.of(nature::Kind::Intent),
+                    constraints: shown.counts.of(nature::Kind::Constraint),
+                    subscriptions: wide(shown.subscriptions.len()),
+                    serial: shown.serial,
+                }),
+            },
+            Err(_) => StoreMetrics::unknown(),
+        }
+    }
+
+    // Puts the lines of a copy behind the text.
+    fn put_numbers(text: &mut Exposition, numbers: Numbers) -> Result<(), AllocError> {
+        let entities = Metric {
+            name: "dss_entities",
+            kind: MetricKind::Gauge,
+            help: "Entities that are kept, by their kind.",
+        };
+        text.describe(entities)?;
+        let kinds = [
+            ("intent", numbers.intents),
+            ("constraint", numbers.constraints),
+        ];
+        for (value, number) in &kinds {
+            let kind = Label {
+                name: "kind",
+                value,
+            };
+            text.sample(entities.name, &[kind], *number)?;
+        }
+        let subscriptions = Metric {
+            name: "dss_subscriptions",
+            kind: MetricKind::Gauge,
+            help: "Subscriptions that are kept.",
+        };
+        text.one(subscriptions, numbers.subscriptions)?;
+        let serial = Metric {
+            name: "dss_serial",
+            kind: MetricKind::Gauge,
+            help: "The number of changes since the database was made.",
+        };
+        text.one(serial, numbers.serial)
+    }
+
+    /// Puts their lines behind the text: without a copy only that there is none.
+    pub(crate) fn put(&self, text: &mut Exposition) -> Result<(), AllocError> {
+        let copy = Metric {
+            name: "dss_mirror_up",
+            kind: MetricKind::Gauge,
+            help: "Whether there is a copy in memory of what is kept: 1, or 0 where there is none.",
+        };
+        match self.numbers {
+            Some(numbers) => {
+                text.one(copy, 1)?;
+                Self::put_numbers(text, numbers)
+            }
+            None => text.one(copy, 0),
+        }
+    }
+}

@@ -1,5 +1,0 @@
-use Rattle.dss_admin.proofs.Airspaces.{refused}
-use Rattle.dss_admin.proofs.airspace.airspace_answer.Goals as goal
-
-pub returns-in_default : goal.returns-in_default
-returns-in_default c = refused (λ text. text.items) c.whole-in_default.result c.args.shown c.in-Ok.shown c.in-Ok.is c.whole-in_default.ensures

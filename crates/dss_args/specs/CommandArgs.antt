@@ -1,0 +1,197 @@
+-- What a command line asks for.
+use Rattle.std.specs.Prelude.{
+  ◌≡◌,
+  ◌≤◌,
+  ◌⊎◌,
+  ℕ,
+  Bool,
+  true,
+  false,
+  List,
+  [],
+  ◌∷◌,
+  Option,
+  Some,
+  None,
+  codes,
+  is_some,
+  map,
+  nat_eq,
+  not,
+  option_map,
+  ◌&&◌,
+}
+use Rattle.std.specs.Cmp.Lexicographic.{pointwise}
+use Rattle.std.specs.Option.{option_map_or}
+use Rattle.std.specs.Borrow.{Bor}
+use Rattle.std.specs.Net.Addr.{ipv4_octets}
+use Rattle.std.specs.Net.Grammar.{IsIpv4Text}
+use Rattle.std.specs.declared.net.ipv4_addr.Ipv4Addr.{Ipv4Addr}
+use Rattle.std.specs.Str.Parse.{IsNumeral, digits_value, without_leading_plus}
+use Rattle.clap.specs.Kinds.{IsAmong}
+use Rattle.clap.specs.Words.{Row, Text, first_of, one_of}
+use Rattle.clap.specs.declared.error.kind.ErrorKind.{ErrorKind}
+use Rattle.dss_args.specs.LineFault.{IsFaultOf}
+use Rattle.dss_args.specs.declared.fault.LineFault.{LineFault}
+use Rattle.dss_args.specs.declared.fault.LineFault.TheVariants as fault
+use Rattle.dss_args.specs.declared.command_args.TheConstants.{
+  GREATEST_BOUND,
+  LAST_MOMENT,
+  LAST_PORT,
+  MOST_CLIENTS,
+  MOST_CONNECTIONS,
+}
+use Rattle.dss_args.specs.declared.command_args.CommandArgs.{CommandArgs}
+use Rattle.dss_args.specs.declared.command_args.CommandArgs.TheVariants.{
+  Backup,
+  Cell,
+  CheckTokens,
+  Loopback,
+  NewSalt,
+  NewToken,
+  Report,
+  Run,
+  Serve,
+  Purge,
+  Upgrade,
+}
+use Rattle.dss_args.specs.declared.serve_args.ServeArgs.{ServeArgs}
+
+-- the texts of some words
+abbrev pub texts : List (Bor (List ℕ)) → List Text
+texts words = map (λ word. word.now) words
+
+-- the value of an argument is a decimal number
+abbrev pub HasNumber : Text → List Row → ℕ → Type 0
+HasNumber id rows n =
+    (text : List ℕ) × (one_of id rows ≡ Some text) × IsNumeral 10 (without_leading_plus text)
+    × (n ≡ digits_value 10 (without_leading_plus text))
+
+-- it is one from the least to the greatest
+abbrev pub HasNumberIn : Text → ℕ → ℕ → List Row → ℕ → Type 0
+HasNumberIn id least greatest rows n = HasNumber id rows n × (least ≤ n) × (n ≤ greatest)
+
+-- the number of an option that need not be there, where it is there
+abbrev pub HasChoice : Text → ℕ → ℕ → List Row → Option ℕ → Type 0
+HasChoice id least greatest rows None = first_of id rows ≡ None
+HasChoice id least greatest rows (Some n) = HasNumberIn id least greatest rows n
+
+-- the number of connections that are served at once: the option's, or without it the most
+abbrev pub HasClients : List Row → ℕ → Type 0
+HasClients rows n =
+    HasNumberIn (codes "max-connections") 1 MOST_CLIENTS rows n
+    ⊎ ((first_of (codes "max-connections") rows ≡ None) × (n ≡ MOST_CLIENTS))
+
+-- the address that is listened on: the option's, or without it 127.0.0.1
+abbrev pub HasListen : List Row → Ipv4Addr → Type 0
+HasListen rows a =
+    ((text : List ℕ) × (first_of (codes "listen") rows ≡ Some text) × IsIpv4Text text a)
+    ⊎ ((first_of (codes "listen") rows ≡ None) × (ipv4_octets a ≡ 127 ∷ 0 ∷ 0 ∷ 1 ∷ []))
+
+-- whether a flag is set
+abbrev pub is_set : Text → List Row → Bool
+is_set id rows =
+    option_map_or (λ text. pointwise nat_eq text (codes "true")) (first_of id rows) false
+
+-- the options of the command `tokens` have these values, and its flag is set or not
+abbrev pub HasOptions : List Row → Option Text → Option Text → Option Text → Bool → Type 0
+HasOptions rows check new scopes new_salt =
+    (first_of (codes "check") rows ≡ check)
+    × (first_of (codes "new-token") rows ≡ new)
+    × (first_of (codes "scopes") rows ≡ scopes)
+    × (is_set (codes "new-salt") rows ≡ new_salt)
+
+-- the value of an option, if it is there
+abbrev pub HasText : Text → List Row → Option (Bor Text) → Type 0
+HasText id rows word = first_of id rows ≡ option_map (λ text. text.now) word
+
+-- a folder for copies is named, and no operator's port, at which they are asked for
+abbrev pub lacks_port : List Row → Bool
+lacks_port rows =
+    is_some (first_of (codes "backup-dir") rows) && not (is_some (first_of (codes "admin-port") rows))
+
+-- the arguments of the command `serve` have these values
+pub record HasServing (rows : List Row) (given : ServeArgs) : Type 0 where
+  pub tokens : first_of (codes "tokens") rows ≡ Some given.tokens.now
+  pub database : first_of (codes "db") rows ≡ Some given.database.now
+  pub listen : HasListen rows given.listen
+  pub port : HasNumberIn (codes "port") 1 LAST_PORT rows given.port
+  pub count : HasChoice (codes "count") 1 MOST_CONNECTIONS rows given.count
+  pub max_connections : HasClients rows given.max_connections
+  pub quota : HasChoice (codes "quota") 1 GREATEST_BOUND rows given.quota
+  pub retention : HasChoice (codes "retention") 1 LAST_MOMENT rows given.retention
+  pub admin_port : HasChoice (codes "admin-port") 1 LAST_PORT rows given.admin_port
+  pub backup_dir : HasText (codes "backup-dir") rows given.backup_dir
+  pub access_log : HasText (codes "access-log") rows given.access_log
+  pub copies : lacks_port rows ≡ false
+  pub double_sync : is_set (codes "double-sync") rows ≡ given.double_sync
+  pub verbose : is_set (codes "verbose") rows ≡ given.verbose
+
+-- the name of the command that asks for the line
+abbrev pub name_of : CommandArgs → Text
+name_of (Run tokens now database requests) = codes "run"
+name_of (Serve given) = codes "serve"
+name_of (Loopback tokens now request) = codes "self"
+name_of (Cell token) = codes "cell"
+name_of (Report database places) = codes "report"
+name_of (Backup database to) = codes "backup"
+name_of (Upgrade database) = codes "upgrade"
+name_of (Purge database until now) = codes "purge"
+name_of (CheckTokens file) = codes "tokens"
+name_of (NewToken uss scopes) = codes "tokens"
+name_of NewSalt = codes "tokens"
+
+-- the arguments have the values of the line
+abbrev pub HasValues : List Row → CommandArgs → Type 0
+HasValues rows (Run tokens now database requests) =
+    (first_of (codes "tokens") rows ≡ Some tokens.now)
+    × HasNumberIn (codes "now") 0 LAST_MOMENT rows now
+    × HasText (codes "db") rows database
+    × (first_of (codes "requests") rows ≡ Some requests.now)
+HasValues rows (Serve given) = HasServing rows given
+HasValues rows (Loopback tokens now request) =
+    (first_of (codes "tokens") rows ≡ Some tokens.now)
+    × HasNumberIn (codes "now") 0 LAST_MOMENT rows now
+    × (first_of (codes "request") rows ≡ Some request.now)
+HasValues rows (Cell token) = first_of (codes "token") rows ≡ Some token.now
+HasValues rows (Report database places) =
+    (first_of (codes "db") rows ≡ Some database.now) × (is_set (codes "cells") rows ≡ places)
+HasValues rows (Backup database to) =
+    (first_of (codes "db") rows ≡ Some database.now) × (first_of (codes "to") rows ≡ Some to.now)
+HasValues rows (Upgrade database) = first_of (codes "db") rows ≡ Some database.now
+HasValues rows (Purge database until now) =
+    (first_of (codes "db") rows ≡ Some database.now)
+    × HasNumberIn (codes "until") 0 LAST_MOMENT rows until
+    × HasChoice (codes "now") 0 LAST_MOMENT rows now
+HasValues rows (CheckTokens file) = HasOptions rows (Some file.now) None None false
+HasValues rows (NewToken uss scopes) = HasOptions rows None (Some uss.now) (Some scopes.now) false
+HasValues rows NewSalt = HasOptions rows None None None true
+
+-- the line of these values of the options of `tokens`: a file to check alone, a supplier with
+-- scopes alone, or the flag alone
+abbrev pub line_of_options
+    : Option (Bor Text) → Option (Bor Text) → Option (Bor Text) → Bool → Option CommandArgs
+line_of_options (Some file) None None false = Some (CheckTokens file)
+line_of_options None (Some uss) (Some scopes) false = Some (NewToken uss scopes)
+line_of_options None None None true = Some NewSalt
+line_of_options _ _ _ _ = None
+
+-- the subcommand of that name with the values of these arguments asks for the line
+abbrev pub Asks : Option (Text × List Row) → CommandArgs → Type 0
+Asks None line = ⊥
+Asks (Some (name, rows)) line = (name ≡ name_of line) × HasValues rows line
+
+-- the subcommand, if there is one, asks for no line
+abbrev pub AsksNothing : Option (Text × List Row) → Type 0
+AsksNothing subcommand = (line : CommandArgs) → Asks subcommand line → ⊥
+
+-- The fault explains a command line whose words have these mistakes and else this subcommand: it
+-- is of one of the mistakes, or there is none and no line is asked for. Memory may run out at any
+-- line.
+abbrev pub Explains : List ErrorKind → Option (Text × List Row) → LineFault → Type 0
+Explains mistakes subcommand fault.Memory = Unit {0}
+Explains mistakes subcommand (fault.Shown text) = (kind : ErrorKind) × IsAmong kind mistakes
+    × IsFaultOf kind (fault.Shown text)
+Explains mistakes subcommand (fault.Refused text) =
+    ((kind : ErrorKind) × IsAmong kind mistakes
+    × IsFaultOf kind (fault.Refused text)) ⊎ ((mistakes ≡ []) × AsksNothing subcommand)

@@ -1,0 +1,196 @@
+-- The command line's grammar, in `clap`'s words: its commands, and the rule of each argument.
+use Rattle.std.specs.Prelude.{◌≡◌, ℕ, Some, codes, false, true}
+use Rattle.clap.specs.Simple.{on_top}
+use Rattle.clap.specs.Words.{
+  App,
+  Rule,
+  Text,
+  app_of,
+  new_app,
+  new_rule,
+  with_rule,
+  with_subcommand,
+}
+use Rattle.clap.specs.declared.builder.command.Command.{Command}
+use Rattle.clap.specs.declared.builder.command.Command.TheViews.{out-Command}
+use Rattle.clap.specs.declared.builder.value_parser.ValueParser.TheVariants.{Unsigned}
+use Rattle.clap.specs.declared.builder.action.ArgAction.TheVariants.{SetTrue}
+use Rattle.dss_args.specs.declared.command_args.TheConstants.{
+  GREATEST_BOUND,
+  LAST_MOMENT,
+  LAST_PORT,
+  MOST_CLIENTS,
+  MOST_CONNECTIONS,
+}
+
+-- the command has this grammar, of whose arguments none is for the commands below too
+abbrev pub HasGrammar : App → Command → Type 0
+HasGrammar app command = (app_of command ≡ app) × ((out-Command command).has_globals ≡ false)
+
+-- ---- arguments
+
+-- an option that has to be there, with a value
+abbrev pub option_rule : Text → Rule
+option_rule name = record (new_rule name) { long = Some name; required = true }
+
+abbrev pub tokens_rule : Rule
+tokens_rule = record (option_rule (codes "tokens")) { value_names = 1 }
+
+-- the value is a number from 0 to the last moment
+abbrev pub now_rule : Rule
+now_rule = record (option_rule (codes "now")) {
+  value_names = 1;
+  parser = Some (Unsigned 0 LAST_MOMENT);
+}
+
+-- the moment until which is swept, a number from 0 to the last moment
+abbrev pub until_rule : Rule
+until_rule = record (option_rule (codes "until")) {
+  value_names = 1;
+  parser = Some (Unsigned 0 LAST_MOMENT);
+}
+
+-- the database, which need not be named
+abbrev pub database_rule : Rule
+database_rule = record (new_rule (codes "db")) { long = Some (codes "db"); value_names = 1 }
+
+-- the database of a command that keeps nothing in memory
+abbrev pub store_rule : Rule
+store_rule = record (option_rule (codes "db")) { value_names = 1 }
+
+-- the value is a number from 1 to the last port
+abbrev pub port_rule : Rule
+port_rule = record (option_rule (codes "port")) {
+  value_names = 1;
+  parser = Some (Unsigned 1 LAST_PORT);
+}
+
+-- an option with a number between these as its value, which need not be there
+abbrev pub number_rule : Text → ℕ → ℕ → Rule
+number_rule name least greatest = record (new_rule name) {
+  long = Some name;
+  value_names = 1;
+  parser = Some (Unsigned least greatest);
+}
+
+-- an option with a value, which need not be there
+abbrev pub choice_rule : Text → Rule
+choice_rule name = record (new_rule name) { long = Some name; value_names = 1 }
+
+-- a flag, which is set or not
+abbrev pub flag_rule : Text → Rule
+flag_rule name = record (new_rule name) { long = Some name; action = Some SetTrue }
+
+-- a word that has to be there
+abbrev pub word_rule : Text → Rule
+word_rule name = record (new_rule name) { required = true }
+
+abbrev pub requests_rule : Rule
+requests_rule = record (word_rule (codes "requests")) { value_names = 1 }
+
+abbrev pub request_rule : Rule
+request_rule = record (word_rule (codes "request")) { value_names = 1 }
+
+abbrev pub token_rule : Rule
+token_rule = record (word_rule (codes "token")) { value_names = 1 }
+
+abbrev pub to_rule : Rule
+to_rule = record (word_rule (codes "to")) { value_names = 1 }
+
+-- ---- commands
+
+abbrev pub run_app : App
+run_app =
+    with_rule
+    (with_rule (with_rule (with_rule (new_app (codes "run")) tokens_rule) now_rule) database_rule)
+    requests_rule
+
+-- the options that `serve` has to be given
+abbrev pub serve_needs : App
+serve_needs =
+    with_rule (with_rule (with_rule (new_app (codes "serve")) tokens_rule) store_rule) port_rule
+
+-- those that bound what it serves
+abbrev pub serve_bounds : App
+serve_bounds =
+    with_rule
+    (with_rule
+    (with_rule
+    (with_rule serve_needs (number_rule (codes "count") 1 MOST_CONNECTIONS))
+    (number_rule (codes "max-connections") 1 MOST_CLIENTS))
+    (number_rule (codes "quota") 1 GREATEST_BOUND))
+    (number_rule (codes "retention") 1 LAST_MOMENT)
+
+-- those for who runs it
+abbrev pub serve_watch : App
+serve_watch =
+    with_rule
+    (with_rule
+    (with_rule
+    (with_rule serve_bounds (number_rule (codes "admin-port") 1 LAST_PORT))
+    (choice_rule (codes "backup-dir")))
+    (choice_rule (codes "listen")))
+    (choice_rule (codes "access-log"))
+
+abbrev pub serve_app : App
+serve_app =
+    with_rule (with_rule serve_watch (flag_rule (codes "double-sync"))) (flag_rule (codes "verbose"))
+
+abbrev pub self_app : App
+self_app =
+    with_rule (with_rule (with_rule (new_app (codes "self")) tokens_rule) now_rule) request_rule
+
+abbrev pub cell_app : App
+cell_app = with_rule (new_app (codes "cell")) token_rule
+
+abbrev pub report_app : App
+report_app =
+    with_rule (with_rule (new_app (codes "report")) store_rule) (flag_rule (codes "cells"))
+
+abbrev pub backup_app : App
+backup_app = with_rule (with_rule (new_app (codes "backup")) store_rule) to_rule
+
+abbrev pub upgrade_app : App
+upgrade_app = with_rule (new_app (codes "upgrade")) store_rule
+
+abbrev pub purge_app : App
+purge_app =
+    with_rule
+    (with_rule (with_rule (new_app (codes "purge")) store_rule) until_rule)
+    (number_rule (codes "now") 0 LAST_MOMENT)
+
+abbrev pub tokens_app : App
+tokens_app =
+    with_rule
+    (with_rule
+    (with_rule
+    (with_rule (new_app (codes "tokens")) (choice_rule (codes "check")))
+    (choice_rule (codes "new-token")))
+    (choice_rule (codes "scopes")))
+    (flag_rule (codes "new-salt"))
+
+-- the program's own command: one of those below has to be there, or the version is asked for
+abbrev pub own_app : App
+own_app =
+    on_top (λ s. record s { subcommand_required = true; has_version = true })
+    (new_app (codes "dss"))
+
+abbrev pub dss_app : App
+dss_app =
+    with_subcommand
+    (with_subcommand
+    (with_subcommand
+    (with_subcommand
+    (with_subcommand
+    (with_subcommand
+    (with_subcommand
+    (with_subcommand
+    (with_subcommand own_app run_app.top)
+    serve_app.top)
+    self_app.top)
+    cell_app.top)
+    report_app.top)
+    backup_app.top)
+    upgrade_app.top)
+    purge_app.top)
+    tokens_app.top

@@ -1,0 +1,106 @@
+-- What is told of a space is told of the files that it was taken over.
+use Rattle.std.proofs.Common.{◌≡◌, ℕ, Bool, true, false, List, Option, refl, sym, subst, inl, inr}
+use Rattle.std.specs.Prelude.{◌↔◌, ◌⊎◌, IsTrue, IfErr, IfOk, OnOk, Result, Ok, Err, codes, if◌then◌else◌}
+use Rattle.std.proofs.Math.Logic.{∥∥₁_map}
+use Rattle.std.specs.Io.KnownBytes.{Appends}
+use Rattle.sqlite_disk.specs.declared.Disk as disk
+use Rattle.sqlite_disk.specs.declared.Files.{Files}
+use Rattle.sqlite_store.specs.declared.store.FileStore.{FileStore}
+use Rattle.sqlite.specs.Files.{over_files}
+use Rattle.sqlite.specs.Recovery.{Image}
+use Rattle.entity_core.specs.Airspace.{Airspace}
+use Rattle.service_recovery.specs.Life.{StandFor}
+use Rattle.service_recovery.proofs.Lives.{content_found}
+use Rattle.space_core.specs.declared.space.Space as spaces
+use Rattle.space_sql.specs.Found.{FilesSpell, FindsSpelt}
+use Rattle.space_sql.specs.Holding.{SqlSpaceModel, holds_of, is_sound_of, is_whole_of}
+use Rattle.space_sql.specs.Restart.{ClosesFiles, without_log}
+use Rattle.space_sql_schema.specs.declared.format.Format.{Format}
+use Rattle.space_sql_schema.specs.declared.format.Format.TheVariants.{One, Two}
+use Rattle.dss_command.specs.Print.{WritesReport}
+use Rattle.dss_command.specs.declared.fault.Fault.{Fault}
+use Rattle.dss_command.specs.declared.fault.Fault.TheVariants.{DatabaseFailed, Memory, Output}
+use Rattle.dss_database.specs.Files.{EndsClosing, IsOfDatabase, KeepsAirspace, ReportsFiles, ReportsSpace, UpgradesFiles, format_line}
+
+module _ {D : Type 0} {g : disk.Ghosts D} (k : SqlSpaceModel (FileStore D g)) where
+  pub ends_by_fault : (done : Result (Unit {0}) Fault) (why : Fault) → done ≡ Err why → EndsClosing done k (Err why)
+  ends_by_fault done why is = subst (λ d. EndsClosing d k (Err why)) (sym is) refl
+
+  pub ends_closed : (done : Result (Unit {0}) Fault) (files : Files D) → done ≡ Ok tt → ClosesFiles k files → EndsClosing done k (Ok files)
+  ends_closed done files is closes = subst (λ d. EndsClosing d k (Ok files)) (sym is) closes
+
+  pub ends_unclosed : (done : Result (Unit {0}) Fault) → done ≡ Ok tt → EndsClosing done k (Err DatabaseFailed)
+  ends_unclosed done is = subst (λ d. EndsClosing d k (Err DatabaseFailed)) (sym is) refl
+
+  -- what is so after work that was done, of files that were closed then
+  pub done_closed : (P : Type 0) (Q : Files D → Type 0) (done : Result (Unit {0}) Fault) (result : Result (Files D) Fault)
+      → OnOk done P → EndsClosing done k result → (P → (files : Files D) → ClosesFiles k files → Q files) → IfOk result Q
+  done_closed P Q (Ok x) (Ok files) p closes both = both p files closes
+  done_closed P Q (Ok x) (Err why) p closes both = tt
+  done_closed P Q (Err why) result p ends both = subst (λ r. IfOk r Q) (sym ends) tt
+
+  -- what is known of work that was done
+  pub on_closed : (P : Type 0) (done : Result (Unit {0}) Fault) (result : Result (Files D) Fault) → OnOk done P → EndsClosing done k result → OnOk result P
+  on_closed P (Ok x) (Ok files) p closes = p
+  on_closed P (Ok x) (Err why) p closes = tt
+  on_closed P (Err why) result p ends = subst (λ r. OnOk r P) (sym ends) tt
+
+  -- which fault of a report is told
+  pub why_unreported : (done : Result (Unit {0}) Fault) (result : Result (Files D) Fault)
+      → IfErr done (λ fault. (fault ≡ DatabaseFailed) ⊎ (fault ≡ Memory) ⊎ (fault ≡ Output)) → EndsClosing done k result
+      → IfErr result (λ fault. IsOfDatabase fault ⊎ (fault ≡ Memory) ⊎ (fault ≡ Output))
+  why_unreported (Ok x) (Ok files) why closes = tt
+  why_unreported (Ok x) (Err fault) why ends = inl (inr ends)
+  why_unreported (Err fault) result why ends = subst (λ r. IfErr r (λ f. IsOfDatabase f ⊎ (f ≡ Memory) ⊎ (f ≡ Output))) (sym ends) (elim why [
+    | inl it ↦ inl (inr it)
+    | inr it ↦ inr it
+  ])
+
+-- what is so of a space over files by its store is so of the space
+pub record IsOver {D : Type 0} {g : disk.Ghosts D} (space : spaces.Ghosts (SqlSpaceModel (FileStore D g))) : Type 0 where
+  pub sound : (k : SqlSpaceModel (FileStore D g)) → is_sound_of over_files k → space.is_sound k
+  pub whole : (k : SqlSpaceModel (FileStore D g)) → space.is_whole k → is_whole_of over_files k
+  pub holds : (k : SqlSpaceModel (FileStore D g)) (a : Airspace) → holds_of over_files k a → space.holds k a
+
+-- the line by which a space tells whether it was in format 1 is that of the format
+line_told : (upgraded : Bool) (format : Format) → (IsTrue upgraded ↔ (format ≡ One))
+    → (if upgraded then codes "format 2, was 1\n" else codes "format 2\n") ≡ format_line format
+line_told true One tells = refl
+line_told true Two tells = let wrong : Two ≡ One = tells.0 refl in cc
+line_told false One tells = let wrong : false ≡ true = tells.1 refl in cc
+line_told false Two tells = refl
+
+module _ {D : Type 0} {g : disk.Ghosts D} (space : spaces.Ghosts (SqlSpaceModel (FileStore D g))) (image : Image) (before after : Option (List ℕ)) where
+  -- closed files stand for the airspace that alone the space may hold
+  kept_after : IsOver space → (new : SqlSpaceModel (FileStore D g)) (files : Files D) → ClosesFiles new files
+      → (space.is_sound new → (a : Airspace) → StandFor image a → space.is_whole new × ((b : Airspace) → space.holds new b → b ≡ a))
+      → KeepsAirspace g image files
+  kept_after over new files closes known clean a stands left have =
+      let is = known (over.sound new (closes.sound clean)) a stands in
+      ∥∥₁_map (closes.held clean (over.whole new is.0) left have) (λ it.
+      let same = is.1 it.0 (over.holds new it.0 it.1) in
+      (subst (λ b. FilesSpell Two left b) same it.2, subst (λ b. FilesSpell Two (without_log left) b) same it.3))
+
+  pub report_told : (places : Bool) (old new : SqlSpaceModel (FileStore D g)) (done : Result (Unit {0}) Fault) (result : Result (Files D) Fault) → FindsSpelt image space old → ReportsSpace space places before after old new done → EndsClosing done new result → IsOver space
+      → IfOk result (ReportsFiles g image places before after)
+  report_told places old new done result finds reports ends over =
+      done_closed new (space.is_sound new → (a : Airspace) → space.holds old a → WritesReport places a before after) (ReportsFiles g image places before after) done result reports.told ends (λ told files closes. record {
+        told = λ clean a stands. let is = over.sound new (closes.sound clean) in told is a (content_found image space old finds (reports.sound is) a stands).held;
+        kept = kept_after over new files closes (λ is a stands.
+            let content = content_found image space old finds (reports.sound is) a stands in
+            (reports.whole is (finds.whole (reports.sound is) a content.held), λ b held. content.only b (reports.no_other is b held)));
+      })
+
+  -- files that were opened and closed stand for the airspace for which they stood
+  pub settled_kept : (k : SqlSpaceModel (FileStore D g)) (files : Files D) → FindsSpelt image space k → ClosesFiles k files → IsOver space → KeepsAirspace g image files
+  settled_kept k files finds closes over = kept_after over k files closes (λ is a stands.
+      let content = content_found image space k finds is a stands in (finds.whole is a content.held, content.only))
+
+  pub upgrade_told : (k : SqlSpaceModel (FileStore D g)) (files : Files D) (upgraded : Bool) → upgraded ≡ k.upgraded → FindsSpelt image space k → ClosesFiles k files
+      → Appends before after (if upgraded then codes "format 2, was 1\n" else codes "format 2\n") → IsOver space → UpgradesFiles g image before after files
+  upgrade_told k files upgraded same finds closes told over = record {
+    told = λ clean format a spelt.
+        let tells : IsTrue upgraded ↔ (format ≡ One) = subst (λ (b : Bool). IsTrue b ↔ (format ≡ One)) (sym same) (finds.upgraded (over.sound k (closes.sound clean)) format a spelt) in
+        subst (λ (line : List ℕ). Appends before after line) (line_told upgraded format tells) told;
+    kept = settled_kept k files finds closes over;
+  }

@@ -1,0 +1,59 @@
+-- What `serve` leaves in the files of a database, and what the next start finds there.
+use Rattle.std.specs.Prelude.{ℕ, List, Option, Ok}
+use Rattle.sqlite_disk.specs.declared.Disk as disk
+use Rattle.sqlite_disk.specs.declared.Files.{Files}
+use Rattle.sqlite_store.specs.declared.store.FileStore.{FileStore}
+use Rattle.sqlite.specs.Recovery.{Image}
+use Rattle.sqlite.specs.WalReads.{AreClean}
+use Rattle.entity_core.specs.Airspace.{Airspace}
+use Rattle.service_recovery.specs.Crash.{bound_waiting_of}
+use Rattle.service_recovery.specs.Life.{MayCome, Run, StandFor, run_purged}
+use Rattle.space_core.specs.Space.{IsContent}
+use Rattle.space_core.specs.declared.group_commit.GroupCommit as settles
+use Rattle.space_core.specs.declared.space.Space as spaces
+use Rattle.space_quota.specs.QuotaSpace.{QuotaModel}
+use Rattle.space_mirror.specs.Mirrored.{MirroredModel}
+use Rattle.space_sql.specs.Found.{FindsSpelt}
+use Rattle.space_sql.specs.Holding.{SqlSpaceModel}
+use Rattle.space_sql.specs.Restart.{FilesHave, without_log}
+use Rattle.token_conf.specs.TokenFile.{TokenFile}
+use Rattle.wire_http.specs.declared.moments.Moments as moments
+use Rattle.dss_command.specs.Service.{ServesClients}
+use Rattle.dss_database.specs.Files.{ClosesServed}
+
+-- the next start finds in files what may have come, in this run, of the airspace for which they
+-- stood, and no other
+abbrev pub FindsAgain : {T : Type 0} → spaces.Ghosts (SqlSpaceModel T) → (before : Image) → Run
+    → (after : Image) → Type 0
+FindsAgain {T} again before run after =
+    (a : Airspace) → StandFor before a
+    → (next : SqlSpaceModel T) → FindsSpelt after again next → again.is_sound next
+    → ∥ ((b : Airspace) × MayCome a run b × IsContent again.holds next b) ∥₁
+
+-- What is known of files in which a database was served and closed: clients were answered in
+-- rounds, between which some of what had ended was let go of, and the next start finds what may
+-- have come of the run of these, also where the log is gone.
+pub record ServedIsFound {S T M : Type 0} (space : spaces.Ghosts S) (waiting : settles.Ghosts S)
+    (m : moments.Ghosts M) (again : spaces.Ghosts (SqlSpaceModel T)) (gives : List ℕ → Type 0)
+    (keep : Option ℕ) (tokens : TokenFile) (clock clock' : M) (before after : Image) : Type 0 where
+  pub first : S
+  pub last : S
+  pub clients : ServesClients space waiting m gives keep tokens first last clock clock'
+  pub found : FindsAgain again before
+      (run_purged clients.first clients.serves.segments clients.serves.batches) after
+  pub without_log : FindsAgain again before
+      (run_purged clients.first clients.serves.segments clients.serves.batches) (without_log after)
+
+-- It is so of what `opened` takes and `serve` then closes, over files whose disk returned what was
+-- written.
+abbrev pub NextStartFinds : {D T M : Type 0} {g : disk.Ghosts D}
+    → spaces.Ghosts (SqlSpaceModel (FileStore D g)) → spaces.Ghosts (QuotaModel (MirroredModel (SqlSpaceModel (FileStore D g))))
+    → moments.Ghosts M → spaces.Ghosts (SqlSpaceModel T) → (List ℕ → Type 0) → Type 0
+NextStartFinds {D} {T} {M} {g} tables space m again gives =
+    (before after : Image) (keep : Option ℕ) (tokens : TokenFile) (opened : SqlSpaceModel (FileStore D g))
+    (clock clock' : M) (files : Files D)
+    → FindsSpelt before tables opened
+    → ClosesServed tables space m gives keep tokens opened clock clock' (Ok files)
+    → AreClean g files.log files.db → FilesHave g files after
+    → ServedIsFound space (bound_waiting_of tables) m again gives keep tokens clock clock' before
+    after

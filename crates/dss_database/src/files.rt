@@ -1,0 +1,296 @@
+//! The commands over a database, whose files are opened first and closed last. What is said of them
+//! is said for all that the file and its log may hold, which `Start` stands for.
+ghost use Rattle.std.specs.Prelude.{◌≡◌, ◌⊎◌, IfErr, IfOk, IfSome, IsSome, OnOk};
+ghost use Rattle.sqlite.specs.Files.{over_files};
+ghost use Rattle.sqlite.specs.WalFiles.{image_at};
+ghost use Rattle.space_sql.specs.Found.{FindsSpelt};
+ghost use Rattle.space_sql.specs.Load.{IsAllOf};
+ghost use Rattle.token_conf.specs.TokenFile.{salt_of};
+ghost use Rattle.wire_http.specs.Counted.{inner_of};
+ghost use Rattle.dss_command.specs.Stream.{ServesOver, ServesPartOver};
+ghost use Rattle.dss_command.specs.declared.fault.Fault.TheVariants.{DatabaseFailed, Memory, Output};
+ghost use Rattle.dss_database.specs.Files.{ClosesServed, EndsClosing, IsOfDatabase, IsRefusal};
+ghost use Rattle.dss_database.specs.Files.{KeepsAirspace};
+ghost use Rattle.dss_database.specs.Files.{ReportsFiles, ReportsSpace, ServesClosing, ServesCopied};
+ghost use Rattle.dss_database.specs.Files.{PurgesFiles, PurgesPartly, UpgradesFiles};
+ghost use Rattle.dss_purge.specs.Sweeping.{PurgesSpace};
+
+use crate::with_mirror::with_mirror;
+use dss_command::clients::{Listen, ServeConfig, serve_port};
+use dss_command::fault::Fault;
+use dss_command::print;
+use dss_command::print::{put_format, put_purged};
+use dss_command::stream::serve_stream_over;
+use dss_purge::purge::purge_space;
+use dss_purge::purged::PurgeCounts;
+use dss_server::token_watch::{TokenSource, TokenWatch};
+use entity_core::salt::Salt;
+use space_core::space::{Space, SpaceFault};
+use space_mirror::mirrored::Mirrored;
+use space_quota::quota_space::QuotaSpace;
+use space_quota::usage_table::UsageTable;
+use space_sql::space::SqlSpace;
+use space_sql_load::table_check::LoadedAirspace;
+use sqlite::{Alter, FileFrom, FileStore, Files, Start};
+use sqlite_disk::Disk;
+use std::alloc::Global;
+use std::io::{Read, Write};
+use token_conf::token_table::TokenTable;
+use wire_http::{Counted, Moments};
+
+/// Opens the database in the file of that name, with all that it then holds where that was read.
+/// After a fault what is open of it is closed.
+pub fn open_database<F: Start>(
+    rt: &HostRuntime,
+    name: &str,
+    start: F,
+) -> Result<(SqlSpace<FileStore<FileFrom<F>>>, Option<LoadedAirspace>), Fault>
+    ensures finds { IfOk result (λ t. FindsSpelt (image_at F.Start)
+        ⟦<SqlSpace<FileStore<FileFrom<F>>> as Space>⟧ t.0) }
+    ensures all { IfOk result (λ t. IfSome t.1 (IsAllOf over_files t.0)) }
+    ensures refused { IfErr result IsRefusal }
+{
+    match SqlSpace::open(rt, name, start) {
+        Ok(taken) => Ok(taken),
+        Err((fault, remains)) => {
+            remains.close();
+            Err(Fault::Database(fault))
+        }
+    }
+}
+
+/// Closes the database of a command whose work ended so: a fault of the work is told before one of
+/// the closing.
+pub fn close_database<F: Start>(
+    done: Result<(), Fault>,
+    space: SqlSpace<FileStore<FileFrom<F>>>,
+) -> Result<Files<FileFrom<F>>, Fault>
+    ensures { EndsClosing done space result }
+{
+    let closed = space.close_files();
+    done?;
+    match closed {
+        Ok(files) => Ok(files),
+        Err(_) => Err(Fault::DatabaseFailed),
+    }
+}
+
+// Prints the report of tables in some store: generic in it, for what is proved of the store of a
+// file is dear.
+fn report_tables<A: Alter + Drop, W: Write>(
+    alloc: Global,
+    space: &mut SqlSpace<A>,
+    places: bool,
+    output: &mut W,
+) -> Result<(), Fault>
+    ensures { ReportsSpace ⟦<SqlSpace<A> as Space>⟧ places
+        (W.contents output.old) (W.contents output.new) space.old space.new result }
+{
+    print::report(alloc, space, places, output)
+}
+
+/// The command `report`: the report of the airspace in the file of that name, or the cells of its
+/// references.
+pub fn report<F: Start, W: Write>(
+    rt: &HostRuntime,
+    name: &str,
+    start: F,
+    places: bool,
+    output: &mut W,
+) -> Result<Files<FileFrom<F>>, Fault>
+    ensures reported { IfOk result (ReportsFiles ⟦<FileFrom<F> as Disk>⟧ (image_at F.Start) places
+        (W.contents output.old) (W.contents output.new)) }
+    ensures told { IfErr result (λ fault.
+        IsOfDatabase fault ⊎ (fault ≡ Memory) ⊎ (fault ≡ Output)) }
+{
+    let (mut space, _) = open_database(rt, name, start)?;
+    let done = report_tables(rt.alloc(), &mut space, places, output);
+    close_database(done, space)
+}
+
+/// The command `upgrade`: the database in the file of that name is brought to the newest format,
+/// which an opening does, and closed, and then it is printed which format it had.
+pub fn upgrade<F: Start, W: Write>(
+    rt: &HostRuntime,
+    name: &str,
+    start: F,
+    output: &mut W,
+) -> Result<Files<FileFrom<F>>, Fault>
+    ensures upgraded { IfOk result (UpgradesFiles ⟦<FileFrom<F> as Disk>⟧ (image_at F.Start)
+        (W.contents output.old) (W.contents output.new)) }
+    ensures told { IfErr result (λ fault.
+        (IsOfDatabase fault × (output.new ≡ output.old)) ⊎ (fault ≡ Output)) }
+{
+    let (space, _) = open_database(rt, name, start)?;
+    let upgraded = space.upgraded();
+    let files = close_database(Ok(()), space)?;
+    put_format(upgraded, output)?;
+    Ok(files)
+}
+
+/// The database in the file of that name as it is to be copied: opened, and closed, so that the
+/// file alone has all, without its log. Until the files are let go no other program opens it.
+pub fn checkpoint_database<F: Start>(
+    rt: &HostRuntime,
+    name: &str,
+    start: F,
+) -> Result<Files<FileFrom<F>>, Fault>
+    ensures kept { IfOk result (KeepsAirspace ⟦<FileFrom<F> as Disk>⟧ (image_at F.Start)) }
+    ensures told { IfErr result IsOfDatabase }
+{
+    let (space, _) = open_database(rt, name, start)?;
+    let files = close_database(Ok(()), space)?;
+    Ok(files)
+}
+
+// Sweeps tables in some store, by a copy of them in memory.
+fn purged_by_copy<A: Alter + Drop>(
+    alloc: Global,
+    space: SqlSpace<A>,
+    listed: Option<LoadedAirspace>,
+    until: u64,
+) -> (Result<PurgeCounts, SpaceFault>, SqlSpace<A>)
+    requires { IfSome listed (IsAllOf A.Store space) }
+    ensures { PurgesSpace ⟦<SqlSpace<A> as Space>⟧ until space result.1 result.0 }
+{
+    let mut grouped = with_mirror(alloc, space, listed, &mut None);
+    let done = purge_space(&mut grouped, until);
+    (done, grouped.into_store())
+}
+
+/// The command `purge`: of the airspace in the file of that name goes what a sweep until a moment
+/// takes, in seconds since 1970, and it is closed; then it is printed how much that was. After a
+/// fault some of it may be gone.
+pub fn purge<F: Start, W: Write>(
+    rt: &HostRuntime,
+    name: &str,
+    start: F,
+    until: u64,
+    output: &mut W,
+) -> Result<Files<FileFrom<F>>, Fault>
+    ensures purged { IfOk result (PurgesFiles ⟦<FileFrom<F> as Disk>⟧ (image_at F.Start) until
+        (W.contents output.old) (W.contents output.new)) }
+    ensures partly { IfErr result (λ fault. IsRefusal fault
+        ⊎ PurgesPartly ⟦<SqlSpace<FileStore<FileFrom<F>>> as Space>⟧ (image_at F.Start) until) }
+    ensures told { IfErr result (λ fault.
+        (IsOfDatabase fault × (output.new ≡ output.old)) ⊎ (fault ≡ Output)) }
+{
+    let (space, listed) = open_database(rt, name, start)?;
+    let (done, space) = purged_by_copy(rt.alloc(), space, listed, until);
+    match done {
+        Ok(purged) => {
+            let files = close_database(Ok(()), space)?;
+            put_purged(purged, output)?;
+            Ok(files)
+        }
+        Err(_) => close_database(Err(Fault::DatabaseFailed), space),
+    }
+}
+
+// Serves one stream over tables in some store.
+fn served<A: Alter + Drop, R: Read, W: Write>(
+    alloc: Global,
+    space: SqlSpace<A>,
+    salt: Salt,
+    tokens: &TokenTable,
+    now: u64,
+    reader: &mut Counted<R>,
+    writer: &mut Counted<W>,
+) -> (Result<(), Fault>, SqlSpace<A>)
+    requires { salt ≡ salt_of tokens.now }
+    ensures served { OnOk result.0 (ServesOver ⟦<SqlSpace<A> as Space>⟧ tokens.now now
+        (R.remaining (inner_of reader.old))
+        (W.contents (inner_of writer.old)) (W.contents (inner_of writer.new)) space result.1) }
+    ensures part { IfErr result.0 (ServesPartOver ⟦<SqlSpace<A> as Space>⟧ tokens.now now
+        (R.remaining (inner_of reader.old))
+        (W.contents (inner_of writer.old)) (W.contents (inner_of writer.new)) space result.1) }
+{
+    serve_stream_over(alloc, space, salt, tokens, now, reader, writer)
+}
+
+/// The command `run` over a database that was opened, which is closed last.
+pub fn run<F: Start, R: Read, W: Write>(
+    alloc: Global,
+    space: SqlSpace<FileStore<FileFrom<F>>>,
+    salt: Salt,
+    tokens: &TokenTable,
+    now: u64,
+    reader: &mut Counted<R>,
+    writer: &mut Counted<W>,
+) -> Result<Files<FileFrom<F>>, Fault>
+    requires { salt ≡ salt_of tokens.now }
+    ensures { ServesClosing ⟦<SqlSpace<FileStore<FileFrom<F>>> as Space>⟧ tokens.now now
+        (R.remaining (inner_of reader.old))
+        (W.contents (inner_of writer.old)) (W.contents (inner_of writer.new)) space result }
+{
+    let (done, space) = served(alloc, space, salt, tokens, now, reader, writer);
+    close_database(done, space)
+}
+
+// A tally of what is kept of each supplier, where there is a bound.
+fn tally_of(alloc: Global, most_kept: Option<u32>) -> Option<UsageTable> {
+    match most_kept {
+        Some(most) => Some(UsageTable::new(alloc, most)),
+        None => None,
+    }
+}
+
+// Answers the clients of a port over tables in some store, with a copy of them in memory.
+fn served_by_copy<A: Alter + Drop, M: Moments, L: Listen + Drop, T: TokenSource + Drop, E: Write>(
+    alloc: Global,
+    space: SqlSpace<A>,
+    listed: Option<LoadedAirspace>,
+    most_kept: Option<u32>,
+    salt: Salt,
+    given: ServeConfig<'_>,
+    watch: TokenWatch<T>,
+    moments: &mut M,
+    listener: L,
+    error: &mut E,
+) -> (Result<(), Fault>, SqlSpace<A>)
+    requires salt { salt ≡ salt_of given.tokens.now }
+    requires listed { IfSome listed (IsAllOf A.Store space) }
+    ensures served { ServesCopied ⟦<SqlSpace<A> as Space>⟧
+        ⟦<QuotaSpace<Mirrored<SqlSpace<A>>> as Space>⟧ M.Moments T.gives
+        given.entry.keep given.entry.tokens.now space result.1 moments.old moments.new result.0 }
+    ensures counted { OnOk result.0 (IsSome given.entry.limits.count
+        ⊎ IsSome given.entry.operated) }
+{
+    let mut tally = tally_of(alloc, most_kept);
+    let grouped = with_mirror(alloc, space, listed, &mut tally);
+    let bounded = QuotaSpace::new(grouped, tally);
+    let (done, served) = serve_port(alloc, bounded, salt, given, watch, moments, listener, error);
+    let inside = served.into_inner();
+    (done, inside.into_store())
+}
+
+/// The command `serve` over a database that was opened, which is closed last, with a copy of it in
+/// memory as long as there is memory for it, while the token file is watched. Changes that wait for
+/// the end of a round are kept then, or none of them. What has ended so long before as it is kept
+/// goes, a piece at a time, as long as there is the copy. With a number no more than so many
+/// entities and subscriptions are kept of each supplier.
+pub fn serve<F: Start, M: Moments, L: Listen + Drop, T: TokenSource + Drop, E: Write>(
+    alloc: Global,
+    space: SqlSpace<FileStore<FileFrom<F>>>,
+    listed: Option<LoadedAirspace>,
+    most_kept: Option<u32>,
+    salt: Salt,
+    given: ServeConfig<'_>,
+    watch: TokenWatch<T>,
+    moments: &mut M,
+    listener: L,
+    error: &mut E,
+) -> Result<Files<FileFrom<F>>, Fault>
+    requires salt { salt ≡ salt_of given.tokens.now }
+    requires listed { IfSome listed (IsAllOf over_files space) }
+    ensures served { ClosesServed ⟦<SqlSpace<FileStore<FileFrom<F>>> as Space>⟧
+        ⟦<QuotaSpace<Mirrored<SqlSpace<FileStore<FileFrom<F>>>>> as Space>⟧ M.Moments T.gives
+        given.entry.keep given.entry.tokens.now space moments.old moments.new result }
+    ensures counted { OnOk result (IsSome given.entry.limits.count
+        ⊎ IsSome given.entry.operated) }
+{
+    let (done, space) = served_by_copy(
+        alloc, space, listed, most_kept, salt, given, watch, moments, listener, error,
+    );
+    close_database(done, space)
+}

@@ -1,0 +1,6 @@
+//! The commands of `dss` over a database, whose files are opened first and closed last.
+#![tactic(auto)]
+
+pub mod files;
+pub mod laws;
+mod with_mirror;

@@ -1,0 +1,103 @@
+//! A space over tables gets a copy in memory of what it holds.
+ghost use Rattle.std.specs.Prelude.{◌≡◌, false, IfSome, Result};
+ghost use Rattle.space_core.specs.Space.{Reads, ReportsFault};
+ghost use Rattle.space_core.specs.declared.space.SpaceFault.{SpaceFault};
+ghost use Rattle.space_sql_load.specs.Judging.{loaded_airspace};
+ghost use Rattle.space_sql_load.specs.declared.table_check.LoadedAirspace.{LoadedAirspace};
+ghost use Rattle.space_mirror.specs.Mirrored.{is_pending_in};
+ghost use Rattle.space_sql.specs.Holding.{holds_of, is_sound_of, is_whole_of};
+ghost use Rattle.space_sql.specs.Load.{IsAllOf};
+
+use entity_maps::entities::Entities;
+use entity_maps::subscriptions::Subscriptions;
+use space_memory::memory::MemorySpace;
+use space_mirror::mirrored::Mirrored;
+use space_quota::usage_table::UsageTable;
+use space_sql::space::SqlSpace;
+use space_sql_load::table_check::LoadedAirspace;
+use sqlite::Alter;
+use std::alloc::Global;
+
+fn count(tally: &mut Option<UsageTable>, entities: &Entities, subscriptions: &Subscriptions) {
+    if let Some(tally) = tally {
+        tally.count(entities, subscriptions);
+    }
+}
+
+fn give_up(tally: &mut Option<UsageTable>) {
+    if let Some(tally) = tally {
+        tally.disable();
+    }
+}
+
+// The space with these lists, which are all that it holds, as its copy; without them where there is
+// no memory for their index. They are counted where there is a tally.
+fn with_lists<S: Alter + Drop>(
+    alloc: Global,
+    space: SqlSpace<S>,
+    listed: LoadedAirspace,
+    tally: &mut Option<UsageTable>,
+) -> Mirrored<SqlSpace<S>>
+    requires { IsAllOf S.Store space listed }
+    ensures same { result.store ≡ space }
+    ensures calm { is_pending_in result ≡ false }
+    ensures fresh { result.refusals ≡ 0 }
+{
+    let LoadedAirspace {
+        entities,
+        subscriptions,
+        availabilities,
+        serial,
+    } = listed;
+    count(tally, &entities, &subscriptions);
+    match MemorySpace::from_parts(alloc, entities, subscriptions, availabilities, serial) {
+        Ok(list) => Mirrored::new(alloc, space, list),
+        Err(_) => Mirrored::without_mirror(alloc, space),
+    }
+}
+
+// The space after all that it holds was read once, with a copy of that.
+fn read_whole<S: Alter + Drop>(
+    alloc: Global,
+    space: SqlSpace<S>,
+    tally: &mut Option<UsageTable>,
+) -> Mirrored<SqlSpace<S>>
+    ensures read { (answer : Result LoadedAirspace SpaceFault)
+        × ReportsFault space.refusals result.store.refusals space.broken result.store.broken answer
+        × Reads (holds_of S.Store) (is_sound_of S.Store) (is_whole_of S.Store) space result.store
+        answer (λ a found. loaded_airspace found ≡ a) }
+    ensures calm { is_pending_in result ≡ false }
+    ensures fresh { result.refusals ≡ 0 }
+{
+    let mut space = space;
+    match space.load_airspace() {
+        Ok(listed) => with_lists(alloc, space, listed, tally),
+        Err(_) => {
+            give_up(tally);
+            Mirrored::without_mirror(alloc, space)
+        }
+    }
+}
+
+/// The space with a copy in memory of all that it holds, which is read once where it is not given.
+/// There is no copy where that reading failed or memory lacks. Nothing waits, and it has refused
+/// nothing. What it holds is counted where there is a tally.
+pub(crate) fn with_mirror<S: Alter + Drop>(
+    alloc: Global,
+    space: SqlSpace<S>,
+    listed: Option<LoadedAirspace>,
+    tally: &mut Option<UsageTable>,
+) -> Mirrored<SqlSpace<S>>
+    requires { IfSome listed (IsAllOf S.Store space) }
+    ensures read { (answer : Result LoadedAirspace SpaceFault)
+        × ReportsFault space.refusals result.store.refusals space.broken result.store.broken answer
+        × Reads (holds_of S.Store) (is_sound_of S.Store) (is_whole_of S.Store) space result.store
+        answer (λ a found. loaded_airspace found ≡ a) }
+    ensures calm { is_pending_in result ≡ false }
+    ensures fresh { result.refusals ≡ 0 }
+{
+    match listed {
+        Some(listed) => with_lists(alloc, space, listed, tally),
+        None => read_whole(alloc, space, tally),
+    }
+}

@@ -1,0 +1,2 @@
+pub mod PurgeCounts
+pub mod Sweeping

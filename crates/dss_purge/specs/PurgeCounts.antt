@@ -1,0 +1,39 @@
+-- How much a sweep let go of.
+use Rattle.std.specs.Prelude.{◌≡◌, ℕ, ◌+◌, min, length}
+use Rattle.std.specs.FinMap.{len}
+use Rattle.entity_core.specs.Airspace.{Airspace}
+use Rattle.entity_core.specs.Search.{all_in}
+use Rattle.entity_core.specs.declared.nature.Kind.{Kind}
+use Rattle.entity_core.specs.declared.nature.Kind.TheVariants.{Constraint, Intent}
+use Rattle.entity_purge.specs.declared.purge_item.PurgeItem.{PurgeItem}
+use Rattle.entity_purge.specs.declared.purge_item.PurgeItem.TheVariants as gone
+use Rattle.space_core.specs.Space.{max_count}
+use Rattle.dss_purge.specs.declared.purged.PurgeCounts.{PurgeCounts}
+
+abbrev pub nothing : PurgeCounts
+nothing = record { intents = 0; constraints = 0; subscriptions = 0 }
+
+-- a count with one more, which stays at the greatest
+abbrev pub one_more : ℕ → ℕ
+one_more n = min (n + 1) max_count
+
+abbrev pub with_one : PurgeCounts → PurgeItem → PurgeCounts
+with_one purged (gone.Entity Intent id) = record purged { intents = one_more purged.intents }
+with_one purged (gone.Entity Constraint id) =
+    record purged { constraints = one_more purged.constraints }
+with_one purged (gone.Subscription id) =
+    record purged { subscriptions = one_more purged.subscriptions }
+
+-- how many intents, or constraints, an airspace has
+abbrev pub how_many : Kind → Airspace → ℕ
+how_many kind a = length (all_in a.entities kind)
+
+-- how many subscriptions it has
+abbrev pub how_many_subscriptions : Airspace → ℕ
+how_many_subscriptions a = len a.subscriptions
+
+-- It is what the second airspace has less than the first.
+pub record IsLess (a b : Airspace) (purged : PurgeCounts) : Type 0 where
+  pub intents : how_many Intent b + purged.intents ≡ how_many Intent a
+  pub constraints : how_many Constraint b + purged.constraints ≡ how_many Constraint a
+  pub subscriptions : how_many_subscriptions b + purged.subscriptions ≡ how_many_subscriptions a

@@ -1,0 +1,37 @@
+//! A sweep of a space.
+ghost use Rattle.std.specs.Prelude.{◌≡◌};
+ghost use Rattle.dss_purge.specs.Sweeping.{PurgesSpace};
+
+use crate::purged::PurgeCounts;
+use entity_purge::laws::{chunks_make_purges, purged_items_are_partly_purged};
+use space_core::space::SpaceFault;
+use space_purge::purge_ended::PurgeEnded;
+
+// How many things are let go of at once.
+const CHUNK: usize = 256;
+
+// More pieces than come of any space.
+const MOST_CHUNKS: u64 = 4_294_967_296;
+
+/// Lets go of all that a sweep until a moment takes, piece by piece, and tells how much that was.
+/// After a fault the pieces before it stand.
+pub fn purge_space<S: PurgeEnded + Drop>(
+    space: &mut S,
+    until: u64,
+) -> Result<PurgeCounts, SpaceFault>
+    ensures purged { PurgesSpace S.Space until space.old space.new result }
+    ensures waits { S.GroupCommit.is_pending space.new ≡ S.GroupCommit.is_pending space.old }
+{
+    purged_items_are_partly_purged();
+    chunks_make_purges();
+    let mut purged = PurgeCounts::zero();
+    for _chunk in 0..MOST_CHUNKS {
+        let gone = space.find_ended(until, CHUNK)?;
+        if gone.is_empty() {
+            return Ok(purged);
+        }
+        space.purge(gone.as_slice())?;
+        purged = purged.with(gone.as_slice());
+    }
+    Err(SpaceFault::Unchanged)
+}

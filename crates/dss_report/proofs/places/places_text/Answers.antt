@@ -1,6 +1,0 @@
-use Rattle.dss_report.proofs.Reported.{places_reported}
-use Rattle.dss_report.proofs.places.places_text.Goals as goal
-
-pub returns : goal.returns
-returns g c =
-    places_reported g.S.Space c.args.space.now c.kept_in.new.space c.in-Ok.kept c.in_ok-text_of_places.field-0 c.in-Ok.ensures.tells c.in-Ok.ensures.reads c.in_ok-text_of_places.ensures

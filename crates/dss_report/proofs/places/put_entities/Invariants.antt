@@ -1,6 +1,0 @@
-use Rattle.std.proofs.Common.{take}
-use Rattle.dss_report.specs.Places.{AddsPlaces, places_of}
-use Rattle.dss_report.proofs.places.put_entities.Given as goal
-
-abbrev pub invariant-loop-entity : goal.invariant-loop-entity
-invariant-loop-entity l = AddsPlaces (places_of (take l.entity-index l.entities)) l.fn.text.items l.text.items

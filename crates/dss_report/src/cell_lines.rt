@@ -1,0 +1,142 @@
+//! The cells of the references of a space.
+ghost use Rattle.std.specs.Prelude.{◌≡◌, ◌∷◌, [], IfOk, OnOk, string_bytes};
+ghost use Rattle.dss_report.specs.CellLines.{
+  AddsPlaces,
+  IsPlacesIn,
+  IsPlacesOf,
+  place_bounds,
+  place_front,
+  place_in,
+  place_text,
+  places_of,
+  places_of_entity,
+  places_of_volume,
+};
+ghost use Rattle.dss_report.specs.Reading.{Reports};
+
+use crate::contents::{Contents, read_contents};
+use crate::fault::ReportFault;
+use crate::line::{kind_word, state_word};
+use entity_core::entity::Entity;
+use grid_core::cell::CellId;
+use grid_core::token::token;
+use grid_core::volume::Volume;
+use space_core::space::Space;
+use std::alloc::{AllocError, Global};
+
+// What the lines of an entity begin with.
+fn place_front(alloc: Global, entity: &Entity) -> Result<String, AllocError>
+    ensures { IfOk result (λ front. string_bytes front ≡ place_front entity.now) }
+{
+    let kind = kind_word(entity.nature.kind());
+    let id = entity.id.text(alloc)?;
+    let manager = entity.manager.text();
+    let state = state_word(entity.nature);
+    format!(in alloc; "{kind} {id} {manager} {state}")
+}
+
+// What the lines of a volume end with.
+fn place_bounds(alloc: Global, volume: &Volume) -> Result<String, AllocError>
+    ensures { IfOk result (λ bounds. string_bytes bounds ≡ place_bounds volume.now) }
+{
+    let altitude = volume.altitude();
+    let (lower, upper) = (altitude.0, altitude.1);
+    let time = volume.time();
+    let (start, end) = (time.0, time.1);
+    format!(in alloc; "{lower} {upper} {start} {end}\n")
+}
+
+// The line of a cell with this token.
+fn place_line(
+    alloc: Global,
+    entity: &Entity,
+    volume: &Volume,
+    token: &str,
+) -> Result<String, AllocError>
+    ensures { IfOk result (λ line. string_bytes line
+        ≡ place_text token.now entity.now volume.now) }
+{
+    let front = place_front(alloc, entity)?;
+    let bounds = place_bounds(alloc, volume)?;
+    format!(in alloc; "{front} {token} {bounds}")
+}
+
+// Adds the line of a cell of a volume of an entity.
+fn put_cell(
+    alloc: Global,
+    text: &mut Vec<u8>,
+    entity: &Entity,
+    volume: &Volume,
+    cell: CellId,
+) -> Result<(), AllocError>
+    ensures { OnOk result (AddsPlaces (place_in entity.now volume.now cell ∷ [])
+        text.old.items text.new.items) }
+{
+    let name = token(alloc, cell)?;
+    let line = place_line(alloc, entity, volume, name.as_str())?;
+    text.extend_from_slice(line.as_bytes())?;
+    Ok(())
+}
+
+// Adds the lines of the cells of a volume of an entity.
+fn put_volume(
+    alloc: Global,
+    text: &mut Vec<u8>,
+    entity: &Entity,
+    volume: &Volume,
+) -> Result<(), AllocError>
+    ensures { OnOk result (AddsPlaces (places_of_volume entity.now volume.now)
+        text.old.items text.new.items) }
+{
+    for cell in volume.cells() {
+        put_cell(alloc, text, entity, volume, *cell)?;
+    }
+    Ok(())
+}
+
+// Adds the lines of the cells of an entity.
+fn put_entity(alloc: Global, text: &mut Vec<u8>, entity: &Entity) -> Result<(), AllocError>
+    ensures { OnOk result (AddsPlaces (places_of_entity entity.now)
+        text.old.items text.new.items) }
+{
+    for volume in entity.volumes.items() {
+        put_volume(alloc, text, entity, volume)?;
+    }
+    Ok(())
+}
+
+// Adds the lines of the cells of entities.
+fn put_entities(alloc: Global, text: &mut Vec<u8>, entities: &[Entity]) -> Result<(), AllocError>
+    ensures { OnOk result (AddsPlaces (places_of entities.now) text.old.items text.new.items) }
+{
+    for entity in entities {
+        put_entity(alloc, text, entity)?;
+    }
+    Ok(())
+}
+
+// The text of what a space keeps.
+fn text_of_places(alloc: Global, kept: &Contents) -> Result<Vec<u8>, AllocError>
+    ensures { IfOk result (λ text. IsPlacesIn kept.now text.items) }
+{
+    let mut text = Vec::new(alloc);
+    put_entities(alloc, &mut text, kept.intents.as_slice())?;
+    put_entities(alloc, &mut text, kept.constraints.as_slice())?;
+    Ok(text)
+}
+
+/// The cells of the references of a space: a line for each cell of each volume of each intent by
+/// rising ids, then of each constraint by rising ids.
+///
+/// A line has the kind, the id, the manager, the state (`-` for a constraint), the cell's token,
+/// the volume's lower and upper altitude in decimetres, and its first and last time in seconds
+/// since 1970, with one space between. The space is only read.
+pub fn cells_text<S: Space + Drop>(alloc: Global, space: &mut S) -> Result<Vec<u8>, ReportFault>
+    ensures { Reports S.Space space.old space.new result (λ a text. IsPlacesOf a text.items) }
+{
+    let kept = match read_contents(space) {
+        Ok(kept) => kept,
+        Err(_) => return Err(ReportFault::Space),
+    };
+    Ok(text_of_places(alloc, &kept)?)
+}

@@ -1,6 +1,0 @@
-use Rattle.token_conf.specs.TokenFile.{callers_of}
-use Rattle.dss_serve.proofs.Serving.{goes_still}
-use Rattle.dss_serve.proofs.port.Port.turn.Goals as goal
-
-pub returns-in_default : goal.returns-in_default
-returns-in_default g c = goes_still g.S.Space g.S.Settles g.M.Moments (callers_of c.args.desk.tokens.now) c.args.service.now c.args.moments.now

@@ -1,4 +1,0 @@
-pub mod Link
-pub mod Serve
-pub mod StoreWatch
-pub mod Tokens

@@ -1,0 +1,435 @@
+-- How what was asked goes on, call by call and round by round.
+use Rattle.std.proofs.Common.{◌≡◌, ℕ, List, [], ◌∷◌, ◌++◌, map, refl, sym, ap, subst, ◌∙◌, ◌⊎◌, inl, inr, append_assoc, Option, Some, None, Result, Ok, Err}
+use Rattle.std.specs.Prelude.{◌-◌, ◌||◌, All, IfErr, IfOk, IfSome, unwrap_or}
+use Rattle.std.specs.Option.{option_or}
+use Rattle.std.specs.List.{flat_map}
+use Rattle.std.proofs.lemmas.List.{append-nil, map-append}
+use Rattle.std.proofs.lemmas.List.Concat.{flat_map-append}
+use Rattle.std.proofs.lemmas.List.Elements.{All-append, All-cons, All-nil}
+use Rattle.space_core.specs.declared.group_commit.GroupCommit as settles
+use Rattle.space_core.specs.declared.space.Space as spaces
+use Rattle.space_core.specs.declared.space.SpaceFault.{SpaceFault}
+use Rattle.service_calls.specs.declared.service.Service.{Service}
+use Rattle.service_calls.specs.Held.{space_of}
+use Rattle.service_calls.specs.Batches.{IsCommitted, CallRecord, CalledInOrder, MadeBatches, Batch, all_timed, timed_in}
+use Rattle.service_calls.specs.Run.{IsReplyTo, TimedCall}
+use Rattle.service_calls.specs.Purged.{MadeSegments, Segment, PurgesOnce}
+use Rattle.service_step.specs.declared.reply.Reply.{Reply}
+use Rattle.token_conf.specs.TokenFile.{Callers, TokenFile, callers_of}
+use Rattle.wire_http.specs.Count.{one_more}
+use Rattle.wire_http.specs.declared.connection.Connection.{Connection}
+use Rattle.wire_http.specs.declared.connection.Step.{Step}
+use Rattle.wire_http.specs.declared.connection.Step.TheVariants as steps
+use Rattle.wire_http.specs.declared.fault.StreamFault.{StreamFault}
+use Rattle.wire_http.specs.declared.fault.StreamFault.TheVariants as faults
+use Rattle.wire_http.specs.declared.moments.Moments as moments
+use Rattle.wire_http.specs.Connection.{IsStep, IsStepPart}
+use Rattle.wire_http.specs.Wire.{RequestCall, ClockAfter, timed}
+use Rattle.dss_server.specs.Serve.{PurgesAreDue, AreAmong, AskedUnder, GoesOn, IsAskedBy, MayPurge, ServesAll, ServesBy, ServesSoFar, PurgesNothing, PurgesChunk, ClockReadings, moments_of}
+use Rattle.dss_server.specs.Tokens.{IsTakenAfter}
+
+-- ---- the clock
+
+module _ {M : Type 0} (m : moments.Ghosts M) where
+  told_then : (told more : List (Option ℕ)) (clock mid clock' : M) → ClockReadings m told clock mid → ClockReadings m more mid clock' → ClockReadings m (told ++ more) clock clock'
+  told_then [] more clock mid clock' h k = subst (λ (c : M). ClockReadings m more c clock') h k
+  told_then (Some moment ∷ told) more clock mid clock' h k = (h.0, h.1, told_then told more h.0 mid clock' h.2 k)
+  told_then (None ∷ told) more clock mid clock' h k = (h.0, h.1, told_then told more h.0 mid clock' h.2 k)
+
+among_more : (more told : List (Option ℕ)) (ms : List ℕ) → AreAmong ms told → AreAmong ms (more ++ told)
+among_more more told [] h = tt
+among_more more told (moment ∷ ms) h = (more ++ h.0, h.1, ap (λ (x : List (Option ℕ)). more ++ x) h.2 ∙ sym (append_assoc more h.0 (Some moment ∷ h.1)), h.3)
+
+among_then : (ms ns : List ℕ) (told more : List (Option ℕ)) → AreAmong ms told → AreAmong ns more → AreAmong (ms ++ ns) (told ++ more)
+among_then [] ns told more h k = among_more told more ns k
+among_then (moment ∷ ms) ns told more h k = (
+  h.0,
+  h.1 ++ more,
+  ap (λ (x : List (Option ℕ)). x ++ more) h.2 ∙ append_assoc h.0 (Some moment ∷ h.1) more,
+  among_then ms ns h.1 more h.3 k,
+)
+
+among_before : (ms : List ℕ) (told more : List (Option ℕ)) → AreAmong ms told → AreAmong ms (told ++ more)
+among_before [] told more h = tt
+among_before (moment ∷ ms) told more h =
+    (h.0, h.1 ++ more, ap (λ (x : List (Option ℕ)). x ++ more) h.2 ∙ append_assoc h.0 (Some moment ∷ h.1) more, among_before ms h.1 more h.3)
+
+-- ---- calls and rounds
+
+module _ {S : Type 0} (g : spaces.Ghosts S) (k : settles.Ghosts S) where
+  made_then : (xs ys : List CallRecord) (old mid new : Service S) → CalledInOrder g k old xs mid → CalledInOrder g k mid ys new → CalledInOrder g k old (xs ++ ys) new
+  made_then [] ys old mid new p q = subst (λ (s : Service S). CalledInOrder g k s ys new) p q
+  made_then (x ∷ xs) ys old mid new p q = (p.0, p.1, p.2, made_then xs ys p.0 mid new p.3 q)
+
+  batches_then : (xs ys : List Batch) (old mid new : Service S) → MadeBatches g k old xs mid → MadeBatches g k mid ys new → MadeBatches g k old (xs ++ ys) new
+  batches_then [] ys old mid new p q = subst (λ (s : Service S). MadeBatches g k s ys new) p q
+  batches_then (x ∷ xs) ys old mid new p q = (p.0, p.1, p.2, p.3, batches_then xs ys p.1 mid new p.4 q)
+
+  -- rounds, and then one piece of a sweep more
+  segments_more : (segments : List Segment) (batches : List Batch) (until : ℕ) (old last mid new : Service S) → MadeSegments g k old segments last → MadeBatches g k last batches mid
+      → PurgesOnce g k until mid new → MadeSegments g k old (segments ++ record { batches = batches; until = until } ∷ []) new
+  segments_more [] batches until old last mid new p made purged = (mid, new, subst (λ (s : Service S). MadeBatches g k s batches mid) p made, purged, refl)
+  segments_more (segment ∷ segments) batches until old last mid new p made purged =
+      (p.0, p.1, p.2, p.3, segments_more segments batches until p.1 last mid new p.4 made purged)
+
+-- the calls of a segment
+abbrev timed_of : Segment → List TimedCall
+timed_of segment = all_timed segment.batches
+
+-- ---- what was asked
+
+module _ {S M : Type 0} (g : spaces.Ghosts S) (k : settles.Ghosts S) (m : moments.Ghosts M) (callers : Callers) where
+  -- no call was made, whatever the clock told
+  pub goes_nowhere : (old new : Service S) (told : List (Option ℕ)) (clock clock' : M) → new ≡ old → ClockReadings m told clock clock' → GoesOn g k m callers old new clock clock'
+  goes_nowhere old new told clock clock' same h = record {
+    all = [];
+    batch = [];
+    told = told;
+    requests = All-nil (IsAskedBy callers);
+    calls = refl;
+    made = same;
+    clock_told = h;
+    moments = tt;
+  }
+
+  pub goes_still : (s : Service S) (clock : M) → GoesOn g k m callers s s clock clock
+  goes_still s clock = goes_nowhere s s [] clock clock refl refl
+
+  pub goes_on_then : (old mid new : Service S) (clock between clock' : M) → GoesOn g k m callers old mid clock between → GoesOn g k m callers mid new between clock'
+      → GoesOn g k m callers old new clock clock'
+  goes_on_then old mid new clock between clock' p q = record {
+    all = p.all ++ q.all;
+    batch = p.batch ++ q.batch;
+    told = p.told ++ q.told;
+    requests = All-append (IsAskedBy callers) p.all q.all p.requests q.requests;
+    calls = map-append (λ (x : CallRecord). x.timed) p.batch q.batch ∙ ap (λ (v : List TimedCall). v ++ map (λ (x : CallRecord). x.timed) q.batch) p.calls
+        ∙ ap (λ (v : List TimedCall). map timed p.all ++ v) q.calls ∙ sym (map-append timed p.all q.all);
+    made = made_then g k p.batch q.batch old mid new p.made q.made;
+    clock_told = told_then m p.told q.told clock between clock' p.clock_told q.clock_told;
+    moments = subst (λ (v : List ℕ). AreAmong v (p.told ++ q.told)) (sym (map-append (λ (x : RequestCall). x.moment) p.all q.all))
+        (among_then (moments_of p.all) (moments_of q.all) p.told q.told p.moments q.moments);
+  }
+
+  -- one call of a request was made, at the moment that the clock told
+  pub goes_by_call : (old new : Service S) (clock clock' : M) (asked : RequestCall) (reply : Reply) → IsAskedBy callers asked → IsReplyTo g old new asked.moment asked.call reply
+      → m.gives clock asked.moment clock' → GoesOn g k m callers old new clock clock'
+  goes_by_call old new clock clock' asked reply is_asked is_reply gives = record {
+    all = asked ∷ [];
+    batch = record { timed = timed asked; reply = reply; waits = k.is_pending (space_of old) || k.is_pending (space_of new) } ∷ [];
+    told = Some asked.moment ∷ [];
+    requests = All-cons (IsAskedBy callers) asked [] is_asked (All-nil (IsAskedBy callers));
+    calls = refl;
+    made = (new, is_reply, refl, refl);
+    clock_told = (clock', gives, refl);
+    moments = ([], [], refl, tt);
+  }
+
+  pub serves_none : (s : Service S) (clock : M) → ServesBy g k m callers s s clock clock
+  serves_none s clock = record {
+    all = [];
+    batches = [];
+    told = [];
+    requests = All-nil (IsAskedBy callers);
+    calls = refl;
+    made = refl;
+    clock_told = refl;
+    moments = tt;
+  }
+
+  pub serves_then : (old mid new : Service S) (clock between clock' : M) → ServesBy g k m callers old mid clock between → ServesBy g k m callers mid new between clock'
+      → ServesBy g k m callers old new clock clock'
+  serves_then old mid new clock between clock' p q = record {
+    all = p.all ++ q.all;
+    batches = p.batches ++ q.batches;
+    told = p.told ++ q.told;
+    requests = All-append (IsAskedBy callers) p.all q.all p.requests q.requests;
+    calls = flat_map-append timed_in p.batches q.batches ∙ ap (λ (v : List TimedCall). v ++ all_timed q.batches) p.calls
+        ∙ ap (λ (v : List TimedCall). map timed p.all ++ v) q.calls ∙ sym (map-append timed p.all q.all);
+    made = batches_then g k p.batches q.batches old mid new p.made q.made;
+    clock_told = told_then m p.told q.told clock between clock' p.clock_told q.clock_told;
+    moments = subst (λ (v : List ℕ). AreAmong v (p.told ++ q.told)) (sym (map-append (λ (x : RequestCall). x.moment) p.all q.all))
+        (among_then (moments_of p.all) (moments_of q.all) p.told q.told p.moments q.moments);
+  }
+
+  -- a round of calls is settled
+  pub serves_batch : (old mid new : Service S) (clock clock' : M) (settled : Result (Unit {0}) SpaceFault) → GoesOn g k m callers old mid clock clock'
+      → IsCommitted g k mid new settled → ServesBy g k m callers old new clock clock'
+  serves_batch old mid new clock clock' settled h is_settled = record {
+    all = h.all;
+    batches = record { calls = h.batch; settled = settled } ∷ [];
+    told = h.told;
+    requests = h.requests;
+    calls = append-nil (map (λ (x : CallRecord). x.timed) h.batch) ∙ h.calls;
+    made = (mid, new, h.made, is_settled, refl);
+    clock_told = h.clock_told;
+    moments = h.moments;
+  }
+
+  pub so_far_none : (s : Service S) (clock : M) → ServesSoFar g k m callers s s clock clock
+  so_far_none s clock = (s, clock, serves_none s clock, goes_still s clock)
+
+  pub so_far_settled : (old mid new : Service S) (clock clock' : M) (settled : Result (Unit {0}) SpaceFault) → ServesSoFar g k m callers old mid clock clock'
+      → IsCommitted g k mid new settled → ServesBy g k m callers old new clock clock'
+  so_far_settled old mid new clock clock' settled p is_settled =
+      serves_then old p.0 new clock p.1 clock' p.2 (serves_batch p.0 mid new p.1 clock' settled p.3 is_settled)
+
+  -- a turn, after which the round may have been settled
+  pub so_far_goes_on : (old mid next new : Service S) (clock between clock' : M) → ServesSoFar g k m callers old mid clock between
+      → GoesOn g k m callers mid next between clock' → (new ≡ next) ⊎ ((settled : Result (Unit {0}) SpaceFault) × IsCommitted g k next new settled)
+      → ServesSoFar g k m callers old new clock clock'
+  so_far_goes_on old mid next new clock between clock' p q settles =
+      let far : ServesSoFar g k m callers old next clock clock' = (p.0, p.1, p.2, goes_on_then p.0 mid next p.1 between clock' p.3 q) in
+      elim settles [
+        | inl same ↦ subst (λ (s : Service S). ServesSoFar g k m callers old s clock clock') (sym same) far
+        | inr settled ↦ (new, clock', so_far_settled old next new clock clock' settled.0 far settled.1, goes_still new clock')
+      ]
+
+  -- nothing went, whatever the clock told
+  pub serves_nothing : (old new : Service S) (clock clock' : M) → PurgesNothing g k m old new clock clock' → ServesBy g k m callers old new clock clock'
+  serves_nothing old new clock clock' h = record {
+    all = [];
+    batches = [];
+    told = h.1;
+    requests = All-nil (IsAskedBy callers);
+    calls = refl;
+    made = h.0;
+    clock_told = h.2;
+    moments = tt;
+  }
+
+-- ---- what a connection asks
+
+module _ {S M : Type 0} (g : spaces.Ghosts S) (k : settles.Ghosts S) (m : moments.Ghosts M) (callers : Callers) (old new : Service S) (clock clock' : M) where
+  -- before the next request was asked the clock told a moment, or that it failed, or nothing
+  unasked_goes_on : (fault : StreamFault) (left : List ℕ) → new ≡ old → (fault ≡ faults.Clock → m.failures clock' ≡ one_more (m.failures clock))
+      → ClockAfter m.gives callers fault left clock clock' → GoesOn g k m callers old new clock clock'
+  unasked_goes_on faults.Memory left same failed h =
+      elim h [
+        | inl stays ↦ goes_nowhere g k m callers old new [] clock clock' same stays
+        | inr came ↦ goes_nowhere g k m callers old new (Some came.2 ∷ []) clock clock' same (clock', came.4, refl)
+      ]
+  unasked_goes_on faults.Clock left same failed h = goes_nowhere g k m callers old new (None ∷ []) clock clock' same (clock', failed refl, refl)
+  unasked_goes_on faults.Read left same failed h = goes_nowhere g k m callers old new [] clock clock' same h
+  unasked_goes_on faults.Write left same failed h = goes_nowhere g k m callers old new [] clock clock' same h
+  unasked_goes_on faults.Turns left same failed h = goes_nowhere g k m callers old new [] clock clock' same h
+
+  module _ (c c' : Connection) where
+    step_goes_on : (step : Step) → IsStep g m.gives callers old new clock clock' c c' step → GoesOn g k m callers old new clock clock'
+    step_goes_on steps.NeedsInput h = goes_nowhere g k m callers old new [] clock clock' h.0 h.1
+    step_goes_on (steps.Answered n) h =
+        goes_by_call g k m callers old new clock clock' h.1.0 h.1.1 ((h.1.5 []).body, (h.1.5 []).call) h.1.3.is_reply (h.1.5 []).moment
+    step_goes_on (steps.Ended end) h = goes_nowhere g k m callers old new [] clock clock' h.0 h.1
+
+    part_goes_on : (fault : StreamFault) → (fault ≡ faults.Clock → m.failures clock' ≡ one_more (m.failures clock))
+        → IsStepPart g m.gives callers old new clock clock' c c' fault → GoesOn g k m callers old new clock clock'
+    part_goes_on fault failed h =
+        elim h.1.2 [
+          | inl unasked ↦ unasked_goes_on fault _ unasked.same failed unasked.clock_is
+          | inr answering ↦ elim answering [
+            | inl answer ↦ goes_by_call g k m callers old new clock clock' answer.asked answer.reply (answer.asks.body, answer.asks.call) answer.took.is_reply answer.asks.moment
+            | inr rule ↦ goes_nowhere g k m callers old new [] clock clock' rule.same rule.clock_is
+          ]
+        ]
+
+    pub asked_goes_on : (asked : Result Step StreamFault) → IfOk asked (IsStep g m.gives callers old new clock clock' c c')
+        → IfErr asked (IsStepPart g m.gives callers old new clock clock' c c')
+        → (asked ≡ Err faults.Clock → m.failures clock' ≡ one_more (m.failures clock))
+        → GoesOn g k m callers old new clock clock'
+    asked_goes_on (Ok step) ok err failed = step_goes_on step ok
+    asked_goes_on (Err fault) ok err failed = part_goes_on fault (λ is. failed (ap (λ (x : StreamFault). Err x) is)) err
+
+-- ---- what was asked under one table after the other
+
+-- the last of some tables
+abbrev pub last_of : TokenFile → List TokenFile → TokenFile
+last_of table [] = table
+last_of table (next ∷ tables) = last_of next tables
+
+last_taken : (first : TokenFile) (tables : List TokenFile) (table : TokenFile) → last_of first (tables ++ table ∷ []) ≡ table
+last_taken first [] table = refl
+last_taken first (next ∷ tables) table = last_taken next tables table
+
+asked_more : (table : TokenFile) (tables : List TokenFile) (all more : List RequestCall) → AskedUnder (table ∷ tables) all
+    → All (IsAskedBy (callers_of (last_of table tables))) more → AskedUnder (table ∷ tables) (all ++ more)
+asked_more table [] all more p h =
+    let same : all ≡ p.0 = p.2 ∙ ap (λ (v : List RequestCall). p.0 ++ v) p.4 ∙ append-nil p.0 in (
+      all ++ more,
+      [],
+      sym (append-nil (all ++ more)),
+      All-append (IsAskedBy (callers_of table)) all more (subst (λ (v : List RequestCall). All (IsAskedBy (callers_of table)) v) (sym same) p.3) h,
+      refl,
+    )
+asked_more table (next ∷ tables) all more p h = (
+  p.0,
+  p.1 ++ more,
+  ap (λ (v : List RequestCall). v ++ more) p.2 ∙ append_assoc p.0 p.1 more,
+  p.3,
+  asked_more next tables p.1 more p.4 h,
+)
+
+asked_taken : (tables : List TokenFile) (table : TokenFile) (all : List RequestCall) → AskedUnder tables all → AskedUnder (tables ++ table ∷ []) all
+asked_taken [] table all p = ([], [], p, All-nil (IsAskedBy (callers_of table)), refl)
+asked_taken (first ∷ tables) table all p = (p.0, p.1, p.2, p.3, asked_taken tables table p.1 p.4)
+
+-- where no table was taken, all were asked under the first
+pub asked_by_first : (table : TokenFile) (all : List RequestCall) → AskedUnder (table ∷ []) all → All (IsAskedBy (callers_of table)) all
+asked_by_first table all p =
+    let same : all ≡ p.0 = p.2 ∙ ap (λ (v : List RequestCall). p.0 ++ v) p.4 ∙ append-nil p.0 in
+    subst (λ (v : List RequestCall). All (IsAskedBy (callers_of table)) v) (sym same) p.3
+
+-- ---- until when it was swept
+
+due_none : (keep : Option ℕ) → PurgesAreDue keep [] []
+due_none None = refl
+due_none (Some keep) = ([], tt, refl)
+
+due_told : (keep : Option ℕ) (told more : List (Option ℕ)) (segments : List Segment) → PurgesAreDue keep told segments → PurgesAreDue keep (told ++ more) segments
+due_told None told more segments h = h
+due_told (Some keep) told more segments h = (h.0, among_before h.0 told more h.1, h.2)
+
+due_more : (keep moment : ℕ) (told : List (Option ℕ)) (segments : List Segment) (batches : List Batch) → PurgesAreDue (Some keep) told segments
+    → PurgesAreDue (Some keep) (told ++ Some moment ∷ []) (segments ++ record { batches = batches; until = moment - keep } ∷ [])
+due_more keep moment told segments batches h = (
+  h.0 ++ moment ∷ [],
+  among_then h.0 (moment ∷ []) told (Some moment ∷ []) h.1 ([], [], refl, tt),
+  map-append (λ (x : Segment). x.until) segments (record { batches = batches; until = moment - keep } ∷ []) ∙ ap (λ (v : List ℕ). v ++ (moment - keep) ∷ []) h.2
+      ∙ sym (map-append (λ (x : ℕ). x - keep) h.0 (moment ∷ [])),
+)
+
+-- ---- all that was asked
+
+module _ {S M : Type 0} (g : spaces.Ghosts S) (k : settles.Ghosts S) (m : moments.Ghosts M) (gives : List ℕ → Type 0) (keep : Option ℕ) (tokens : TokenFile) where
+  -- what was served until now, when a table is in force
+  pub record ServesUpTo (current : TokenFile) (old new : Service S) (clock clock' : M) : Type 0 where
+    pub serves : ServesAll g k m gives keep tokens old new clock clock'
+    pub in_force : last_of tokens serves.later ≡ current
+
+  pub all_none : (s : Service S) (clock : M) → ServesAll g k m gives keep tokens s s clock clock
+  all_none s clock = record {
+    all = [];
+    segments = [];
+    batches = [];
+    told = [];
+    later = [];
+    taken = All-nil (IsTakenAfter gives tokens);
+    requests = ([], [], refl, All-nil (IsAskedBy (callers_of tokens)), refl);
+    calls = refl;
+    last = s;
+    segments_made = refl;
+    made = refl;
+    clock_told = refl;
+    moments = tt;
+    purges = due_none keep;
+  }
+
+  pub up_to_none : (s : Service S) (clock : M) → ServesUpTo tokens s s clock clock
+  unfolding all_none
+  up_to_none s clock = record { serves = all_none s clock; in_force = refl }
+
+  -- calls under the table that is in force
+  all_then : (old mid new : Service S) (clock between clock' : M) (p : ServesAll g k m gives keep tokens old mid clock between)
+      → ServesBy g k m (callers_of (last_of tokens p.later)) mid new between clock' → ServesAll g k m gives keep tokens old new clock clock'
+  all_then old mid new clock between clock' p q = record {
+    all = p.all ++ q.all;
+    segments = p.segments;
+    batches = p.batches ++ q.batches;
+    told = p.told ++ q.told;
+    later = p.later;
+    taken = p.taken;
+    requests = asked_more tokens p.later p.all q.all p.requests q.requests;
+    calls = ap (λ (v : List TimedCall). flat_map timed_of p.segments ++ v) (flat_map-append timed_in p.batches q.batches)
+        ∙ sym (append_assoc (flat_map timed_of p.segments) (all_timed p.batches) (all_timed q.batches))
+        ∙ ap (λ (v : List TimedCall). v ++ all_timed q.batches) p.calls ∙ ap (λ (v : List TimedCall). map timed p.all ++ v) q.calls ∙ sym (map-append timed p.all q.all);
+    last = p.last;
+    segments_made = p.segments_made;
+    made = batches_then g k p.batches q.batches p.last mid new p.made q.made;
+    clock_told = told_then m p.told q.told clock between clock' p.clock_told q.clock_told;
+    moments = subst (λ (v : List ℕ). AreAmong v (p.told ++ q.told)) (sym (map-append (λ (x : RequestCall). x.moment) p.all q.all))
+        (among_then (moments_of p.all) (moments_of q.all) p.told q.told p.moments q.moments);
+    purges = due_told keep p.told q.told p.segments p.purges;
+  }
+
+  up_to_then : (current used : TokenFile) (old mid new : Service S) (clock between clock' : M) → ServesUpTo current old mid clock between → used ≡ current
+      → ServesBy g k m (callers_of used) mid new between clock' → ServesUpTo current old new clock clock'
+  unfolding all_then
+  up_to_then current used old mid new clock between clock' p same q =
+      let by_last = subst (λ (t : TokenFile). ServesBy g k m (callers_of t) mid new between clock') (same ∙ sym p.in_force) q in
+      record { serves = all_then old mid new clock between clock' p.serves by_last; in_force = p.in_force }
+
+  -- another table is taken
+  all_taken : (table : TokenFile) (old new : Service S) (clock clock' : M) → IsTakenAfter gives tokens table → ServesAll g k m gives keep tokens old new clock clock'
+      → ServesUpTo table old new clock clock'
+  all_taken table old new clock clock' is p = record {
+    serves = record {
+      all = p.all;
+      segments = p.segments;
+      batches = p.batches;
+      told = p.told;
+      later = p.later ++ table ∷ [];
+      taken = All-append (IsTakenAfter gives tokens) p.later (table ∷ []) p.taken (All-cons (IsTakenAfter gives tokens) table [] is (All-nil (IsTakenAfter gives tokens)));
+      requests = asked_taken (tokens ∷ p.later) table p.all p.requests;
+      calls = p.calls;
+      last = p.last;
+      segments_made = p.segments_made;
+      made = p.made;
+      clock_told = p.clock_told;
+      moments = p.moments;
+      purges = p.purges;
+    };
+    in_force = last_taken tokens p.later table;
+  }
+
+  up_to_taken : (newer taken : Option TokenFile) (old new : Service S) (clock clock' : M) → ServesUpTo (unwrap_or newer tokens) old new clock clock'
+      → IfSome taken (IsTakenAfter gives tokens) → ServesUpTo (unwrap_or (option_or taken newer) tokens) old new clock clock'
+  up_to_taken newer None old new clock clock' p is = p
+  up_to_taken newer (Some table) old new clock clock' p is = all_taken table old new clock clock' is p.serves
+
+module _ {S M : Type 0} (g : spaces.Ghosts S) (k : settles.Ghosts S) (m : moments.Ghosts M) (gives : List ℕ → Type 0) (tokens : TokenFile) where
+  -- a piece of a sweep after the last round
+  up_to_chunk : (keep : Option ℕ) (current : TokenFile) (old mid new : Service S) (clock between clock' : M) → ServesUpTo g k m gives keep tokens current old mid clock between
+      → PurgesChunk g k m keep mid new between clock' → ServesUpTo g k m gives keep tokens current old new clock clock'
+  up_to_chunk None current old mid new clock between clock' p h = absurd h
+  up_to_chunk (Some keep) current old mid new clock between clock' p h =
+      let q = p.serves in
+      let chunk : Segment = record { batches = q.batches; until = h.0 - keep } in
+      record {
+        serves = record {
+          all = q.all;
+          segments = q.segments ++ chunk ∷ [];
+          batches = [];
+          told = q.told ++ Some h.0 ∷ [];
+          later = q.later;
+          taken = q.taken;
+          requests = q.requests;
+          calls = append-nil (flat_map timed_of (q.segments ++ chunk ∷ [])) ∙ flat_map-append timed_of q.segments (chunk ∷ [])
+              ∙ ap (λ (v : List TimedCall). flat_map timed_of q.segments ++ v) (append-nil (all_timed q.batches)) ∙ q.calls;
+          last = new;
+          segments_made = segments_more g k q.segments q.batches (h.0 - keep) old q.last mid new q.segments_made q.made h.2;
+          made = refl;
+          clock_told = told_then m q.told (Some h.0 ∷ []) clock between clock' q.clock_told (clock', h.1, refl);
+          moments = among_before (moments_of q.all) q.told (Some h.0 ∷ []) q.moments;
+          purges = due_more keep h.0 q.told q.segments q.batches q.purges;
+        };
+        in_force = p.in_force;
+      }
+
+  up_to_purged : (keep : Option ℕ) (current : TokenFile) (old mid new : Service S) (clock between clock' : M) → ServesUpTo g k m gives keep tokens current old mid clock between
+      → MayPurge g k m keep mid new between clock' → ServesUpTo g k m gives keep tokens current old new clock clock'
+  up_to_purged keep current old mid new clock between clock' p h =
+      elim h [
+        | inl nothing ↦ up_to_then g k m gives keep tokens current current old mid new clock between clock' p refl (serves_nothing g k m (callers_of current) mid new between clock' nothing)
+        | inr chunk ↦ up_to_chunk keep current old mid new clock between clock' p chunk
+      ]
+
+  -- it was looked at the token file, which changes nothing or takes its table, then calls were made under the table in force, and
+  -- then a piece may have gone, and the service was shown, which changes nothing
+  pub up_to_looked : (keep : Option ℕ) (newer taken newer' : Option TokenFile) (used : TokenFile) (old mid asked new shown : Service S) (clock between after clock' : M)
+      → ServesUpTo g k m gives keep tokens (unwrap_or newer tokens) old mid clock between → IfSome taken (IsTakenAfter gives tokens) → newer' ≡ option_or taken newer
+      → used ≡ unwrap_or newer' tokens → ServesBy g k m (callers_of used) mid asked between after → MayPurge g k m keep asked new after clock' → shown ≡ new
+      → ServesUpTo g k m gives keep tokens (unwrap_or newer' tokens) old shown clock clock'
+  up_to_looked keep newer taken newer' used old mid asked new shown clock between after clock' p is same is_used q purged same_shown =
+      let looked = subst (λ (n : Option TokenFile). ServesUpTo g k m gives keep tokens (unwrap_or n tokens) old mid clock between) (sym same)
+      (up_to_taken g k m gives keep tokens newer taken old mid clock between p is) in
+      let served = up_to_then g k m gives keep tokens (unwrap_or newer' tokens) used old mid asked clock between after looked is_used q in
+      let all = up_to_purged keep (unwrap_or newer' tokens) old asked new clock after clock' served purged in
+      subst (λ (s : Service S). ServesUpTo g k m gives keep tokens (unwrap_or newer' tokens) old s clock clock') (sym same_shown) all

@@ -1,0 +1,4 @@
+pub mod ClientIo
+pub mod Serve
+pub mod StoreWatch
+pub mod Tokens

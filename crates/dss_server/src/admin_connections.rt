@@ -1,0 +1,194 @@
+//! All connections to the operator's port.
+use crate::admin_connection::{AdminConnection, AdminContext, AdminTurnOutcome};
+use crate::backup_job::BackupJob;
+use crate::limits::{FULL, LOOKS, LOOKS_SOON, MOST_OPERATORS};
+use crate::sockets::{AcceptFault, EventSource, SocketEvent, Sockets};
+use admin_http::backup::BackupResult;
+use slab::Slab;
+use std::alloc::{AllocError, Global};
+use std::time::Duration;
+
+/// All connections to the operator's port.
+#[derive(Drop)]
+pub(crate) struct AdminConnections<N: Sockets> {
+    alloc: Global,
+    all: Slab<AdminConnection<N::Client>>,
+    // whether one may wait to be accepted, and until when the system has no room for it
+    waiting: bool,
+    full_until: Duration,
+    // whether one of them may go on at once, and whether one asked for the end of the service
+    again: bool,
+    stops: bool,
+    backing_up: BackupJob,
+}
+
+impl<N: Sockets + Drop> AdminConnections<N> {
+    /// None, who may come where there is a port for them.
+    pub(crate) fn new(alloc: Global, may_come: bool) -> Result<AdminConnections<N>, AllocError> {
+        let room = if may_come { MOST_OPERATORS } else { 0 };
+        Ok(AdminConnections {
+            alloc,
+            all: Slab::with_capacity(alloc, room)?,
+            waiting: may_come,
+            full_until: Duration::from_millis(0),
+            again: false,
+            stops: false,
+            backing_up: BackupJob::new(),
+        })
+    }
+
+    // Whether one may be taken in, if the system has room for it.
+    fn has_room(&self) -> bool {
+        self.waiting && self.all.len() < MOST_OPERATORS
+    }
+
+    // Whether one of them is being waited for after its answer.
+    fn is_any_ending(&self) -> bool {
+        for key in 0..MOST_OPERATORS {
+            if let Some(operator) = self.all.get(key)
+                && operator.is_ending()
+            {
+                return true;
+            }
+        }
+        false
+    }
+
+    /// How long the system may wait for something to tell.
+    pub(crate) fn patience(&self, now: Duration) -> Option<Duration> {
+        if self.again {
+            return Some(Duration::from_millis(0));
+        }
+        if self.has_room() {
+            return Some(self.full_until.saturating_sub(now));
+        }
+        if self.all.is_empty() {
+            return None;
+        }
+        Some(Duration::from_millis(if self.is_any_ending() {
+            LOOKS_SOON
+        } else {
+            LOOKS
+        }))
+    }
+
+    /// Whether each that was answered has read its answer.
+    pub(crate) fn are_served(&self) -> bool {
+        for key in 0..MOST_OPERATORS {
+            if let Some(operator) = self.all.get(key)
+                && operator.is_owed()
+            {
+                return false;
+            }
+        }
+        true
+    }
+
+    /// Whether there is none, and nothing goes on that one asked for.
+    pub(crate) fn is_idle(&self) -> bool {
+        self.all.is_empty() && !self.backing_up.goes_on()
+    }
+
+    /// Whether one asked for the end of the service.
+    pub(crate) fn stops(&self) -> bool {
+        self.stops
+    }
+
+    /// Notes that one may wait to be accepted.
+    pub(crate) fn note_waiting(&mut self) {
+        self.waiting = true;
+    }
+
+    /// Notes what the system told of one.
+    pub(crate) fn note(&mut self, key: usize, told: SocketEvent) {
+        if let Some(operator) = self.all.get_mut(key) {
+            operator.note(told);
+        }
+    }
+
+    // Takes in a connection. One that cannot be watched or kept is closed.
+    fn take_in(&mut self, sockets: &mut N, mut socket: N::Client, now: Duration) {
+        let key = self.all.vacant_key();
+        if sockets
+            .watch(&mut socket, EventSource::Operator(key))
+            .is_ok()
+        {
+            let _ = self
+                .all
+                .insert(AdminConnection::new(self.alloc, socket, now));
+        }
+    }
+
+    /// Accepts the connections that wait, as far as there is room.
+    pub(crate) fn accept(&mut self, sockets: &mut N, now: Duration) {
+        for _ in 0..MOST_OPERATORS {
+            if !self.has_room() || now < self.full_until {
+                return;
+            }
+            match sockets.accept_operator() {
+                Ok(socket) => self.take_in(sockets, socket, now),
+                Err(AcceptFault::NoneWaits) => self.waiting = false,
+                Err(AcceptFault::Gone) => {}
+                Err(AcceptFault::Full | AcceptFault::Failed(_)) => {
+                    self.full_until = now.saturating_add(Duration::from_millis(FULL));
+                }
+            }
+        }
+    }
+
+    // Gives one its turn, and closes it where that is its end.
+    fn turn(&mut self, key: usize, board: AdminContext<'_>, now: Duration) {
+        let Some(operator) = self.all.get_mut(key) else {
+            return;
+        };
+        let moved = operator.turn(board, now);
+        self.stops = self.stops || operator.stops();
+        let is_late = operator.is_late(now);
+        if moved == AdminTurnOutcome::Again {
+            self.again = true;
+        } else if moved == AdminTurnOutcome::Gone || is_late {
+            let _ = self.all.try_remove(key);
+        }
+    }
+
+    /// Gives each its turn, and makes a piece of the backup that one asked for.
+    pub(crate) fn run_once(&mut self, board: AdminContext<'_>, sockets: &mut N, now: Duration) {
+        self.again = false;
+        for key in 0..MOST_OPERATORS {
+            self.turn(key, board, now);
+            self.begin_wanted(key, sockets, now);
+        }
+        if let Some((key, backup)) = self.backing_up.go_on(sockets.backups()) {
+            self.tell(key, backup, now);
+        }
+        self.again = self.again || self.backing_up.goes_on();
+    }
+
+    // Begins the backup that one asked for.
+    fn begin_wanted(&mut self, key: usize, sockets: &mut N, now: Duration) {
+        let Some(operator) = self.all.get_mut(key) else {
+            return;
+        };
+        let Some(name) = operator.take_wanted() else {
+            return;
+        };
+        let told = self.backing_up.begin(key, name.as_str(), sockets.backups());
+        if let Some(backup) = told {
+            self.tell(key, backup, now);
+        }
+    }
+
+    // Tells one what became of the backup that it waits for. One that came later under its key
+    // waits for none: it would have been told that one goes on.
+    fn tell(&mut self, key: usize, backup: BackupResult, now: Duration) {
+        if let Some(operator) = self.all.get_mut(key) {
+            operator.tell(self.alloc, backup, now);
+            self.again = true;
+        }
+    }
+
+    /// Gives up the backup that goes on, as where the service ends.
+    pub(crate) fn give_up(&mut self, sockets: &mut N) {
+        self.backing_up.give_up(sockets.backups());
+    }
+}

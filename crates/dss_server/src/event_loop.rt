@@ -1,0 +1,700 @@
+//! All clients of a port, and whose turn it is.
+ghost use Rattle.std.specs.Prelude.{◌≡◌, ◌⊎◌, IsSome, IsTrue, Result};
+ghost use Rattle.token_conf.specs.TokenFile.{callers_of};
+ghost use Rattle.service_calls.specs.Batches.{IsCommitted};
+ghost use Rattle.space_core.specs.declared.space.SpaceFault.{SpaceFault};
+ghost use Rattle.dss_server.specs.Serve.{GoesOn, MayPurge, ServesBy};
+
+use crate::admin_connection::AdminContext;
+use crate::admin_connections::AdminConnections;
+use crate::client_connection::{ClientConnection, TurnOutcome};
+use crate::deferred_clients::DeferredClients;
+use crate::limits::{FULL, LARGE_PLACES, LOOKS, LOOKS_SOON, Limits, MAX_CONNECTIONS, STOPPING};
+use crate::purger::Purger;
+use crate::request_context::RequestContext;
+use crate::server_log::{LoggedRequest, ServerLog};
+use crate::sockets::{AcceptFault, EventSource, SocketEvent, Sockets};
+use crate::store_watch::{
+    CommitOutcome, StoreWatch, outcome_of_batch, outcome_of_change, outcome_of_purge,
+};
+use admin_http::build::BuildInfo;
+use admin_http::connections::ConnectionFailure;
+use admin_http::requests::ResponseRecord;
+use admin_http::service_metrics::ServiceMetrics;
+use admin_http::store_metrics::StoreMetrics;
+use admin_http::tokens::TokenMetrics;
+use service_calls::service::Service;
+use slab::Slab;
+use space_core::group_commit::GroupCommit;
+use space_core::space::SpaceFault;
+use space_purge::purge_ended::PurgeEnded;
+use space_snapshot::snapshot::{NoMirror, Snapshot, SnapshotSource};
+use std::alloc::{AllocError, Global};
+use std::collections::VecDeque;
+use std::time::Duration;
+use std::{io, mem};
+use wire_http::{Moments, StreamFault};
+
+// What is counted of a fault.
+fn cause_of(fault: StreamFault) -> ConnectionFailure {
+    match fault {
+        StreamFault::Read => ConnectionFailure::Read,
+        StreamFault::Write => ConnectionFailure::Write,
+        StreamFault::Clock => ConnectionFailure::Clock,
+        StreamFault::Memory => ConnectionFailure::Memory,
+        StreamFault::Turns => ConnectionFailure::Turns,
+    }
+}
+
+/// All clients of a port.
+#[derive(Drop)]
+pub(crate) struct EventLoop<N: Sockets> {
+    alloc: Global,
+    sockets: N,
+    peers: Slab<ClientConnection<N::Client>>,
+    clients: usize,
+    // the keys of those that have a turn next, an empty list for those after them, and the keys of
+    // those that wait for a place
+    next: Vec<usize>,
+    spare: Vec<usize>,
+    wanting: VecDeque<usize>,
+    places: usize,
+    // those whose answers are held back in a round: none after it
+    held_back: DeferredClients,
+    // how many connections may still be accepted, if they are counted, how many were, whether one
+    // may wait, and until when the system has no room for it
+    left: Option<u64>,
+    accepted: u64,
+    waiting: bool,
+    full_until: Duration,
+    // how many clients have their last answer, and when it was last looked for late ones
+    ending: usize,
+    looked: Duration,
+    // what operators are told, and until when clients are waited for, where one told the service to
+    // end
+    figures: ServiceMetrics,
+    store: StoreWatch,
+    purger: Purger,
+    operators: AdminConnections<N>,
+    stopping: Option<Duration>,
+}
+
+impl<N: Sockets + Drop> EventLoop<N> {
+    /// A port without clients. What it needs of memory for the most of them is taken here, so that
+    /// no client is forgotten later for want of it.
+    pub(crate) fn new(
+        alloc: Global,
+        sockets: N,
+        limits: Limits,
+        is_operated: bool,
+    ) -> Result<EventLoop<N>, AllocError> {
+        let clients = limits.clients.min(MAX_CONNECTIONS);
+        let peers = Slab::with_capacity(alloc, clients)?;
+        let next = Vec::with_capacity(alloc, clients)?;
+        let spare = Vec::with_capacity(alloc, clients)?;
+        let wanting = VecDeque::with_capacity(alloc, clients)?;
+        let held_back = DeferredClients::new(alloc)?;
+        let operators = AdminConnections::new(alloc, is_operated)?;
+        Ok(EventLoop {
+            alloc,
+            sockets,
+            peers,
+            clients,
+            next,
+            spare,
+            wanting,
+            places: LARGE_PLACES,
+            held_back,
+            left: limits.count,
+            accepted: 0,
+            waiting: true,
+            full_until: Duration::from_millis(0),
+            ending: 0,
+            looked: Duration::from_millis(0),
+            figures: ServiceMetrics::new(),
+            store: StoreWatch::new(),
+            purger: Purger::new(),
+            operators,
+            stopping: None,
+        })
+    }
+
+    /// Whether no connection may come and none is left.
+    pub(crate) fn is_done(&self) -> bool {
+        self.left == Some(0) && self.peers.is_empty()
+    }
+
+    /// The time since some start.
+    pub(crate) fn time(&self) -> io::Result<Duration> {
+        self.sockets.monotonic_time()
+    }
+
+    // Whether a client may be taken in, if the system has room for it.
+    fn has_room(&self) -> bool {
+        self.waiting
+            && self.stopping.is_none()
+            && self.left != Some(0)
+            && self.peers.len() < self.clients
+    }
+
+    // How long the system may wait for something to tell: at most until the token file is looked
+    // at, and not at all while there may be more that has ended.
+    fn patience(&self, now: Duration) -> Duration {
+        if self.purger.goes_on() {
+            return Duration::from_millis(0);
+        }
+        let clients = self.patience_for_clients(now);
+        match self.operators.patience(now) {
+            Some(operators) => clients.min(operators),
+            None => clients,
+        }
+    }
+
+    // How long it may do so for the clients.
+    fn patience_for_clients(&self, now: Duration) -> Duration {
+        if !self.next.is_empty() {
+            return Duration::from_millis(0);
+        }
+        if self.has_room() {
+            return self.full_until.saturating_sub(now);
+        }
+        Duration::from_millis(if self.ending > 0 || self.stopping.is_some() {
+            LOOKS_SOON
+        } else {
+            LOOKS
+        })
+    }
+
+    // Gives a client a turn next.
+    fn queue(&mut self, key: usize) {
+        if let Some(peer) = self.peers.get_mut(key)
+            && !peer.is_queued()
+        {
+            peer.set_queued(self.next.push(key).is_ok());
+        }
+    }
+
+    // Notes what the system told.
+    fn note(&mut self, told: SocketEvent) {
+        match told.which {
+            EventSource::Port => self.waiting = true,
+            EventSource::OperatorsPort => self.operators.note_waiting(),
+            EventSource::Operator(key) => self.operators.note(key, told),
+            EventSource::Client(key) => {
+                if let Some(peer) = self.peers.get_mut(key) {
+                    peer.note(told);
+                }
+                self.queue(key);
+            }
+        }
+    }
+
+    /// Waits until a client or the system has something to tell, and notes it.
+    pub(crate) fn wait(&mut self, now: Duration) -> io::Result<()> {
+        let patience = self.patience(now);
+        self.sockets.wait(Some(patience))?;
+        for _ in 0..usize::MAX {
+            match self.sockets.next_event() {
+                Some(told) => self.note(told),
+                None => return Ok(()),
+            }
+        }
+        Ok(())
+    }
+
+    // Takes in a client. One that cannot be watched, or kept for want of memory, is closed.
+    fn take_in(&mut self, mut socket: N::Client, now: Duration) {
+        if let Some(left) = self.left {
+            self.left = Some(left.saturating_sub(1));
+        }
+        self.accepted = self.accepted.saturating_add(1);
+        self.figures.connections.accept();
+        let key = self.peers.vacant_key();
+        let watched = self.sockets.watch(&mut socket, EventSource::Client(key));
+        if watched.is_err()
+            || self
+                .peers
+                .insert(ClientConnection::new(self.alloc, socket, self.accepted, now))
+                .is_err()
+        {
+            self.figures.connections.refuse();
+        }
+    }
+
+    /// Accepts the connections that wait, as far as there is room. Where the system has none, it is
+    /// tried again a little later.
+    pub(crate) fn accept(&mut self, now: Duration) -> io::Result<()> {
+        self.operators.accept(&mut self.sockets, now);
+        for _ in 0..MAX_CONNECTIONS {
+            if !self.has_room() || now < self.full_until {
+                return Ok(());
+            }
+            match self.sockets.accept() {
+                Ok(socket) => self.take_in(socket, now),
+                Err(AcceptFault::NoneWaits) => self.waiting = false,
+                Err(AcceptFault::Gone) => {}
+                Err(AcceptFault::Full) => {
+                    self.full_until = now.saturating_add(Duration::from_millis(FULL));
+                }
+                Err(AcceptFault::Failed(cause)) => return Err(cause),
+            }
+        }
+        Ok(())
+    }
+
+    // Gives the places that are free to those that wait for one, in the order in which they came.
+    fn give_places(&mut self, now: Duration) {
+        for _ in 0..usize::MAX {
+            if self.places == 0 {
+                return;
+            }
+            let Some(key) = self.wanting.pop_front() else {
+                return;
+            };
+            if let Some(peer) = self.peers.get_mut(key)
+                && peer.wants_place()
+            {
+                peer.take_place(now);
+                self.places = self.places.saturating_sub(1);
+                self.queue(key);
+            }
+        }
+    }
+
+    // Lets a client wait for a place. For want of memory it is late some time.
+    fn ask_for_place(&mut self, key: usize, now: Duration) {
+        if let Some(peer) = self.peers.get_mut(key)
+            && !peer.wants_place()
+            && self.wanting.push_back(key).is_ok()
+        {
+            peer.ask_for_place();
+        }
+        self.give_places(now);
+    }
+
+    // Takes the place from a client that needs it no more.
+    fn free_place(&mut self, key: usize, now: Duration) {
+        if let Some(peer) = self.peers.get_mut(key)
+            && peer.can_leave_place()
+        {
+            peer.leave_place();
+            self.places = self.places.saturating_add(1);
+            self.give_places(now);
+        }
+    }
+
+    // Closes a client.
+    fn close(&mut self, key: usize, now: Duration) {
+        let Some(peer) = self.peers.try_remove(key) else {
+            return;
+        };
+        if peer.is_ending() {
+            self.ending = self.ending.saturating_sub(1);
+        }
+        if peer.has_place() {
+            self.places = self.places.saturating_add(1);
+            self.give_places(now);
+        }
+    }
+
+    // Gives up a client: what was sent before is still to be read by it.
+    fn give_up(&mut self, key: usize, now: Duration) -> TurnOutcome {
+        match self.peers.get_mut(key) {
+            Some(peer) => peer.end(now),
+            None => TurnOutcome::Gone,
+        }
+    }
+
+    // Closes a client of a service that ends, once it has all its answers.
+    fn end_after(&mut self, key: usize, turned: TurnOutcome, now: Duration) -> TurnOutcome {
+        match self.peers.get_mut(key) {
+            Some(peer) => peer.end_after(turned, now),
+            None => TurnOutcome::Gone,
+        }
+    }
+
+    // Has a client wait until the round is settled.
+    fn hold_back(&mut self, key: usize) -> TurnOutcome {
+        let Some(peer) = self.peers.get(key) else {
+            return TurnOutcome::Gone;
+        };
+        if self.held_back.push(key, peer.bytes_held_back()) {
+            TurnOutcome::HeldBack
+        } else {
+            TurnOutcome::Failed(StreamFault::Memory)
+        }
+    }
+
+    // Does with a client what its turn has shown.
+    fn act_on<J: ServerLog>(
+        &mut self,
+        key: usize,
+        turned: TurnOutcome,
+        now: Duration,
+        journal: &mut J,
+    ) {
+        let turned = match turned {
+            TurnOutcome::HeldBack => self.hold_back(key),
+            _ => turned,
+        };
+        let turned = match turned {
+            TurnOutcome::Failed(fault) => {
+                if let Some(peer) = self.peers.get(key) {
+                    journal.connection_failed(fault, peer.given_up());
+                }
+                self.figures.fail(cause_of(fault));
+                self.give_up(key, now)
+            }
+            TurnOutcome::Rests | TurnOutcome::WantsPlace if self.stopping.is_some() => {
+                self.end_after(key, turned, now)
+            }
+            _ => turned,
+        };
+        match turned {
+            TurnOutcome::Again => self.queue(key),
+            TurnOutcome::Rests | TurnOutcome::HeldBack => {}
+            TurnOutcome::WantsPlace => return self.ask_for_place(key, now),
+            TurnOutcome::Gone | TurnOutcome::Failed(_) => return self.close(key, now),
+        }
+        self.free_place(key, now);
+    }
+
+    // Whether a client has its last answer.
+    fn is_ending(&self, key: usize) -> bool {
+        match self.peers.get(key) {
+            Some(peer) => peer.is_ending(),
+            None => false,
+        }
+    }
+
+    // Counts a client that has its last answer now.
+    fn count_ending(&mut self, key: usize, was_ending: bool) {
+        if !was_ending && self.is_ending(key) {
+            self.ending = self.ending.saturating_add(1);
+        }
+    }
+
+    // Counts what a client was told in its turn, and does what that has shown.
+    fn conclude<J: ServerLog>(
+        &mut self,
+        key: usize,
+        turned: TurnOutcome,
+        now: Duration,
+        journal: &mut J,
+    ) {
+        let Some(peer) = self.peers.get_mut(key) else {
+            return;
+        };
+        if let Some(answer) = peer.take_answer() {
+            let took = match (peer.asked(), self.sockets.monotonic_time()) {
+                (Some(asked), Ok(told)) => Some(told.saturating_sub(asked)),
+                _ => None,
+            };
+            self.figures.requests.note(&ResponseRecord {
+                operation: answer.operation,
+                denial: answer.denial(),
+                status: answer.status(),
+                size: answer.size,
+                took,
+            });
+            if let Some(noted) = peer.noted() {
+                journal.request_answered(&LoggedRequest {
+                    connection: peer.number(),
+                    noted,
+                    status: answer.status(),
+                    size: answer.size,
+                    took,
+                });
+            }
+        }
+        self.act_on(key, turned, now, journal);
+    }
+
+    // Gives a client its turn.
+    fn turn<S: GroupCommit + Drop, M: Moments, J: ServerLog>(
+        &mut self,
+        key: usize,
+        desk: RequestContext<'_>,
+        service: &mut Service<S>,
+        moments: &mut M,
+        now: Duration,
+        journal: &mut J,
+    )
+        ensures { GoesOn S.Space S.GroupCommit.own M.Moments (callers_of desk.entry.tokens.now)
+            service.old service.new moments.old moments.new }
+    {
+        let Some(peer) = self.peers.get_mut(key) else {
+            return;
+        };
+        peer.set_queued(false);
+        let was_ending = peer.is_ending();
+        peer.set_asked(self.sockets.monotonic_time().ok());
+        let turned = peer.turn(desk, service, moments, now);
+        if let Some(answer) = peer.answer() {
+            let fate = outcome_of_change(answer, self.store.is_failing());
+            self.record_commit(fate, now, journal);
+        }
+        self.conclude(key, turned, now, journal);
+        self.count_ending(key, was_ending);
+    }
+
+    // Tells a client the answer that was held back, by how its round was settled.
+    fn tell<J: ServerLog>(
+        &mut self,
+        key: usize,
+        settled: Result<(), SpaceFault>,
+        now: Duration,
+        journal: &mut J,
+    ) {
+        let Some(peer) = self.peers.get_mut(key) else {
+            return;
+        };
+        let was_ending = peer.is_ending();
+        let turned = peer.tell(self.alloc, settled, now);
+        self.conclude(key, turned, now, journal);
+        self.count_ending(key, was_ending);
+    }
+
+    // Counts what became of changes, and tells what there is to tell of the store.
+    fn record_commit<J: ServerLog>(
+        &mut self,
+        fate: Option<CommitOutcome>,
+        now: Duration,
+        journal: &mut J,
+    ) {
+        let Some(fate) = fate else {
+            return;
+        };
+        let news = match fate {
+            CommitOutcome::Committed => {
+                self.figures.keep();
+                self.store.keep()
+            }
+            CommitOutcome::RolledBack => {
+                self.figures.fail_store();
+                self.store.fail(now)
+            }
+            CommitOutcome::Unknown => {
+                self.figures.break_store();
+                self.store.break_down()
+            }
+        };
+        if let Some(news) = news {
+            journal.store_event(news);
+        }
+    }
+
+    // Settles what the clients were answered, and has each be told that waits for it.
+    fn commit_batch<S: GroupCommit + Drop, J: ServerLog>(
+        &mut self,
+        service: &mut Service<S>,
+        now: Duration,
+        journal: &mut J,
+    )
+        ensures { (settled : Result (Unit {0}) SpaceFault)
+            × IsCommitted S.Space S.GroupCommit.own service.old service.new settled }
+    {
+        let waited = service.has_pending();
+        let settled = service.commit();
+        self.record_commit(outcome_of_batch(waited, settled), now, journal);
+        for _ in 0..usize::MAX {
+            let Some(key) = self.held_back.pop() else {
+                return;
+            };
+            self.tell(key, settled, now, journal);
+        }
+    }
+
+    // Settles it where enough clients wait for that.
+    fn commit_if_full<S: GroupCommit + Drop, J: ServerLog>(
+        &mut self,
+        service: &mut Service<S>,
+        now: Duration,
+        journal: &mut J,
+    )
+        ensures { (service.new ≡ service.old) ⊎ ((settled : Result (Unit {0}) SpaceFault)
+            × IsCommitted S.Space S.GroupCommit.own service.old service.new settled) }
+    {
+        if !self.held_back.are_enough() {
+            return;
+        }
+        self.commit_batch(service, now, journal);
+    }
+
+    /// Gives each client that has one its turn, and settles what they were answered. Each answer
+    /// that waits for that is told then: before the changes are kept, no answer to one, nor one
+    /// that has seen it, is sent. Where many wait, the round is settled more than once.
+    pub(crate) fn run_once<S: GroupCommit + Drop, M: Moments, J: ServerLog>(
+        &mut self,
+        desk: RequestContext<'_>,
+        service: &mut Service<S>,
+        moments: &mut M,
+        now: Duration,
+        journal: &mut J,
+    )
+        ensures { ServesBy S.Space S.GroupCommit.own M.Moments (callers_of desk.entry.tokens.now)
+            service.old service.new moments.old moments.new }
+    {
+        if self.next.is_empty() {
+            return;
+        }
+        let spare = mem::replace(&mut self.spare, Vec::new(self.alloc));
+        let mut keys = mem::replace(&mut self.next, spare);
+        for key in &keys {
+            self.turn(*key, desk, service, moments, now, journal);
+            self.commit_if_full(service, now, journal);
+        }
+        self.commit_batch(service, now, journal);
+        keys.clear();
+        self.spare = keys;
+    }
+
+    /// Has what was told of a round's requests written.
+    pub(crate) fn flush_log<J: ServerLog>(&mut self, journal: &mut J) {
+        self.figures.faults.lost_lines = journal.flush();
+    }
+
+    /// Lets go of a piece of what had ended so many seconds ago, where that is due. Without a
+    /// number nothing goes.
+    pub(crate) fn purge<S: PurgeEnded + Drop, M: Moments, J: ServerLog>(
+        &mut self,
+        keep: Option<u64>,
+        service: &mut Service<S>,
+        moments: &mut M,
+        now: Duration,
+        journal: &mut J,
+    )
+        ensures { MayPurge S.Space S.GroupCommit.own M.Moments keep
+            service.old service.new moments.old moments.new }
+    {
+        let Some(keep) = keep else {
+            return;
+        };
+        let Some(purged) = self.purger.purge(keep, service, moments, now) else {
+            return;
+        };
+        match purged {
+            Ok(count) => self.figures.purged.note_gone(count),
+            Err(_) => self.figures.purged.note_fault(),
+        }
+        self.record_commit(outcome_of_purge(purged), now, journal);
+    }
+
+    // Ends a client that was waited for long enough.
+    fn end_late<J: ServerLog>(&mut self, key: usize, now: Duration, journal: &mut J) {
+        let Some(peer) = self.peers.get(key) else {
+            return;
+        };
+        if !peer.is_late(now) {
+            return;
+        }
+        let was_ending = peer.is_ending();
+        let turned = match peer.late_fault() {
+            Some(fault) => TurnOutcome::Failed(fault),
+            None => TurnOutcome::Gone,
+        };
+        self.act_on(key, turned, now, journal);
+        self.count_ending(key, was_ending);
+    }
+
+    /// Ends those that were waited for long enough.
+    pub(crate) fn look<J: ServerLog>(&mut self, now: Duration, journal: &mut J) {
+        let gap = if self.ending > 0 { LOOKS_SOON } else { LOOKS };
+        if now.saturating_sub(self.looked) < Duration::from_millis(gap) {
+            return;
+        }
+        self.looked = now;
+        for key in 0..MAX_CONNECTIONS {
+            self.end_late(key, now, journal);
+        }
+    }
+
+    // How many clients wait for a place.
+    fn waiting_for_places(&self) -> usize {
+        let mut count = 0_usize;
+        for key in &self.wanting {
+            if let Some(peer) = self.peers.get(*key)
+                && peer.wants_place()
+            {
+                count = count.saturating_add(1);
+            }
+        }
+        count
+    }
+
+    // Begins to end: none is accepted any more, and each client has a turn.
+    fn stop(&mut self, now: Duration) {
+        self.stopping = Some(now.saturating_add(Duration::from_millis(STOPPING)));
+        self.figures.stop();
+        for key in 0..MAX_CONNECTIONS {
+            self.queue(key);
+        }
+    }
+
+    /// Answers operators, where there may be any, shows them what the service keeps, which stays as
+    /// it is, and makes a piece of a backup that one asked for. `true`: one told the service to
+    /// end, and it has ended.
+    pub(crate) fn serve_operators<S: GroupCommit + SnapshotSource + Drop>(
+        &mut self,
+        operated: Option<BuildInfo<'_>>,
+        service: &mut Service<S>,
+        now: Duration,
+    ) -> bool
+        ensures told { IsTrue result → IsSome operated.entry }
+        ensures same { service.new ≡ service.old }
+    {
+        match operated {
+            Some(build) => self.has_ended(build, service.space().snapshot(), now),
+            None => false,
+        }
+    }
+
+    /// Shows operators what was counted of the token file.
+    pub(crate) fn show_tokens(&mut self, tokens: TokenMetrics) {
+        self.figures.tokens = tokens;
+    }
+
+    // Answers operators.
+    fn answer_operators(
+        &mut self,
+        build: BuildInfo<'_>,
+        shown: Result<Snapshot<'_>, NoMirror>,
+        now: Duration,
+    ) {
+        if self.operators.is_idle() {
+            return;
+        }
+        self.figures.connections.open = self.peers.len();
+        self.figures.connections.waiting = self.waiting_for_places();
+        self.figures.kept = StoreMetrics::of(shown);
+        let board = AdminContext {
+            alloc: self.alloc,
+            figures: &self.figures,
+            build,
+            backs_up: self.sockets.backups().is_some(),
+            shown,
+        };
+        self.operators.run_once(board, &mut self.sockets, now);
+    }
+
+    // Answers operators. Whether the service has ended, where one told it to.
+    fn has_ended(
+        &mut self,
+        build: BuildInfo<'_>,
+        shown: Result<Snapshot<'_>, NoMirror>,
+        now: Duration,
+    ) -> bool {
+        self.answer_operators(build, shown, now);
+        let Some(until) = self.stopping else {
+            if self.operators.stops() {
+                self.stop(now);
+            }
+            return false;
+        };
+        if until < now || (self.peers.is_empty() && self.operators.are_served()) {
+            self.operators.give_up(&mut self.sockets);
+            return true;
+        }
+        false
+    }
+}

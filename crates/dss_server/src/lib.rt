@@ -1,0 +1,20 @@
+//! The command `serve`, below the system: the requests of many clients, answered on one thread.
+#![tactic(auto)]
+
+mod admin_connection;
+mod admin_connections;
+mod backup_job;
+pub mod backups;
+mod client_connection;
+mod client_io;
+mod deferred_clients;
+mod event_loop;
+pub mod limits;
+pub mod phase;
+mod purger;
+mod request_context;
+pub mod serve;
+pub mod server_log;
+pub mod sockets;
+mod store_watch;
+pub mod token_watch;

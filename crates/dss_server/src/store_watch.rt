@@ -1,0 +1,161 @@
+//! Whether the store keeps what it is given, and when that is to be told.
+ghost use Rattle.std.specs.Prelude.{◌≡◌, ◌<◌, ◌↔◌, Some, IfSome, IfNone, IsNone, IsTrue, true};
+ghost use Rattle.std.specs.Duration.{as_nanos};
+ghost use Rattle.dss_server.specs.StoreWatch.{failures_of, outcome_of_batch, outcome_of_purge, is_broken, news_of_breaking, news_of_keeping, one_more, silent_until, untold_of};
+ghost use Rattle.dss_server.specs.declared.server_log.StoreEvent.TheVariants as news;
+
+use crate::client_io::ResponseInfo;
+use crate::purger::PurgeFault;
+use crate::server_log::StoreEvent;
+use space_core::space::SpaceFault;
+use std::time::Duration;
+use wire_http::Outcome;
+
+/// What became of changes that the store was given.
+#[derive(Clone, Copy, Debug, PartialEq, Eq)]
+pub(crate) enum CommitOutcome {
+    /// They are kept.
+    Committed,
+    /// None of them is, and the store goes on.
+    RolledBack,
+    /// Nobody knows, and no call is answered any more.
+    Unknown,
+}
+
+/// What became of the changes of a round, by how it was settled. Nothing is known where none
+/// waited.
+pub(crate) fn outcome_of_batch(
+    waited: bool,
+    settled: Result<(), SpaceFault>,
+) -> Option<CommitOutcome>
+    ensures { result ≡ outcome_of_batch waited settled }
+{
+    match settled {
+        Ok(()) if waited => Some(CommitOutcome::Committed),
+        Ok(()) => None,
+        Err(SpaceFault::Unchanged) => Some(CommitOutcome::RolledBack),
+        Err(SpaceFault::Broken) => Some(CommitOutcome::Unknown),
+    }
+}
+
+/// What became of the change of an answer that no round held back. A fault alone tells nothing of
+/// the store: it may be one of memory, or a bound. But a store that is failing makes each change by
+/// itself.
+pub(crate) fn outcome_of_change(answer: ResponseInfo, is_failing: bool) -> Option<CommitOutcome> {
+    match answer.outcome {
+        Outcome::Stopped => Some(CommitOutcome::Unknown),
+        Outcome::Done if answer.is_to_change() => Some(CommitOutcome::Committed),
+        Outcome::Fault if answer.is_to_change() && is_failing => Some(CommitOutcome::RolledBack),
+        _ => None,
+    }
+}
+
+/// What became of a piece of a sweep. Where nothing went, and the service goes on, that tells
+/// nothing of the store: memory may have lacked, or a copy in it of what is kept. The next change
+/// tells.
+pub(crate) fn outcome_of_purge(purged: Result<usize, PurgeFault>) -> Option<CommitOutcome>
+    ensures { result ≡ outcome_of_purge purged }
+{
+    match purged {
+        Ok(0) => None,
+        Ok(_) => Some(CommitOutcome::Committed),
+        Err(PurgeFault::Space(SpaceFault::Broken)) => Some(CommitOutcome::Unknown),
+        Err(PurgeFault::Clock | PurgeFault::Space(SpaceFault::Unchanged)) => None,
+    }
+}
+
+// How long nothing more is told of a store that goes on failing, in seconds.
+const SILENCE: u64 = 60;
+
+/// How often the store failed since it last kept a change.
+#[derive(Clone, Copy, Debug)]
+pub(crate) struct StoreWatch {
+    failures: u64,
+    // how many of them are not told yet, and until when none is told
+    untold: u64,
+    silent_until: Duration,
+    is_broken: bool,
+}
+
+impl StoreWatch {
+    /// It has not failed.
+    pub(crate) fn new() -> StoreWatch
+        ensures { failures_of result ≡ 0 }
+    {
+        StoreWatch {
+            failures: 0,
+            untold: 0,
+            silent_until: Duration::from_secs(0),
+            is_broken: false,
+        }
+    }
+
+    /// Whether it has failed since it last kept a change.
+    pub(crate) fn is_failing(&self) -> bool
+        ensures { IsTrue result ↔ (0 < failures_of self.now) }
+    {
+        self.failures > 0
+    }
+
+    // Says no more for a while.
+    fn tell(&mut self, now: Duration)
+        ensures failures { failures_of self.new ≡ failures_of self.old }
+        ensures untold { untold_of self.new ≡ 0 }
+    {
+        self.untold = 0;
+        self.silent_until = now.saturating_add(Duration::from_secs(SILENCE));
+    }
+
+    /// It did not keep what it was given, and goes on. The first failure is told, and then, once a
+    /// minute has passed, how many more came.
+    pub(crate) fn fail(&mut self, now: Duration) -> Option<StoreEvent>
+        ensures counted { failures_of self.new ≡ one_more (failures_of self.old) }
+        ensures first { failures_of self.old ≡ 0 → result ≡ Some news.CommitFailed }
+        ensures more { 0 < failures_of self.old
+            → IfSome result (λ it. it ≡ news.StillFailing (one_more (untold_of self.old))) }
+        ensures silent { 0 < failures_of self.old → as_nanos now < silent_until self.old
+            → IsNone result }
+        ensures told { IfSome result (λ it. untold_of self.new ≡ 0) }
+        ensures untold { IfNone result (untold_of self.new ≡ one_more (untold_of self.old)) }
+    {
+        let is_first = !self.is_failing();
+        self.failures = self.failures.saturating_add(1);
+        if is_first {
+            self.tell(now);
+            return Some(StoreEvent::CommitFailed);
+        }
+        let count = self.untold.saturating_add(1);
+        if now < self.silent_until {
+            self.untold = count;
+            return None;
+        }
+        self.tell(now);
+        Some(StoreEvent::StillFailing(count))
+    }
+
+    /// It kept a change, which is told where it had failed.
+    pub(crate) fn keep(&mut self) -> Option<StoreEvent>
+        ensures works { failures_of self.new ≡ 0 }
+        ensures told { result ≡ news_of_keeping (failures_of self.old) }
+    {
+        if !self.is_failing() {
+            return None;
+        }
+        let failures = self.failures;
+        self.failures = 0;
+        self.untold = 0;
+        Some(StoreEvent::Recovered(failures))
+    }
+
+    /// It failed so that no call is answered any more, which is told once.
+    pub(crate) fn break_down(&mut self) -> Option<StoreEvent>
+        ensures broken { is_broken self.new ≡ true }
+        ensures told { result ≡ news_of_breaking (is_broken self.old) }
+    {
+        if self.is_broken {
+            return None;
+        }
+        self.is_broken = true;
+        Some(StoreEvent::Stopped)
+    }
+}

@@ -1,0 +1,177 @@
+//! The token file of a service, which is looked at while it runs.
+ghost use Rattle.std.specs.Prelude.{IfOk, IfSome};
+ghost use Rattle.dss_server.specs.Tokens.{ComesOf, IsTakenAfter};
+
+use crate::limits::LOOKS;
+use crate::server_log::ServerLog;
+use admin_http::tokens::TokenMetrics;
+use std::alloc::Global;
+use std::io;
+use std::io::ErrorKind;
+use std::time::Duration;
+use token_conf::conf_fault::ConfFault;
+use token_conf::token_table::TokenTable;
+
+/// Why a token file that changed was not taken.
+#[derive(Clone, Copy, Debug, PartialEq, Eq)]
+pub enum TokenReloadFault {
+    /// It does not open, fails to read or is not UTF-8.
+    Unread,
+    /// It is wrong, or memory lacked for it.
+    Wrong(ConfFault),
+    /// It has another salt than the one that the service started with.
+    OtherSalt,
+}
+
+/// Where the bytes of the token file come from.
+///
+/// `gives`: which bytes it may have.
+pub trait TokenSource {
+    ghost use Rattle.std.specs.Prelude.{ℕ, List, IfOk};
+
+    ghost gives: { List ℕ → Type 0 };
+
+    /// All bytes of the file, as they are now.
+    fn read(&mut self) -> io::Result<Vec<u8>>
+        ensures { IfOk result (λ bytes. gives bytes.items) };
+}
+
+// Whether that is want of memory, after which the file is read again.
+fn is_memory(fault: TokenReloadFault) -> bool {
+    fault == TokenReloadFault::Wrong(ConfFault::Memory)
+}
+
+// The table of a text of the file, which is taken only with the salt of the first one.
+fn table_of(alloc: Global, text: &str, first: &TokenTable) -> Result<TokenTable, TokenReloadFault>
+    ensures { ComesOf first.now text.now result }
+{
+    let table = match TokenTable::read(alloc, text) {
+        Ok(table) => table,
+        Err(fault) => return Err(TokenReloadFault::Wrong(fault)),
+    };
+    if table.salt().text() == first.salt().text() {
+        return Ok(table);
+    }
+    Err(TokenReloadFault::OtherSalt)
+}
+
+/// The token file of a service, which is looked at while it runs.
+#[derive(Drop)]
+pub struct TokenWatch<T: TokenSource> {
+    source: T,
+    // the bytes that were last judged
+    judged: Vec<u8>,
+    looked: Duration,
+    // at how many looks in a row it could not be read, and whether memory lacked at the last one
+    misses: u32,
+    is_lacking: bool,
+    // what is counted
+    tokens: TokenMetrics,
+}
+
+impl<T: TokenSource> TokenWatch<T> {
+    /// A file that had this text as the service started.
+    pub fn new(source: T, text: String) -> TokenWatch<T> {
+        TokenWatch {
+            source,
+            judged: text.into_bytes(),
+            looked: Duration::from_millis(0),
+            misses: 0,
+            is_lacking: false,
+            tokens: TokenMetrics::new(),
+        }
+    }
+
+    /// What was counted of it.
+    pub(crate) fn tokens(&self) -> TokenMetrics {
+        self.tokens
+    }
+
+    // The file could not be read: it is told at the second look, for one that is written anew may
+    // be gone for a moment.
+    fn miss(&mut self, cause: &io::Error) -> Option<TokenReloadFault> {
+        if cause.kind() == ErrorKind::OutOfMemory {
+            return Some(TokenReloadFault::Wrong(ConfFault::Memory));
+        }
+        self.misses = self.misses.saturating_add(1);
+        if self.misses == 2 {
+            Some(TokenReloadFault::Unread)
+        } else {
+            None
+        }
+    }
+
+    // What comes of the file, if it has other bytes than those that were last judged.
+    fn judge(
+        &mut self,
+        alloc: Global,
+        first: &TokenTable,
+    ) -> Result<Option<TokenTable>, TokenReloadFault>
+        ensures { IfOk result (λ taken. IfSome taken (IsTakenAfter T.gives first.now)) }
+    {
+        let bytes = match self.source.read() {
+            Ok(bytes) => bytes,
+            Err(cause) => {
+                return match self.miss(&cause) {
+                    Some(fault) => Err(fault),
+                    None => Ok(None),
+                };
+            }
+        };
+        self.misses = 0;
+        if bytes == self.judged {
+            return Ok(None);
+        }
+        let judged = match str::from_utf8(&bytes) {
+            Ok(text) => table_of(alloc, text, first),
+            Err(_) => Err(TokenReloadFault::Unread),
+        };
+        match judged {
+            Ok(table) => {
+                self.judged = bytes;
+                Ok(Some(table))
+            }
+            Err(fault) => {
+                if !is_memory(fault) {
+                    self.judged = bytes;
+                }
+                Err(fault)
+            }
+        }
+    }
+
+    /// Looks at the file, each second. Where it has other bytes than those that were last judged,
+    /// and says a table with the salt of the first one, that is to be taken. Else it is told once
+    /// why not.
+    pub(crate) fn look<J: ServerLog>(
+        &mut self,
+        alloc: Global,
+        first: &TokenTable,
+        now: Duration,
+        journal: &mut J,
+    ) -> Option<TokenTable>
+        ensures { IfSome result (IsTakenAfter T.gives first.now) }
+    {
+        if now.saturating_sub(self.looked) < Duration::from_millis(LOOKS) {
+            return None;
+        }
+        self.looked = now;
+        match self.judge(alloc, first) {
+            Ok(taken) => {
+                self.is_lacking = false;
+                if taken.is_some() {
+                    self.tokens.read = now;
+                }
+                taken
+            }
+            Err(fault) => {
+                if !(self.is_lacking && is_memory(fault)) {
+                    self.tokens.refusals = self.tokens.refusals.saturating_add(1);
+                    journal.tokens_rejected(fault);
+                }
+                self.is_lacking = is_memory(fault);
+                None
+            }
+        }
+    }
+}

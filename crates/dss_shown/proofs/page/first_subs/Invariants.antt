@@ -1,7 +1,0 @@
-use Rattle.std.proofs.Common.{◌≡◌, ◌++◌, map}
-use Rattle.dss_shown.specs.Key.{subs_past}
-use Rattle.dss_shown.proofs.page.first_subs.Given as goal
-
-abbrev pub invariant-loop-sub : goal.invariant-loop-sub
-invariant-loop-sub l = map (λ s. s.now) l.found.items ++ subs_past l.after l.sub-iterator
-    ≡ subs_past l.after l.initial.sub-iterator

@@ -1,7 +1,0 @@
-use Rattle.std.proofs.Common.{map, take}
-use Rattle.serde_json.specs.View.{view}
-use Rattle.dss_shown.specs.Page.{AreShown, IsEntityShown}
-use Rattle.dss_shown.proofs.shown_page.entities_json.Given as goal
-
-abbrev pub invariant-loop-entity : goal.invariant-loop-entity
-invariant-loop-entity l = AreShown (IsEntityShown l.availabilities) (map (λ e. e.now) (take l.entity-index l.entities)) (map view l.values.items)

@@ -1,4 +1,0 @@
-pub mod Key
-pub mod Reference
-pub mod Page
-pub mod Query

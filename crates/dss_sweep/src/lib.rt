@@ -1,5 +1,0 @@
-//! A sweep of a space, piece by piece, and how much it let go of.
-#![tactic(auto)]
-
-pub mod sweep;
-pub mod swept;

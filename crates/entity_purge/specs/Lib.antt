@@ -1,0 +1,2 @@
+pub mod PurgeItem
+pub mod Purge

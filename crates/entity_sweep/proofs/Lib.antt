@@ -1,4 +1,0 @@
-pub mod Maps
-pub mod Sweeps
-pub mod Pieces
-pub mod LetGo

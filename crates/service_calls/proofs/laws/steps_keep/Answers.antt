@@ -1,5 +1,0 @@
-use Rattle.service_step.proofs.Keeps.{steps_keep}
-use Rattle.service_calls.proofs.laws.steps_keep.Goals as goal
-
-pub returns : goal.returns
-returns c = steps_keep

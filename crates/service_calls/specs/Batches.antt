@@ -1,0 +1,189 @@
+-- What a service is asked in rounds, each of which ends as the changes that wait are kept or not.
+use Rattle.std.specs.Prelude.{◌≡◌, ◌||◌, ◌⊎◌, ℕ, Bool, true, false, List, [], ◌∷◌, ◌++◌, map, All, Result, Ok, Err, if◌then◌else◌}
+use Rattle.std.specs.List.{AllByRecursion, flat_map}
+use Rattle.entity_core.specs.Airspace.{Airspace, empty_at}
+use Rattle.space_core.specs.declared.space.Space as spaces
+use Rattle.space_core.specs.declared.group_commit.GroupCommit as settles
+use Rattle.space_core.specs.declared.space.SpaceFault.{SpaceFault}
+use Rattle.space_core.specs.declared.space.SpaceFault.TheVariants.{Unchanged}
+use Rattle.space_core.specs.Calls.{CallCommits, CallReportsFault}
+use Rattle.space_core.specs.Space.{IsContent, is_broken_after}
+use Rattle.service_step.specs.declared.call_fault.CallFault.TheVariants.{Space}
+use Rattle.service_step.specs.declared.reply.Reply.{Reply}
+use Rattle.service_step.specs.declared.reply.Reply.TheVariants.{Stopped}
+use Rattle.service_calls.specs.declared.service.Service.{Service}
+use Rattle.service_calls.specs.Aware.{Aware}
+use Rattle.service_calls.specs.Count.{Counts}
+use Rattle.service_calls.specs.Held.{is_shut, salt_of, space_of}
+use Rattle.service_calls.specs.Run.{AskedInOrder, IsReplyTo, MayHaveStepped, Runs, TimedCall, airspace_after, answered_calls, has_stopped, replies_of, delivered_replies}
+use Rattle.service_calls.specs.Service.{reply_of}
+use Rattle.service_calls.specs.Stale.{AllNumbered}
+
+-- a call that was made, its reply, and whether that waits for the end of its round
+pub record CallRecord : Type 0 where
+  pub timed : TimedCall
+  pub reply : Reply
+  pub waits : Bool
+
+-- calls that were made one after the other, and whether the changes that waited were kept then
+pub record Batch : Type 0 where
+  pub calls : List CallRecord
+  pub settled : Result (Unit {0}) SpaceFault
+
+-- ---- what is told
+
+-- what a caller is told, by how its round ended: a reply that waited for changes that were not kept
+-- is told as a failure
+abbrev pub delivered_reply : Result (Unit {0}) SpaceFault → CallRecord → Reply
+delivered_reply (Ok x) made = made.reply
+delivered_reply (Err fault) made = if made.waits then reply_of (Space fault) else made.reply
+
+abbrev pub timed_in : Batch → List TimedCall
+timed_in batch = map (λ made. made.timed) batch.calls
+
+-- the replies of a round as they were made, and as they are told
+abbrev pub replies_made : Batch → List Reply
+replies_made batch = map (λ made. made.reply) batch.calls
+
+abbrev pub replies_delivered : Batch → List Reply
+replies_delivered batch = map (delivered_reply batch.settled) batch.calls
+
+-- the calls of all rounds, and what is told of them
+abbrev pub all_timed : List Batch → List TimedCall
+all_timed batches = flat_map timed_in batches
+
+abbrev pub all_delivered : List Batch → List Reply
+all_delivered batches = flat_map replies_delivered batches
+
+-- ---- what is asked
+
+module _ {S : Type 0} (g : spaces.Ghosts S) (k : settles.Ghosts S) where
+  -- The service was asked these calls in order, each once. A reply waits where changes wait before
+  -- the call or after it: where the call made one, or may have seen one.
+  abbrev pub CalledInOrder : Service S → List CallRecord → Service S → Type 0
+  CalledInOrder old [] new = new ≡ old
+  CalledInOrder old (m ∷ ms) new =
+      (mid : Service S) × IsReplyTo g old mid m.timed.0 m.timed.1 m.reply
+      × (m.waits ≡ (k.is_pending (space_of old) || k.is_pending (space_of mid))) × CalledInOrder mid ms new
+
+  -- The changes that waited were kept, or none of them; none waits any more. A service whose space
+  -- broke then is shut.
+  pub record IsCommitted (old new : Service S) (result : Result (Unit {0}) SpaceFault) : Type 0 where
+    pub salt : salt_of new ≡ salt_of old
+    pub shuts : is_shut new ≡ is_broken_after (is_shut old) result
+    pub calm : k.is_pending (space_of new) ≡ false
+    pub tells : CallReportsFault g (space_of old) (space_of new) result
+    pub settles : CallCommits g (space_of old) (space_of new) result k.persists
+
+  -- one round after the other
+  abbrev pub MadeBatches : Service S → List Batch → Service S → Type 0
+  MadeBatches old [] new = new ≡ old
+  MadeBatches old (batch ∷ batches) new =
+      (mid : Service S) × (end : Service S) × CalledInOrder old batch.calls mid
+      × IsCommitted mid end batch.settled × MadeBatches end batches new
+
+  -- A service that was not shut, over a space of one airspace in which nothing waited, was asked in
+  -- rounds. What is said of its space still stands.
+  pub record AskedInBatches (old : Service S) (batches : List Batch) (new : Service S) (a : Airspace)
+      : Type 0 where
+    pub goes : is_shut old ≡ false
+    pub calm : k.is_pending (space_of old) ≡ false
+    pub content : IsContent g.holds (space_of old) a
+    pub made : MadeBatches old batches new
+    pub sound : g.is_sound (space_of new)
+
+-- ---- what is kept
+
+-- a round of these calls whose changes were not kept, as where a crash comes before that
+abbrev pub uncommitted : List CallRecord → Batch
+uncommitted calls = record { calls = calls; settled = Err Unchanged }
+
+-- the airspace after what was answered of a round
+abbrev pub airspace_of : List ℕ → Airspace → Batch → Airspace
+airspace_of salt a batch = airspace_after salt a (answered_calls (timed_in batch) (replies_delivered batch))
+
+-- What may be kept of a round in which a caller is told `Stopped`: the airspace without the changes
+-- that waited, or that with them; a call that itself was answered so may have had its effect.
+abbrev pub MayHaveLeft : List ℕ → Airspace → Batch → Airspace → Type 0
+MayHaveLeft salt a batch after = (after ≡ airspace_of salt a (uncommitted batch.calls))
+    ⊎ MayHaveStepped salt a (timed_in batch) (replies_made batch) after
+
+abbrev pub IfStopped : Bool → Type 0 → Type 0 → Type 0
+IfStopped true P Q = P
+IfStopped false P Q = Q
+
+-- What may be kept after rounds: the airspace after all that was answered, or what the first round
+-- in which a caller is told `Stopped` may have left.
+abbrev pub MayHavePersisted : List ℕ → Airspace → List Batch → Airspace → Type 0
+MayHavePersisted salt a [] after = after ≡ a
+MayHavePersisted salt a (batch ∷ batches) after =
+    IfStopped (has_stopped (replies_delivered batch)) (MayHaveLeft salt a batch after)
+    (MayHavePersisted salt (airspace_of salt a batch) batches after)
+
+-- after the first round in which a caller is told `Stopped` each is told so
+abbrev pub StayStoppedIn : List Batch → Type 0
+StayStoppedIn [] = Unit {0}
+StayStoppedIn (batch ∷ batches) = IfStopped (has_stopped (replies_delivered batch))
+    (All (λ r. r ≡ Stopped) (all_delivered batches)) (StayStoppedIn batches)
+
+-- What is told over rounds is the policy's, but for the calls that failed. While the service is not
+-- shut, nobody is told `Stopped`, and the policy's airspace is kept; and never is another kept.
+pub record RunsInBatches {S : Type 0} (k : settles.Ghosts S) (salt : List ℕ) (a : Airspace)
+    (batches : List Batch) (new : Service S) : Type 0 where
+  pub replies : delivered_replies (all_delivered batches)
+      ≡ replies_of salt a (answered_calls (all_timed batches) (all_delivered batches))
+  pub stopped : StayStoppedIn batches
+  pub goes : is_shut new ≡ false → has_stopped (all_delivered batches) ≡ false
+  pub whole : is_shut new ≡ false → IsContent k.persists (space_of new)
+      (airspace_after salt a (answered_calls (all_timed batches) (all_delivered batches)))
+  pub kept : (b : Airspace) → k.persists (space_of new) b → MayHavePersisted salt a batches b
+
+-- ---- laws
+
+-- What is told in rounds, and what is kept after them, is the policy's.
+abbrev pub BatchesAreThePolicy : {S : Type 0} → spaces.Ghosts S → settles.Ghosts S → Type 0
+BatchesAreThePolicy {S} g k = (old new : Service S) (batches : List Batch) (a : Airspace)
+    → AskedInBatches g k old batches new a → RunsInBatches k (salt_of old) a batches new
+
+-- In the midst of a round, as where a crash comes then, that is kept which is kept where its
+-- changes are not; a reply that waits was told to nobody yet, and counts as a failure.
+abbrev pub OpenBatchIsNotDurable : {S : Type 0} → spaces.Ghosts S → settles.Ghosts S → Type 0
+OpenBatchIsNotDurable {S} g k =
+    (old mid new : Service S) (batches : List Batch) (calls : List CallRecord) (a : Airspace)
+    → AskedInBatches g k old batches mid a → CalledInOrder g k mid calls new
+    → g.is_sound (space_of new)
+    → RunsInBatches k (salt_of old) a (batches ++ uncommitted calls ∷ []) new
+
+-- The calls of a round were asked in order.
+abbrev pub BatchIsAsked : {S : Type 0} → spaces.Ghosts S → settles.Ghosts S → Type 0
+BatchIsAsked {S} g k = (old new : Service S) (batch : Batch) → CalledInOrder g k old batch.calls new
+    → AskedInOrder g old (timed_in batch) (replies_made batch) new
+
+-- Where the changes of each round were kept, it is as if its calls were made one after the other in
+-- a space in which none waits.
+abbrev pub CommittedBatchesRun : {S : Type 0} → spaces.Ghosts S → settles.Ghosts S → Type 0
+CommittedBatchesRun {S} g k = (old new : Service S) (batches : List Batch) (a : Airspace)
+    → AskedInBatches g k old batches new a → AllByRecursion (λ batch. batch.settled ≡ Ok tt) batches
+    → Runs g (salt_of old) a (all_timed batches) (all_delivered batches) (space_of new)
+
+-- Over rounds from the empty airspace: each entity that is kept has the OVN of its serial.
+abbrev pub BatchesAreNumbered : {S : Type 0} → settles.Ghosts S → Type 0
+BatchesAreNumbered {S} k =
+    (salt : List ℕ) (n : ℕ) (batches : List Batch) (new : Service S) (a : Airspace)
+    → RunsInBatches k salt (empty_at n) batches new → k.persists (space_of new) a → AllNumbered salt a
+
+-- Where nobody was told `Stopped`: the later of two that meet knew the other, and each index is the
+-- number of calls that notified the subscription.
+abbrev pub BatchesAreAware : {S : Type 0} → settles.Ghosts S → Type 0
+BatchesAreAware {S} k =
+    (salt : List ℕ) (n : ℕ) (batches : List Batch) (new : Service S) (a : Airspace)
+    → RunsInBatches k salt (empty_at n) batches new → has_stopped (all_delivered batches) ≡ false
+    → k.persists (space_of new) a
+    → Aware salt (empty_at n) (all_timed batches) (all_delivered batches) a
+
+abbrev pub BatchesAreCounted : {S : Type 0} → settles.Ghosts S → Type 0
+BatchesAreCounted {S} k =
+    (salt : List ℕ) (n : ℕ) (batches : List Batch) (new : Service S) (a : Airspace)
+    → RunsInBatches k salt (empty_at n) batches new → has_stopped (all_delivered batches) ≡ false
+    → k.persists (space_of new) a
+    → Counts salt (empty_at n) (all_timed batches) (all_delivered batches) a

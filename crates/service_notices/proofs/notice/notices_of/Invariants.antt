@@ -1,6 +1,0 @@
-use Rattle.std.proofs.Common.{◌≡◌, ◌++◌}
-use Rattle.std.specs.Map.{values_of}
-use Rattle.service_notices.proofs.notice.notices_of.Given as goal
-
-abbrev pub invariant-loop-notify : goal.invariant-loop-notify
-invariant-loop-notify l = l.items.items ++ values_of l.notify-iterator ≡ values_of l.initial.notify-iterator

@@ -1,0 +1,93 @@
+-- What may be kept of rounds, and of segments.
+use Rattle.std.specs.Prelude.{◌≡◌, ◌↔◌, ◌∷◌, ℕ, List, [], ◌++◌, map, true, false, refl}
+use Rattle.std.specs.List.{AllByRecursion}
+use Rattle.std.proofs.Common.{inl, inr, sym, subst, ◌∙◌}
+use Rattle.entity_core.specs.Airspace.{Airspace}
+use Rattle.entity_purge.specs.Purge.{IsPartlyPurged}
+use Rattle.entity_purge.proofs.Chunks.{chunks_make}
+use Rattle.service_step.specs.Step.{step}
+use Rattle.service_step.specs.declared.reply.Reply.{Reply}
+use Rattle.service_step.specs.declared.reply.Reply.TheVariants.{Done, Denied, Fault, Stopped}
+use Rattle.service_calls.specs.Batches.{IfStopped, CallRecord, MayHavePersisted, MayHaveLeft, Batch, airspace_of, all_timed, all_delivered, timed_in, replies_delivered, delivered_reply, uncommitted}
+use Rattle.service_calls.specs.Run.{MayHaveStepped, TimedCall, airspace_after, answered_calls, has_stopped}
+use Rattle.service_calls.specs.Purged.{MayHavePersistedPurged, Segment, airspace_after_batches, all_delivered_in}
+use Rattle.service_calls.proofs.InBatches.{even_in}
+use Rattle.service_calls.proofs.Joined.{airspace_then, goes_first, stops_then}
+use Rattle.service_recovery.specs.Life.{AreEmpty, IsExpectedAfter, alone}
+
+-- of a round in which nothing waited
+pub alone_is_stepped : (salt : List ℕ) (a b : Airspace) (cs : List TimedCall) (rs : List Reply) → MayHavePersisted salt a (alone cs rs ∷ []) b ↔ MayHaveStepped salt a cs rs b
+alone_is_stepped salt a b [] rs = ((λ is. is), (λ is. is))
+alone_is_stepped salt a b (c ∷ cs) [] = ((λ is. is), (λ is. is))
+alone_is_stepped salt a b (c ∷ cs) (Fault ∷ rs) = alone_is_stepped salt a b cs rs
+alone_is_stepped salt a b (c ∷ cs) (Stopped ∷ rs) = ((λ is. elim is [ inl same ↦ inl same | inr may ↦ may ]), (λ may. inr may))
+alone_is_stepped salt a b (c ∷ cs) (Done x ∷ rs) = alone_is_stepped salt (step salt a c.0 c.1).0 b cs rs
+alone_is_stepped salt a b (c ∷ cs) (Denied p m ∷ rs) = alone_is_stepped salt (step salt a c.0 c.1).0 b cs rs
+
+-- nothing is left of an open round without a call
+pub without_empty : (salt : List ℕ) (a b : Airspace) (batches : List Batch) → MayHavePersisted salt a (batches ++ uncommitted [] ∷ []) b → MayHavePersisted salt a batches b
+without_empty salt a b [] may = may
+without_empty salt a b (r ∷ rs) may =
+    let next = airspace_of salt a r in
+    elim (has_stopped (replies_delivered r)) as (λ x. IfStopped x (MayHaveLeft salt a r b) (MayHavePersisted salt next (rs ++ uncommitted [] ∷ []) b) → IfStopped x (MayHaveLeft salt a r b) (MayHavePersisted salt next rs b)) [
+      | true ↦ λ left. left
+      | false ↦ λ kept. without_empty salt next b rs kept
+    ] may
+
+pub due_unstopped : (salt : List ℕ) (a b : Airspace) (batches : List Batch) → has_stopped (all_delivered batches) ≡ false → MayHavePersisted salt a batches b
+    → b ≡ airspace_after salt a (answered_calls (all_timed batches) (all_delivered batches))
+due_unstopped salt a b [] goes is = is
+due_unstopped salt a b (r ∷ rs) goes is =
+    let next = airspace_of salt a r in
+    let first = goes_first (replies_delivered r) (all_delivered rs) goes in
+    let rest : MayHavePersisted salt next rs b = subst (λ x. IfStopped x (MayHaveLeft salt a r b) (MayHavePersisted salt next rs b)) first is in
+    due_unstopped salt next b rs (sym (stops_then (replies_delivered r) (all_delivered rs) first) ∙ goes) rest ∙ airspace_then salt a (timed_in r) (replies_delivered r) (all_timed rs) (all_delivered rs) (even_in r) first
+
+-- ---- segments
+
+pub without_empty_purged : (salt : List ℕ) (a b : Airspace) (segments : List Segment) (batches : List Batch) → MayHavePersistedPurged salt a segments (batches ++ uncommitted [] ∷ []) b → MayHavePersistedPurged salt a segments batches b
+without_empty_purged salt a b [] batches may = without_empty salt a b batches may
+without_empty_purged salt a b (s ∷ ss) batches may =
+    let after = airspace_after_batches salt a s.batches in
+    elim (has_stopped (all_delivered s.batches)) as (λ x. IfStopped x (MayHavePersisted salt a s.batches b) ((c : Airspace) × IsPartlyPurged s.until after c × MayHavePersistedPurged salt c ss (batches ++ uncommitted [] ∷ []) b)
+    → IfStopped x (MayHavePersisted salt a s.batches b) ((c : Airspace) × IsPartlyPurged s.until after c × MayHavePersistedPurged salt c ss batches b)) [
+      | true ↦ λ left. left
+      | false ↦ λ more. (more.0, more.1, without_empty_purged salt more.0 b ss batches more.2)
+    ] may
+
+-- what may be kept of a segment and of what follows, where nobody was told `Stopped` in the segment
+going_on : (salt : List ℕ) (a b : Airspace) (s : Segment) (ss : List Segment) (batches : List Batch) → has_stopped (all_delivered s.batches) ≡ false → MayHavePersistedPurged salt a (s ∷ ss) batches b
+    → (c : Airspace) × IsPartlyPurged s.until (airspace_after_batches salt a s.batches) c × MayHavePersistedPurged salt c ss batches b
+going_on salt a b s ss batches goes may =
+    subst (λ x. IfStopped x (MayHavePersisted salt a s.batches b) ((c : Airspace) × IsPartlyPurged s.until (airspace_after_batches salt a s.batches) c × MayHavePersistedPurged salt c ss batches b)) goes may
+
+pub due_purged : (salt : List ℕ) (a b : Airspace) (segments : List Segment) (batches : List Batch) → has_stopped (all_delivered_in segments batches) ≡ false → MayHavePersistedPurged salt a segments batches b → IsExpectedAfter salt a segments batches b
+due_purged salt a b [] batches goes is = due_unstopped salt a b batches goes is
+due_purged salt a b (s ∷ ss) batches goes is =
+    let first = goes_first (all_delivered s.batches) (all_delivered_in ss batches) goes in
+    let more = going_on salt a b s ss batches first is in
+    (more.0, more.1, due_purged salt more.0 b ss batches (sym (stops_then (all_delivered s.batches) (all_delivered_in ss batches) first) ∙ goes) more.2)
+
+-- ---- rounds in which nobody called
+
+none_told : (batches : List Batch) → AreEmpty batches → all_delivered batches ≡ []
+none_told [] empty = refl
+none_told (r ∷ rs) empty = subst (λ (calls : List CallRecord). map (delivered_reply r.settled) calls ++ all_delivered rs ≡ []) (sym empty.0) (none_told rs empty.1)
+
+none_timed : (batches : List Batch) → AreEmpty batches → all_timed batches ≡ []
+none_timed [] empty = refl
+none_timed (r ∷ rs) empty = subst (λ (calls : List CallRecord). map (λ made. made.timed) calls ++ all_timed rs ≡ []) (sym empty.0) (none_timed rs empty.1)
+
+goes_empty : (batches : List Batch) → AreEmpty batches → has_stopped (all_delivered batches) ≡ false
+goes_empty batches empty = subst (λ (rs : List Reply). has_stopped rs ≡ false) (sym (none_told batches empty)) refl
+
+same_empty : (salt : List ℕ) (a : Airspace) (batches : List Batch) → AreEmpty batches → airspace_after_batches salt a batches ≡ a
+same_empty salt a batches empty = subst (λ (cs : List TimedCall). airspace_after salt a (answered_calls cs (all_delivered batches)) ≡ a) (sym (none_timed batches empty)) refl
+
+pub only_purged : (until : ℕ) (salt : List ℕ) (a b : Airspace) (segments : List Segment) (batches : List Batch) → AllByRecursion (λ s. AreEmpty s.batches × (s.until ≡ until)) segments → AreEmpty batches → MayHavePersistedPurged salt a segments batches b → IsPartlyPurged until a b
+only_purged until salt a b [] batches none empty is =
+    subst (IsPartlyPurged until a) (sym (due_unstopped salt a b batches (goes_empty batches empty) is ∙ same_empty salt a batches empty)) (chunks_make.nothing until a)
+only_purged until salt a b (s ∷ ss) batches none empty is =
+    let more = going_on salt a b s ss batches (goes_empty s.batches none.0.0) is in
+    let one : IsPartlyPurged until a more.0 = subst (λ (u : ℕ). IsPartlyPurged u a more.0) none.0.1 (subst (λ (x : Airspace). IsPartlyPurged s.until x more.0) (same_empty salt a s.batches none.0.0) more.1) in
+    (chunks_make.more until a more.0 one).further b (only_purged until salt more.0 b ss batches none.1 empty more.2)

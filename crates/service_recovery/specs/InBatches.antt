@@ -1,0 +1,76 @@
+-- What a service over files leaves whose changes may wait for the end of a round.
+use Rattle.std.specs.Prelude.{◌≡◌, List, [], ◌∷◌, ◌++◌, false}
+use Rattle.sqlite_disk.specs.declared.Disk as disk
+use Rattle.sqlite_disk.specs.declared.Files.{Files}
+use Rattle.sqlite_store.specs.declared.store.FileStore.{FileStore}
+use Rattle.sqlite_store.specs.FileStore as store
+use Rattle.sqlite_trees.specs.View.{IsClean}
+use Rattle.sqlite.specs.Recovery.{Image}
+use Rattle.sqlite.specs.WalReads.{AreClean}
+use Rattle.entity_core.specs.Airspace.{Airspace}
+use Rattle.space_core.specs.declared.space.Space as spaces
+use Rattle.service_calls.specs.declared.service.Service.{Service}
+use Rattle.service_calls.specs.Held.{is_shut, space_of}
+use Rattle.service_calls.specs.Batches.{CallRecord, CalledInOrder, MadeBatches, Batch, uncommitted}
+use Rattle.service_calls.specs.Purged.{MadeSegments, Segment}
+use Rattle.space_quota.specs.QuotaSpace.{QuotaModel}
+use Rattle.space_mirror.specs.Mirrored.{MirroredModel, is_pending_in}
+use Rattle.space_sql.specs.Found.{FindsSpelt}
+use Rattle.space_sql.specs.Holding.{SqlSpaceModel}
+use Rattle.space_sql.specs.Restart.{ClosesFiles, FilesHave, FilesLeft, LeavesFiles, without_log}
+use Rattle.service_recovery.specs.Crash.{bound_waiting_of}
+use Rattle.service_recovery.specs.Life.{Continues, run_purged}
+
+-- a sound space that is whole holds some airspace
+abbrev pub SomeIsHeld : {S : Type 0} → spaces.Ghosts S → Type 0
+SomeIsHeld {S} space =
+    (s : S) → space.is_sound s → space.is_whole s → ∥ ((a : Airspace) × space.holds s a) ∥₁
+
+-- Calls that read may leave this of a space: it holds nothing but what it held, and is whole where
+-- it was.
+pub record IsOnlyRead {S : Type 0} (space : spaces.Ghosts S) (old new : S) : Type 0 where
+  pub sound : space.is_sound new → space.is_sound old
+  pub whole : space.is_sound new → space.is_whole old → space.is_whole new
+  pub no_other : space.is_sound new → (a : Airspace) → space.holds new a → space.holds old a
+
+module _ {D : Type 0} {g : disk.Ghosts D} (tables : spaces.Ghosts (SqlSpaceModel (FileStore D g)))
+    (space : spaces.Ghosts (QuotaModel (MirroredModel (SqlSpaceModel (FileStore D g))))) where
+  -- A service starts over files: a space was taken over them, which was only read since; over it, a
+  -- list in memory and a bound of what is kept of each supplier is the space of the service, in
+  -- which no change waits.
+  pub record StartsOver (image : Image) (old : Service (QuotaModel (MirroredModel (SqlSpaceModel (FileStore D g))))) : Type 0 where
+    pub opened : SqlSpaceModel (FileStore D g)
+    pub finds : FindsSpelt image tables opened
+    pub read : IsOnlyRead tables opened (space_of old).space.store
+    pub calm : is_pending_in (space_of old).space ≡ false
+    pub goes : is_shut old ≡ false
+
+  -- It is sound where the space over tables in it is, as each is by `Mirrored::release`.
+  abbrev pub IsSoundByStore : QuotaModel (MirroredModel (SqlSpaceModel (FileStore D g))) → Type 0
+  IsSoundByStore k = tables.is_sound k.space.store → space.is_sound k
+
+  -- A service started over files, and was asked rounds of calls, after some of which it let go of
+  -- some of what had ended, and calls that no round ended; its space over tables was given up, and
+  -- a crash left of the files what it may: nothing of the changes that waited then.
+  abbrev pub ContinuesInBatches : Type 0
+  ContinuesInBatches =
+      (before after : Image) (old purged mid new : Service (QuotaModel (MirroredModel (SqlSpaceModel (FileStore D g)))))
+      (segments : List Segment) (batches : List Batch) (calls : List CallRecord) (last : FileStore D g)
+      → StartsOver before old → MadeSegments space (bound_waiting_of tables) old segments purged
+      → MadeBatches space (bound_waiting_of tables) purged batches mid
+      → CalledInOrder space (bound_waiting_of tables) mid calls new → IsSoundByStore (space_of new)
+      → LeavesFiles (space_of new).space.store last → IsClean (store.view last) → FilesLeft last after
+      → Continues before (run_purged old segments (batches ++ uncommitted calls ∷ [])) after
+
+  -- The same where that space was closed, also where then the log is gone.
+  abbrev pub ContinuesInBatchesClosed : Type 0
+  ContinuesInBatchesClosed =
+      (before after : Image) (old purged mid new : Service (QuotaModel (MirroredModel (SqlSpaceModel (FileStore D g)))))
+      (segments : List Segment) (batches : List Batch) (calls : List CallRecord) (files : Files D)
+      → StartsOver before old → MadeSegments space (bound_waiting_of tables) old segments purged
+      → MadeBatches space (bound_waiting_of tables) purged batches mid
+      → CalledInOrder space (bound_waiting_of tables) mid calls new → IsSoundByStore (space_of new)
+      → ClosesFiles (space_of new).space.store files → AreClean g files.log files.db
+      → FilesHave g files after
+      → Continues before (run_purged old segments (batches ++ uncommitted calls ∷ [])) after
+      × Continues before (run_purged old segments (batches ++ uncommitted calls ∷ [])) (without_log after)

@@ -1,0 +1,4 @@
+pub mod Crash
+pub mod Restart
+pub mod Life
+pub mod InBatches

@@ -1,5 +1,0 @@
-use Rattle.service_sweep.proofs.Known.{segments_aware}
-use Rattle.service_sweep.proofs.laws.segments_are_aware.Goals as goal
-
-pub returns : goal.returns
-returns g c = segments_aware g.S.Settles

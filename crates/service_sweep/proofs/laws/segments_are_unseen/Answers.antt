@@ -1,8 +1,0 @@
-use Rattle.service_sweep.proofs.Unseen.{one_moment, segments_unseen}
-use Rattle.service_sweep.proofs.laws.segments_are_unseen.Goals as goal
-
-pub returns-clause-enough : goal.returns-clause-enough
-returns-clause-enough g c = one_moment
-
-pub returns-clause-unseen : goal.returns-clause-unseen
-returns-clause-unseen g c = segments_unseen g.S.Settles

@@ -1,9 +1,0 @@
-use Rattle.service_sweep.proofs.Commutes.{commutes}
-use Rattle.service_sweep.proofs.Runs.{run_commutes}
-use Rattle.service_sweep.proofs.laws.sweep_commutes.Goals as goal
-
-pub returns-clause-call : goal.returns-clause-call
-returns-clause-call c = commutes
-
-pub returns-clause-run : goal.returns-clause-run
-returns-clause-run c = run_commutes

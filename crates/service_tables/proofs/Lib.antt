@@ -1,6 +1,0 @@
-pub mod Crashes
-pub mod Restarts
-pub mod Keeping
-pub mod Lives
-pub mod Grouping
-pub mod InRounds

@@ -1,5 +1,0 @@
-use Rattle.service_tables.proofs.Keeping as kept
-use Rattle.service_tables.proofs.laws.alone_is_stepped.Goals as goal
-
-pub returns : goal.returns
-returns c = λ salt a b calls replies. kept.alone_is_stepped salt a b calls replies

@@ -1,5 +1,0 @@
-use Rattle.service_tables.proofs.Lives as lived
-use Rattle.service_tables.proofs.laws.asked_on.Goals as goal
-
-pub returns : goal.returns
-returns g c = λ old mid new calls more replies later first second. lived.asked_on _ old mid new calls more replies later first second

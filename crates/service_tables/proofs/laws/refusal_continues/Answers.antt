@@ -1,5 +1,0 @@
-use Rattle.service_tables.proofs.Lives.{refused}
-use Rattle.service_tables.proofs.laws.refusal_continues.Goals as goal
-
-pub returns : goal.returns
-returns g c = λ before after back fault last refuses left clean may. refused before after back fault refuses last left clean may

@@ -1,5 +1,0 @@
-use Rattle.service_tables.proofs.Lives.{served}
-use Rattle.service_tables.proofs.laws.run_continues.Goals as goal
-
-pub returns : goal.returns
-returns g c = λ before after old new calls replies last goes finds asked left clean may. served before old new calls replies goes finds asked after last left clean may

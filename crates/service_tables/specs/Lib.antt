@@ -1,4 +1,0 @@
-pub mod Crash
-pub mod Restart
-pub mod Life
-pub mod InRounds

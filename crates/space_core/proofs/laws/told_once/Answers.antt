@@ -1,5 +1,0 @@
-use Rattle.entity_core.proofs.Changes.{told_once}
-use Rattle.space_core.proofs.laws.told_once.Goals as goal
-
-pub returns : goal.returns
-returns c = told_once

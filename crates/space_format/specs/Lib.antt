@@ -1,5 +1,0 @@
-pub mod OpenFault
-pub mod Opening
-pub mod Inside
-pub mod FirstMeta
-pub mod Moving

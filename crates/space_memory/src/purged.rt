@@ -1,0 +1,256 @@
+//! What has ended is found in a space in memory, piece by piece, and goes.
+ghost use Rattle.std.specs.Prelude.{◌≡◌, ℕ, ◌<◌, IfOk, IsFalse, List, length};
+ghost use Rattle.std.specs.Map.{values_of};
+ghost use Rattle.entity_maps.specs.declared.availabilities.AvailabilityEntry.{AvailabilityEntry};
+ghost use Rattle.entity_maps.specs.Entities.{entity_map};
+ghost use Rattle.entity_maps.specs.Lists.{airspace_of};
+ghost use Rattle.entity_purge.specs.PurgeItem.{IsPurgeChunk, without_items, without_item};
+ghost use Rattle.entity_purge.specs.Purge.{has_ended, sub_has_ended};
+ghost use Rattle.space_memory.specs.Memory.{content_of, refusals_of};
+ghost use Rattle.space_memory.specs.Purged.{AreFirst, IsChunkIfAny, ended_in, free_in, is_free};
+
+use crate::indexed::IndexedEntities;
+use crate::indexed_subscriptions::IndexedSubscriptions;
+use crate::memory::MemorySpace;
+use entity_core::entity::Entity;
+use entity_core::subscription::Sub;
+use entity_maps::entities::OrderKey;
+use entity_maps::subscriptions::Subscriptions;
+use entity_purge::purge_item::PurgeItem;
+use std::alloc::{AllocError, Global};
+use std::collections::btree_map::Range;
+
+/// A piece ends once what it lets go of has more cells than these together. Each cell is a row to
+/// be deleted, and no client should wait long for it.
+const MOST_CELLS: usize = 1024;
+
+// To delete a subscription takes a look at all that intents name, since tables have no index of it:
+// so many of these take as long as the row of a cell.
+const NAMINGS_A_CELL: usize = 40;
+
+// ---- what has ended
+
+fn has_ended(entity: &Entity, until: u64) -> bool
+    ensures { result ≡ has_ended until entity.now }
+{
+    entity.times().1 <= until
+}
+
+fn sub_has_ended(sub: &Sub, until: u64) -> bool
+    ensures { result ≡ sub_has_ended until sub.now }
+{
+    sub.volume.time().1 <= until
+}
+
+// Whether a subscription has ended, and no intent names it.
+fn is_free(sub: &Sub, entities: &IndexedEntities, until: u64) -> bool
+    ensures { result ≡ is_free until (entity_map entities.now) sub.now }
+{
+    sub_has_ended(sub, until) && !entities.is_named(sub.id)
+}
+
+// How many cells the volumes of an entity have.
+fn cells_of(entity: &Entity) -> usize {
+    let mut cells = 0usize;
+    for volume in entity.volumes.items() {
+        cells = cells.saturating_add(volume.cells().len());
+    }
+    cells
+}
+
+// Whether a piece has as much as it may have.
+fn is_full(gone: &Vec<PurgeItem>, cells: usize, most: usize) -> bool
+    ensures { IsFalse result → length gone.now.items < most }
+{
+    gone.len() >= most || cells > MOST_CELLS
+}
+
+// ---- what a piece has
+
+// Of some entities those that have ended, the first ones.
+fn first_ended(
+    alloc: Global,
+    entities: Range<'_, OrderKey, Entity>,
+    until: u64,
+    most: usize,
+) -> Result<Vec<PurgeItem>, AllocError>
+    requires { 0 < most }
+    ensures { IfOk result (λ gone.
+        AreFirst most gone.items (ended_in until (values_of entities.entry))) }
+{
+    let mut gone = Vec::new(alloc);
+    let mut cells = 0usize;
+    for (_, entity) in entities {
+        if has_ended(entity, until) {
+            gone.push(PurgeItem::Entity(entity.nature.kind(), entity.id))?;
+            cells = cells.saturating_add(cells_of(entity));
+            if is_full(&gone, cells, most) {
+                return Ok(gone);
+            }
+        }
+    }
+    Ok(gone)
+}
+
+// Of some subscriptions those that have ended and that no intent names, the first ones.
+fn first_free(
+    alloc: Global,
+    subscriptions: Range<'_, u128, Sub>,
+    entities: &IndexedEntities,
+    until: u64,
+    most: usize,
+) -> Result<Vec<PurgeItem>, AllocError>
+    requires { 0 < most }
+    ensures { IfOk result (λ gone. AreFirst most gone.items
+        (free_in until (entity_map entities.now) (values_of subscriptions.entry))) }
+{
+    let looked_at = entities.namings() / NAMINGS_A_CELL;
+    let mut gone = Vec::new(alloc);
+    let mut cells = 0usize;
+    for (_, sub) in subscriptions {
+        if is_free(sub, entities, until) {
+            gone.push(PurgeItem::Subscription(sub.id))?;
+            let own = sub.volume.cells().len();
+            cells = cells.saturating_add(own.saturating_add(looked_at));
+            if is_full(&gone, cells, most) {
+                return Ok(gone);
+            }
+        }
+    }
+    Ok(gone)
+}
+
+// What is found from where one went on, entities alone or subscriptions alone.
+fn chunk_from(
+    alloc: Global,
+    entities: &IndexedEntities,
+    subscriptions: &Subscriptions,
+    last: PurgeItem,
+    until: u64,
+    most: usize,
+) -> Result<Vec<PurgeItem>, AllocError>
+    requires { 0 < most }
+    ensures { IfOk result (λ gone. (settings : List AvailabilityEntry) (serial : ℕ)
+        → IsChunkIfAny until most gone.items
+        (airspace_of entities.now subscriptions.now settings serial)) }
+{
+    match last {
+        PurgeItem::Entity(kind, id) => {
+            let next = entities.entities().range_from(kind, id);
+            first_ended(alloc, next, until, most)
+        }
+        PurgeItem::Subscription(id) => {
+            let next = subscriptions.range_from(id);
+            first_free(alloc, next, entities, until, most)
+        }
+    }
+}
+
+// The same of the last one, and nothing where none went.
+fn next_chunk(
+    alloc: Global,
+    entities: &IndexedEntities,
+    subscriptions: &Subscriptions,
+    last: Option<PurgeItem>,
+    until: u64,
+    most: usize,
+) -> Result<Vec<PurgeItem>, AllocError>
+    requires { 0 < most }
+    ensures { IfOk result (λ gone. (settings : List AvailabilityEntry) (serial : ℕ)
+        → IsChunkIfAny until most gone.items
+        (airspace_of entities.now subscriptions.now settings serial)) }
+{
+    match last {
+        Some(last) => chunk_from(alloc, entities, subscriptions, last, until, most),
+        None => Ok(Vec::new(alloc)),
+    }
+}
+
+// It is looked first where the last one went, since each look from the start on passes all that
+// stays. From the start on, entities come before subscriptions: what names one may go, too.
+fn chunk_of(
+    alloc: Global,
+    entities: &IndexedEntities,
+    subscriptions: &Subscriptions,
+    last: Option<PurgeItem>,
+    until: u64,
+    most: usize,
+) -> Result<Vec<PurgeItem>, AllocError>
+    requires { 0 < most }
+    ensures { IfOk result (λ gone. (settings : List AvailabilityEntry) (serial : ℕ)
+        → IsPurgeChunk until most gone.items
+        (airspace_of entities.now subscriptions.now settings serial)) }
+{
+    let next = next_chunk(alloc, entities, subscriptions, last, until, most)?;
+    if !next.is_empty() {
+        return Ok(next);
+    }
+    let gone = first_ended(alloc, entities.entities().entries(), until, most)?;
+    if !gone.is_empty() {
+        return Ok(gone);
+    }
+    first_free(alloc, subscriptions.entries(), entities, until, most)
+}
+
+// ---- what goes
+
+fn let_one_go(
+    entities: &mut IndexedEntities,
+    subscriptions: &mut IndexedSubscriptions,
+    gone: &PurgeItem,
+)
+    ensures { (settings : List AvailabilityEntry) (serial : ℕ)
+        → airspace_of entities.new subscriptions.new settings serial
+        ≡ without_item (airspace_of entities.old subscriptions.old settings serial) gone.now }
+{
+    match *gone {
+        PurgeItem::Entity(kind, id) => entities.remove(kind, id),
+        PurgeItem::Subscription(id) => subscriptions.remove(id),
+    }
+}
+
+fn let_all_go(
+    entities: &mut IndexedEntities,
+    subscriptions: &mut IndexedSubscriptions,
+    gone: &[PurgeItem],
+)
+    ensures { (settings : List AvailabilityEntry) (serial : ℕ)
+        → airspace_of entities.new subscriptions.new settings serial
+        ≡ without_items gone.now (airspace_of entities.old subscriptions.old settings serial) }
+{
+    for one in gone {
+        let_one_go(entities, subscriptions, one);
+    }
+}
+
+impl MemorySpace {
+    /// Some of what a sweep until a moment takes, at most so many; none only where nothing is left
+    /// that goes. A piece has entities alone, or subscriptions alone, which no intent names then. It
+    /// ends early once what it has counts over 1,024 cells together, where a subscription counts
+    /// for one more for each 40 intents that name any. The error is want of memory.
+    pub fn find_ended(&self, until: u64, most: usize) -> Result<Vec<PurgeItem>, AllocError>
+        ensures { IfOk result (λ gone. IsPurgeChunk until most gone.items (content_of self.now)) }
+    {
+        if most == 0 {
+            return Ok(Vec::new(self.alloc));
+        }
+        chunk_of(
+            self.alloc,
+            &self.entities,
+            self.subscriptions.subscriptions(),
+            self.last_gone,
+            until,
+            most,
+        )
+    }
+
+    /// Lets go of these, one after the other; of what is not there nothing goes. It is no change:
+    /// the serial stays, and nobody is told. It takes no memory.
+    pub fn purge(&mut self, gone: &[PurgeItem])
+        ensures content { content_of self.new ≡ without_items gone.now (content_of self.old) }
+        ensures refusals { refusals_of self.new ≡ refusals_of self.old }
+    {
+        self.last_gone = gone.last().copied().or(self.last_gone);
+        let_all_go(&mut self.entities, &mut self.subscriptions, gone);
+    }
+}

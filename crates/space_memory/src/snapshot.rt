@@ -1,0 +1,23 @@
+//! What a space in memory shows.
+ghost use Rattle.std.specs.Prelude.{◌≡◌};
+ghost use Rattle.entity_maps.specs.Lists.{airspace_of};
+ghost use Rattle.space_memory.specs.Memory.{content_of};
+
+use crate::memory::MemorySpace;
+use space_snapshot::snapshot::Snapshot;
+
+impl MemorySpace {
+    /// All that it holds, lent. It takes no memory.
+    pub fn snapshot(&self) -> Snapshot<'_>
+        ensures { airspace_of result.entities.now result.subscriptions.now
+            result.availabilities.now result.serial ≡ content_of self.now }
+    {
+        Snapshot {
+            entities: self.entities.entities(),
+            subscriptions: self.subscriptions.subscriptions(),
+            availabilities: &self.availabilities,
+            serial: self.serial,
+            counts: self.entities.counts(),
+        }
+    }
+}

@@ -1,0 +1,103 @@
+-- What is seen of a space whose changes wait is an airspace that may be kept; calls leave what is
+-- kept while changes wait; and where none does, it is as its store. Proved, so nothing has to be
+-- believed here: a law of an `impl` cites `specs/` alone.
+use Rattle.std.specs.Prelude.{◌≡◌, ◌||◌, Bool, true, false, List, [], ◌∷◌, Option, Some, None, ◌↔◌, refl}
+use Rattle.std.specs.Coded.{Coded, coded_option}
+use Rattle.std.proofs.Common.{sym, ap, subst, ◌∙◌}
+use Rattle.std.proofs.lemmas.Option.{same_Some}
+use Rattle.std.proofs.Math.Logic.{∥∥₁_map}
+use Rattle.entity_core.specs.Airspace.{Airspace, IsAirspace}
+use Rattle.space_core.specs.declared.batch.BatchChange.{BatchChange}
+use Rattle.space_core.specs.declared.space.Space.{Ghosts}
+use Rattle.space_core.specs.Batch.{FitAll, changed_all, changed_once}
+use Rattle.space_core.specs.Space.{IsContent}
+use Rattle.space_memory.proofs.MemorySpaces.{can_follow, proper_changed}
+use Rattle.space_mirror.specs.Mirrored.{MirroredModel, IsSoundIn, fixed_by, fixed_in, holds_in, pending, some_pending, is_pending_in}
+
+pub proper_all : (batch : List BatchChange) (a : Airspace) → FitAll batch a → IsAirspace a
+    → IsAirspace (changed_all batch a)
+proper_all [] a fits proper = proper
+proper_all (c ∷ cs) a fits proper =
+    proper_all cs (changed_once c a) fits.1
+    (proper_changed c.change c.notify.items a (can_follow c.change c.notify.items a fits.0) proper)
+
+-- of what is held by what another space holds
+module _ (Held : Airspace → Type 0) (batch : List BatchChange) where
+  abbrev Seen : Airspace → Type 0
+  Seen b = (a : Airspace) × Held a × (b ≡ changed_all batch a)
+
+  pub one_seen : ((a b : Airspace) → Held a → Held b → a ≡ b) → (a b : Airspace) → Seen a → Seen b
+      → a ≡ b
+  one_seen one a b h k = h.2 ∙ ap (changed_all batch) (one h.0 k.0 h.1 k.1) ∙ sym k.2
+
+  pub some_seen : ∥ ((a : Airspace) × Held a) ∥₁ → ∥ ((b : Airspace) × Seen b) ∥₁
+  some_seen there = ∥∥₁_map there (λ it. (changed_all batch it.0, (it.0, it.1, refl)))
+
+  pub proper_seen : (b : Airspace) → ((a : Airspace) → Held a → FitAll batch a)
+      → ((a : Airspace) → Held a → IsAirspace a) → Seen b → IsAirspace b
+  proper_seen b fits proper h =
+      subst IsAirspace (sym h.2) (proper_all batch h.0 (fits h.0 h.1) (proper h.0 h.1))
+
+-- ---- while changes wait, calls leave the store
+
+same_store_by : {S : Type 0} (x y : S) (p q : Option (List BatchChange))
+    → fixed_by y q ≡ fixed_by x p → (some_pending (pending p) || some_pending (pending q)) ≡ true
+    → y ≡ x
+same_store_by x y None None same waits = absurd (let e = waits in cc)
+same_store_by x y None (Some q) same waits = absurd (let e = same in cc)
+same_store_by x y (Some p) None same waits = absurd (let e = same in cc)
+same_store_by x y (Some p) (Some q) same waits = same_Some y x same
+
+pub same_store : {S : Type 0} (c : Coded S) (s t : MirroredModel S) → fixed_in c t ≡ fixed_in c s
+    → (is_pending_in s || is_pending_in t) ≡ true → t.store ≡ s.store
+same_store c s t same waits =
+    same_store_by s.store t.store s.ahead t.ahead
+    ((coded_option c).inj (fixed_by t.store t.ahead) (fixed_by s.store s.ahead) same) waits
+
+none_wait : (ahead : Option (List BatchChange)) → some_pending (pending ahead) ≡ false
+    → pending ahead ≡ []
+none_wait None calm = refl
+none_wait (Some []) calm = refl
+none_wait (Some (c ∷ cs)) calm = absurd (let e = calm in cc)
+
+module _ {S : Type 0} (Held : S → Airspace → Type 0) where
+  pub kept_while_waiting : (c : Coded S) (s t : MirroredModel S) (a : Airspace)
+      → fixed_in c t ≡ fixed_in c s → (is_pending_in s || is_pending_in t) ≡ true
+      → Held s.store a ↔ Held t.store a
+  kept_while_waiting c s t a same waits =
+      let store = same_store c s t same waits in
+      ((λ held. subst (λ x. Held x a) (sym store) held), (λ held. subst (λ x. Held x a) store held))
+
+  -- where no change waits, what is seen is what is kept
+  pub seen_is_kept : (k : MirroredModel S) (a : Airspace) → is_pending_in k ≡ false
+      → Seen (Held k.store) (pending k.ahead) a ↔ Held k.store a
+  seen_is_kept k a calm =
+      let none = none_wait k.ahead calm in (
+        (λ seen. subst (λ b. Held k.store b)
+            (sym (seen.2 ∙ ap (λ cs. changed_all cs seen.0) none)) seen.1),
+        (λ held. (a, held, ap (λ cs. changed_all cs a) (sym none))),
+      )
+
+pub works_while_waiting : {S : Type 0} (is_broken : S → Bool) (c : Coded S) (s t : MirroredModel S)
+    → fixed_in c t ≡ fixed_in c s → (is_pending_in s || is_pending_in t) ≡ true
+    → is_broken t.store ≡ is_broken s.store
+works_while_waiting is_broken c s t same waits = ap is_broken (same_store c s t same waits)
+
+-- ---- where no change waits
+
+module _ {S : Type 0} (g : Ghosts S) where
+  -- it is sound as its store
+  pub sound_as_its_store : (k : MirroredModel S) → is_pending_in k ≡ false → g.is_sound k.store → IsSoundIn g k
+  sound_as_its_store k calm sound = record {
+    store = sound;
+    fits = λ a held. subst (λ cs. FitAll cs a) (sym (none_wait k.ahead calm)) tt;
+    live = λ waits. absurd (let e : true ≡ false = sym waits ∙ calm in cc);
+  }
+
+  -- it holds what its store holds, and no other
+  pub content_of_its_store : (k : MirroredModel S) (a : Airspace) → is_pending_in k ≡ false
+      → IsContent g.holds k.store a → IsContent (holds_in g) k a
+  content_of_its_store k a calm content = record {
+    held = (seen_is_kept g.holds k a calm).1 content.held;
+    only = λ b seen. content.only b ((seen_is_kept g.holds k b calm).0 seen);
+  }

@@ -1,0 +1,4 @@
+pub mod Mirrored
+pub mod Laws
+pub mod Lists
+pub mod Purges

@@ -1,0 +1,42 @@
+-- How a group lets go of what has ended.
+use Rattle.std.specs.Prelude.{◌≡◌, true, List, Option, Some, None, Result, Ok, Err, IsErrOf}
+use Rattle.entity_purge.specs.PurgeItem.{without_items}
+use Rattle.entity_purge.specs.declared.purge_item.PurgeItem.{PurgeItem}
+use Rattle.space_core.specs.declared.space.Space.{Ghosts}
+use Rattle.space_core.specs.declared.space.SpaceFault.{SpaceFault}
+use Rattle.space_core.specs.declared.space.SpaceFault.TheVariants.{Unchanged, Broken}
+use Rattle.space_core.specs.Space.{Changes, Reads, ReportsFault, is_broken_after}
+use Rattle.space_memory.specs.declared.memory.MemorySpace.{MemorySpace}
+use Rattle.space_memory.specs.Memory.{content_of}
+use Rattle.space_mirror.specs.Mirrored.{MirroredModel, IsSoundIn, holds_in, is_whole_in, is_pending_in}
+
+-- what a call that lets go tells and leaves
+pub record MirrorPurgeEffect {S T : Type 0} (g : Ghosts S) (old new : MirroredModel S) (result : Result T SpaceFault)
+    (gone : List PurgeItem) : Type 0 where
+  pub tells : ReportsFault old.refusals new.refusals (g.is_broken old.store) (g.is_broken new.store)
+      result
+  pub changes : Changes (holds_in g) (IsSoundIn g) (is_whole_in g) (g.is_broken old.store)
+      old new result (without_items gone)
+  pub waits : is_pending_in new ≡ is_pending_in old
+
+-- A list, where there is one, has let go.
+abbrev pub HasPurged : List PurgeItem → (mirror mirror' : Option MemorySpace) → Type 0
+HasPurged gone None mirror' = mirror' ≡ None
+HasPurged gone (Some l) mirror' =
+    (m : MemorySpace) × (mirror' ≡ Some m) × (content_of m ≡ without_items gone (content_of l))
+
+-- What becomes of a list once its store has answered: it lets go after `Ok`, stays after
+-- `Unchanged`, and goes after `Broken`.
+abbrev pub MirrorFollows : {T : Type 0} → List PurgeItem → Result T SpaceFault
+    → (mirror mirror' : Option MemorySpace) → Type 0
+MirrorFollows gone (Ok x) mirror mirror' = HasPurged gone mirror mirror'
+MirrorFollows gone (Err Unchanged) mirror mirror' = mirror' ≡ mirror
+MirrorFollows gone (Err Broken) mirror mirror' = mirror' ≡ None
+
+-- What is left of a store that was only asked whether it is broken: the answer is that it is, or
+-- that nothing can be told.
+pub record CannotSay {S T : Type 0} (g : Ghosts S) (old new : S) (result : Result T SpaceFault)
+    : Type 0 where
+  pub breaks : g.is_broken new ≡ is_broken_after (g.is_broken old) result
+  pub stays_broken : g.is_broken old ≡ true → IsErrOf result Broken
+  pub reads : Reads g.holds g.is_sound g.is_whole old new result (λ _ _. ⊥)

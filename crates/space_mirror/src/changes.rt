@@ -1,0 +1,261 @@
+//! A change is seen at once, and waits; and those that wait are made together.
+ghost use Rattle.std.specs.Prelude.{◌≡◌, ◌<◌, ◌||◌, [], ◌∷◌, ◌++◌, None, IsSome, IfErr, OnErr};
+ghost use Rattle.std.specs.Prelude.{IfOk, OnOk, is_err, vec_capacity, vec_len};
+ghost use Rattle.entity_core.specs.Airspace.{Airspace};
+ghost use Rattle.space_core.specs.declared.batch.BatchChange.{BatchChange};
+ghost use Rattle.space_core.specs.declared.space.SpaceFault.TheVariants.{Unchanged};
+ghost use Rattle.space_core.specs.Space.{Fits, changed};
+ghost use Rattle.space_memory.specs.Memory.{content_of};
+ghost use Rattle.space_mirror.specs.Mirrored.{MirrorAgrees, Changing, HoldsOne, IsSoundIn, BatchCommit};
+ghost use Rattle.space_mirror.specs.Mirrored.{pending_if_mirrored, mirrored_model, holds_in, is_full, is_dropped};
+ghost use Rattle.space_mirror.specs.Lists.{Making, MirrorStays};
+ghost use Rattle.space_mirror.specs.declared.mirror_state.MirrorState.TheVariants.{Steady};
+
+use crate::mirror_state::MirrorState;
+use crate::reads::count_refusal;
+use entity_core::entity_id::EntityId;
+use space_core::batch::{ApplyBatch, BatchChange};
+use space_core::space::{Change, Space, SpaceFault};
+use space_memory::memory::MemorySpace;
+use space_memory::to_memory::ToMemory;
+use std::alloc::{AllocError, Global};
+
+// A copy of a change, for which the round has room.
+fn copied_change(
+    alloc: Global,
+    batch: &mut Vec<BatchChange>,
+    change: &Change,
+    notify: &[EntityId],
+) -> Result<BatchChange, AllocError>
+    ensures batch { batch.new.items ≡ batch.old.items }
+    ensures room { OnOk result (vec_len batch.new < vec_capacity batch.new) }
+    ensures change { IfOk result (λ copy. copy.change ≡ change.now) }
+    ensures notify { IfOk result (λ copy. copy.notify.items ≡ notify.now) }
+{
+    batch.reserve(1)?;
+    Ok(BatchChange {
+        change: change.clone(alloc)?,
+        notify: Vec::from_slice(alloc, notify)?,
+    })
+}
+
+// The list makes a change that is to wait in the round; or neither is as for want of memory.
+fn enqueue(
+    alloc: Global,
+    mirror: &mut MemorySpace,
+    batch: &mut Vec<BatchChange>,
+    change: Change,
+    notify: &[EntityId],
+) -> Result<(), SpaceFault>
+    ensures fault { IfErr result (λ fault. fault ≡ Unchanged) }
+    ensures mirror { OnOk result
+        (content_of mirror.new ≡ changed change notify.now (content_of mirror.old)) }
+    ensures batch { OnOk result ((waits : BatchChange) × (waits.change ≡ change)
+        × (waits.notify.items ≡ notify.now) × (batch.new.items ≡ batch.old.items ++ waits ∷ [])) }
+    ensures list_left { OnErr result (content_of mirror.new ≡ content_of mirror.old) }
+    ensures batch_left { OnErr result (batch.new.items ≡ batch.old.items) }
+{
+    let Ok(waits) = copied_change(alloc, batch, &change, notify) else {
+        return Err(SpaceFault::Unchanged);
+    };
+    match mirror.replicate(change, notify) {
+        Ok(()) => {
+            batch.push_reserved(waits);
+            Ok(())
+        }
+        Err(_) => Err(SpaceFault::Unchanged),
+    }
+}
+
+// A list that had no memory for a change is full.
+fn note_full(state: &mut MirrorState, answer: &Result<(), SpaceFault>)
+    ensures { is_full state.new ≡ is_full state.old || is_err answer.now }
+{
+    if answer.is_err() {
+        *state = MirrorState::Full;
+    }
+}
+
+// A list that was lost is due once the store has made a change.
+fn note_made(state: &mut MirrorState, answer: &Result<(), SpaceFault>)
+    ensures { is_dropped state.new ≡ is_dropped state.old }
+{
+    if matches!(*state, MirrorState::Dropped) && answer.is_ok() {
+        *state = MirrorState::RebuildDue;
+    }
+}
+
+/// The change is seen, and waits where there is a list; else the store makes it. A list that has no
+/// memory for it is noted as full, and one that was lost as due where the store has made it.
+pub(crate) fn apply<S: Space>(
+    alloc: Global,
+    store: &mut S,
+    mirror: &mut Option<MemorySpace>,
+    state: &mut MirrorState,
+    batch: &mut Vec<BatchChange>,
+    refusals: &mut u64,
+    change: Change,
+    notify: &[EntityId],
+) -> Result<(), SpaceFault>
+    requires agrees { MirrorAgrees S.Space store.old mirror.old state.old batch.old.items }
+    requires fits { let old = mirrored_model store.old (pending_if_mirrored mirror.old batch.old.items) refusals.old in
+        IsSoundIn S.Space old → (a : Airspace) → holds_in S.Space old a
+        → Fits change notify.now a }
+    ensures agrees { MirrorAgrees S.Space store.new mirror.new state.new batch.new.items }
+    ensures changes { Changing S.Space
+        (mirrored_model store.old (pending_if_mirrored mirror.old batch.old.items) refusals.old)
+        (mirrored_model store.new (pending_if_mirrored mirror.new batch.new.items) refusals.new) result
+        (changed change notify.now) }
+{
+    match mirror {
+        Some(mirror) => {
+            let answer = enqueue(alloc, mirror, batch, change, notify);
+            note_full(state, &answer);
+            count_refusal(refusals, answer)
+        }
+        None => {
+            let answer = store.apply(change, notify);
+            note_made(state, &answer);
+            count_refusal(refusals, answer)
+        }
+    }
+}
+
+// A list is kept after `Ok` where it is not full. One that is ahead of a store that refused is
+// lost.
+fn keep_or_drop_mirror(
+    mirror: &mut Option<MemorySpace>,
+    state: &mut MirrorState,
+    answer: &Result<(), SpaceFault>,
+)
+    ensures { MirrorStays (is_full state.old) answer.now mirror.old mirror.new (is_dropped state.new) }
+{
+    *state = match (*state, answer) {
+        (MirrorState::Full, _) => MirrorState::Steady,
+        (_, Ok(())) => return,
+        (_, Err(SpaceFault::Unchanged)) => MirrorState::Dropped,
+        (_, Err(SpaceFault::Broken)) => MirrorState::Steady,
+    };
+    *mirror = None;
+}
+
+// The store makes all changes of the round, or none. The list stays where it is what the store
+// holds then.
+fn commit_batch<S: ApplyBatch>(
+    store: &mut S,
+    mirror: &mut Option<MemorySpace>,
+    state: &mut MirrorState,
+    batch: &[BatchChange],
+) -> Result<(), SpaceFault>
+    requires agrees { MirrorAgrees S.Space store.old mirror.old state.old batch.now }
+    requires there { IsSome mirror.old }
+    ensures making { Making S.Space store.old store.new batch.now result }
+    ensures agrees { MirrorAgrees S.Space store.new mirror.new state.new [] }
+{
+    let answer = store.apply_batch(batch);
+    keep_or_drop_mirror(mirror, state, &answer);
+    answer
+}
+
+// Whether the store is broken, where there is no list.
+fn check_store<S: Space>(
+    store: &mut S,
+    mirror: &Option<MemorySpace>,
+    state: MirrorState,
+) -> Result<(), SpaceFault>
+    requires agrees { MirrorAgrees S.Space store.old mirror.now state [] }
+    requires none { mirror.now ≡ None }
+    ensures making { Making S.Space store.old store.new [] result }
+    ensures agrees { MirrorAgrees S.Space store.new mirror.now state [] }
+{
+    match store.serial() {
+        Err(SpaceFault::Broken) => Err(SpaceFault::Broken),
+        _ => Ok(()),
+    }
+}
+
+// What the store holds, in a list that is made anew where there is memory for it. It says no more
+// than whether the store is broken.
+fn rebuild_mirror<S: ToMemory>(
+    alloc: Global,
+    store: &mut S,
+    mirror: &mut Option<MemorySpace>,
+) -> Result<(), SpaceFault>
+    requires none { mirror.old ≡ None }
+    requires one { HoldsOne S.Space store.old }
+    ensures making { Making S.Space store.old store.new [] result }
+    ensures agrees { MirrorAgrees S.Space store.new mirror.new Steady [] }
+{
+    match store.to_memory(alloc) {
+        Ok(copy) => {
+            *mirror = Some(copy);
+            Ok(())
+        }
+        Err(SpaceFault::Unchanged) => Ok(()),
+        Err(SpaceFault::Broken) => Err(SpaceFault::Broken),
+    }
+}
+
+// Where there is no list no change waits. A list that is due is made anew.
+fn rebuild_if_due<S: ToMemory>(
+    alloc: Global,
+    store: &mut S,
+    mirror: &mut Option<MemorySpace>,
+    state: &mut MirrorState,
+) -> Result<(), SpaceFault>
+    requires agrees { MirrorAgrees S.Space store.old mirror.old state.old [] }
+    requires none { mirror.old ≡ None }
+    ensures making { Making S.Space store.old store.new [] result }
+    ensures agrees { MirrorAgrees S.Space store.new mirror.new state.new [] }
+{
+    match *state {
+        MirrorState::RebuildDue => {
+            *state = MirrorState::Steady;
+            rebuild_mirror(alloc, store, mirror)
+        }
+        _ => check_store(store, mirror, *state),
+    }
+}
+
+// The changes that wait are made where there is a list, and what is lost is made anew where it is
+// due.
+fn commit_or_rebuild<S: ApplyBatch + ToMemory>(
+    alloc: Global,
+    store: &mut S,
+    mirror: &mut Option<MemorySpace>,
+    state: &mut MirrorState,
+    batch: &[BatchChange],
+) -> Result<(), SpaceFault>
+    requires agrees { MirrorAgrees S.Space store.old mirror.old state.old batch.now }
+    ensures making { Making S.Space store.old store.new batch.now result }
+    ensures agrees { MirrorAgrees S.Space store.new mirror.new state.new [] }
+{
+    if mirror.is_some() {
+        commit_batch(store, mirror, state, batch)
+    } else {
+        rebuild_if_due(alloc, store, mirror, state)
+    }
+}
+
+/// The store makes all changes that wait, or none of them, and none waits any more. A list that is
+/// full is given up, and one that is ahead of a store that refused is dropped. That one is made
+/// anew by the first `commit` after the store has made a change, so that it costs nothing while the
+/// store refuses all; where memory lacks for it, it is given up too.
+pub(crate) fn commit<S: ApplyBatch + ToMemory>(
+    alloc: Global,
+    store: &mut S,
+    mirror: &mut Option<MemorySpace>,
+    state: &mut MirrorState,
+    batch: &mut Vec<BatchChange>,
+    refusals: &mut u64,
+) -> Result<(), SpaceFault>
+    requires agrees { MirrorAgrees S.Space store.old mirror.old state.old batch.old.items }
+    ensures agrees { MirrorAgrees S.Space store.new mirror.new state.new batch.new.items }
+    ensures keeps { BatchCommit S.Space
+        (mirrored_model store.old (pending_if_mirrored mirror.old batch.old.items) refusals.old)
+        (mirrored_model store.new (pending_if_mirrored mirror.new batch.new.items) refusals.new) result }
+{
+    let answer = commit_or_rebuild(alloc, store, mirror, state, batch.as_slice());
+    batch.clear();
+    count_refusal(refusals, answer)
+}

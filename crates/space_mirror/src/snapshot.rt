@@ -1,0 +1,39 @@
+//! What a space with a copy in memory shows.
+ghost use Rattle.std.specs.Prelude.{◌≡◌, IfOk};
+ghost use Rattle.entity_core.specs.Airspace.{Airspace};
+ghost use Rattle.entity_maps.specs.Lists.{airspace_of};
+ghost use Rattle.space_mirror.specs.Mirrored.{MirrorAgrees, pending_if_mirrored, mirrored_model, holds_in};
+
+use crate::mirror_state::MirrorState;
+use space_core::batch::BatchChange;
+use space_core::space::Space;
+use space_memory::memory::MemorySpace;
+use space_snapshot::snapshot::{NoMirror, Snapshot};
+
+// Why there is no list.
+fn why_none(state: MirrorState) -> NoMirror {
+    match state {
+        MirrorState::Steady | MirrorState::Full => NoMirror::None,
+        MirrorState::Dropped | MirrorState::RebuildDue => NoMirror::Dropped,
+    }
+}
+
+/// The list, where there is one.
+#[tactic(auto, using(crate::proofs::Groups::list_shows))]
+pub(crate) fn shown<'a, S: Space>(
+    store: &S,
+    mirror: &'a Option<MemorySpace>,
+    state: MirrorState,
+    batch: &[BatchChange],
+) -> Result<Snapshot<'a>, NoMirror>
+    requires { MirrorAgrees S.Space store.now mirror.now state batch.now }
+    ensures { S.is_sound store.now → IfOk result (λ shown. (a : Airspace)
+        → holds_in S.Space (mirrored_model store.now (pending_if_mirrored mirror.now batch.now) 0) a
+        → a ≡ airspace_of shown.entities.now shown.subscriptions.now shown.availabilities.now
+        shown.serial) }
+{
+    match mirror {
+        Some(mirror) => Ok(mirror.snapshot()),
+        None => Err(why_none(state)),
+    }
+}

@@ -1,0 +1,80 @@
+-- A space that keeps no more of a supplier than it may.
+use Rattle.std.specs.Prelude.{◌≡◌, ℕ, ◌+◌, ◌*◌, ◌≤◌, Bool, true, false, List, Option, Some, None, Result, min, ◌⊎◌, refl}
+use Rattle.std.specs.Coded.{Coded, code_by, coded×, coded_ℕ, coded_bool}
+use Rattle.entity_purge.specs.PurgeItem.{without_items}
+use Rattle.entity_purge.specs.declared.purge_item.PurgeItem.{PurgeItem}
+use Rattle.space_core.specs.declared.space.Change.{Change}
+use Rattle.space_core.specs.declared.space.Change.TheVariants.{Put, Remove, Avail, PutSub, RemoveSub}
+use Rattle.space_core.specs.declared.space.Space.{Ghosts}
+use Rattle.space_core.specs.declared.space.SpaceFault.{SpaceFault}
+use Rattle.space_core.specs.Space.{Changes, ReportsFault, changed, max_count}
+use Rattle.space_quota.specs.declared.usage.Usage.{Usage}
+
+-- ---- how much is kept
+
+-- so many cells go with so many entities and subscriptions
+abbrev pub max_cells : ℕ → ℕ
+max_cells most = most * 64
+
+-- a count is at most its bound, or no more than before
+abbrev pub IsWithinQuota : ℕ → ℕ → ℕ → Type 0
+IsWithinQuota most before after = (after ≤ most) ⊎ (after ≤ before)
+
+-- neither count is over its bound and over what it was
+pub record IsWithin (most : ℕ) (before after : Usage) : Type 0 where
+  pub things : IsWithinQuota most before.things after.things
+  pub cells : IsWithinQuota (max_cells most) before.cells after.cells
+
+-- ---- the space
+
+-- what contracts see of it
+pub record QuotaModel (S : Type 0) : Type 0 where
+  pub space : S
+  -- how many changes it refused that the space inside was not asked for
+  pub over : ℕ
+  pub is_bounded : Bool
+
+abbrev pub quota_model : {S : Type 0} → S → ℕ → Bool → QuotaModel S
+quota_model space over is_bounded = record { space = space; over = over; is_bounded = is_bounded }
+
+abbrev pub bound_code : {S : Type 0} → Coded S → Coded (QuotaModel S)
+bound_code {S} space =
+    code_by (S × (ℕ × Bool))
+    (coded× space (coded× coded_ℕ coded_bool))
+    (λ k. (k.space, (k.over, k.is_bounded)))
+    (λ p. record { space = p.0; over = p.1.0; is_bounded = p.1.1 }) (λ _. refl)
+
+abbrev pub is_some : {X : Type 0} → Option X → Bool
+is_some (Some x) = true
+is_some None = false
+
+-- the refusals of the space inside and its own
+abbrev pub refusals_in : {S : Type 0} → Ghosts S → QuotaModel S → ℕ
+refusals_in g s = min (g.refusals s.space + s.over) max_count
+
+-- a change that puts something
+abbrev pub IsPut : Change → Type 0
+IsPut (Put e) = Unit {0}
+IsPut (Remove kind id) = ⊥
+IsPut (Avail uss availability version) = ⊥
+IsPut (PutSub s) = Unit {0}
+IsPut (RemoveSub id) = ⊥
+
+-- what a call that changes tells and leaves: it refuses puts alone by itself, where it is bounded
+pub record Applying {S T : Type 0} (g : Ghosts S) (old new : QuotaModel S) (change : Change)
+    (told : List ℕ) (result : Result T SpaceFault) : Type 0 where
+  pub fixed : g.fixed new.space ≡ g.fixed old.space
+  pub tells : ReportsFault (refusals_in g old) (refusals_in g new)
+      (g.is_broken old.space) (g.is_broken new.space) result
+  pub changes : Changes (λ s a. g.holds s.space a) (λ s. g.is_sound s.space)
+      (λ s. g.is_whole s.space) (g.is_broken old.space) old new result (changed change told)
+  pub unbounded : old.is_bounded ≡ false → new.over ≡ old.over
+  pub puts : ¬ IsPut change → new.over ≡ old.over
+
+-- what a call that lets go tells and leaves
+pub record QuotaPurgeEffect {S T : Type 0} (g : Ghosts S) (old new : QuotaModel S) (gone : List PurgeItem)
+    (result : Result T SpaceFault) : Type 0 where
+  pub tells : ReportsFault (refusals_in g old) (refusals_in g new)
+      (g.is_broken old.space) (g.is_broken new.space) result
+  pub changes : Changes (λ s a. g.holds s.space a) (λ s. g.is_sound s.space)
+      (λ s. g.is_whole s.space) (g.is_broken old.space) old new result (without_items gone)

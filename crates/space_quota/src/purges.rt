@@ -1,0 +1,84 @@
+//! What is let go of is no longer counted.
+ghost use Rattle.std.specs.Prelude.{◌≡◌, List, true};
+ghost use Rattle.entity_core.specs.Airspace.{Airspace};
+ghost use Rattle.entity_purge.specs.PurgeItem.{CanPurgeAll};
+ghost use Rattle.entity_purge.specs.declared.purge_item.PurgeItem.{PurgeItem};
+ghost use Rattle.space_quota.specs.QuotaSpace.{QuotaModel, QuotaPurgeEffect, quota_model, is_some};
+
+use crate::usage_table::UsageTable;
+use crate::uss_usage::usage_purged;
+use entity_purge::purge_item::PurgeItem;
+use space_core::space::SpaceFault;
+use space_purge::purge_ended::PurgeEnded;
+use space_snapshot::snapshot::{Snapshot, SnapshotSource};
+
+// Why nothing goes of a space that does not show what it holds: it is broken, or it cannot be told
+// of whom less would be kept.
+fn unseen<S: PurgeEnded>(space: &mut S, over: &mut u64) -> Result<(), SpaceFault>
+    ensures going { (gone : List PurgeItem) → QuotaPurgeEffect S.Space (quota_model space.old over.old true)
+        (quota_model space.new over.new true) gone result }
+    ensures waits { S.GroupCommit.is_pending space.new ≡ S.GroupCommit.is_pending space.old }
+{
+    match space.find_ended(0, 0) {
+        Ok(_) => {
+            *over = over.saturating_add(1);
+            Err(SpaceFault::Unchanged)
+        }
+        Err(fault) => Err(fault),
+    }
+}
+
+fn take_all(tally: &mut UsageTable, shown: &Snapshot<'_>, gone: &[PurgeItem]) {
+    for thing in gone {
+        if let Some((manager, size)) = usage_purged(shown, *thing) {
+            tally.subtract(manager, size);
+        }
+    }
+}
+
+fn let_go_counted<S: PurgeEnded + SnapshotSource>(
+    space: &mut S,
+    tally: &mut UsageTable,
+    over: &mut u64,
+    gone: &[PurgeItem],
+) -> Result<(), SpaceFault>
+    requires can { S.Space.is_sound space.old → (a : Airspace) → S.Space.holds space.old a
+        → CanPurgeAll gone.now a }
+    ensures going { QuotaPurgeEffect S.Space (quota_model space.old over.old true)
+        (quota_model space.new over.new true) gone.now result }
+    ensures waits { S.GroupCommit.is_pending space.new ≡ S.GroupCommit.is_pending space.old }
+{
+    if space.has_pending() {
+        return space.purge(gone);
+    }
+    let Ok(shown) = space.snapshot() else {
+        return unseen(space, over);
+    };
+    take_all(tally, &shown, gone);
+    let answer = space.purge(gone);
+    match answer {
+        Ok(()) => tally.commit(),
+        Err(_) => tally.rollback(),
+    }
+    answer
+}
+
+/// The space lets go of these, and less is kept of their suppliers; where changes wait it refuses.
+/// With a tally, nothing goes of a space that does not show what it holds.
+pub(crate) fn let_go<S: PurgeEnded + SnapshotSource>(
+    space: &mut S,
+    tally: &mut Option<UsageTable>,
+    over: &mut u64,
+    gone: &[PurgeItem],
+) -> Result<(), SpaceFault>
+    requires can { S.Space.is_sound space.old → (a : Airspace) → S.Space.holds space.old a
+        → CanPurgeAll gone.now a }
+    ensures going { QuotaPurgeEffect S.Space (quota_model space.old over.old (is_some tally.old))
+        (quota_model space.new over.new (is_some tally.new)) gone.now result }
+    ensures waits { S.GroupCommit.is_pending space.new ≡ S.GroupCommit.is_pending space.old }
+{
+    match tally {
+        Some(tally) => let_go_counted(space, tally, over, gone),
+        None => space.purge(gone),
+    }
+}

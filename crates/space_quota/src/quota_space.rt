@@ -1,0 +1,210 @@
+//! A space that keeps no more of a supplier than it may.
+ghost use Rattle.std.specs.Prelude.{◌≡◌, IfOk, false};
+ghost use Rattle.std.specs.FinMap.{get};
+ghost use Rattle.entity_core.specs.Airspace.{Airspace};
+ghost use Rattle.entity_core.specs.Search.{all_in, dependents_in, subscribers_in, subscriptions_in};
+ghost use Rattle.space_core.specs.Met.{met_in};
+ghost use Rattle.space_core.specs.GroupCommit.{CommitEffect};
+ghost use Rattle.space_core.specs.Space.{Changes, Fits, Reads, ReportsFault, changed};
+ghost use Rattle.space_quota.specs.QuotaSpace.{IsPut, quota_model, is_some, refusals_in};
+
+use crate::usage_table::UsageTable;
+use crate::{changes, purges};
+use entity_core::availability::Availability;
+use entity_core::entity::Entity;
+use entity_core::entity_id::EntityId;
+use entity_core::nature::Kind;
+use entity_core::ovn::Ovn;
+use entity_core::subscription::Sub;
+use entity_core::uss_id::UssId;
+use entity_purge::purge_item::PurgeItem;
+use grid_core::volume::Area;
+use space_core::group_commit::GroupCommit;
+use space_core::met::Met;
+use space_core::space::{Change, Space, SpaceFault};
+use space_purge::purge_ended::PurgeEnded;
+use space_snapshot::snapshot::{NoMirror, Snapshot, SnapshotSource};
+use std::marker::Model;
+
+/// A space inside, and a tally of what it keeps of each supplier.
+///
+/// What it holds and keeps is what the space inside does. With a tally it refuses, as `Unchanged`,
+/// to put what makes more be kept of its supplier than may be, and more than before. So an update
+/// that keeps no more than before passes, and so does each removal. Without a tally it refuses
+/// nothing by itself.
+#[derive(Drop)]
+pub struct QuotaSpace<S: GroupCommit> {
+    space: S,
+    tally: Option<UsageTable>,
+    // How many changes it refused that the space inside was not asked for.
+    over: u64,
+}
+
+impl<S: GroupCommit> Model for QuotaSpace<S> {
+    ghost use Rattle.space_quota.specs.QuotaSpace.{QuotaModel, bound_code, is_some};
+
+    ghost Value = { QuotaModel S };
+
+    ghost coded = { bound_code S.code };
+
+    ghost view = { λ s. record { space = s.space; over = s.over; is_bounded = is_some s.tally } };
+}
+
+impl<S: GroupCommit + Drop> QuotaSpace<S> {
+    /// A space with a tally of what it keeps, or with none. It has refused nothing by itself.
+    pub fn new(space: S, tally: Option<UsageTable>) -> Self
+        ensures { result ≡ quota_model space 0 (is_some tally) }
+    {
+        QuotaSpace {
+            space,
+            tally,
+            over: 0,
+        }
+    }
+
+    /// The space inside.
+    pub fn into_inner(self) -> S
+        ensures { result ≡ self.space }
+    {
+        let QuotaSpace {
+            space,
+            tally: _,
+            over: _,
+        } = self;
+        space
+    }
+}
+
+impl<S: GroupCommit + Drop> GroupCommit for QuotaSpace<S> {
+    ghost persists = { λ s a. S.persists s.space a };
+
+    ghost is_pending = { λ s. S.is_pending s.space };
+
+    ghost persists_held = { λ s a calm. S.persists_held s.space a calm };
+
+    ghost persists_while_pending = { λ s t a same waits. S.persists_while_pending s.space t.space a same waits };
+
+    ghost unbroken_while_pending = { λ s t same waits. S.unbroken_while_pending s.space t.space same waits };
+
+    ghost pending_is_unbroken = { λ s sound waits. S.pending_is_unbroken s.space sound waits };
+
+    fn has_pending(&self) -> bool {
+        self.space.has_pending()
+    }
+
+    fn commit(&mut self) -> Result<(), SpaceFault> {
+        let answer = self.space.commit();
+        if let Some(tally) = &mut self.tally {
+            match answer {
+                Ok(()) => tally.commit(),
+                Err(_) => tally.rollback(),
+            }
+        }
+        answer
+    }
+}
+
+impl<S: GroupCommit + Drop> Space for QuotaSpace<S> {
+    ghost holds = { λ s a. S.holds s.space a };
+
+    ghost is_sound = { λ s. S.is_sound s.space };
+
+    ghost is_whole = { λ s. S.is_whole s.space };
+
+    ghost refusals = { λ s. refusals_in S.Space s };
+
+    ghost is_broken = { λ s. S.is_broken s.space };
+
+    ghost fixed = { λ s. S.fixed s.space };
+
+    ghost content_unique = { λ s a b sound unbroken h k. S.content_unique s.space a b sound unbroken h k };
+
+    ghost content_whole = { λ s a sound unbroken h. S.content_whole s.space a sound unbroken h };
+
+    ghost content_exists = { λ s sound whole. S.content_exists s.space sound whole };
+
+    ghost content_valid = { λ s a sound h. S.content_valid s.space a sound h };
+
+    fn entity(&mut self, kind: Kind, id: EntityId) -> Result<Option<Entity>, SpaceFault> {
+        self.space.entity(kind, id)
+    }
+
+    fn meeting(
+        &mut self,
+        kind: Kind,
+        areas: &[Area],
+        except: Option<EntityId>,
+    ) -> Result<Vec<Met>, SpaceFault> {
+        self.space.meeting(kind, areas, except)
+    }
+
+    fn all(&mut self, kind: Kind) -> Result<Vec<Entity>, SpaceFault> {
+        self.space.all(kind)
+    }
+
+    fn availability(&mut self, uss: &UssId) -> Result<Option<(Availability, Ovn)>, SpaceFault> {
+        self.space.availability(uss)
+    }
+
+    fn subscription(&mut self, id: EntityId) -> Result<Option<Sub>, SpaceFault> {
+        self.space.subscription(id)
+    }
+
+    fn subscriptions_of(&mut self, uss: &UssId, area: &Area) -> Result<Vec<Sub>, SpaceFault> {
+        self.space.subscriptions_of(uss, area)
+    }
+
+    fn subscribers(&mut self, kind: Kind, areas: &[Area]) -> Result<Vec<Sub>, SpaceFault> {
+        self.space.subscribers(kind, areas)
+    }
+
+    fn dependents(&mut self, id: EntityId) -> Result<Vec<EntityId>, SpaceFault> {
+        self.space.dependents(id)
+    }
+
+    fn serial(&mut self) -> Result<u64, SpaceFault> {
+        self.space.serial()
+    }
+
+    /// As the space inside, but where there is a tally, a change that puts something may be refused
+    /// without being asked of it.
+    fn apply(&mut self, change: Change, notify: &[EntityId]) -> Result<(), SpaceFault>
+        requires fits { S.is_sound self.old.space → (a : Airspace) → S.holds self.old.space a
+            → Fits change notify.now a }
+        ensures fixed { S.fixed self.new.space ≡ S.fixed self.old.space }
+        ensures tells { ReportsFault (refusals_in S.Space self.old) (refusals_in S.Space self.new)
+            (S.is_broken self.old.space) (S.is_broken self.new.space) result }
+        ensures changes { Changes (λ s a. S.holds s.space a) (λ s. S.is_sound s.space)
+            (λ s. S.is_whole s.space) (S.is_broken self.old.space) self.old self.new result
+            (changed change notify.now) }
+        ensures unbounded { self.old.is_bounded ≡ false → self.new.over ≡ self.old.over }
+        ensures puts { ¬ IsPut change → self.new.over ≡ self.old.over }
+    {
+        changes::apply(
+            &mut self.space,
+            &mut self.tally,
+            &mut self.over,
+            change,
+            notify,
+        )
+    }
+}
+
+impl<S: GroupCommit + SnapshotSource + Drop> SnapshotSource for QuotaSpace<S> {
+    /// What the space inside shows.
+    fn snapshot(&self) -> Result<Snapshot<'_>, NoMirror> {
+        self.space.snapshot()
+    }
+}
+
+impl<S: PurgeEnded + SnapshotSource + Drop> PurgeEnded for QuotaSpace<S> {
+    fn find_ended(&mut self, until: u64, most: usize) -> Result<Vec<PurgeItem>, SpaceFault> {
+        self.space.find_ended(until, most)
+    }
+
+    /// As the space inside, and what goes is no longer counted; it is looked up in what the space
+    /// inside shows. Where there is a tally and that shows nothing, nothing goes.
+    fn purge(&mut self, gone: &[PurgeItem]) -> Result<(), SpaceFault> {
+        purges::let_go(&mut self.space, &mut self.tally, &mut self.over, gone)
+    }
+}

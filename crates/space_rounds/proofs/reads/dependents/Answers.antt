@@ -1,8 +1,0 @@
-use Rattle.space_rounds.proofs.Groups.{list_reads, store_reads}
-use Rattle.space_rounds.proofs.reads.dependents.Goals as goal
-
-pub returns-in-Some : goal.returns-in-Some
-returns-in-Some g c = rw c.in-Some.is (list_reads g.S.Space c.args.store.now _ _ _ _ _ _ _ _ _ c.dependents.ensures.tells c.dependents.ensures.reads c.count_refusal.ensures.same c.count_refusal.ensures.counted)
-
-pub returns-in-None : goal.returns-in-None
-returns-in-None g c = rw c.in-None.is (store_reads g.S.Space c.args.store.now _ _ _ _ _ _ c.dependents-in-None.ensures.tells c.dependents-in-None.ensures.reads c.count_refusal-in-None.ensures.same c.count_refusal-in-None.ensures.counted)

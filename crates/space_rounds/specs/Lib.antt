@@ -1,4 +1,0 @@
-pub mod Grouped
-pub mod Laws
-pub mod Lists
-pub mod Sweeps

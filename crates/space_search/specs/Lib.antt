@@ -1,5 +1,0 @@
-pub mod Asked
-pub mod CellTable
-pub mod Numbers
-pub mod Candidates
-pub mod Met

@@ -1,5 +1,0 @@
-use Rattle.space_select.proofs.Written.{ovn_utf8}
-use Rattle.space_select.proofs.setting.version_in.Goals as goal
-
-pub returns-in-None : goal.returns-in-None
-returns-in-None c = λ t p. (rw c.in-None.is at c.text_in.ensures) (t, p.0, ovn_utf8 t p.1)

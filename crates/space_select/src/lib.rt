@@ -1,9 +1,0 @@
-//! Single SELECTs of a connection, and their rows as rows of the tables.
-#![tactic(auto)]
-
-pub mod meta;
-pub mod reading;
-pub mod rows;
-pub mod select;
-pub mod setting;
-pub mod sub_rows;

@@ -1,5 +1,0 @@
-use Rattle.space_sql.proofs.Founds.{new_is_unmade}
-use Rattle.space_sql.proofs.laws.new_is_unmade.Goals as goal
-
-pub returns : goal.returns
-returns c = new_is_unmade

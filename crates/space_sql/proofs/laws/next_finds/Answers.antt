@@ -1,5 +1,0 @@
-use Rattle.space_sql.proofs.Restarts as restarts
-use Rattle.space_sql.proofs.laws.next_finds.Goals as goal
-
-pub returns : goal.returns
-returns g c = λ image a files. restarts.next_finds g.S.Store _ image a files

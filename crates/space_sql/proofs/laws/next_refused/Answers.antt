@@ -1,5 +1,0 @@
-use Rattle.space_sql.proofs.Remainders as remainders
-use Rattle.space_sql.proofs.laws.next_refused.Goals as goal
-
-pub returns : goal.returns
-returns g c = λ image format a files remains fault refuses clean. remainders.next_refused image format a files remains fault refuses clean

@@ -1,0 +1,12 @@
+-- All that a space over tables holds, as lists.
+use Rattle.std.specs.Prelude.{◌≡◌, false}
+use Rattle.sqlite_trees.specs.declared.store.Store.{Ghosts}
+use Rattle.space_core.specs.Space.{IsContent}
+use Rattle.space_sql_load.specs.Judging.{loaded_airspace}
+use Rattle.space_sql_load.specs.declared.table_check.LoadedAirspace.{LoadedAirspace}
+use Rattle.space_sql.specs.Holding.{SqlSpaceModel, holds_of, is_sound_of}
+
+-- the lists are all that a space holds, which works
+pub record IsAllOf {S : Type 0} (g : Ghosts S) (k : SqlSpaceModel S) (listed : LoadedAirspace) : Type 0 where
+  pub works : k.broken ≡ false
+  pub content : is_sound_of g k → IsContent (holds_of g) k (loaded_airspace listed)

@@ -1,0 +1,26 @@
+//! What there is of the files of a database that was not taken.
+use sqlite::{Connection, FileStore, Leftover};
+use sqlite_disk::Disk;
+
+/// What there is of the files after a fault of an opening.
+pub enum FailedOpen<D: Disk> {
+    /// No file was opened.
+    Nothing,
+    /// The files were opened, and no database in them.
+    Files(Leftover<D>),
+    /// A database in them was opened, and was not taken.
+    Connection(Connection<FileStore<D>>),
+}
+
+impl<D: Disk + Drop> FailedOpen<D> {
+    /// Closes what is open.
+    pub fn close(self) {
+        match self {
+            FailedOpen::Nothing => {}
+            FailedOpen::Files(left) => drop(left.into_files()),
+            FailedOpen::Connection(conn) => {
+                let _ = conn.close();
+            }
+        }
+    }
+}

@@ -1,0 +1,36 @@
+-- One entity, by its kind and id and by its number.
+use Rattle.std.specs.Prelude.{◌≡◌, ℤ, List, [], ◌∷◌, Option, Some, IfSome}
+use Rattle.std.specs.FinMap.{get}
+use Rattle.sqlite_value.specs.Order.{Row}
+use Rattle.sqlite_value.specs.declared.value.Value.TheVariants.{Int, Text}
+use Rattle.sqlite_rules.specs.Lists.{Has}
+use Rattle.sqlite.specs.Effect.{Database}
+use Rattle.entity_core.specs.declared.entity.Entity.{Entity}
+use Rattle.entity_core.specs.Airspace.{Airspace, EntityKey}
+use Rattle.entity_core.specs.EntityId.{printed}
+use Rattle.space_rows.specs.Rows.{kind_number}
+use Rattle.space_sql_schema.specs.Spelling.{Group, Spells}
+use Rattle.space_sql_select.specs.Selecting.{Answers}
+use Rattle.space_sql_lookup.specs.Texts.{head_read, numbered_read}
+
+-- the rows of entity of a kind and an id, as they are asked for
+abbrev pub AnswersNamed : EntityKey → Database → List Row → Type 0
+AnswersNamed k db rows =
+    Answers head_read (Int (kind_number k.0) ∷ Text (printed k.1) ∷ []) db rows
+
+-- what is found under a kind and an id, in the airspace that the tables spell, if they spell one
+abbrev pub FindsNamed : EntityKey → Database → Option Entity → Type 0
+FindsNamed k db found = (a : Airspace) → Spells db a → found ≡ get a.entities k
+
+-- the rows of entity of a number, as they are asked for
+abbrev pub AnswersNumber : ℤ → Database → List Row → Type 0
+AnswersNumber num db rows = Answers numbered_read (Int num ∷ []) db rows
+
+-- the entity of the rows that have the number, and none where no rows have it
+pub record IsNumbered (num : ℤ) (gs : List Group) (found : Option Entity) : Type 0 where
+  pub own : (g : Group) → Has gs g → g.row.num ≡ num → found ≡ Some g.entity
+  pub kept : IfSome found (λ e. (g : Group) × Has gs g × (g.row.num ≡ num) × (g.entity ≡ e))
+
+-- what is found under a number, in the airspace that the tables spell, if they spell one
+abbrev pub FindsNumbered : ℤ → Database → Option Entity → Type 0
+FindsNumbered num db found = (a : Airspace) (s : Spells db a) → IsNumbered num s.groups found

@@ -1,0 +1,34 @@
+-- One subscription, by its id and by its number.
+use Rattle.std.specs.Prelude.{◌≡◌, ℕ, ℤ, List, [], ◌∷◌, Option, Some, IfSome}
+use Rattle.std.specs.FinMap.{get}
+use Rattle.sqlite_value.specs.Order.{Row}
+use Rattle.sqlite_value.specs.declared.value.Value.TheVariants.{Int, Text}
+use Rattle.sqlite_rules.specs.Lists.{Has}
+use Rattle.sqlite.specs.Effect.{Database}
+use Rattle.entity_core.specs.declared.subscription.Sub.{Sub}
+use Rattle.entity_core.specs.Airspace.{Airspace}
+use Rattle.entity_core.specs.EntityId.{printed}
+use Rattle.space_sql_schema.specs.Spelling.{SubGroup, Spells}
+use Rattle.space_sql_select.specs.Selecting.{Answers}
+use Rattle.space_sql_lookup.specs.Texts.{sub_numbered_read, sub_read}
+
+-- the rows of subscription of an id, as they are asked for
+abbrev pub AnswersSub : ℕ → Database → List Row → Type 0
+AnswersSub id db rows = Answers sub_read (Text (printed id) ∷ []) db rows
+
+-- what is found under an id, in the airspace that the tables spell, if they spell one
+abbrev pub FindsSub : ℕ → Database → Option Sub → Type 0
+FindsSub id db found = (a : Airspace) → Spells db a → found ≡ get a.subscriptions id
+
+-- the rows of subscription of a number, as they are asked for
+abbrev pub AnswersSubNumber : ℤ → Database → List Row → Type 0
+AnswersSubNumber num db rows = Answers sub_numbered_read (Int num ∷ []) db rows
+
+-- the subscription of the rows that have the number, and none where no rows have it
+pub record IsSubNumbered (num : ℤ) (subs : List SubGroup) (found : Option Sub) : Type 0 where
+  pub own : (g : SubGroup) → Has subs g → g.row.num ≡ num → found ≡ Some g.sub
+  pub kept : IfSome found (λ s. (g : SubGroup) × Has subs g × (g.row.num ≡ num) × (g.sub ≡ s))
+
+-- what is found under a number, in the airspace that the tables spell, if they spell one
+abbrev pub FindsSubNumbered : ℤ → Database → Option Sub → Type 0
+FindsSubNumbered num db found = (a : Airspace) (s : Spells db a) → IsSubNumbered num s.subs found

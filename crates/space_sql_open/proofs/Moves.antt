@@ -1,0 +1,62 @@
+-- Tables of format 1 are taken where those that they become are.
+use Rattle.std.proofs.Common.{◌≡◌, ap, ℤ, Ok, Err, Result, OnOk, refl, sym, subst, ◌∙◌}
+use Rattle.sqlite.specs.Effect.{Database, IsDatabase}
+use Rattle.sqlite.specs.declared.error.Error.{Error}
+use Rattle.entity_core.specs.Airspace.{Airspace}
+use Rattle.space_sql_select.specs.Meta.{IsOtherFormat}
+use Rattle.space_sql_schema.specs.declared.format.Format.TheVariants.{One, Two}
+use Rattle.space_sql_schema.specs.Making.{HasMeta, IsUpgraded, Upgrades}
+use Rattle.space_sql_schema.specs.Spelling.{SpellsAs}
+use Rattle.space_sql_schema.specs.Tables.{first_schema, second_schema}
+use Rattle.space_sql_schema.proofs.Upgraded.{spells_upgraded, spelt_before}
+use Rattle.space_sql_open.specs.FirstMeta.{SaysMeta}
+use Rattle.space_sql_open.specs.Upgrading.{Judges, Rewrites}
+use Rattle.space_sql_open.specs.Opening.{UpgradesFormat}
+use Rattle.space_sql_open.specs.declared.open_fault.OpenFault.{OpenFault}
+use Rattle.space_sql_open.specs.declared.open_fault.OpenFault.TheVariants.{NotADss, Version, Store}
+
+-- the rows are those that there are
+pub rewritten : (old new : Database) → Upgrades old new → old.schema ≡ first_schema → IsUpgraded old.trees new
+rewritten old new upgrades has = upgrades old.trees (has, (refl, (refl, (refl, (refl, (refl, tt))))))
+
+pub rewrites : (old new : Database) (p : Result (Unit {0}) Error) (x : Unit {0}) → ◌≡◌ {A = Result (Unit {0}) Error} p (Ok x) → old.schema ≡ first_schema → OnOk p (Upgrades old new) → Rewrites old new (Ok x)
+rewrites old new p x is has h = rewritten old new (rw is at h) has
+
+-- meta said format 1, and the tables were made
+pub record HasMoved (old new : Database) : Type 0 where
+  pub schema : old.schema ≡ first_schema
+  pub serial : ℤ
+  pub meta : HasMeta 1 serial (old.trees 0)
+  pub upgraded : IsUpgraded old.trees new
+
+-- after an answer of the steps so far
+abbrev pub HasMovedOk : Database → Database → Result (Unit {0}) OpenFault → Type 0
+HasMovedOk old new r = HasMoved old new
+
+-- meta was read, and the tables are those that they were
+pub same_schema : (old new : Database) → SaysMeta old new (Ok tt) → old.schema ≡ first_schema → new.schema ≡ first_schema
+same_schema old new said has = ap (λ (d : Database). d.schema) said.1 ∙ has
+
+pub has_moved : (old mid new : Database) (x y : Unit {0}) → old.schema ≡ first_schema → SaysMeta old mid (Ok x) → Rewrites mid new (Ok y) → HasMoved old new
+has_moved old mid new x y has said rewrote = record { schema = has; serial = said.0.0; meta = said.0.1; upgraded = subst (λ (d : Database). IsUpgraded d.trees new) said.1 rewrote }
+
+pub moved_schema : (old new : Database) → HasMoved old new → new.schema ≡ second_schema
+moved_schema old new h = (h.upgraded h.serial h.meta).schema
+
+-- meta of format 1 says no other format
+not_other : (db : Database) (serial : ℤ) → HasMeta 1 serial (db.trees 0) → ¬ IsOtherFormat db
+not_other db serial meta other = other.not_one (let e = sym other.only ∙ meta in cc)
+
+not_other_after : (db : Database) (serial : ℤ) → HasMeta 2 serial (db.trees 0) → ¬ IsOtherFormat db
+not_other_after db serial meta other = other.not_two (let e = sym other.only ∙ meta in cc)
+
+-- what is told of the tables that were made is so of those before
+pub moves : (old mid new : Database) (r : Result (Unit {0}) OpenFault) → HasMoved old mid → Judges mid new r → UpgradesFormat old new r
+moves old mid new (Ok x) h judged =
+    let it = h.upgraded h.serial h.meta in
+    let a = judged.0.0 in
+    subst (λ (d : Database). (a : Airspace) × SpellsAs One old a × SpellsAs Two d a × IsDatabase d) (sym judged.1)
+    (a, spelt_before old mid a h.serial h.schema h.meta h.upgraded judged.0.1, judged.0.1, it.sound)
+moves old mid new (Err NotADss) h judged = ((λ a p. judged.0 a (spells_upgraded old mid a p h.upgraded)), not_other old h.serial h.meta)
+moves old mid new (Err Version) h judged = absurd (not_other_after mid h.serial (h.upgraded h.serial h.meta).meta judged)
+moves old mid new (Err Store) h judged = tt

@@ -1,0 +1,5 @@
+pub mod OpenFault
+pub mod Opening
+pub mod Inside
+pub mod FirstMeta
+pub mod Upgrading

@@ -1,0 +1,87 @@
+//! What a database is found to be, that has all tables of format 2, or only some tables.
+ghost use Rattle.std.specs.Prelude.{◌≡◌, ◌≢◌, false, Err, IfErr, IfOk, IsTrue, OnOk};
+ghost use Rattle.sqlite.specs.Effect.{Database};
+ghost use Rattle.sqlite.specs.Held.{state};
+ghost use Rattle.sqlite.specs.State.{HasCleanDisk, Survives};
+ghost use Rattle.space_sql_schema.specs.Tables.{dss_schema};
+ghost use Rattle.space_sql_select.specs.Reading.{IsAsFound};
+ghost use Rattle.space_sql_load.specs.Judging.{JudgesDatabase};
+ghost use Rattle.space_sql_open.specs.Opening.{ChecksTables};
+ghost use Rattle.space_sql_open.specs.declared.open_fault.OpenFault.TheVariants.{Store};
+
+use crate::open_fault::OpenFault;
+use space_sql_load::reading::read_airspace;
+use space_sql_load::table_check::{LoadedAirspace, TableCheck};
+use space_sql_schema::presence::has_meta;
+use space_sql_select::meta::has_other_format;
+use sqlite::{Alter, Connection, Error};
+use std::alloc::Global;
+
+// What tables have that were found to be this, where they are taken.
+fn listed_of(judgement: TableCheck) -> Result<LoadedAirspace, OpenFault>
+    ensures { (db : Database) → JudgesDatabase db judgement → ChecksTables db result }
+{
+    match judgement {
+        TableCheck::Valid(listed) => Ok(listed),
+        TableCheck::OtherFormat => Err(OpenFault::Version),
+        TableCheck::Invalid => Err(OpenFault::NotADss),
+    }
+}
+
+/// What tables have of which this was read, where they are taken.
+pub(crate) fn listed_or_fault(read: Result<TableCheck, Error>) -> Result<LoadedAirspace, OpenFault>
+    ensures examines { (db : Database) → IfOk read (JudgesDatabase db) → ChecksTables db result }
+    ensures failed { IfErr read (λ _. result ≡ Err Store) }
+{
+    match read {
+        Ok(judgement) => listed_of(judgement),
+        Err(_) => Err(OpenFault::Store),
+    }
+}
+
+/// What tables of format 2 have, where they can be taken as they are; nothing is written.
+pub fn check_format_2<S: Alter>(
+    alloc: Global,
+    conn: &mut Connection<S>,
+) -> Result<LoadedAirspace, OpenFault>
+    requires { conn.old.in_transaction ≡ false }
+    ensures outside { conn.new.in_transaction ≡ false }
+    ensures examines { HasCleanDisk (state S.Store conn.new)
+        → (state S.Store conn.old).now.schema ≡ dss_schema
+        → ChecksTables (state S.Store conn.old).now result }
+    ensures open { HasCleanDisk (state S.Store conn.new)
+        → OnOk result (IsTrue (state S.Store conn.new).is_open) }
+    ensures at_rest { HasCleanDisk (state S.Store conn.new)
+        → (state S.Store conn.old).now.schema ≡ dss_schema → result ≢ Err Store
+        → IsAsFound (state S.Store conn.old) (state S.Store conn.new) }
+    ensures survives { Survives (state S.Store conn.old) (state S.Store conn.new) (λ _. ⊥) }
+{
+    let read = read_airspace(alloc, conn);
+    listed_or_fault(read)
+}
+
+// The fault for an error of a reading of `meta` in tables that may be no others' than ours: a text
+// that cannot be read under their schema is no fault of the store.
+fn fault_of(error: &Error) -> OpenFault {
+    match error {
+        Error::SqlInputError(_) => OpenFault::NotADss,
+        _ => OpenFault::Store,
+    }
+}
+
+/// Why a database with only some of the tables, or without some of their columns, is not taken:
+/// `meta`, where it is there, may say another format. Nothing is written.
+pub fn partial_schema_fault<S: Alter>(conn: &mut Connection<S>) -> OpenFault
+    requires { conn.old.in_transaction ≡ false }
+    ensures outside { conn.new.in_transaction ≡ false }
+    ensures survives { Survives (state S.Store conn.old) (state S.Store conn.new) (λ _. ⊥) }
+{
+    if !has_meta(conn.schema()) {
+        return OpenFault::NotADss;
+    }
+    match has_other_format(conn) {
+        Ok(true) => OpenFault::Version,
+        Ok(false) => OpenFault::NotADss,
+        Err(error) => fault_of(&error),
+    }
+}

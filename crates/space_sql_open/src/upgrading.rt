@@ -1,0 +1,128 @@
+//! Tables of format 1 are brought to format 2, in one transaction, where they spell an airspace.
+ghost use Rattle.std.specs.Prelude.{◌≡◌, ◌≢◌, ◌⊎◌, false, IfErr, OnOk, IsTrue};
+ghost use Rattle.sqlite.specs.Held.{state};
+ghost use Rattle.sqlite.specs.State.{HasCleanDisk, IsUnchanged, Survives};
+ghost use Rattle.space_sql_schema.specs.Making.{IsSettled};
+ghost use Rattle.space_sql_schema.specs.Tables.{dss_schema, first_schema};
+ghost use Rattle.space_sql_schema.specs.Within.{SameConnection, Within};
+ghost use Rattle.space_sql_select.specs.Reading.{GoesBack, IsAsFound};
+ghost use Rattle.space_sql_open.specs.Inside.{Inside};
+ghost use Rattle.space_sql_open.specs.Upgrading.{Judges, Rewrites};
+ghost use Rattle.space_sql_open.specs.Opening.{MayHaveUpgraded, UpgradesFormat};
+ghost use Rattle.space_sql_open.specs.declared.open_fault.OpenFault.TheVariants.{Store};
+
+use crate::checking::listed_or_fault;
+use crate::first_meta::first_meta;
+use crate::open_fault::OpenFault;
+use space_sql_load::reading::read_airspace_in_transaction;
+use space_sql_schema::upgrade::upgrade_in_transaction;
+use space_sql_select::reading::{connection_facts, is_store_alive};
+use sqlite::{Alter, Connection, Transaction};
+use std::alloc::Global;
+
+// Makes tables of format 2 of them, whatever they spell.
+fn rewrite<S: Alter>(tx: &mut Transaction<'_, S>) -> Result<(), OpenFault>
+    ensures same_reference { SameConnection tx.old tx.new }
+    ensures rewrites { Within S.Store tx.old tx.new (Inside first_schema Rewrites) result }
+{
+    match upgrade_in_transaction(tx) {
+        Ok(()) => Ok(()),
+        Err(_) => Err(OpenFault::Store),
+    }
+}
+
+// Whether the tables of format 2 spell an airspace.
+fn judge_moved<S: Alter>(alloc: Global, tx: &mut Transaction<'_, S>) -> Result<(), OpenFault>
+    ensures same_reference { SameConnection tx.old tx.new }
+    ensures judges { Within S.Store tx.old tx.new (Inside dss_schema Judges) result }
+{
+    let read = read_airspace_in_transaction(alloc, tx);
+    match listed_or_fault(read) {
+        Ok(_) => Ok(()),
+        Err(fault) => Err(fault),
+    }
+}
+
+fn move_inside<S: Alter>(alloc: Global, tx: &mut Transaction<'_, S>) -> Result<(), OpenFault>
+    ensures same_reference { SameConnection tx.old tx.new }
+    ensures moves { Within S.Store tx.old tx.new (Inside first_schema UpgradesFormat) result }
+{
+    match first_meta(tx) {
+        Ok(()) => {}
+        Err(fault) => return Err(fault),
+    }
+    match rewrite(tx) {
+        Ok(()) => judge_moved(alloc, tx),
+        Err(fault) => Err(fault),
+    }
+}
+
+fn move_tables<S: Alter>(alloc: Global, conn: &mut Connection<S>) -> Result<(), OpenFault>
+    requires { conn.old.in_transaction ≡ false }
+    ensures ended { conn.new.in_transaction ≡ false }
+    ensures moves { let old = state S.Store conn.old in
+        let new = state S.Store conn.new in
+        HasCleanDisk new → old.now.schema ≡ first_schema → UpgradesFormat old.now new.now result }
+    ensures settled { let new = state S.Store conn.new in
+        HasCleanDisk new → OnOk result (IsSettled new) }
+    ensures clean { HasCleanDisk (state S.Store conn.new) → HasCleanDisk (state S.Store conn.old) }
+    ensures back { let old = state S.Store conn.old in
+        let new = state S.Store conn.new in
+        HasCleanDisk new → IsTrue new.is_open → old.now.schema ≡ first_schema
+        → IfErr result (λ fault. fault ≢ Store → GoesBack old new) }
+    ensures left { let old = state S.Store conn.old in
+        IfErr result (λ fault. Survives old (state S.Store conn.new)
+        (λ trees. (fault ≡ Store) × MayHaveUpgraded old trees)) }
+{
+    let mut tx = conn.transaction();
+    match move_inside(alloc, &mut tx) {
+        Ok(()) => {}
+        Err(fault) => return Err(fault),
+    }
+    match tx.commit() {
+        Ok(()) => Ok(()),
+        Err(_) => Err(OpenFault::Store),
+    }
+}
+
+// The fault of tables that were not taken, if the store still works. It writes nothing.
+fn still<S: Alter>(conn: &mut Connection<S>, fault: OpenFault) -> OpenFault
+    requires { conn.old.in_transaction ≡ false }
+    ensures outside { conn.new.in_transaction ≡ false }
+    ensures is { (result ≡ fault) ⊎ (result ≡ Store) }
+    ensures same { let new = state S.Store conn.new in
+        HasCleanDisk new → result ≢ Store → IsUnchanged (state S.Store conn.old) new }
+    ensures survives { Survives (state S.Store conn.old) (state S.Store conn.new) (λ _. ⊥) }
+{
+    match is_store_alive(conn) {
+        Ok(()) => fault,
+        Err(_) => OpenFault::Store,
+    }
+}
+
+/// Brings tables of format 1 to format 2, in one transaction, where they spell an airspace, which
+/// stays. Else they are left as they are: after `NotADss` and `Version` nothing was written, and
+/// after `Store` they are of format 1 or of format 2, with the same airspace.
+pub fn upgrade_format<S: Alter>(alloc: Global, conn: &mut Connection<S>) -> Result<(), OpenFault>
+    requires { conn.old.in_transaction ≡ false }
+    ensures outside { conn.new.in_transaction ≡ false }
+    ensures moves { let old = state S.Store conn.old in
+        let new = state S.Store conn.new in
+        HasCleanDisk new → old.now.schema ≡ first_schema → UpgradesFormat old.now new.now result }
+    ensures settled { let new = state S.Store conn.new in
+        HasCleanDisk new → OnOk result (IsSettled new) }
+    ensures clean { HasCleanDisk (state S.Store conn.new) → HasCleanDisk (state S.Store conn.old) }
+    ensures at_rest { let old = state S.Store conn.old in
+        let new = state S.Store conn.new in
+        HasCleanDisk new → old.now.schema ≡ first_schema
+        → IfErr result (λ fault. fault ≢ Store → IsAsFound old new) }
+    ensures left { let old = state S.Store conn.old in
+        IfErr result (λ fault. Survives old (state S.Store conn.new)
+        (λ trees. (fault ≡ Store) × MayHaveUpgraded old trees)) }
+{
+    connection_facts(conn);
+    match move_tables(alloc, conn) {
+        Ok(()) => Ok(()),
+        Err(fault) => Err(still(conn, fault)),
+    }
+}

@@ -1,0 +1,128 @@
+-- What the statements mean.
+use Rattle.std.proofs.Common.{◌≡◌, Ok, refl, [], ◌∷◌, pos}
+use Rattle.sqlite.specs.declared.types.Value.TheVariants.{Null, Int}
+use Rattle.sqlite.specs.Compile.{table_defined_by}
+use Rattle.sqlite_resolve.specs.Compile.{index_defined_by}
+use Rattle.sqlite_tied.specs.Compute.{everything}
+use Rattle.sqlite.specs.Listing.{understood}
+use Rattle.sqlite_catalog.specs.Change.{created, indexed}
+use Rattle.sqlite.proofs.Callers.{IsPlain, command_of, statement_of}
+use Rattle.sqlite.specs.Command.TheVariants.{Insert, Update, CreateTable, CreateIndex}
+use Rattle.sqlite.specs.Source.TheVariants.{Values}
+use Rattle.std.proofs.Common.{List}
+use Rattle.sqlite.specs.Term.{Term, lit, col}
+use Rattle.space_sql_schema.specs.Tables.{meta, entity, volume, cell, availability, cell_range, subscription, subscription_cell, subscription_cell_range, naming, first_schema, second_schema, dss_schema, no_schema, schema_1, schema_2, schema_3, schema_4, schema_5, schema_7, schema_8, schema_9}
+use Rattle.space_sql_schema.proofs.Selecting.{query_of, is_one}
+use Rattle.space_sql_schema.proofs.Texts.{meta_text, entity_text, volume_text, cell_text, availability_text, range_text, old_row_text, first_row_text, subscription_text, subscription_cell_text, subscription_range_text, naming_text, set_format_text}
+
+pub meta_is : table_defined_by meta_text ≡ Ok (meta 0)
+unfolding everything
+meta_is = refl
+
+pub entity_is : table_defined_by entity_text ≡ Ok (entity 0)
+unfolding everything
+entity_is = refl
+
+pub volume_is : table_defined_by volume_text ≡ Ok (volume 0)
+unfolding everything
+volume_is = refl
+
+pub cell_is : table_defined_by cell_text ≡ Ok (cell 0)
+unfolding everything
+cell_is = refl
+
+pub availability_is : table_defined_by availability_text ≡ Ok (availability 0)
+unfolding everything
+availability_is = refl
+
+pub index_is : index_defined_by (cell 5) range_text ≡ Ok (cell_range 0 5)
+unfolding everything
+index_is = refl
+
+pub schema_is : created (indexed (created (created (created (created no_schema (meta 0)) (entity 0)) (volume 0)) (cell 0)) (cell 5) (cell_range 0 5)) (availability 0) ≡ first_schema
+schema_is = refl
+
+pub meta_made : (command_of (understood no_schema meta_text) ≡ CreateTable) × IsPlain (understood no_schema meta_text) × (statement_of meta_text (understood no_schema meta_text) ≡ meta_text) × (created no_schema (meta 0) ≡ schema_1)
+unfolding understood everything
+meta_made = (refl, (refl, refl), refl, refl)
+
+pub entity_made : (command_of (understood schema_1 entity_text) ≡ CreateTable) × IsPlain (understood schema_1 entity_text) × (statement_of entity_text (understood schema_1 entity_text) ≡ entity_text) × (created schema_1 (entity 0) ≡ schema_2)
+unfolding understood everything
+entity_made = (refl, (refl, refl), refl, refl)
+
+pub volume_made : (command_of (understood schema_2 volume_text) ≡ CreateTable) × IsPlain (understood schema_2 volume_text) × (statement_of volume_text (understood schema_2 volume_text) ≡ volume_text) × (created schema_2 (volume 0) ≡ schema_3)
+unfolding understood everything
+volume_made = (refl, (refl, refl), refl, refl)
+
+pub cell_made : (command_of (understood schema_3 cell_text) ≡ CreateTable) × IsPlain (understood schema_3 cell_text) × (statement_of cell_text (understood schema_3 cell_text) ≡ cell_text) × (created schema_3 (cell 0) ≡ schema_4)
+unfolding understood everything
+cell_made = (refl, (refl, refl), refl, refl)
+
+pub range_made : (command_of (understood schema_4 range_text) ≡ CreateIndex 3) × IsPlain (understood schema_4 range_text) × (statement_of range_text (understood schema_4 range_text) ≡ range_text) × (indexed schema_4 (cell 5) (cell_range 0 5) ≡ schema_5)
+unfolding understood everything
+range_made = (refl, (refl, refl), refl, refl)
+
+pub availability_made : (command_of (understood schema_5 availability_text) ≡ CreateTable) × IsPlain (understood schema_5 availability_text) × (statement_of availability_text (understood schema_5 availability_text) ≡ availability_text) × (created schema_5 (availability 0) ≡ first_schema)
+unfolding understood everything
+availability_made = (refl, (refl, refl), refl, refl)
+
+pub old_row_is : command_of (understood first_schema old_row_text) ≡ Insert 0 (Values (lit (Int (pos 1)) ∷ lit Null ∷ lit (Int (pos 1)) ∷ lit (Int (pos 0)) ∷ []) 4)
+unfolding understood everything
+old_row_is = refl
+
+pub old_row_plain : IsPlain (understood first_schema old_row_text)
+unfolding understood everything
+old_row_plain = (refl, refl)
+
+pub first_row_is : command_of (understood dss_schema first_row_text) ≡ Insert 0 (Values (lit (Int (pos 1)) ∷ lit Null ∷ lit (Int (pos 2)) ∷ lit (Int (pos 0)) ∷ []) 4)
+unfolding understood everything
+first_row_is = refl
+
+pub first_row_plain : IsPlain (understood dss_schema first_row_text)
+unfolding understood everything
+first_row_plain = (refl, refl)
+
+-- ---- the tables of format 2
+
+pub subscription_is : table_defined_by subscription_text ≡ Ok (subscription 0)
+unfolding everything
+subscription_is = refl
+
+pub subscription_cell_is : table_defined_by subscription_cell_text ≡ Ok (subscription_cell 0)
+unfolding everything
+subscription_cell_is = refl
+
+pub naming_is : table_defined_by naming_text ≡ Ok (naming 0)
+unfolding everything
+naming_is = refl
+
+pub subscription_index_is : index_defined_by (subscription_cell 12) subscription_range_text ≡ Ok (subscription_cell_range 0 12)
+unfolding everything
+subscription_index_is = refl
+
+pub subscription_made : (command_of (understood first_schema subscription_text) ≡ CreateTable) × IsPlain (understood first_schema subscription_text) × (statement_of subscription_text (understood first_schema subscription_text) ≡ subscription_text) × (created first_schema (subscription 0) ≡ schema_7)
+unfolding understood everything
+subscription_made = (refl, (refl, refl), refl, refl)
+
+pub subscription_cell_made : (command_of (understood schema_7 subscription_cell_text) ≡ CreateTable) × IsPlain (understood schema_7 subscription_cell_text) × (statement_of subscription_cell_text (understood schema_7 subscription_cell_text) ≡ subscription_cell_text) × (created schema_7 (subscription_cell 0) ≡ schema_8)
+unfolding understood everything
+subscription_cell_made = (refl, (refl, refl), refl, refl)
+
+pub subscription_range_made : (command_of (understood schema_8 subscription_range_text) ≡ CreateIndex 6) × IsPlain (understood schema_8 subscription_range_text) × (statement_of subscription_range_text (understood schema_8 subscription_range_text) ≡ subscription_range_text) × (indexed schema_8 (subscription_cell 12) (subscription_cell_range 0 12) ≡ schema_9)
+unfolding understood everything
+subscription_range_made = (refl, (refl, refl), refl, refl)
+
+pub naming_made : (command_of (understood schema_9 naming_text) ≡ CreateTable) × IsPlain (understood schema_9 naming_text) × (statement_of naming_text (understood schema_9 naming_text) ≡ naming_text) × (created schema_9 (naming 0) ≡ second_schema)
+unfolding understood everything
+naming_made = (refl, (refl, refl), refl, refl)
+
+abbrev pub format_row : List Term
+format_row = col 1 0 ∷ col 1 0 ∷ lit Null ∷ lit (Int (pos 2)) ∷ col 1 3 ∷ []
+
+pub set_format_is : command_of (understood second_schema set_format_text) ≡ Update 0 (record { lets = []; body = query_of 0 is_one format_row })
+unfolding understood everything
+set_format_is = refl
+
+pub set_format_plain : IsPlain (understood second_schema set_format_text)
+unfolding understood everything
+set_format_plain = (refl, refl)

@@ -1,0 +1,127 @@
+-- What a statement of a transaction leaves, and what its end leaves.
+use Rattle.std.specs.Prelude.{◌≡◌, ℕ, ℤ, pos, nat_lt, if◌then◌else◌, true, List, [], ◌∷◌, map, IsTrue, Result, OnOk}
+use Rattle.std.specs.List.{AllByRecursion}
+use Rattle.sqlite_trees.specs.Tree.{Trees}
+use Rattle.sqlite_schema.specs.declared.schema.Schema.{Schema}
+use Rattle.sqlite_value.specs.Order.{Row}
+use Rattle.sqlite_value.specs.declared.value.Value.TheVariants.{Int}
+use Rattle.sqlite.specs.Effect.{Database, IsDatabase}
+use Rattle.sqlite.specs.State.{State, Shows, HasCleanDisk, KeepsCommit, Survives}
+use Rattle.sqlite.specs.declared.error.Error.{Error}
+use Rattle.entity_core.specs.Airspace.{Airspace, empty_at}
+use Rattle.space_sql_schema.specs.declared.format.Format.{Format}
+use Rattle.space_sql_schema.specs.declared.format.Format.TheVariants.{One, Two}
+use Rattle.space_sql_schema.specs.Tables.{no_schema, first_schema, second_schema}
+use Rattle.space_sql_schema.specs.Spelling.{SpellsAs, meta_columns}
+
+-- the tables of a schema are there and no other, and these are their rows
+abbrev pub HasRows : Schema → Trees → Database → Type 0
+HasRows schema rows db =
+    (db.schema ≡ schema) × AllByRecursion (λ t. db.trees t.tree ≡ rows t.tree) schema.tables
+
+-- the tables of a schema are there and no other, and they are empty
+abbrev pub IsBare : Schema → Database → Type 0
+IsBare schema db = HasRows schema (λ _. []) db
+
+-- What statements do in a transaction that goes on: R holds of the database before and that after.
+-- Whatever comes of them, the last commit stands, and a crash leaves what it would have left before.
+pub record Steps {X : Type 0} (R : Database → Database → Type 0) (old new : State)
+    (result : Result X Error) : Type 0 where
+  pub done : HasCleanDisk new
+      → OnOk result (R old.now new.now × Shows old new new.now old.committed true)
+  pub kept : HasCleanDisk new → KeepsCommit old new
+  pub survives : Survives old new (λ _. ⊥)
+
+-- they lead from a database of which A holds to one of which B does
+abbrev pub Leads : {X : Type 0} → (A B : Database → Type 0) → State → State → Result X Error
+    → Type 0
+Leads A B old new result = Steps (λ before after. A before → B after) old new result
+
+-- an airspace is spelt that is empty and was never changed
+abbrev pub SpellsEmptyAs : Format → Database → Type 0
+SpellsEmptyAs format db = SpellsAs format db (empty_at 0)
+
+abbrev pub SpellsEmpty : Database → Type 0
+SpellsEmpty db = SpellsEmptyAs Two db
+
+-- the database of an empty airspace: an `IsDatabase` is what an opening asks of its rows
+abbrev pub IsMade : Database → Type 0
+IsMade db = IsDatabase db × SpellsEmpty db
+
+-- trees that a commit may have left: those of a database of which P holds, whose trees obey its
+-- schema
+abbrev pub AreOf : (P : Database → Type 0) → Trees → Type 0
+AreOf P trees = (db : Database) × (trees ≡ db.trees) × IsDatabase db × P db
+
+-- what is seen is committed
+abbrev pub IsSettled : State → Type 0
+IsSettled s = IsTrue s.is_open × (s.committed ≡ s.now)
+
+-- what is seen is committed, and spells an empty airspace where there was no table
+abbrev pub AreMade : State → State → Type 0
+AreMade old new = (old.now.schema ≡ no_schema → SpellsEmpty new.now) × IsSettled new
+
+-- what is seen and what is committed are what was committed
+abbrev pub IsUndone : State → State → Type 0
+IsUndone old new = (new.now ≡ old.committed) × (new.committed ≡ old.committed)
+
+-- the same of tables of format 1
+abbrev pub AreMadeFirst : State → State → Type 0
+AreMadeFirst old new = (old.now.schema ≡ no_schema → SpellsEmptyAs One new.now) × IsSettled new
+
+-- trees that a commit may have left: those of an empty airspace, where there was no table
+abbrev pub MayBeMade : State → Trees → Type 0
+MayBeMade old trees = old.now.schema ≡ no_schema → AreOf SpellsEmpty trees
+
+-- ---- from format 1 to format 2
+
+-- the rows of the tables of format 1, and none of those that come
+abbrev pub first_rows : Trees → Trees
+first_rows trees t = if nat_lt t 10 then trees t else []
+
+-- what statements do that make tables beside those of format 1: the rows stay, whatever they are,
+-- and the new tables are empty
+abbrev pub AddsTables : (before after : Schema) → Database → Database → Type 0
+AddsTables before after old new =
+    (trees : Trees) → HasRows before (first_rows trees) old → HasRows after (first_rows trees) new
+
+-- the one row of meta, with a format and a serial
+abbrev pub HasMeta : ℕ → ℤ → List Row → Type 0
+HasMeta format serial rows =
+    map meta_columns rows ≡ (Int (pos 1) ∷ Int (pos format) ∷ Int serial ∷ []) ∷ []
+
+-- Tables of format 2, of which those of format 1 have the rows of these trees, but that the format
+-- in meta is 2, and the others have none.
+pub record HasUpgraded (trees : Trees) (serial : ℤ) (db : Database) : Type 0 where
+  pub schema : db.schema ≡ second_schema
+  pub meta : HasMeta 2 serial (db.trees 0)
+  pub entities : db.trees 1 ≡ trees 1
+  pub volumes : db.trees 3 ≡ trees 3
+  pub cells : db.trees 5 ≡ trees 5
+  pub availabilities : db.trees 8 ≡ trees 8
+  pub bare : (db.trees 10 ≡ []) × (db.trees 12 ≡ []) × (db.trees 15 ≡ [])
+  pub sound : IsDatabase db
+
+-- they are that where meta said format 1
+abbrev pub IsUpgraded : Trees → Database → Type 0
+IsUpgraded trees db = (serial : ℤ) → HasMeta 1 serial (trees 0) → HasUpgraded trees serial db
+
+-- what a statement does that sets the format
+abbrev pub SetsFormat : Database → Database → Type 0
+SetsFormat old new =
+    (trees : Trees) → HasRows second_schema (first_rows trees) old → IsUpgraded trees new
+
+-- what statements do that bring tables of format 1 to format 2
+abbrev pub Upgrades : Database → Database → Type 0
+Upgrades old new =
+    (trees : Trees) → HasRows first_schema (first_rows trees) old → IsUpgraded trees new
+
+-- what is seen is committed, and spells the airspace in format 2 that was spelt in format 1
+abbrev pub AreUpgraded : State → State → Type 0
+AreUpgraded old new =
+    ((a : Airspace) → SpellsAs One old.now a → SpellsAs Two new.now a) × IsSettled new
+
+-- trees that a commit may have left: those of format 2 with the airspace that was spelt in format 1
+abbrev pub MayBeUpgraded : State → Trees → Type 0
+MayBeUpgraded old trees =
+    (a : Airspace) → SpellsAs One old.now a → AreOf (λ db. SpellsAs Two db a) trees

@@ -1,0 +1,323 @@
+-- The tables of formats 1 and 2.
+use Rattle.std.specs.Prelude.{true, false, [], ◌∷◌, Some, None, codes, map, List, Option, ℕ, pos}
+use Rattle.sqlite.specs.Collation.TheVariants.{Binary}
+use Rattle.sqlite.specs.declared.types.Value.TheVariants.{Null, Int}
+use Rattle.sqlite.specs.Table.{Table}
+use Rattle.sqlite.specs.Schema.{Schema}
+use Rattle.sqlite.specs.Term.{Term, lit, col, op2}
+use Rattle.sqlite.specs.Kind.{Kind}
+use Rattle.sqlite.specs.Kind.TheVariants.{Integer, Text}
+use Rattle.sqlite_schema.specs.declared.schema.Column.{Column}
+use Rattle.sqlite_schema.specs.declared.schema.Index.{Index}
+use Rattle.sqlite_schema.specs.declared.schema.Reference.{Reference}
+use Rattle.sqlite_schema.specs.declared.schema.Action.{Action}
+use Rattle.sqlite_schema.specs.declared.schema.Action.TheVariants.{Cascade, NoAction, Restrict}
+use Rattle.sqlite_sql.specs.declared.ops.BinaryOp.TheVariants.{Compare, And, Or}
+use Rattle.sqlite_sql.specs.declared.ops.CompareOp.TheVariants.{Eq, Ge, Le}
+use Rattle.sqlite_value.specs.Keys.{plain}
+use Rattle.sqlite_catalog.specs.Listing.{automatic}
+use Rattle.space_sql_schema.specs.declared.format.Format.{Format}
+use Rattle.space_sql_schema.specs.declared.format.Format.TheVariants.{One, Two}
+
+-- ---- columns and checks, in which the columns of a row count from 1
+
+-- a column that holds a value of its kind and no other
+abbrev pub filled : List ℕ → Kind → Column
+filled name kind = record {
+  name = name;
+  kind = kind;
+  is_strict = true;
+  not_null = true;
+  default = Null;
+  collation = Binary;
+}
+
+abbrev pub number : List ℕ → Column
+number name = filled name Integer
+
+abbrev pub text : List ℕ → Column
+text name = filled name Text
+
+abbrev pub is_number : ℕ → ℕ → Term
+is_number k n = op2 (Compare Eq Binary) (col 1 k) (lit (Int (pos n)))
+
+abbrev pub is_from : ℕ → ℕ → Term
+is_from k least = op2 (Compare Ge Binary) (col 1 k) (lit (Int (pos least)))
+
+abbrev pub is_up_to : ℕ → ℕ → Term
+is_up_to k most = op2 (Compare Le Binary) (col 1 k) (lit (Int (pos most)))
+
+abbrev pub is_between : ℕ → ℕ → ℕ → Term
+is_between k least most = op2 And (is_from k least) (is_up_to k most)
+
+-- the one column is at most the other
+abbrev pub are_in_order : ℕ → ℕ → Term
+are_in_order k l = op2 (Compare Le Binary) (col 1 k) (col 1 l)
+
+-- these columns name a row of another table; this is done as that row is deleted
+abbrev pub refers_to : List ℕ → List ℕ → List (List ℕ) → Action → Reference
+refers_to columns parent parent_columns action =
+    record {
+      columns = columns;
+      parent = parent;
+      parent_columns = parent_columns;
+      on_delete = action;
+      on_update = NoAction;
+      is_deferred = false;
+    }
+
+-- these columns name a row of another table, with which the row goes
+abbrev pub goes_with : List ℕ → List ℕ → List (List ℕ) → Reference
+goes_with columns parent parent_columns = refers_to columns parent parent_columns Cascade
+
+-- these columns name a row of another table, which stays as long as they do
+abbrev pub holds_on_to : List ℕ → List ℕ → List (List ℕ) → Reference
+holds_on_to columns parent parent_columns = refers_to columns parent parent_columns Restrict
+
+-- a table with this tree: its columns, the one that numbers its rows, its key, what no two rows
+-- share, its checks and references
+abbrev pub table_of : List ℕ → ℕ → List Column → Option ℕ → List ℕ → List (List ℕ) → List Term
+    → List Reference → Table
+table_of name tree columns key primary uniques checks references = record {
+  name = name;
+  tree = tree;
+  columns = columns;
+  key = key;
+  primary = primary;
+  uniques = uniques;
+  orders = map (λ _. plain) uniques;
+  checks = checks;
+  references = references;
+  computed = [];
+  stamps = record { places = []; terms = []; formats = [] };
+  is_counted = false;
+}
+
+-- ---- the tables
+
+-- `one` is its key and is 1
+abbrev pub meta : ℕ → Table
+meta tree =
+    table_of (codes "meta") tree
+    (number (codes "one") ∷ number (codes "format") ∷ number (codes "serial") ∷ [])
+    (Some 0) (0 ∷ []) [] (is_number 0 1 ∷ is_from 3 0 ∷ []) []
+
+-- `num` is its key, and a kind and an id stand once
+abbrev pub entity : ℕ → Table
+entity tree =
+    table_of (codes "entity") tree
+    (number (codes "num") ∷ number (codes "kind") ∷ text (codes "id") ∷ text (codes "manager")
+    ∷ number (codes "state") ∷ number (codes "version") ∷ number (codes "serial")
+    ∷ text (codes "ovn") ∷ text (codes "url") ∷ [])
+    (Some 0) (0 ∷ []) ((2 ∷ 3 ∷ []) ∷ [])
+    (op2 Or (is_number 2 0) (is_number 2 1)
+    ∷ is_between 5 0 4 ∷ is_between 6 1 2147483647 ∷ is_from 7 0 ∷ []) []
+
+-- an entity and a place are its key, and it goes with the row of its entity
+abbrev pub volume : ℕ → Table
+volume tree =
+    table_of (codes "volume") tree
+    (number (codes "entity") ∷ number (codes "place") ∷ number (codes "alt_lower")
+    ∷ number (codes "alt_upper") ∷ number (codes "time_start") ∷ number (codes "time_end") ∷ [])
+    None (1 ∷ 2 ∷ []) ((1 ∷ 2 ∷ []) ∷ []) (are_in_order 3 4 ∷ are_in_order 5 6 ∷ [])
+    (goes_with (1 ∷ []) (codes "entity") (codes "num" ∷ []) ∷ [])
+
+-- an entity, a volume and a place are its key, and it goes with the row of its volume
+abbrev pub cell : ℕ → Table
+cell tree =
+    table_of (codes "cell") tree
+    (number (codes "entity") ∷ number (codes "volume") ∷ number (codes "place")
+    ∷ text (codes "token") ∷ number (codes "lo") ∷ number (codes "hi") ∷ [])
+    None (1 ∷ 2 ∷ 3 ∷ []) ((1 ∷ 2 ∷ 3 ∷ []) ∷ []) (are_in_order 5 6 ∷ [])
+    (goes_with (1 ∷ 2 ∷ []) (codes "volume") (codes "entity" ∷ codes "place" ∷ []) ∷ [])
+
+-- a USS is its key
+abbrev pub availability : ℕ → Table
+availability tree =
+    table_of (codes "availability") tree
+    (text (codes "uss") ∷ number (codes "state") ∷ text (codes "version") ∷ [])
+    None (1 ∷ []) ((1 ∷ []) ∷ []) (is_between 2 0 2 ∷ []) []
+
+-- the index on `lo` and `hi` of the table `cell`
+abbrev pub cell_range : ℕ → ℕ → Index
+cell_range tree table = record {
+  name = codes "cell_range";
+  tree = tree;
+  table = table;
+  columns = 5 ∷ 6 ∷ [];
+  order = plain;
+  is_unique = false;
+}
+
+-- `num` is its key, and an id stands once; it is for intents, for constraints, or for both
+abbrev pub subscription : ℕ → Table
+subscription tree =
+    table_of (codes "subscription") tree
+    (number (codes "num") ∷ text (codes "id") ∷ text (codes "manager") ∷ number (codes "serial")
+    ∷ text (codes "version") ∷ number (codes "notes") ∷ text (codes "url")
+    ∷ number (codes "for_intents") ∷ number (codes "for_constraints")
+    ∷ number (codes "alt_lower") ∷ number (codes "alt_upper") ∷ number (codes "time_start")
+    ∷ number (codes "time_end") ∷ [])
+    (Some 0) (0 ∷ []) ((2 ∷ []) ∷ [])
+    (is_from 4 0 ∷ is_from 6 0 ∷ op2 Or (is_number 8 0) (is_number 8 1)
+    ∷ op2 Or (is_number 9 0) (is_number 9 1) ∷ op2 Or (is_number 8 1) (is_number 9 1)
+    ∷ are_in_order 10 11 ∷ are_in_order 12 13 ∷ []) []
+
+-- a subscription and a place are its key, and it goes with the row of its subscription
+abbrev pub subscription_cell : ℕ → Table
+subscription_cell tree =
+    table_of (codes "subscription_cell") tree
+    (number (codes "subscription") ∷ number (codes "place") ∷ text (codes "token")
+    ∷ number (codes "lo") ∷ number (codes "hi") ∷ [])
+    None (1 ∷ 2 ∷ []) ((1 ∷ 2 ∷ []) ∷ []) (are_in_order 4 5 ∷ [])
+    (goes_with (1 ∷ []) (codes "subscription") (codes "num" ∷ []) ∷ [])
+
+-- an entity is its key; it goes with the row of its entity, and holds on to that of a subscription
+abbrev pub naming : ℕ → Table
+naming tree =
+    table_of (codes "naming") tree
+    (number (codes "entity") ∷ number (codes "subscription") ∷ [])
+    (Some 0) (0 ∷ []) [] []
+    (goes_with (0 ∷ []) (codes "entity") (codes "num" ∷ [])
+    ∷ holds_on_to (2 ∷ []) (codes "subscription") (codes "num" ∷ []) ∷ [])
+
+-- the index on `lo` and `hi` of the table `subscription_cell`
+abbrev pub subscription_cell_range : ℕ → ℕ → Index
+subscription_cell_range tree table = record {
+  name = codes "subscription_cell_range";
+  tree = tree;
+  table = table;
+  columns = 4 ∷ 5 ∷ [];
+  order = plain;
+  is_unique = false;
+}
+
+-- the index that keeps the first of a table's uniques
+abbrev pub key_index : Table → List ℕ → ℕ → Index
+key_index table columns tree = automatic table 0 columns tree
+
+-- ---- the schema
+
+abbrev pub no_schema : Schema
+no_schema = record { tables = []; indexes = []; views = [] }
+
+-- the tables of format 1 and no other; each table and each index has its tree in the order in which
+-- they are made
+abbrev pub first_schema : Schema
+first_schema = record {
+  tables = meta 0 ∷ entity 1 ∷ volume 3 ∷ cell 5 ∷ availability 8 ∷ [];
+  indexes =
+      key_index (entity 1) (2 ∷ 3 ∷ []) 2 ∷ key_index (volume 3) (1 ∷ 2 ∷ []) 4
+      ∷ key_index (cell 5) (1 ∷ 2 ∷ 3 ∷ []) 6
+      ∷ cell_range 7 5 ∷ key_index (availability 8) (1 ∷ []) 9 ∷ [];
+  views = [];
+}
+
+-- the tables that came with format 2
+abbrev pub later_tables : List Table
+later_tables = subscription 10 ∷ subscription_cell 12 ∷ naming 15 ∷ []
+
+-- the tables of format 2 and no other: those of format 1, and then three more
+abbrev pub second_schema : Schema
+second_schema = record {
+  tables = meta 0 ∷ entity 1 ∷ volume 3 ∷ cell 5 ∷ availability 8 ∷ subscription 10
+      ∷ subscription_cell 12 ∷ naming 15 ∷ [];
+  indexes =
+      key_index (entity 1) (2 ∷ 3 ∷ []) 2 ∷ key_index (volume 3) (1 ∷ 2 ∷ []) 4
+      ∷ key_index (cell 5) (1 ∷ 2 ∷ 3 ∷ []) 6
+      ∷ cell_range 7 5 ∷ key_index (availability 8) (1 ∷ []) 9
+      ∷ key_index (subscription 10) (2 ∷ []) 11
+      ∷ key_index (subscription_cell 12) (1 ∷ 2 ∷ []) 13
+      ∷ subscription_cell_range 14 12 ∷ [];
+  views = [];
+}
+
+abbrev pub schema_of : Format → Schema
+schema_of One = first_schema
+schema_of Two = second_schema
+
+-- the number of a format in `meta`
+abbrev pub format_number : Format → ℕ
+format_number One = 1
+format_number Two = 2
+
+-- the format in which an airspace is kept
+abbrev pub dss_schema : Schema
+dss_schema = schema_of Two
+
+-- ---- the schema on the way, a table or an index a step
+
+abbrev pub schema_1 : Schema
+schema_1 = record { tables = meta 0 ∷ []; indexes = []; views = [] }
+
+abbrev pub schema_2 : Schema
+schema_2 = record {
+  tables = meta 0 ∷ entity 1 ∷ [];
+  indexes = key_index (entity 1) (2 ∷ 3 ∷ []) 2 ∷ [];
+  views = [];
+}
+
+abbrev pub schema_3 : Schema
+schema_3 = record {
+  tables = meta 0 ∷ entity 1 ∷ volume 3 ∷ [];
+  indexes = key_index (entity 1) (2 ∷ 3 ∷ []) 2 ∷ key_index (volume 3) (1 ∷ 2 ∷ []) 4 ∷ [];
+  views = [];
+}
+
+abbrev pub schema_4 : Schema
+schema_4 = record {
+  tables = meta 0 ∷ entity 1 ∷ volume 3 ∷ cell 5 ∷ [];
+  indexes = key_index (entity 1) (2 ∷ 3 ∷ []) 2 ∷ key_index (volume 3) (1 ∷ 2 ∷ []) 4
+      ∷ key_index (cell 5) (1 ∷ 2 ∷ 3 ∷ []) 6 ∷ [];
+  views = [];
+}
+
+abbrev pub schema_5 : Schema
+schema_5 = record {
+  tables = meta 0 ∷ entity 1 ∷ volume 3 ∷ cell 5 ∷ [];
+  indexes =
+      key_index (entity 1) (2 ∷ 3 ∷ []) 2 ∷ key_index (volume 3) (1 ∷ 2 ∷ []) 4
+      ∷ key_index (cell 5) (1 ∷ 2 ∷ 3 ∷ []) 6
+      ∷ cell_range 7 5 ∷ [];
+  views = [];
+}
+
+-- format 1 is between these
+
+abbrev pub schema_7 : Schema
+schema_7 = record {
+  tables = meta 0 ∷ entity 1 ∷ volume 3 ∷ cell 5 ∷ availability 8 ∷ subscription 10 ∷ [];
+  indexes =
+      key_index (entity 1) (2 ∷ 3 ∷ []) 2 ∷ key_index (volume 3) (1 ∷ 2 ∷ []) 4
+      ∷ key_index (cell 5) (1 ∷ 2 ∷ 3 ∷ []) 6
+      ∷ cell_range 7 5 ∷ key_index (availability 8) (1 ∷ []) 9
+      ∷ key_index (subscription 10) (2 ∷ []) 11 ∷ [];
+  views = [];
+}
+
+abbrev pub schema_8 : Schema
+schema_8 = record {
+  tables = meta 0 ∷ entity 1 ∷ volume 3 ∷ cell 5 ∷ availability 8 ∷ subscription 10
+      ∷ subscription_cell 12 ∷ [];
+  indexes =
+      key_index (entity 1) (2 ∷ 3 ∷ []) 2 ∷ key_index (volume 3) (1 ∷ 2 ∷ []) 4
+      ∷ key_index (cell 5) (1 ∷ 2 ∷ 3 ∷ []) 6
+      ∷ cell_range 7 5 ∷ key_index (availability 8) (1 ∷ []) 9
+      ∷ key_index (subscription 10) (2 ∷ []) 11
+      ∷ key_index (subscription_cell 12) (1 ∷ 2 ∷ []) 13 ∷ [];
+  views = [];
+}
+
+abbrev pub schema_9 : Schema
+schema_9 = record {
+  tables = meta 0 ∷ entity 1 ∷ volume 3 ∷ cell 5 ∷ availability 8 ∷ subscription 10
+      ∷ subscription_cell 12 ∷ [];
+  indexes =
+      key_index (entity 1) (2 ∷ 3 ∷ []) 2 ∷ key_index (volume 3) (1 ∷ 2 ∷ []) 4
+      ∷ key_index (cell 5) (1 ∷ 2 ∷ 3 ∷ []) 6
+      ∷ cell_range 7 5 ∷ key_index (availability 8) (1 ∷ []) 9
+      ∷ key_index (subscription 10) (2 ∷ []) 11
+      ∷ key_index (subscription_cell 12) (1 ∷ 2 ∷ []) 13
+      ∷ subscription_cell_range 14 12 ∷ [];
+  views = [];
+}

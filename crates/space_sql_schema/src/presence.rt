@@ -1,0 +1,259 @@
+//! Which of the tables of the formats a database has.
+ghost use Rattle.std.specs.Prelude.{◌≡◌};
+ghost use Rattle.std.specs.List.{list_any};
+ghost use Rattle.sqlite_schema.specs.Names.{same_name};
+ghost use Rattle.space_sql_schema.specs.Tables.{no_schema, first_schema, second_schema, later_tables, meta, entity, volume, cell, availability, subscription, subscription_cell, naming};
+ghost use Rattle.space_sql_schema.specs.declared.format.Format.TheVariants.{One, Two};
+ghost use Rattle.space_sql_schema.specs.Presence.{is_named, has_column, stands_for, has_all, has_some, presence_in};
+
+use crate::format::Format;
+use sqlite_schema::names::same_name;
+use sqlite_schema::schema::{Column, Schema, Table};
+
+/// How a database stands to the tables of the formats.
+#[derive(Clone, Copy, Debug, PartialEq, Eq)]
+pub enum Presence {
+    /// It has none of them.
+    Missing,
+    /// It has some, and lacks others or some of their columns.
+    Partial,
+    /// It has all those of a format, with their columns; of format 1, none of those that came later.
+    Whole(Format),
+}
+
+fn is_named(table: &Table, name: &[u8]) -> bool
+    ensures { result ≡ is_named name.now table.now }
+{
+    same_name(table.name.as_slice(), name)
+}
+
+fn is_column(column: &Column, name: &[u8]) -> bool
+    ensures { result ≡ same_name column.now.name name.now }
+{
+    same_name(column.name.as_slice(), name)
+}
+
+fn has_column(table: &Table, name: &[u8]) -> bool
+    ensures { result ≡ has_column name.now table.now }
+{
+    table.columns.as_slice().iter().any(|c| is_column(c, name))
+}
+
+fn is_meta(table: &Table) -> bool
+    ensures { result ≡ stands_for (meta 0) table.now }
+{
+    is_named(table, b"meta")
+        && (has_column(table, b"one")
+            && (has_column(table, b"format") && has_column(table, b"serial")))
+}
+
+fn is_entity(table: &Table) -> bool
+    ensures { result ≡ stands_for (entity 1) table.now }
+{
+    is_named(table, b"entity")
+        && (has_column(table, b"num")
+            && (has_column(table, b"kind")
+                && (has_column(table, b"id")
+                    && (has_column(table, b"manager")
+                        && (has_column(table, b"state")
+                            && (has_column(table, b"version")
+                                && (has_column(table, b"serial")
+                                    && (has_column(table, b"ovn")
+                                        && has_column(table, b"url")))))))))
+}
+
+fn is_volume(table: &Table) -> bool
+    ensures { result ≡ stands_for (volume 3) table.now }
+{
+    is_named(table, b"volume")
+        && (has_column(table, b"entity")
+            && (has_column(table, b"place")
+                && (has_column(table, b"alt_lower")
+                    && (has_column(table, b"alt_upper")
+                        && (has_column(table, b"time_start") && has_column(table, b"time_end"))))))
+}
+
+fn is_cell(table: &Table) -> bool
+    ensures { result ≡ stands_for (cell 5) table.now }
+{
+    is_named(table, b"cell")
+        && (has_column(table, b"entity")
+            && (has_column(table, b"volume")
+                && (has_column(table, b"place")
+                    && (has_column(table, b"token")
+                        && (has_column(table, b"lo") && has_column(table, b"hi"))))))
+}
+
+fn is_availability(table: &Table) -> bool
+    ensures { result ≡ stands_for (availability 8) table.now }
+{
+    is_named(table, b"availability")
+        && (has_column(table, b"uss")
+            && (has_column(table, b"state") && has_column(table, b"version")))
+}
+
+fn is_subscription(table: &Table) -> bool
+    ensures { result ≡ stands_for (subscription 10) table.now }
+{
+    is_named(table, b"subscription")
+        && (has_column(table, b"num")
+            && (has_column(table, b"id")
+                && (has_column(table, b"manager")
+                    && (has_column(table, b"serial")
+                        && (has_column(table, b"version")
+                            && (has_column(table, b"notes")
+                                && (has_column(table, b"url")
+                                    && (has_column(table, b"for_intents")
+                                        && (has_column(table, b"for_constraints")
+                                            && (has_column(table, b"alt_lower")
+                                                && (has_column(table, b"alt_upper")
+                                                    && (has_column(table, b"time_start")
+                                                        && has_column(
+                                                            table,
+                                                            b"time_end",
+                                                        )))))))))))))
+}
+
+fn is_subscription_cell(table: &Table) -> bool
+    ensures { result ≡ stands_for (subscription_cell 12) table.now }
+{
+    is_named(table, b"subscription_cell")
+        && (has_column(table, b"subscription")
+            && (has_column(table, b"place")
+                && (has_column(table, b"token")
+                    && (has_column(table, b"lo") && has_column(table, b"hi")))))
+}
+
+fn is_naming(table: &Table) -> bool
+    ensures { result ≡ stands_for (naming 15) table.now }
+{
+    is_named(table, b"naming")
+        && (has_column(table, b"entity") && has_column(table, b"subscription"))
+}
+
+fn is_later(table: &Table) -> bool
+    ensures { result ≡ list_any (λ own. is_named own.name table.now) later_tables }
+{
+    is_named(table, b"subscription")
+        || (is_named(table, b"subscription_cell") || is_named(table, b"naming"))
+}
+
+fn is_ours(table: &Table) -> bool
+    ensures { result ≡ list_any (λ own. is_named own.name table.now) second_schema.tables }
+{
+    is_named(table, b"meta")
+        || (is_named(table, b"entity")
+            || (is_named(table, b"volume")
+                || (is_named(table, b"cell")
+                    || (is_named(table, b"availability") || is_later(table)))))
+}
+
+fn any_meta(tables: &[Table]) -> bool
+    ensures { result ≡ list_any (stands_for (meta 0)) tables.now }
+{
+    tables.iter().any(|t| is_meta(t))
+}
+
+fn any_entity(tables: &[Table]) -> bool
+    ensures { result ≡ list_any (stands_for (entity 1)) tables.now }
+{
+    tables.iter().any(|t| is_entity(t))
+}
+
+fn any_volume(tables: &[Table]) -> bool
+    ensures { result ≡ list_any (stands_for (volume 3)) tables.now }
+{
+    tables.iter().any(|t| is_volume(t))
+}
+
+fn any_cell(tables: &[Table]) -> bool
+    ensures { result ≡ list_any (stands_for (cell 5)) tables.now }
+{
+    tables.iter().any(|t| is_cell(t))
+}
+
+fn any_availability(tables: &[Table]) -> bool
+    ensures { result ≡ list_any (stands_for (availability 8)) tables.now }
+{
+    tables.iter().any(|t| is_availability(t))
+}
+
+fn any_subscription(tables: &[Table]) -> bool
+    ensures { result ≡ list_any (stands_for (subscription 10)) tables.now }
+{
+    tables.iter().any(|t| is_subscription(t))
+}
+
+fn any_subscription_cell(tables: &[Table]) -> bool
+    ensures { result ≡ list_any (stands_for (subscription_cell 12)) tables.now }
+{
+    tables.iter().any(|t| is_subscription_cell(t))
+}
+
+fn any_naming(tables: &[Table]) -> bool
+    ensures { result ≡ list_any (stands_for (naming 15)) tables.now }
+{
+    tables.iter().any(|t| is_naming(t))
+}
+
+fn has_all(tables: &[Table]) -> bool
+    ensures { result ≡ has_all first_schema.tables tables.now }
+{
+    any_meta(tables)
+        && (any_entity(tables)
+            && (any_volume(tables) && (any_cell(tables) && any_availability(tables))))
+}
+
+fn has_all_later(tables: &[Table]) -> bool
+    ensures { result ≡ has_all later_tables tables.now }
+{
+    any_subscription(tables) && (any_subscription_cell(tables) && any_naming(tables))
+}
+
+fn has_some(tables: &[Table]) -> bool
+    ensures { result ≡ has_some second_schema.tables tables.now }
+{
+    tables.iter().any(|t| is_ours(t))
+}
+
+fn has_some_later(tables: &[Table]) -> bool
+    ensures { result ≡ has_some later_tables tables.now }
+{
+    tables.iter().any(|t| is_later(t))
+}
+
+fn presence_in(tables: &[Table]) -> Presence
+    ensures { result ≡ presence_in tables.now }
+{
+    if has_all(tables) {
+        if has_all_later(tables) {
+            Presence::Whole(Format::Two)
+        } else if has_some_later(tables) {
+            Presence::Partial
+        } else {
+            Presence::Whole(Format::One)
+        }
+    } else if has_some(tables) {
+        Presence::Partial
+    } else {
+        Presence::Missing
+    }
+}
+
+/// How a schema stands to the tables of the formats. Further tables, columns and rules are not
+/// looked for. It takes no memory.
+pub fn presence_of(schema: &Schema) -> Presence
+    ensures exact { result ≡ presence_in schema.now.tables }
+    ensures missing { schema.now ≡ no_schema → result ≡ Presence.Missing }
+    ensures first { schema.now ≡ first_schema → result ≡ Presence.Whole One }
+    ensures second { schema.now ≡ second_schema → result ≡ Presence.Whole Two }
+{
+    presence_in(schema.tables.as_slice())
+}
+
+/// Whether a schema has the table `meta` with its columns. It takes no memory.
+pub fn has_meta(schema: &Schema) -> bool
+    ensures { result ≡ list_any (stands_for (meta 0)) schema.now.tables }
+{
+    any_meta(schema.tables.as_slice())
+}

@@ -1,0 +1,5 @@
+pub mod SearchRanges
+pub mod CellTable
+pub mod Numbers
+pub mod Candidates
+pub mod Met

@@ -1,0 +1,38 @@
+-- The numbers of what has certain cells.
+use Rattle.std.specs.Prelude.{◌≡◌, ℤ, ◌≤ℤ◌, List, [], ◌∷◌, map}
+use Rattle.std.specs.List.{AllByRecursion}
+use Rattle.sqlite_value.specs.Order.{Row}
+use Rattle.sqlite_value.specs.declared.value.Value.TheVariants.{Int}
+use Rattle.sqlite_rules.specs.Lists.{Has}
+use Rattle.sqlite.specs.Effect.{Database}
+use Rattle.space_sql_search.specs.declared.search_ranges.SearchRanges.{SearchRanges}
+use Rattle.space_sql_search.specs.declared.cell_table.CellTable.{CellTable}
+use Rattle.space_sql_search.specs.declared.cell_table.RangeMatch.{RangeMatch}
+use Rattle.space_sql_search.specs.declared.cell_table.RangeMatch.TheVariants.{Within, Exactly}
+use Rattle.space_sql_search.specs.declared.interval.Interval.{Interval}
+use Rattle.space_sql_search.specs.CellTable.{StoredCell, stored_columns, stored_values, tree_of}
+
+-- a row of the table
+abbrev pub IsCellIn : CellTable → Database → StoredCell → Type 0
+IsCellIn table db c = Has (map (stored_columns table) (db.trees (tree_of table))) (stored_values c)
+
+-- the interval of a cell begins in this one, or is this one
+abbrev pub IsSought : RangeMatch → Interval → StoredCell → Type 0
+IsSought Within i c = (i.lo ≤ℤ c.lo) × (c.lo ≤ℤ i.hi)
+IsSought Exactly i c = (c.lo ≡ i.lo) × (c.hi ≡ i.hi)
+
+-- the rows show the numbers that stand by all cells that are sought
+abbrev pub ShowsNumbers : CellTable → RangeMatch → Interval → Database → List Row → Type 0
+ShowsNumbers table sought i db rows =
+    (c : StoredCell) → IsCellIn table db c → IsSought sought i c → Has rows (Int c.num ∷ [])
+
+-- those numbers are among these
+abbrev pub HasNumbers : CellTable → RangeMatch → Database → List ℤ → Interval → Type 0
+HasNumbers table sought db numbers i =
+    (c : StoredCell) → IsCellIn table db c → IsSought sought i c → Has numbers c.num
+
+-- all that the index finds
+pub record FindsNumbers (table : CellTable) (asked : SearchRanges) (db : Database) (numbers : List ℤ)
+    : Type 0 where
+  pub in_ranges : AllByRecursion (HasNumbers table Within db numbers) asked.ranges.items
+  pub above : AllByRecursion (HasNumbers table Exactly db numbers) asked.ancestors.items

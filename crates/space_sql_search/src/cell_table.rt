@@ -1,0 +1,39 @@
+//! The tables of cells, each with an index on `lo` and `hi`.
+ghost use Rattle.std.specs.Prelude.{◌≡◌};
+ghost use Rattle.space_sql_search.specs.CellTable.{text_of};
+
+/// The table that keeps the cells of entities, or that of the cells of subscriptions.
+#[derive(Clone, Copy, Debug)]
+pub(crate) enum CellTable {
+    OfEntities,
+    OfSubscriptions,
+}
+
+/// Of an interval, the cells whose intervals begin in it, or those that have it.
+#[derive(Clone, Copy, Debug)]
+pub(crate) enum RangeMatch {
+    Within,
+    Exactly,
+}
+
+impl CellTable {
+    /// Asks for the numbers of those with a cell that is sought.
+    pub fn text(self, sought: RangeMatch) -> &'static str
+        ensures { result.now ≡ text_of self sought }
+    {
+        match (self, sought) {
+            (CellTable::OfEntities, RangeMatch::Within) => {
+                "SELECT entity FROM cell WHERE lo BETWEEN ?1 AND ?2"
+            }
+            (CellTable::OfEntities, RangeMatch::Exactly) => {
+                "SELECT entity FROM cell WHERE lo = ?1 AND hi = ?2"
+            }
+            (CellTable::OfSubscriptions, RangeMatch::Within) => {
+                "SELECT subscription FROM subscription_cell WHERE lo BETWEEN ?1 AND ?2"
+            }
+            (CellTable::OfSubscriptions, RangeMatch::Exactly) => {
+                "SELECT subscription FROM subscription_cell WHERE lo = ?1 AND hi = ?2"
+            }
+        }
+    }
+}

@@ -1,0 +1,12 @@
+//! The entities and the subscriptions that meet areas, found by the indexes on the intervals of
+//! cells.
+#![tactic(auto)]
+
+mod candidates;
+mod cell_table;
+mod interval;
+mod managers;
+pub mod meeting;
+mod numbers;
+mod search_ranges;
+pub mod subscriptions;

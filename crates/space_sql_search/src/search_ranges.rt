@@ -1,0 +1,65 @@
+//! What the index is asked for: the intervals of the cells of areas and of those that hold them.
+ghost use Rattle.std.specs.Prelude.{IfOk, OnOk};
+ghost use Rattle.std.specs.List.{AllByRecursion};
+ghost use Rattle.space_sql_search.specs.SearchRanges.{AreEachOnce, AsksFor, AsksForAll, HasAncestors, IsSubset, KeepsAsked};
+
+use crate::interval::{Interval, interval_of};
+use grid_core::cell::CellId;
+use grid_core::volume::Area;
+use std::alloc::{AllocError, Global};
+
+/// Intervals of cells, and of the cells of levels below 13 that hold them.
+#[derive(Debug, Drop)]
+pub(crate) struct SearchRanges {
+    pub ranges: Vec<Interval>,
+    pub ancestors: Vec<Interval>,
+}
+
+fn add_ancestors(out: &mut Vec<Interval>, cell: CellId) -> Result<(), AllocError>
+    ensures keeps { OnOk result (IsSubset out.old.items out.new.items) }
+    ensures each { OnOk result (HasAncestors out.new.items cell) }
+{
+    let levels = cell.level().min(13);
+    for level in 0..levels {
+        out.push(interval_of(cell.parent(level)))?;
+    }
+    Ok(())
+}
+
+fn add_cells(asked: &mut SearchRanges, cells: &[CellId]) -> Result<(), AllocError>
+    ensures keeps { OnOk result (KeepsAsked asked.old asked.new) }
+    ensures each { OnOk result (AllByRecursion (AsksFor asked.new) cells.now) }
+{
+    for cell in cells {
+        let _number = cell.raw();
+        asked.ranges.push(interval_of(*cell))?;
+        add_ancestors(&mut asked.ancestors, *cell)?;
+    }
+    Ok(())
+}
+
+fn order_intervals(intervals: &mut Vec<Interval>)
+    ensures keeps { IsSubset intervals.old.items intervals.new.items }
+    ensures once { AreEachOnce intervals.new.items }
+{
+    intervals.sort_unstable();
+    intervals.dedup();
+}
+
+/// The intervals of the cells of areas, and of those that hold these, each once.
+pub(crate) fn asked_of(alloc: Global, areas: &[Area]) -> Result<SearchRanges, AllocError>
+    ensures each { IfOk result (λ asked. AsksForAll asked areas.now) }
+    ensures once { IfOk result (λ asked. AreEachOnce asked.ranges.items
+        × AreEachOnce asked.ancestors.items) }
+{
+    let mut asked = SearchRanges {
+        ranges: Vec::new(alloc),
+        ancestors: Vec::new(alloc),
+    };
+    for area in areas {
+        add_cells(&mut asked, area.cells())?;
+    }
+    order_intervals(&mut asked.ranges);
+    order_intervals(&mut asked.ancestors);
+    Ok(asked)
+}

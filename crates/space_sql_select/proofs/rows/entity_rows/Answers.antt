@@ -1,0 +1,19 @@
+use Rattle.std.proofs.Common.{◌+◌, sym, subst, drop, arith}
+use Rattle.space_rows.proofs.ReadSoFar.{ReadSoFar, front}
+use Rattle.space_sql_schema.specs.Spelling.{entity_values}
+use Rattle.space_sql_select.specs.Rows.{IsWrittenEntity, AreRowsOf}
+use Rattle.space_sql_schema.proofs.OneAirspace.{entity_of_values, entity_back}
+use Rattle.space_sql_select.proofs.TypedRows.{typed_more, typed_none, typed_all}
+use Rattle.space_sql_select.proofs.rows.entity_rows.Goals as goal
+
+pub loop-row-preserved : goal.loop-row-preserved
+loop-row-preserved c =
+    subst (ReadSoFar (AreRowsOf entity_values IsWrittenEntity c.args.rows.now) (AreRowsOf entity_values IsWrittenEntity (drop (c.loop-row.row-index + 1) c.args.rows.now))) (sym c.in_ok-push-in-Some.ensures.items)
+    (typed_more entity_values IsWrittenEntity entity_of_values entity_back c.args.rows.now c.loop-row.row-index c.row-item.result c.in-Some.read c.loop-row.out.items (front c.args.rows.now c.loop-row.row-index c.row-item.result c.loop-row-test.true c.row-item.is) (rw c.in-Some.is at c.in_ok-read.ensures) c.loop-row.invariant)
+
+pub returns-in-None : goal.returns-in-None
+returns-in-None c =
+    typed_none entity_values IsWrittenEntity entity_of_values entity_back c.args.rows.now c.loop-row.row-index c.row-item.result c.loop-row.out.items (front c.args.rows.now c.loop-row.row-index c.row-item.result c.loop-row-test.true c.row-item.is) (rw c.in-None.is at c.in_ok-read.ensures) c.loop-row.invariant
+
+pub returns : goal.returns
+returns c = typed_all entity_values IsWrittenEntity entity_of_values entity_back c.args.rows.now c.loop-row.row-index c.loop-row.out.items (omega arith) c.loop-row.invariant

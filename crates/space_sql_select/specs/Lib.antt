@@ -1,0 +1,5 @@
+pub mod Rows
+pub mod Reading
+pub mod Selecting
+pub mod AvailabilityRecord
+pub mod Meta

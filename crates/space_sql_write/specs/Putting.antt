@@ -1,0 +1,40 @@
+-- How the rows of an entity come into the tables.
+use Rattle.std.specs.Prelude.{◌≡◌, ◌⊎◌, ℤ, pos, List, Option}
+use Rattle.sqlite.specs.Effect.{Database}
+use Rattle.entity_core.specs.declared.entity.Entity.{Entity}
+use Rattle.entity_core.specs.Entity.{subscription_of}
+use Rattle.entity_core.specs.Airspace.{Airspace, key_of}
+use Rattle.space_rows.specs.declared.rows.EntityRow.{EntityRow}
+use Rattle.space_rows.specs.declared.rows.VolumeRow.{VolumeRow}
+use Rattle.space_rows.specs.declared.rows.CellRow.{CellRow}
+use Rattle.space_rows.specs.Rows.{SpellsEntity}
+use Rattle.space_sql_schema.specs.Spelling.{Spells, Names}
+use Rattle.space_sql_write.specs.Layout.{Always, LaysOut, IsNumberOf, Relays, layout_of, without_rows, with_rows}
+
+-- The number is that of the subscription that an entity names, and there is none where it names
+-- none. The tables stay as they are.
+abbrev pub FindsNaming : Entity → Option ℤ → Database → Database → Type 0
+FindsNaming e named old new =
+    (a : Airspace) (p : Spells old a)
+    → (new ≡ old) × Names p.subs named (subscription_of e.nature)
+
+-- Room is made for an entity under a number. Where the tables have its kind and id, it is that
+-- entity's number, and its rows are gone. Where they do not, it is the serial of the entity, and
+-- all rows stand.
+abbrev pub MakesRoom : Entity → ℤ → Database → Database → Type 0
+MakesRoom e num old new =
+    (a : Airspace) (p : Spells old a)
+    → (IsNumberOf num (key_of e) p.groups × LaysOut new (without_rows num (layout_of old a p)))
+    ⊎ (((n : ℤ) → ¬ IsNumberOf n (key_of e) p.groups)
+    × (num ≡ pos e.serial) × LaysOut new (layout_of old a p))
+
+-- Rows that spell the entity under the number join the others, and one by which it names what it
+-- names.
+pub record InsertsEntity (e : Entity) (num : ℤ) (named : Option ℤ) (old new : Database) : Type 0
+  where
+    pub row : EntityRow
+    pub volumes : List VolumeRow
+    pub cells : List CellRow
+    pub number : row.num ≡ num
+    pub spelt : SpellsEntity row volumes cells (subscription_of e.nature) e
+    pub relays : Relays Always (with_rows row volumes cells named) old new

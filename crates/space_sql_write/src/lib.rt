@@ -1,0 +1,17 @@
+//! One change of the airspace in the tables, or the changes of a round, in one transaction.
+#![tactic(auto)]
+
+mod availability;
+pub mod batch;
+pub mod change;
+mod insert;
+mod inserted;
+mod notify;
+mod number;
+pub mod purge;
+mod put;
+mod remove;
+mod serial;
+mod sub_insert;
+mod sub_put;
+mod sub_remove;

@@ -1,0 +1,120 @@
+//! What is let go of goes from the tables in one transaction, and the serial stays.
+ghost use Rattle.std.specs.Prelude.{◌≡◌, ◌∷◌, false};
+ghost use Rattle.sqlite.specs.Held.{state};
+ghost use Rattle.entity_purge.specs.PurgeItem.{CanPurgeAll, without_items};
+ghost use Rattle.entity_purge.specs.declared.purge_item.PurgeItem.TheVariants.{Entity, Subscription};
+ghost use Rattle.space_sql_schema.specs.Within.{SameConnection, Within};
+ghost use Rattle.space_sql_write.specs.Committing.{Commits, HoldsAcrossChange};
+ghost use Rattle.space_sql_write.specs.Numbering.{KeepsNumbers};
+ghost use Rattle.space_sql_write.specs.Statements.{Runs, MakesLess, MakesLessAll, MakesLessRest};
+
+use crate::number::{number_of, sub_number_of};
+use crate::remove::clear_entity;
+use crate::sub_remove::clear_sub;
+use entity_core::entity_id::EntityId;
+use entity_core::nature::Kind;
+use entity_purge::purge_item::PurgeItem;
+use sqlite::{Alter, Connection, Error, Transaction};
+use std::alloc::Global;
+
+fn let_entity_go<S: Alter>(
+    alloc: Global,
+    tx: &mut Transaction<'_, S>,
+    kind: Kind,
+    id: EntityId,
+) -> Result<(), Error>
+    ensures same_reference { SameConnection tx.old tx.new }
+    ensures goes { Within S.Store tx.old tx.new (Runs (λ _. MakesLess (Entity kind id))) result }
+{
+    let Some(num) = number_of(alloc, tx, kind, id)? else {
+        return Err(Error::QueryReturnedNoRows);
+    };
+    clear_entity(tx, num)
+}
+
+fn let_sub_go<S: Alter>(
+    alloc: Global,
+    tx: &mut Transaction<'_, S>,
+    id: EntityId,
+) -> Result<(), Error>
+    ensures same_reference { SameConnection tx.old tx.new }
+    ensures goes { Within S.Store tx.old tx.new (Runs (λ _. MakesLess (Subscription id))) result }
+{
+    let Some(num) = sub_number_of(alloc, tx, id)? else {
+        return Err(Error::QueryReturnedNoRows);
+    };
+    clear_sub(tx, num)
+}
+
+// Lets go of one thing. It is an error where it is not there, or where an intent names it.
+fn let_one_go<S: Alter>(
+    alloc: Global,
+    tx: &mut Transaction<'_, S>,
+    gone: &PurgeItem,
+) -> Result<(), Error>
+    ensures same_reference { SameConnection tx.old tx.new }
+    ensures goes { Within S.Store tx.old tx.new (Runs (λ _. MakesLess gone.now)) result }
+{
+    match gone {
+        PurgeItem::Entity(kind, id) => let_entity_go(alloc, tx, *kind, *id),
+        PurgeItem::Subscription(id) => let_sub_go(alloc, tx, *id),
+    }
+}
+
+fn let_rest_go<S: Alter>(
+    alloc: Global,
+    tx: &mut Transaction<'_, S>,
+    rest: &[PurgeItem],
+) -> Result<(), Error>
+    ensures same_reference { SameConnection tx.old tx.new }
+    ensures goes { Within S.Store tx.old tx.new (Runs (λ _. MakesLessRest rest.now)) result }
+{
+    for next in rest {
+        let_one_go(alloc, tx, next)?;
+    }
+    Ok(())
+}
+
+fn let_each_go<S: Alter>(
+    alloc: Global,
+    tx: &mut Transaction<'_, S>,
+    first: &PurgeItem,
+    rest: &[PurgeItem],
+) -> Result<(), Error>
+    ensures same_reference { SameConnection tx.old tx.new }
+    ensures goes { Within S.Store tx.old tx.new
+        (Runs (λ _. MakesLessAll (first.now ∷ rest.now))) result }
+{
+    let_one_go(alloc, tx, first)?;
+    let_rest_go(alloc, tx, rest)
+}
+
+/// Lets go of the first of these and of the rest of them, one after the other, in one transaction:
+/// their rows go, and the serial stays. Who stays keeps its number. It is for tables that spell an
+/// airspace in which the first is there, and each of the others in what those before it leave, and
+/// no intent names it.
+///
+/// # Errors
+///
+/// An error of the database, or want of memory. While the connection stays open, it shows what was
+/// committed before.
+pub fn purge_all<S: Alter>(
+    alloc: Global,
+    conn: &mut Connection<S>,
+    first: &PurgeItem,
+    rest: &[PurgeItem],
+) -> Result<(), Error>
+    requires { conn.old.in_transaction ≡ false }
+    ensures ended { conn.new.in_transaction ≡ false }
+    ensures commits { let old = state S.Store conn.old in
+        Commits (CanPurgeAll (first.now ∷ rest.now)) (without_items (first.now ∷ rest.now))
+        old (state S.Store conn.new) result }
+    ensures numbers { let old = state S.Store conn.old in
+        HoldsAcrossChange (CanPurgeAll (first.now ∷ rest.now))
+        (λ a. KeepsNumbers a (without_items (first.now ∷ rest.now) a))
+        old (state S.Store conn.new) result }
+{
+    let mut tx = conn.transaction();
+    let_each_go(alloc, &mut tx, first, rest)?;
+    tx.commit()
+}

@@ -1,9 +1,0 @@
-use Rattle.sqlite.specs.Held.{state}
-use Rattle.space_tables.specs.Tables.{first_schema, schema_7, schema_8}
-use Rattle.space_tables.specs.Making.{AddsTables}
-use Rattle.space_tables.proofs.Steps.{steps_then}
-use Rattle.space_tables.proofs.upgrade.make_subscriptions.Goals as goal
-
-pub returns-clause-adds : goal.returns-clause-adds
-returns-clause-adds g c =
-    steps_then (AddsTables first_schema schema_7) (AddsTables schema_7 schema_8) (AddsTables first_schema schema_8) (state g.S.Store c.args.tx.now.conn.now) (state g.S.Store c.make_subscription.new.tx.conn.now) (state g.S.Store c.make_subscription_cell.new.tx.conn.now) _ _ _ (λ first then trees has. then trees (first trees has)) c.in_ok-make_subscription.ensures.adds c.in_ok-make_subscription_cell.ensures.adds

@@ -1,7 +1,0 @@
-//! Laws of tables, each named by a function that does nothing.
-ghost use Rattle.space_tables.specs.Laws.{OneAirspace};
-
-/// The tables spell one airspace at most.
-pub fn one_airspace()
-    ensures { OneAirspace }
-{}

@@ -1,0 +1,118 @@
+//! Serves streams of requests over tables in memory, and compares searches, for tests: no command
+//! of `dss` keeps its tables in memory.
+//!
+//! The first word names the token file. Each further one is the name of a stream of requests, whose
+//! answers are printed, or `cell:` with the token of a cell: of each kind it is told how many of
+//! the references meet the cell, and whether the search by the index on cells and one that goes
+//! through all references find the same.
+#![tactic(auto)]
+
+use entity_core::entity::Entity;
+use entity_core::nature::Kind;
+use grid_core::token::parse_token;
+use grid_core::volume::Area;
+use service_calls::service::Service;
+use space_core::met::Met;
+use space_core::space::Space;
+use space_sql::space::SqlSpace;
+use sqlite::MemStore;
+use std::fs::File;
+use std::process::ExitCode;
+use std::{env, fs};
+use token_conf::token_table::TokenTable;
+use wire_http::{Counted, FixedClock, serve_stream};
+use wire_route::routes::Routes;
+
+/// The moment of each request, in seconds since 1970.
+const NOW: u64 = 5_000;
+
+// Answers the requests of a file.
+fn serve_file(
+    rt: &HostRuntime,
+    routes: &Routes,
+    service: &mut Service<SqlSpace<MemStore>>,
+    tokens: &TokenTable,
+    name: &str,
+) -> Option<()> {
+    let mut reader = Counted::new(File::open(rt, name).ok()?);
+    let mut writer = Counted::new(rt.stdout());
+    let mut clock = FixedClock::new(NOW);
+    serve_stream(
+        rt.alloc(),
+        routes,
+        service,
+        tokens,
+        &mut clock,
+        &mut reader,
+        &mut writer,
+    )
+    .ok()?;
+    Some(())
+}
+
+// Whether they are the same references, in the same order.
+fn are_same(found: &[Met], sought: &[Entity]) -> bool {
+    found.len() == sought.len() && found.iter().zip(sought).all(|(m, e)| m.entity.id == e.id)
+}
+
+// Compares the search by the index with one that goes through all references of the kind.
+fn compare_searches(
+    rt: &HostRuntime,
+    space: &mut SqlSpace<MemStore>,
+    kind: Kind,
+    token: &str,
+) -> Option<()> {
+    let mut cells = Vec::new(rt.alloc());
+    cells.push(parse_token(token).ok()?).ok()?;
+    let area = Area::new(cells, (None, None), (None, None)).ok()?;
+    let areas = [area];
+    let found = space.meeting(kind, &areas, None).ok()?;
+    let mut sought = space.all(kind).ok()?;
+    let count = sought.len();
+    sought.retain(|e| e.volumes.meets_any(&areas));
+    let told = if are_same(found.as_slice(), sought.as_slice()) {
+        "both searches find the same"
+    } else {
+        "the searches differ"
+    };
+    let met = sought.len();
+    println!(rt; "{token}: {met} of {count}, {told}").ok()
+}
+
+fn answer(
+    rt: &HostRuntime,
+    routes: &Routes,
+    service: &mut Service<SqlSpace<MemStore>>,
+    tokens: &TokenTable,
+    word: &str,
+) -> Option<()> {
+    let Some(token) = word.strip_prefix("cell:") else {
+        return serve_file(rt, routes, service, tokens, word);
+    };
+    compare_searches(rt, service.space(), Kind::Intent, token)?;
+    compare_searches(rt, service.space(), Kind::Constraint, token)
+}
+
+fn answer_all(rt: &HostRuntime) -> Option<()> {
+    let mut words = env::args(rt).ok()?;
+    words.next()?;
+    let Some(name) = words.next() else {
+        return Some(());
+    };
+    let text = fs::read_to_string(rt, name.as_str()).ok()?;
+    let tokens = TokenTable::read(rt.alloc(), text.as_str()).ok()?;
+    let salt = tokens.salt().clone().ok()?;
+    let routes = Routes::new(rt.alloc()).ok()?;
+    let mut service = Service::new(SqlSpace::create(rt.alloc()).ok()?, salt);
+    for word in words {
+        answer(rt, &routes, &mut service, &tokens, word.as_str())?;
+    }
+    Some(())
+}
+
+fn main(rt: HostRuntime) -> ExitCode {
+    match answer_all(&rt) {
+        Some(()) => ExitCode::SUCCESS,
+        None => ExitCode::FAILURE,
+    }
+}

@@ -1,0 +1,195 @@
+//! What is told of a token file.
+ghost use Rattle.std.specs.Prelude.{◌≡◌, ◌+◌, [], ◌∷◌, IfOk, OnOk, length, vec_len};
+ghost use Rattle.toml.specs.View.{view};
+ghost use Rattle.token_conf.specs.TokenFile.{file_of};
+ghost use Rattle.token_check.specs.TokenFileErrors.{Explain, mistakes_in, errors_of};
+ghost use Rattle.token_check.specs.Summary.{summary_of};
+ghost use Rattle.token_check.specs.Warnings.{warnings_in, warnings_of};
+
+use crate::location::{Location, line_of, place_of_mistake, place_of_warning};
+use crate::message::{error_message, warning_message};
+use crate::statement::{Statement, line_at, statements};
+use crate::summary::{Summary, summary_of};
+use crate::token_file_error::TokenFileError;
+use crate::token_file_errors::errors_of;
+use crate::warning::Warning;
+use crate::warnings::warnings_of;
+use std::alloc::{AllocError, Global};
+use toml::Value;
+use toml::de::Error;
+
+/// What is told of a token file.
+#[derive(Debug, Drop)]
+pub struct CheckReport {
+    /// What its reader refuses: first that of the salt, then table by table.
+    pub mistakes: Vec<TokenFileError>,
+    /// What it says and surely does not mean.
+    pub warnings: Vec<Warning>,
+    /// A line for each mistake and then for each warning, without its end.
+    pub lines: Vec<String>,
+    /// How much it has.
+    pub summary: Summary,
+}
+
+// The line of what is said of a place.
+fn line(
+    alloc: Global,
+    number: Option<usize>,
+    table: Option<usize>,
+    message: &str,
+) -> Result<String, AllocError> {
+    match (number, table) {
+        (Some(number), Some(table)) => {
+            let token = table.saturating_add(1);
+            format!(in alloc; "line {number}, token {token}: {message}")
+        }
+        (Some(number), None) => format!(in alloc; "line {number}: {message}"),
+        (None, Some(table)) => {
+            let token = table.saturating_add(1);
+            format!(in alloc; "token {token}: {message}")
+        }
+        (None, None) => String::from_str(alloc, message),
+    }
+}
+
+// A text, and where its statements begin.
+#[derive(Clone, Copy, Drop)]
+struct Source<'a> {
+    text: &'a str,
+    statements: &'a [Statement],
+}
+
+// The line of what is said of a place of a text.
+fn line_at_place(
+    alloc: Global,
+    source: Source<'_>,
+    place: Location<'_>,
+    message: &str,
+) -> Result<String, AllocError> {
+    let number = line_of(source.text, source.statements, place);
+    line(alloc, number, place.table, message)
+}
+
+// Adds the lines of mistakes.
+fn put_lines_of_mistakes(
+    alloc: Global,
+    lines: &mut Vec<String>,
+    source: Source<'_>,
+    document: &Value,
+    mistakes: &[TokenFileError],
+) -> Result<(), AllocError>
+    ensures { OnOk result (vec_len lines.new ≡ vec_len lines.old + length mistakes.now) }
+{
+    for mistake in mistakes {
+        let message = error_message(alloc, document, *mistake)?;
+        let place = place_of_mistake(*mistake);
+        lines.push(line_at_place(alloc, source, place, message.as_str())?)?;
+    }
+    Ok(())
+}
+
+// Adds the lines of warnings.
+fn put_lines_of_warnings(
+    alloc: Global,
+    lines: &mut Vec<String>,
+    source: Source<'_>,
+    document: &Value,
+    warnings: &[Warning],
+) -> Result<(), AllocError>
+    ensures { OnOk result (vec_len lines.new ≡ vec_len lines.old + length warnings.now) }
+{
+    for warning in warnings {
+        let message = warning_message(alloc, document, warning)?;
+        let place = place_of_warning(warning);
+        lines.push(line_at_place(alloc, source, place, message.as_str())?)?;
+    }
+    Ok(())
+}
+
+// What is told of a document.
+fn report_of(alloc: Global, text: &str, document: &Value) -> Result<CheckReport, AllocError>
+    ensures mistakes { IfOk result (λ report.
+        report.mistakes.items ≡ errors_of (view document.now)) }
+    ensures warnings { IfOk result (λ report.
+        report.warnings.items ≡ warnings_of (view document.now)) }
+    ensures summary { IfOk result (λ report. report.summary ≡ summary_of (view document.now)) }
+    ensures lines { IfOk result (λ report.
+        vec_len report.lines ≡ vec_len report.mistakes + vec_len report.warnings) }
+{
+    let mistakes = errors_of(alloc, document)?;
+    let warnings = warnings_of(alloc, document)?;
+    let statements = statements(alloc, text)?;
+    let source = Source {
+        text,
+        statements: statements.as_slice(),
+    };
+    let mut lines = Vec::new(alloc);
+    put_lines_of_mistakes(alloc, &mut lines, source, document, mistakes.as_slice())?;
+    put_lines_of_warnings(alloc, &mut lines, source, document, warnings.as_slice())?;
+    Ok(CheckReport {
+        mistakes,
+        warnings,
+        lines,
+        summary: summary_of(document),
+    })
+}
+
+// What is told of a text that is not TOML: one line.
+fn report_of_no_toml(alloc: Global, text: &str, error: &Error) -> Result<CheckReport, AllocError>
+    ensures mistakes { IfOk result (λ report. report.mistakes.items ≡ TokenFileError.Toml ∷ []) }
+    ensures warnings { IfOk result (λ report. report.warnings.items ≡ []) }
+    ensures lines { IfOk result (λ report. vec_len report.lines ≡ 1) }
+{
+    let reason = error.message();
+    let message = format!(in alloc; "no TOML: {reason}")?;
+    let number = match error.span() {
+        Some(span) => Some(line_at(text, span.start)),
+        None => None,
+    };
+    let mut mistakes = Vec::new(alloc);
+    mistakes.push(TokenFileError::Toml)?;
+    let mut lines = Vec::new(alloc);
+    lines.push(line(alloc, number, None, message.as_str())?)?;
+    Ok(CheckReport {
+        mistakes,
+        warnings: Vec::new(alloc),
+        lines,
+        summary: Summary {
+            tokens: 0,
+            suppliers: 0,
+            salt: 0,
+        },
+    })
+}
+
+// What is told of a text, TOML or not.
+fn report_of_text(alloc: Global, text: &str) -> Result<CheckReport, AllocError>
+    ensures mistakes { IfOk result (λ report. report.mistakes.items ≡ mistakes_in text.now) }
+    ensures warnings { IfOk result (λ report. report.warnings.items ≡ warnings_in text.now) }
+    ensures lines { IfOk result (λ report.
+        vec_len report.lines ≡ vec_len report.mistakes + vec_len report.warnings) }
+{
+    match toml::table_from_str(alloc, text) {
+        Ok(table) => report_of(alloc, text, &Value::Table(table)),
+        Err(error) => {
+            if error.is_memory() {
+                return Err(AllocError);
+            }
+            report_of_no_toml(alloc, text, &error)
+        }
+    }
+}
+
+/// What is told of the text of a token file. Its mistakes are exactly what the reader of token
+/// files refuses: it takes the file where there is none, and else tells the fault of the first.
+/// What stands at `text` and at `salt` is on no line. The time grows with the square of the number
+/// of tokens.
+pub fn check_token_file(alloc: Global, text: &str) -> Result<CheckReport, AllocError>
+    ensures mistakes { IfOk result (λ report. report.mistakes.items ≡ mistakes_in text.now) }
+    ensures explain { IfOk result (λ report. Explain report.mistakes.items (file_of text.now)) }
+    ensures warnings { IfOk result (λ report. report.warnings.items ≡ warnings_in text.now) }
+    ensures lines { IfOk result (λ report.
+        vec_len report.lines ≡ vec_len report.mistakes + vec_len report.warnings) }
+{
+    report_of_text(alloc, text)
+}

@@ -1,6 +1,0 @@
-use Rattle.std.proofs.Common.{◌∙◌}
-use Rattle.token_report.proofs.Found.{is_scope-named}
-use Rattle.token_report.proofs.warnings.is_scope.Goals as goal
-
-pub returns : goal.returns
-returns c = c.is_some.ensures ∙ is_scope-named c.named.result c.args.name.now c.named.ensures

@@ -1,0 +1,414 @@
+"""`serve --retention`: what ended so long ago goes between rounds of calls, once a minute, and who looks ahead is told the same as by a
+service that keeps it all."""
+import collections
+import errno
+import time
+
+import drawn_calls
+import plain_policy
+import tables
+import wire
+from devices import GROWTHS, SIZES, WRITES, Page, library
+from figures import FullAndVerbose
+from operators import HEALTH, SERVING, STOP, Operated, said, until_counted
+from plain_policy import INTENT, SUBSCRIPTION, has_ended, some_meet
+from program import SECONDS
+from served_calls import AHEAD
+from sockets import difference
+from purge import ID, STAYING, UNTIL, gone, made_of, many, put_intent, swept_rows, wrong_part
+from without_memory import STOPPED
+
+# seconds that what has ended is kept: what the scenes have ended long before, or half an hour after that
+DAY, HALF_AN_HOUR, MINUTE = 86_400, 1_800, 60
+# the least that go while calls are asked, and calls of each start
+WENT, CALLS, SEEDS = 1_500, 120, range(70, 74)
+# a cell of the drawn calls
+NEAR = ("00000004", 0, 0)
+# growths of memory after those of a start that are refused, some of them
+GROWTHS = 240
+# growths of a file, and writes, after those of a start: from each of them on the disk is full, or takes no write at all
+FULL, REFUSED = range(1, 32, 5), (20, 40, 61, 73)
+SWEPT, FAULTS = "dss_purged_total", "dss_purge_failures_total"
+
+
+class Keeping(Operated):
+    """`dss serve` with an operator's port over a database of these rows, which keeps what has ended so long."""
+
+    def __init__(self, rows, keep=DAY, tokens=drawn_calls.ALL_TOKENS, options=(), **more):
+        super().__init__(tokens, **more)
+        self.options = (*(() if keep is None else ("--retention", f"{keep}")), *options)
+        self.database = self.folder / "dss.db"
+        self.before = made_of(self.database, rows)
+
+    def wait(self, count):
+        """What is counted, once so many went."""
+        return until_counted(self, SWEPT, f"{count}")
+
+    def rows(self):
+        """What is kept, once it has ended."""
+        self.asked(STOP)
+        self.ended()
+        return tables.rows_in(self.database)
+
+
+def far(rows):
+    """Rows of which what stays ends far ahead of the clock."""
+    volumes = [(*it[:-1], AHEAD if it[-1] > UNTIL else it[-1]) for it in rows["volume"]]
+    subscriptions = [(*it[:-1], AHEAD if it[-1] > UNTIL else it[-1]) for it in rows["subscription"]]
+    return rows | {"volume": volumes, "subscription": subscriptions}
+
+
+def due(service):
+    """What is to go of its rows, and the rows without."""
+    after = swept_rows(service.before, UNTIL)
+    return sum(gone(service.before, after)), after
+
+
+def goes():
+    """All that ended so long ago goes from the start on, and is counted; all else is as it was. Without the option nothing goes."""
+    found = []
+    with Keeping(far(many())) as started:
+        count, after = due(started)
+        counted = started.wait(count)
+        found += difference("counted", (counted[SWEPT], counted[FAULTS], counted["dss_mirror_up"]), (f"{count}", "0", "1"))
+        entities = collections.Counter("constraint" if kind else "intent" for _, kind, *_ in after["entity"])
+        told = {it: int(counted[f'dss_entities{{kind="{it}"}}']) for it in entities}
+        found += difference("entities", told, dict(entities))
+        found += difference("subscriptions", counted["dss_subscriptions"], f"{len(after['subscription'])}")
+        found += difference("serial", counted["dss_serial"], f"{after['meta'][0][2]}")
+        found += difference("health", started.asked(HEALTH), said(200, SERVING))
+        found += difference("its rows", started.rows() == after, True) + tables.wrong_in(started.database)
+        # the next start finds nothing more
+        started.start()
+        time.sleep(2)
+        found += difference("again", started.counted()[SWEPT], "0") + difference("rows again", started.rows() == after, True)
+        found += difference("lines", started.ended(), (0, b"", started.listening))
+    with Keeping(many(64, 4), None) as started:
+        time.sleep(2)
+        found += difference("without", [started.counted()[it] for it in (SWEPT, FAULTS)], ["0", "0"])
+        return found + difference("rows without", started.rows(), started.before)
+
+
+def by_the_clock():
+    """What ended as long ago as it is kept goes, and what ended a little later stays; more seconds than the clock has keep all."""
+    now, rows = int(time.time()), many(0, 40)
+    ends = [now - DAY - 60, now - DAY + HALF_AN_HOUR]
+    rows["volume"] = [(*it[:-1], ends[at // 4 % 2]) for at, it in enumerate(rows["volume"])]
+    rows["subscription"] = [(*it[:-1], ends[0]) for it in rows["subscription"]]
+    found = []
+    with Keeping(rows) as started:
+        after = swept_rows(started.before, ends[0])
+        counts = gone(started.before, after)
+        found += difference("counted", started.wait(sum(counts))[SWEPT], f"{sum(counts)}")
+        found += difference("rows", started.rows() == after, True) + ([] if all(counts) else [f"{counts}"])
+    for keep in 2 * now, 253_402_300_799:
+        with Keeping(rows, keep) as started:
+            time.sleep(2)
+            found += difference(f"{keep}", [started.counted()[it] for it in (SWEPT, FAULTS)], ["0", "0"])
+            found += difference(f"rows, {keep}", started.rows(), started.before)
+    return found
+
+
+def once_a_minute():
+    """What ends while it is served goes at the next look, a minute after the one before, also while nobody asks anything."""
+    with Keeping(far(many(64, 4)), 1) as started:
+        began = time.monotonic()
+        first, _ = due(started)
+        found = difference("at the start", started.wait(first)[SWEPT], f"{first}")
+        now = int(time.time())
+        puts = [put_intent(ID(7_000 + it), "tok-a", 100 + 10 * it, [(now - 10, now + (3 if it < 3 else 900))]) for it in range(4)]
+        puts = [wire.request(method, target, f"Bearer {token}", wire.compact(body).encode()) for method, target, token, body in puts]
+        found += difference("creations", {it[:12] for it in started.ask(puts)}, {b"HTTP/1.1 201"})
+        reading = wire.request("GET", f"{wire.INTENTS}/{ID(7_000)}", "Bearer tok-a")
+        time.sleep(MINUTE - 10 - (time.monotonic() - began))
+        found += difference("a look too early", started.counted()[SWEPT], f"{first}")
+        found += difference("it", started.ask([reading])[0][:12], b"HTTP/1.1 200")
+        counted = started.wait(first + 3)
+        took = time.monotonic() - began
+        found += difference("a minute later", counted[SWEPT], f"{first + 3}")
+        found += [] if MINUTE - 1 < took < MINUTE + 10 else [f"it went after {took:.1f} s"]
+        return found + difference("it then", started.ask([reading])[0][:12], b"HTTP/1.1 404")
+
+
+# ---- who looks ahead
+
+
+def looks_ahead(airspace, until, call):
+    """Whether a call looks ahead of a moment, as docs/LAWS.md has it."""
+    asked = call.asked
+    if asked is None or call.kind is None:
+        return True
+    if any(it.times[0] is None or it.times[0] <= until for it in asked.extents()):
+        return False
+    ended = [it for it in airspace.entities.values() if has_ended(it, until)]
+    named = {it.put.subscription for it in airspace.entities.values() if it.kind == INTENT and not has_ended(it, until)}
+    goes = {id_ for id_, it in airspace.subscriptions.items() if has_ended(it, until) and id_ not in named}
+    if call.kind == SUBSCRIPTION:
+        near = {id_ for id_, it in airspace.subscriptions.items() if it.manager == call.uss and some_meet(it.put.extents, asked.extents())}
+        shown = near if call.work == "query" else {asked.id}
+        return asked.id not in goes and not any(it.kind == INTENT and it.put.subscription in shown for it in ended)
+    entity = airspace.found(call) if asked.id else None
+    if entity in ended or (asked.put and asked.put.subscription in goes):
+        return False
+    volumes = [*(asked.put.extents if asked.put else ()), *(entity.put.extents if entity else ())]
+    wants = lambda it: it.put.intents if call.kind == INTENT else it.put.constraints
+    told = {id_ for id_, it in airspace.subscriptions.items() if wants(it) and some_meet(it.put.extents, volumes)}
+    return call.work in ("read", "query") or not told & goes
+
+
+def airspace_of(rows):
+    """What rows of a scene stand for, as the plain policy has it."""
+    airspace = plain_policy.Airspace(int(time.time()), drawn_calls.ALL_TOKENS)
+    names = {entity: subscription for entity, subscription in rows["naming"]}
+    cells, ids = tuple(plain_policy.cell_of(it) for it in NEAR[:1]), {}
+    for num, id_, manager, serial, _, notes, url, intents, constraints, lower, upper, start, end in rows["subscription"]:
+        extent, ids[num] = plain_policy.Extent(cells, (lower, upper), (start, end)), id_
+        put = plain_policy.SubPut((extent,), url, bool(intents), bool(constraints))
+        airspace.subscriptions[id_] = plain_policy.Subscription(id_, manager, serial, notes, put)
+    for (num, kind, id_, manager, state, version, serial, _, url), (*_, lower, upper, start, end) in zip(rows["entity"], rows["volume"]):
+        kind = plain_policy.CONSTRAINT if kind else INTENT
+        extent = plain_policy.Extent(cells, (lower, upper), (start, end))
+        put = plain_policy.Put((extent,), (), plain_policy.STATES[state] if kind == INTENT else None, url, ids.get(names.get(num)))
+        airspace.entities[kind, id_] = plain_policy.Entity(kind, id_, manager, version, serial, put)
+    airspace.serial = rows["meta"][0][2]
+    return airspace
+
+
+def calls_ahead(seed, rows, until):
+    """Drawn calls that look ahead, with what the plain policy answers: that which keeps all. They are drawn over one that has
+    nothing of what was there before, and never had."""
+    whole, without = airspace_of(rows), plain_policy.Airspace(int(time.time()), drawn_calls.ALL_TOKENS)
+    without.serial = whole.serial
+    drawn = drawn_calls.Drawn(drawn_calls.Draw(seed), without, AHEAD)
+    found, calls, kinds = [], [], collections.Counter()
+    while len(calls) < CALLS:
+        call = drawn.call()
+        method, target, authorization, body = call
+        asked = plain_policy.call_of(drawn_calls.ALL_TOKENS, method, target, authorization, body or b"")
+        if not looks_ahead(whole, until, asked):
+            kinds["that look back"] += 1
+            continue
+        outcome = whole.ask(*call)
+        kinds[f"{outcome.status}"] += 1
+        found += difference(f"seed {seed}, the plain policy", without.ask(*call).text(), outcome.text())
+        calls.append((wire.request(*call), outcome.text()))
+    return found, calls, kinds
+
+
+def pairs():
+    """Drawn calls that look ahead are answered by a service that lets go meanwhile as by one that keeps all, byte for byte; the one
+    has in the end what a sweep leaves of the other."""
+    found, kinds = [], collections.Counter()
+    scene = {it: [(*row[:-3], *NEAR) if it.endswith("cell") else row for row in all_] for it, all_ in many(WENT, 0).items()}
+    for seed in SEEDS:
+        with Keeping(scene, None) as whole, Keeping(scene) as swept:
+            until = int(time.time()) - DAY
+            wrong, calls, some = calls_ahead(seed, whole.before, until)
+            found, kinds = found + wrong, kinds + some
+            counts = []
+            for at, (request, wanted) in enumerate(calls):
+                got = [it.ask([request])[0] for it in (swept, whole)]
+                found += difference(f"seed {seed}, call {at}, both", *got) + difference(f"seed {seed}, call {at}", got[1], wanted)
+                counts.append(int(swept.counted()[SWEPT]) if at in (0, CALLS // 2) else 0)
+            count, _ = due(whole)
+            found += difference(f"seed {seed}, counted", swept.wait(count)[SWEPT], f"{count}")
+            rows = whole.rows()
+            found += difference(f"seed {seed}, rows", swept.rows() == swept_rows(rows, until), True)
+    print(f"drawn calls beside a sweep: {dict(kinds)}")
+    return found + [f"few are answered {it}" for it in ("200", "201", "404", "409") if kinds[it] < 10]
+
+
+# ---- beside other options, and where it fails
+
+
+def room_again():
+    """What goes no longer takes the room of its supplier."""
+    rows = far(many(100, 0))
+    kept = len(rows["entity"]) + len(rows["subscription"])
+    method, target, token, body = put_intent(ID(9_000), "tok-a", 500, [(AHEAD, AHEAD + 10)])
+    put = wire.request(method, target, f"Bearer {token}", wire.compact(body).encode())
+    with Keeping(rows, None, most_kept=kept) as started:
+        found = difference("at its bound", started.ask([put])[0][:12], b"HTTP/1.1 500")
+        started.kill()
+        started.options = ("--retention", f"{DAY}")
+        started.start()
+        count, _ = due(started)
+        found += difference("counted", started.wait(count)[SWEPT], f"{count}") + difference("all of it", count, kept)
+        return found + difference("with room", started.ask([put])[0][:12], b"HTTP/1.1 201")
+
+
+def told_nowhere():
+    """The log has the lines of requests alone, and nothing is told on standard error; with --verbose the lines are as without."""
+    found = []
+    for options, preface in ((), b""), (("--verbose",), FullAndVerbose.preface):
+        service = Keeping(far(many()), options=options)
+        service.preface, log = preface, service.folder / "log"
+        service.options += ("--access-log", f"{log}")
+        with service as started:
+            count, _ = due(started)
+            found += difference("counted", started.wait(count)[SWEPT], f"{count}")
+            started.ask([wire.request("GET", f"{wire.AVAILABILITY}/uss-a", "Bearer tok-a")] * 3)
+            found += difference(f"lines, {options}", log.read_text().count("\n"), 3)
+            found += difference(f"told, {options}", (started.folder / "errors").read_bytes(), started.listening)
+    return found
+
+
+def killed():
+    """Killed in the middle, it leaves the database swept in part; the next start makes the rest."""
+    found, parts = [], collections.Counter()
+    for at in range(8):
+        with Keeping(far(many(WENT, STAYING))) as started:
+            time.sleep(0.05 * at)
+            started.kill()
+            rows = tables.rows_in(started.database)
+            count, after = due(started)
+            went = sum(gone(started.before, rows))
+            parts[went] += 1
+            found += [f"kill {at}: {it}" for it in wrong_part(started.before, started.database, UNTIL)]
+            started.start()
+            found += difference(f"kill {at}: the rest", started.wait(count - went)[SWEPT], f"{count - went}")
+            found += difference(f"kill {at}: rows", started.rows() == after, True)
+    print(f"a service that was killed as it let go left so much swept: {dict(sorted(parts.items()))}")
+    return found
+
+
+class Refusing(Keeping):
+    """Such a service whose files take no more from some call of these kinds on, after those of a start."""
+
+    def __init__(self):
+        super().__init__(far(many(WENT, STAYING)), None)
+        self.page, self.saved = Page(self.folder), self.database.read_bytes()
+        self.environment |= self.page.environment(library("fail_files", self.folder))
+
+    def refuse(self, at, kinds):
+        """Starts it anew over what it had; what is counted once that call was made as it let go, or no client is answered any more."""
+        self.kill()
+        self.database.write_bytes(self.saved)
+        self.database.with_name("dss.db-wal").unlink(missing_ok=True)
+        self.options = ()
+        self.page.set(kinds=kinds)
+        self.start()
+        opening = self.page.get("calls")
+        self.kill()
+        self.options = ("--retention", f"{DAY}")
+        self.page.set(at=opening + at, row=1_000_000, error=errno.ENOSPC, kinds=kinds)
+        self.start()
+        return until_counted(self, FAULTS, "1")
+
+    def left(self, went):
+        """What is wrong with what it left, once it was killed and can write again: so much went, and the next start makes the rest."""
+        count, after = due(self)
+        self.page.set()
+        self.kill()
+        found = wrong_part(self.before, self.database, UNTIL)
+        found += difference("what went", sum(gone(self.before, tables.rows_in(self.database))), went)
+        self.start()
+        found += difference("the rest", self.wait(count - went)[SWEPT], f"{count - went}")
+        return found + difference("rows", self.rows() == after, True)
+
+
+def full_disk():
+    """A disk that is full from some growth of a file on, as it refuses no write into what a file has: what went stays gone, a fault is
+    counted, the service goes on wherever that comes, and the next start makes the rest."""
+    found, parts = [], collections.Counter()
+    reading = wire.request("GET", f"{wire.INTENTS}/{ID(WENT)}", "Bearer tok-a")
+    with Refusing() as started:
+        for at in FULL:
+            counted = started.refuse(at, GROWTHS)
+            went = int(counted[SWEPT])
+            parts[went] += 1
+            found += difference(f"{at}: faults", counted[FAULTS], "1")
+            found += [] if 0 <= went < due(started)[0] else [f"{at}: {went} went"]
+            found += difference(f"{at}: health", started.asked(HEALTH), said(200, SERVING))
+            found += difference(f"{at}: a reading", started.ask([reading])[0][:12], b"HTTP/1.1 200")
+            found += [f"{at}: {it}" for it in started.left(went)]
+    print(f"a disk that was full as it let go left so much swept: {dict(sorted(parts.items()))}")
+    return found
+
+
+def refused_writes():
+    """Files that take no write at all any more: where the database can tell that nothing was changed it goes on, and else stops; what went
+    stays gone, and the next start makes the rest."""
+    found, ends = [], collections.Counter()
+    reading = wire.request("GET", f"{wire.INTENTS}/{ID(WENT)}", "Bearer tok-a")
+    with Refusing() as started:
+        for at in REFUSED:
+            counted = started.refuse(at, WRITES | SIZES)
+            went, answer = int(counted[SWEPT]), started.ask([reading])[0]
+            ends[answer[:12]] += 1
+            goes_on = answer.startswith(b"HTTP/1.1 200")
+            found += [] if goes_on or answer == wire.answer(*STOPPED) else [f"{at}: {answer!r}"]
+            found += difference(f"{at}: faults", counted[FAULTS], "1")
+            found += [f"{at}: {it}" for it in started.left(went)]
+    print(f"no write was taken as it let go: {dict(ends)}")
+    return found
+
+
+def without_memory():
+    """Growths of memory are refused, each alone, while it goes: what went is gone, what did not stays, and clients are answered; the next
+    start makes the rest."""
+    found, ends = [], collections.Counter()
+    with Keeping(far(many(WENT // 4, STAYING)), None) as started:
+        page, saved = Page(started.folder), started.database.read_bytes()
+        started.environment |= page.environment(library("refuse_memory", started.folder))
+        started.kill()
+        page.set()
+        # a start that takes the same words, and lets nothing go
+        started.options = ("--retention", f"{10**11}")
+        started.start()
+        opening, reading = page.get("calls"), wire.request("GET", f"{wire.AVAILABILITY}/uss-a", "Bearer tok-a")
+        count, after = due(started)
+        started.options = ("--retention", f"{DAY}")
+        for at in range(opening + 1, opening + GROWTHS, GROWTHS // 12):
+            started.kill()
+            started.database.write_bytes(saved)
+            started.database.with_name("dss.db-wal").unlink(missing_ok=True)
+            page.set(at=at, row=1)
+            started.start()
+            # a piece takes milliseconds, and after a fault none is made for a minute
+            time.sleep(2)
+            page.set()
+            counted = started.counted()
+            went = int(counted[SWEPT])
+            ends[went == count, counted[FAULTS], counted["dss_mirror_up"]] += 1
+            found += difference(f"growth {at}: a reading", started.ask([reading])[0][:12], b"HTTP/1.1 200")
+            started.kill()
+            found += [f"growth {at}: {it}" for it in wrong_part(started.before, started.database, UNTIL)]
+            found += difference(f"growth {at}: what went", sum(gone(started.before, tables.rows_in(started.database))), went)
+            started.start()
+            found += difference(f"growth {at}: the rest", started.wait(count - went)[SWEPT], f"{count - went}")
+        found += difference("rows", started.rows() == after, True)
+    print(f"growths refused while it went; whether all went, faults, a copy: {dict(ends)}")
+    return found
+
+
+def without_copy():
+    """Over tables that SQLite wrote anew there is no copy in memory, and nothing goes: it is counted, and calls are answered."""
+    with Keeping(far(many(64, 4))) as started:
+        started.wait(due(started)[0])
+        started.rows()
+        before = made_of(started.folder / "other.db", far(many(64, 4)))
+        (started.folder / "other.db").replace(started.database)
+        with tables.opened(started.database) as database:
+            database.execute("VACUUM")
+        started.start()
+        counted = until_counted(started, FAULTS, "1")
+        found = difference("counted", [counted[it] for it in (SWEPT, FAULTS, "dss_mirror_up")], ["0", "1", "0"])
+        reading = wire.request("GET", f"{wire.INTENTS}/{ID(1)}", "Bearer tok-a")
+        found += difference("a reading", started.ask([reading])[0][:12], b"HTTP/1.1 200")
+        return found + difference("rows", started.rows() == before, True)
+
+
+CASES = {
+    "keep-lets-go": goes,
+    "keep-by-the-clock": by_the_clock,
+    "keep-once-a-minute": once_a_minute,
+    "keep-beside-one-that-keeps-all": pairs,
+    "keep-gives-room-again": room_again,
+    "keep-is-told-nowhere": told_nowhere,
+    "keep-and-kills": killed,
+    "keep-on-a-full-disk": full_disk,
+    "keep-while-no-write-is-taken": refused_writes,
+    "keep-without-memory": without_memory,
+    "keep-without-a-copy": without_copy,
+}
