@@ -9,6 +9,7 @@ import tempfile
 import time
 
 import drawn_calls
+import seeds
 import tables
 import wire
 from program import BUILT, TOP, first_difference, run
@@ -180,7 +181,7 @@ def drawn_over(room, seed, between=lambda: None, notified=None):
 def drawn():
     """Drawn calls are answered as in memory, and SQLite then finds nothing wrong with the file."""
     found, notified = [], collections.Counter()
-    for seed in SEEDS:
+    for seed in [*SEEDS, *seeds.new("calls-over-a-database", 1)]:
         with Room() as room:
             found += drawn_over(room, seed, notified=notified)
     rare = [it for it in CAUSES if notified[it] < LEAST_OF_A_CAUSE]

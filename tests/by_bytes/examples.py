@@ -4,10 +4,10 @@ The answers were written from the rules and formats that docs/POLICY.md states, 
 SHA-256."""
 import json
 import re
-import socket
 import tempfile
 
 import wire
+from ports import free_port
 from program import BUILT, TOP, run
 from serving import Service
 
@@ -45,11 +45,6 @@ def bodies_for_clients():
     said = [json.loads(it.partition(b"\r\n\r\n")[2]) for it in wire.answers_of(output)]
     right = [it.get("message", it.get("operational_intent_reference", {}).get("ovn")) for it in said]
     return [f"{status}, {output!r}, {error!r}"] if (status, right, error) != (0, ["P5 FORM", wire.ovn(1)], b"") else []
-
-
-def free_port():
-    with socket.create_server(("127.0.0.1", 0)) as free:
-        return free.getsockname()[1]
 
 
 def meeting_over_sockets():

@@ -8,12 +8,13 @@ import threading
 import time
 
 import drawn_calls
+import lengths
 import plain_policy
 import wire
 from program import first_difference
 from serving import Service
 
-ROUNDS = 200
+ROUNDS = lengths.of(60, 200)
 CALLS = 60
 SEED = 11
 # the service has the clock of the machine, so all times that are drawn lie around a moment far ahead of it

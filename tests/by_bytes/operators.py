@@ -8,6 +8,7 @@ import wire
 from failing_files import Failing
 from many_clients import reset
 from patience import kept_intents
+from ports import free_port
 from program import BUILT, SECONDS, TOP, run
 from serving import Service, until_closed
 from sockets import ANSWER, ASKED, CLOSING, LAST, SOCKET, difference
@@ -58,8 +59,7 @@ class Operated(Service):
         return [*super().command(), "--admin-port", f"{self.admin}"]
 
     def start(self):
-        with socket.create_server(("127.0.0.1", 0)) as free:
-            self.admin = free.getsockname()[1]
+        self.admin = free_port()
         super().start()
         self.listening += f"dss: admin on 127.0.0.1:{self.admin}\n".encode()
         until = time.monotonic() + self.patience

@@ -3,9 +3,9 @@ import os
 import pathlib
 import re
 import shutil
-import socket
 import subprocess
 
+from ports import free_port
 from program import BUILT, TOP, run
 from releases import GIVEN, SOME, WANTED, Checkout, difference, one_space
 
@@ -74,8 +74,7 @@ def example(root):
     """The example that pages name runs where they are installed, with the program on the path."""
     if not shutil.which("curl"):
         return []
-    with socket.create_server(("127.0.0.1", 0)) as free:
-        port = free.getsockname()[1]
+    port = free_port()
     more = {"PATH": f"{root}/usr/bin:{os.environ['PATH']}"}
     status, output, error = run([str(root / DOCUMENTS / "examples" / "meeting"), f"{port}"], folder=root, more=more)
     return difference("examples/meeting", (status, output.count(b"\n7. "), error), (0, 1, b""))

@@ -12,7 +12,9 @@ import time
 import connections
 import crashes
 import drawn_calls
+import lengths
 import plain_policy
+import seeds
 import tables
 import wire
 from changed_databases import Filled
@@ -36,7 +38,7 @@ SEEDS, CHUNK, CHUNKS = range(40, 44), 25, 8
 # a scene of many: intents and subscriptions that end at once, and those that stay
 ENDED, STAYING = 600, 60
 # places among the calls on files at which a machine stops, and how often the program is killed
-STOPS, KILLS = 16, 8
+STOPS, KILLS = lengths.of(8, 16), lengths.of(4, 8)
 # of growths of memory, one in so many is refused; of the ways in which calls on files fail, of which every second one is with all
 # after it, one in so many
 STEP, CALLS_STEP = 61, 9
@@ -302,7 +304,7 @@ def kept_in(room):
 def drawn():
     """Drawn calls with a sweep after each few are answered as the plain policy has it that was swept, too."""
     found, went = [], collections.Counter()
-    for seed in SEEDS:
+    for seed in [*SEEDS, *seeds.new("purge", 1)]:
         draw, airspace = drawn_calls.Draw(seed), plain_policy.Airspace(drawn_calls.NOW, drawn_calls.ALL_TOKENS)
         drawer = drawn_calls.Drawn(draw, airspace)
         with Swept() as room:

@@ -14,6 +14,7 @@ import threading
 import time
 
 import drawn_calls
+import lengths
 import plain_policy
 import tables
 import wire
@@ -25,12 +26,12 @@ from serving import Service
 
 SEED = 81
 # so many stops of the machine at most, rounds in which a call on files fails, and rounds that begin a full disk
-MOST_STOPS, FAILURES, FULL = 30, 24, 8
+MOST_STOPS, FAILURES, FULL = lengths.of(12, 30), 24, 8
 ALL_AFTER = 1_000_000
 # changes of a round whose growths of memory are refused, and of these one in so many
 FEW, STEP = 5, 61
 # kills, each among so many creations of each client
-KILLS, CREATIONS = 20, 6
+KILLS, CREATIONS = lengths.of(10, 20), 6
 
 
 def wrong_in(judged, name, told=()):

@@ -7,6 +7,7 @@ import json
 import bodies
 import drawn_calls
 import meanings
+import seeds
 import wire
 import words
 from plain_policy import AVAILABILITIES, RULES, STATES
@@ -14,7 +15,7 @@ from program import BUILT, TOP, first_difference, run, serve
 from scenes import NOW
 
 CLOSE = b"Connection: close\r\n"
-SEEDS = range(1, 121)
+SEEDS, NEW_SEEDS = range(1, 121), 10
 MANGLED_SEEDS = range(201, 291)
 # how often each rule is broken by drawn calls, and by mangled ones; each operation succeeds so often, too
 LEAST, LEAST_MANGLED = 49, 10
@@ -60,7 +61,7 @@ def drawn():
     """Streams of drawn calls are answered as the plain policy says, and each rule and each work comes. Intents of
     each state are met, of managers of each availability, and subscriptions are told of changes for each cause."""
     met, notified = collections.Counter(), collections.Counter()
-    found = answered_as_drawn("drawn calls", SEEDS, LEAST, met=met, notified=notified)
+    found = answered_as_drawn("drawn calls", [*SEEDS, *seeds.new("drawn-calls", NEW_SEEDS)], LEAST, met=met, notified=notified)
     rare = [it for it in itertools.product(STATES, AVAILABILITIES) if met[it] < LEAST_MET]
     rare += [it for it in CAUSES if notified[it] < LEAST_OF_A_CAUSE]
     told = notified["the caller's own"] + notified["another's"]
@@ -71,15 +72,29 @@ def drawn():
 
 def mangled():
     """The same of drawn calls in which letters of bodies and targets are others."""
-    return answered_as_drawn("mangled calls", MANGLED_SEEDS, LEAST_MANGLED, is_mangled=True)
+    return answered_as_drawn("mangled calls", [*MANGLED_SEEDS, *seeds.new("mangled-calls", NEW_SEEDS)], LEAST_MANGLED, is_mangled=True)
 
 
-def answered_as_drawn(name, seeds, least, **how):
+def differs(name, calls, outcomes):
+    """Says how the answers to drawn calls differ from these outcomes."""
+    requests = [wire.request(*it) for it in calls]
+    wanted = [it.text(closes=at == wire.MOST_REQUESTS) for at, it in enumerate(outcomes, 1)]
+    return served(name, requests, wanted, drawn_calls.NOW, wire.token_file(drawn_calls.ALL_TOKENS))
+
+
+def shortest(seed, calls):
+    """Says how a failing stream differs, with as few of its calls as still fail."""
+    calls = drawn_calls.cut_down(calls, lambda some: differs("", some, drawn_calls.outcomes_of(some)))
+    requests = "".join(f"\n    {wire.request(*it)!r}" for it in calls)
+    return [f"{it}\n  by these requests:{requests}" for it in differs(f"seed {seed}", calls, drawn_calls.outcomes_of(calls))]
+
+
+def answered_as_drawn(name, drawn, least, **how):
     found, counts, works = [], collections.Counter(), set()
-    for seed in seeds:
-        requests, outcomes = drawn_calls.stream(seed, **how)
-        wanted = [it.text(closes=at == wire.MOST_REQUESTS) for at, it in enumerate(outcomes, 1)]
-        found += served(f"seed {seed}", requests, wanted, drawn_calls.NOW, wire.token_file(drawn_calls.ALL_TOKENS))
+    for seed in drawn:
+        calls, outcomes = drawn_calls.calls_of(seed, **how)
+        if differs(f"seed {seed}", calls, outcomes):
+            found += shortest(seed, calls)
         counts.update(it.why for it in outcomes)
         works |= {it.why for it in outcomes if it.why not in RULES}
     print(f"{name}: {counts.total()}, of which are " + ", ".join(f"P{it} {counts[it]}" for it in RULES))

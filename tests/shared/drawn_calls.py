@@ -305,19 +305,46 @@ def mangled(draw, call):
     return method, target, authorization, bytes(body) if call[3] is not None else None
 
 
-def stream(seed, count=wire.MOST_REQUESTS, is_mangled=False, met=None, notified=None):
-    """The requests of a stream, and the outcomes that the plain policy gives them. What puts met is counted in `met`, and
-    who was told of changes in `notified`."""
+def calls_of(seed, count=wire.MOST_REQUESTS, is_mangled=False, met=None, notified=None):
+    """Returns the calls of a stream, and the outcomes that the plain policy gives them. Counts in `met` what puts met, and
+    in `notified` the subscriptions that changes notified."""
     draw = Draw(seed)
     airspace = plain_policy.Airspace(NOW, ALL_TOKENS)
     drawn = Drawn(draw, airspace)
-    requests, outcomes = [], []
+    calls, outcomes = [], []
     for _ in range(count):
         call = mangled(draw, drawn.call()) if is_mangled else drawn.call()
-        requests.append(wire.request(*call))
+        calls.append(call)
         outcomes.append(airspace.ask(*call))
     if met is not None:
         met.update(airspace.met)
     if notified is not None:
         notified.update(airspace.notified)
-    return requests, outcomes
+    return calls, outcomes
+
+
+def stream(seed, count=wire.MOST_REQUESTS, is_mangled=False, met=None, notified=None):
+    """Returns the requests of a stream, and the outcomes that the plain policy gives them, as `calls_of` does."""
+    calls, outcomes = calls_of(seed, count, is_mangled, met, notified)
+    return [wire.request(*it) for it in calls], outcomes
+
+
+def outcomes_of(calls):
+    """Returns the outcomes that the plain policy gives to these calls, over an empty airspace."""
+    airspace = plain_policy.Airspace(NOW, ALL_TOKENS)
+    return [airspace.ask(*it) for it in calls]
+
+
+def cut_down(calls, fails, tries=60):
+    """Returns some of the calls, fewer if possible, for which `fails` still holds. Drops runs of calls, long ones first."""
+    size = len(calls) // 2
+    while size and tries:
+        at = 0
+        while at < len(calls) and tries:
+            fewer, tries = calls[:at] + calls[at + size :], tries - 1
+            if fewer and fails(fewer):
+                calls = fewer
+            else:
+                at += size
+        size //= 2
+    return calls

@@ -7,6 +7,7 @@ import tempfile
 import time
 
 import wire
+from ports import free_port
 from program import BUILT, SECONDS
 
 
@@ -57,8 +58,7 @@ class Service:
 
     def start(self):
         """Starts the program, and waits until it listens."""
-        with socket.create_server(("127.0.0.1", 0)) as free:
-            self.port = free.getsockname()[1]
+        self.port = free_port()
         self.listening = self.preface + f"dss: listening on {self.address}:{self.port}\n".encode()
         output, errors = self.folder / "output", self.folder / "errors"
         with output.open("wb") as stdout, errors.open("wb") as stderr:
