@@ -506,7 +506,7 @@ missing_known m test key (x ∷ xs) [] = []
 missing_known m test key (x ∷ xs) (b ∷ bs) =
     cond (test x) (cond (not (cond (same_text x.1.manager m) (in_key key x.1.ovn) b)) (x.1 ∷ missing_known m test key xs bs) (missing_known m test key xs bs)) (missing_known m test key xs bs)
 
--- Returns whether an entity is sought and not spared, given the availabilities.
+-- Returns true if an entity is sought and not spared, given the availabilities.
 abbrev met_and_owed : Availabilities → Kind → List Region → Option ℕ → EntityKey × Entity → Bool
 met_and_owed set kind areas except e = is_sought kind areas except e && not (spared e.1 (unwrap_or (get set e.1.manager) (Unknown, [])).0)
 

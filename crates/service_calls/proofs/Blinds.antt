@@ -34,7 +34,7 @@ seen_path : (own : Bool) (ovn present : List ℕ) → same_text ovn present ≡ 
 seen_path true ovn present = refl
 seen_path false ovn present = refl
 
--- Returns whether the entity of a key has another version, given the redacted entries and what is
+-- Returns true if the entity of a key has another version, given the redacted entries and what is
 -- known of each.
 abbrev another_of : List ℕ → List ℕ → EntityKey → List (EntityKey × Entity) → List Bool → Bool
 another_of m ovn k [] bs = false
@@ -59,7 +59,7 @@ another_like m ovn a b k l n =
     ∙ (sym (another-veiled m ovn k (entries b.entities))
     ∙ ap (λ (o : Option Entity). has_another_ovn o ovn) (sym (get-entries b.entities k)))))
 
--- Returns whether the subscription of an id has another version, given the redacted entries and
+-- Returns true if the subscription of an id has another version, given the redacted entries and
 -- what is known of each.
 abbrev another_sub_of : List ℕ → List ℕ → ℕ → List (ℕ × Sub) → List Bool → Bool
 another_sub_of m version k [] bs = false

@@ -23,7 +23,7 @@ pub record MadeCall : Type 0 where
   pub before : Airspace
   pub call : Call
 
--- Returns whether an operation creates or updates the entity of this key.
+-- Returns true if an operation creates or updates the entity of this key.
 abbrev pub puts : EntityKey → Operation → Bool
 puts k (Create id put) = eq_by_cmp key_cmp k (kind_of put.nature, id)
 puts k (Update id ovn put) = eq_by_cmp key_cmp k (kind_of put.nature, id)
@@ -58,7 +58,7 @@ last_writer salt k a (c ∷ cs) (r ∷ rs) =
 
 -- ---- what a put knew
 
--- Returns whether a call needed to know an entity: it needed to know that kind, and the entity was
+-- Returns true if a call needed to know an entity: it needed to know that kind, and the entity was
 -- not spared then.
 abbrev pub is_owed : MadeCall → Entity → Bool
 is_owed made y = call_needs made.before made.call y.nature && not (is_spared made.before y)

@@ -26,17 +26,17 @@ done_calls salt a (c ∷ cs) (r ∷ rs) =
 
 -- ---- one subscription
 
--- Returns whether an operation creates the subscription of an id.
+-- Returns true if an operation creates the subscription of an id.
 abbrev pub creates_sub : ℕ → Operation → Bool
 creates_sub id (CreateSub created put) = eq_by_cmp nat_cmp id created
 creates_sub id op = false
 
--- Returns whether a call notifies a subscription, if the subscription existed before the call.
+-- Returns true if a call notifies a subscription, if the subscription existed before the call.
 abbrev pub notifies_one : Airspace → Operation → ℕ → Option Sub → Bool
 notifies_one a op id None = false
 notifies_one a op id (Some s) = notifies a op (id, s)
 
--- Returns whether a call notified the subscription of an id, as it was before that call.
+-- Returns true if a call notified the subscription of an id, as it was before that call.
 abbrev pub notified : ℕ → MadeCall → Bool
 notified id made = notifies_one made.before made.call.op id (get made.before.subscriptions id)
 

@@ -9,7 +9,7 @@ space_of s = s.space
 abbrev pub salt_of : {S : Type 0} → Service S → List ℕ
 salt_of s = s.salt
 
--- Returns whether the service has replied `Stopped`.
+-- Returns true if the service has replied `Stopped`.
 abbrev pub is_shut : {S : Type 0} → Service S → Bool
 is_shut s = s.stopped
 
