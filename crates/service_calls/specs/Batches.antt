@@ -175,8 +175,8 @@ BatchesAreNumbered {S} k =
     (salt : List ℕ) (n : ℕ) (batches : List Batch) (new : Service S) (a : Airspace)
     → RunsInBatches k salt (empty_at n) batches new → k.persists (space_of new) a → AllNumbered salt a
 
--- States that, if no reply was `Stopped`, the later of two meeting entities knew the other, and
--- each index is the number of calls that notified the subscription.
+-- States that the later of two meeting entities knew the other, and each index is the number of
+-- calls that notified the subscription. It assumes that no reply was `Stopped`.
 abbrev pub BatchesAreAware : {S : Type 0} → settles.Ghosts S → Type 0
 BatchesAreAware {S} k =
     (salt : List ℕ) (n : ℕ) (batches : List Batch) (new : Service S) (a : Airspace)

@@ -99,7 +99,7 @@ LookAheadOncePurged salt a (segment ∷ segments) batches = LookAheadSince segme
     (airspace_after_batches salt a segment.batches) segments batches
 
 -- Holds if the replies over segments and batches are those of the policy to the same calls without
--- purges, and the durable airspace is the one without purges, partly purged.
+-- purges. The durable airspace is the one that these calls leave without purges, partly purged.
 pub record AreUnseen {S : Type 0} (k : settles.Ghosts S) (salt : List ℕ) (a : Airspace)
     (segments : List Segment) (batches : List Batch) (new : Service S) : Type 0 where
   pub told : delivered_replies (all_delivered_in segments batches)
@@ -109,9 +109,9 @@ pub record AreUnseen {S : Type 0} (k : settles.Ghosts S) (salt : List ℕ) (a : 
 
 -- ---- laws
 
--- States that after segments and batches from the empty airspace, the later of two meeting entities
--- knew the other, and each index is the number of calls that notified the subscription. It assumes
--- that no reply was `Stopped`; the purges between do not matter.
+-- States that the later of two meeting entities knew the other, and each index is the number of
+-- calls that notified the subscription. It holds after segments and batches from the empty airspace
+-- if no reply was `Stopped`; the purges between do not matter.
 abbrev pub SegmentsAreAware : {S : Type 0} → settles.Ghosts S → Type 0
 SegmentsAreAware {S} k =
     (salt : List ℕ) (n : ℕ) (segments : List Segment) (batches : List Batch) (new : Service S)

@@ -130,8 +130,9 @@ abbrev pub IsNotified : Airspace → Kind → List Region → Prepared → Type 
 IsNotified a kind areas made =
     made.notify ≡ map (λ s. s.id) (subscribers_in a.subscriptions kind areas)
 
--- Holds if the change and the answer are the given ones, with the notices of the subscriptions that
--- are for the kind and meet one of the areas. Assumes that the index of each of them can rise.
+-- Holds if the change and the answer are the given ones. The answer has the notices of the
+-- subscriptions that are for the kind and meet one of the areas. Assumes that the index of each of
+-- them can rise.
 abbrev pub Announces : Kind → List Region → Change → (List Notify → Answer) → Airspace → Prepared
     → Type 0
 Announces kind areas change answer a made = CanNotifyAll a kind areas

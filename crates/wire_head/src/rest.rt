@@ -81,7 +81,7 @@ fn feeds_in(bytes: &[u8]) -> usize
 
 /// Parses a head from the bytes so far. Returns `More` until a request line has ended.
 ///
-/// `fields` must have room for `FIELD_LIMIT` fields.
+/// `fields` must have `FIELD_LIMIT` elements.
 pub fn head_so_far(bytes: &[u8], fields: &mut [HeaderSpan]) -> PartialHead
     requires { length fields.old ≡ FIELD_LIMIT }
     ensures { IsSoFar bytes.now fields.new result }
