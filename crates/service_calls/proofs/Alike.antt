@@ -1,4 +1,5 @@
--- Airspaces that are alike to a supplier stay so, and tell it the same.
+-- Lemmas: airspaces that are alike to a USS stay alike, and the USS gets the same replies from
+-- both.
 use Rattle.std.specs.Prelude.{◌≡◌, ℕ, ◌+◌, ◌&&◌, ◌||◌, not, Bool, true, false, List, [], ◌∷◌, ◌++◌, map, filter, Option, Some, None, cond, find, refl, option_map, unwrap_or}
 use Rattle.std.proofs.Common.{sym, ap, ◌∙◌, subst}
 use Rattle.std.specs.Ordering.{eq_by_cmp, nat_cmp}
@@ -159,9 +160,9 @@ read_sub_like m a b None (Some r) l = l
 read_sub_like m a b (Some s) None l = l
 read_sub_like m a b (Some s) (Some r) l = l
 
--- ---- who is notified
+-- ---- notified subscriptions
 
--- telling sees no version, and leaves each as it is
+-- Notifying a subscription depends on no version and leaves its version unchanged.
 one_told-veiled : (m : List ℕ) (b : Bool) (s : Sub) → redacted_sub m (cond b (notified_again s) s) ≡ cond b (notified_again (redacted_sub m s)) (redacted_sub m s)
 one_told-veiled m true s = refl
 one_told-veiled m false s = refl
@@ -187,7 +188,7 @@ kept_with_like m a b old e l = notified_like m (kind_of e.nature) (touched old e
 
 -- ---- changes of entities
 
--- entities that differ behind the veil alone are updated to one entity
+-- Entities that are equal when redacted are updated to the same entity.
 same_update : (m salt : List ℕ) (n k id : ℕ) (put : Put) (e f : Entity) → n ≡ k → redacted m e ≡ redacted m f → updated salt (n + 1) id put e ≡ updated salt (k + 1) id put f
 same_update m salt n k id put e f s v = λ i. updated salt (s i + 1) id put (v i)
 
@@ -216,7 +217,7 @@ read_like m a b uss None (Some f) l = l
 read_like m a b uss (Some e) None l = l
 read_like m a b uss (Some e) (Some f) l = l
 
--- whoever makes the call, its effect leaves airspaces alike
+-- The effect of a call leaves airspaces alike, whoever the caller is.
 effect_like : (m salt : List ℕ) (a b : Airspace) (caller : Option Caller) (op : Operation) → IsLike m a b → IsLike m (effect salt a caller op).0 (effect salt b caller op).0
 effect_like m salt a b None op l = l
 effect_like m salt a b (Some caller) NoRoute l = l
@@ -244,7 +245,7 @@ effect_like m salt a b (Some caller) (CreateSub id put) l =
 effect_like m salt a b (Some caller) (UpdateSub id version put) l = update_sub_like m salt a b caller.uss id put (get a.subscriptions id) (get b.subscriptions id) l (get_sub_like m a b id l)
 effect_like m salt a b (Some caller) (DeleteSub id version) l = delete_sub_like m a b id (get a.subscriptions id) (get b.subscriptions id) l (get_sub_like m a b id l)
 
--- ---- what the supplier sees
+-- ---- views of the USS
 
 shown-veiled : (own : Bool) (ovn : List ℕ) → cond own (Some ovn) None ≡ cond own (Some (cond own ovn [])) None
 shown-veiled true ovn = refl
@@ -263,7 +264,7 @@ view_in m a b e l = ap (λ (x : Availabilities). view_with m e (unwrap_or (get x
 view_like : (m : List ℕ) (a b : Airspace) (e f : Entity) → a.availabilities ≡ b.availabilities → redacted m e ≡ redacted m f → view_of a m e ≡ view_of b m f
 view_like m a b e f l v = view-veiled m a e ∙ (ap (view_of a m) v ∙ (sym (view-veiled m a f) ∙ view_in m a b f l))
 
--- what is met, behind the veil
+-- The redacted met entities are those that are met among the redacted entities.
 met-veiled : (m : List ℕ) (kind : Kind) (areas : List Region) (except : Option ℕ) (es : List (EntityKey × Entity)) → map (redacted m) (map (λ e. e.1) (filter (is_sought kind areas except) es)) ≡ map (λ e. e.1) (filter (is_sought kind areas except) (map (redacted_entry m) es))
 met-veiled m kind areas except [] = refl
 met-veiled m kind areas except (x ∷ es) =
@@ -280,7 +281,7 @@ met_like m a b kind areas except l =
     ∙ (ap (λ (es : List (EntityKey × Entity)). map (λ e. e.1) (filter (is_sought kind areas except) es)) l.entities
     ∙ sym (met-veiled m kind areas except (entries b.entities)))
 
--- what is the same behind the veil is seen the same
+-- Entities that are equal when redacted have the same references for the USS.
 seen_like : (m : List ℕ) (a b : Airspace) (es fs : List Entity) → a.availabilities ≡ b.availabilities → map (redacted m) es ≡ map (redacted m) fs → map (view_of a m) es ≡ map (view_of b m) fs
 seen_like m a b [] [] l v = refl
 seen_like m a b [] (f ∷ fs) l v = cc
@@ -290,9 +291,9 @@ seen_like m a b (e ∷ es) (f ∷ fs) l v =
     let rest : map (redacted m) es ≡ map (redacted m) fs = cc in
     λ i. view_like m a b e f l here i ∷ seen_like m a b es fs l rest i
 
--- ---- what those that are notified are told
+-- ---- notices
 
--- whom a change notifies, behind the veil
+-- The redacted subscriptions that a change notifies are those among the redacted ones.
 subscribers-veiled : (m : List ℕ) (kind : Kind) (areas : List Region) (ss : List (ℕ × Sub)) → map (redacted_sub m) (map (λ s. s.1) (filter (is_for_near kind areas) ss)) ≡ map (λ s. s.1) (filter (is_for_near kind areas) (map (redacted_sub_entry m) ss))
 subscribers-veiled m kind areas [] = refl
 subscribers-veiled m kind areas (s ∷ ss) =
@@ -313,7 +314,7 @@ told_again-veiled : (m : List ℕ) (ss : List Sub) → map (redacted_sub m) (map
 told_again-veiled m [] = refl
 told_again-veiled m (s ∷ ss) = ap (λ (xs : List Sub). notified_again (redacted_sub m s) ∷ xs) (told_again-veiled m ss)
 
--- an address, an id and an index stand before the veil
+-- Redaction leaves the address, the id and the index of a subscription unchanged.
 addresses-veiled : (m : List ℕ) (ss : List Sub) → map {B = List ℕ × Unit {0}} (λ s. (s.url, tt)) ss ≡ map {B = List ℕ × Unit {0}} (λ s. (s.url, tt)) (map (redacted_sub m) ss)
 addresses-veiled m [] = refl
 addresses-veiled m (s ∷ ss) = ap (λ (xs : List (List ℕ × Unit {0})). (s.url, tt) ∷ xs) (addresses-veiled m ss)
@@ -340,7 +341,7 @@ notices_like m a b kind areas l =
     λ x. notices-veiled m (notified_in x kind areas) ∙ ap notices_of (told_again-veiled m (subscribers_in x.subscriptions kind areas)) in
     behind a ∙ (ap (λ (ss : List Sub). notices_of (map notified_again ss)) (subscribers_like m a b kind areas l) ∙ sym (behind b))
 
--- ---- what the supplier is told of an effect
+-- ---- replies to the USS
 
 read_told : (m : List ℕ) (a b : Airspace) (o p : Option Entity) → IsLike m a b → option_map (redacted m) o ≡ option_map (redacted m) p → (read_effect a m o).1 ≡ (read_effect b m p).1
 read_told m a b None None l v = refl
@@ -375,9 +376,9 @@ update_told m salt a b id put (Some e) (Some f) l v =
     notices_like m a b kind (touched e.volumes put.volumes) l ∙ ap (λ (z : Entity). notices_in b kind (touched z.volumes put.volumes)) same in
     λ i. Done (Changed (seen i) (told i))
 
--- ---- what it is told of its subscriptions
+-- ---- replies about subscriptions
 
--- what a supplier manages stands before the veil
+-- Redaction leaves the USS's own subscriptions unchanged.
 unveiled : (m : List ℕ) (s : Sub) → same_text s.manager m ≡ true → redacted_sub m s ≡ s
 unveiled m s h = ap (λ (b : Bool). record s { version = cond b s.version [] }) h
 
@@ -414,7 +415,7 @@ own_is : (b : Bool) → not b ≡ false → b ≡ true
 own_is true h = refl
 own_is false h = cc
 
--- of two that differ behind the veil alone, the supplier's own is the other
+-- If two subscriptions are equal when redacted and one belongs to the USS, they are equal.
 same_own : (m : List ℕ) (s r : Sub) → redacted_sub m s ≡ redacted_sub m r → same_text r.manager m ≡ true → s ≡ r
 same_own m s r v h =
     let here : same_text s.manager m ≡ true = ap (λ (x : Sub). same_text x.manager m) v ∙ h in
@@ -461,9 +462,9 @@ update_sub_told m salt a b id put (Some s) (Some r) l v =
     let same : redacted_sub m s ≡ redacted_sub m r = cc in
     put_sub_told m a b (sub_stored_as salt (a.serial + 1) s.manager s.index id put) (sub_stored_as salt (b.serial + 1) r.manager r.index id put) l (same_sub_update m salt a.serial b.serial id put s r l.serial same)
 
--- ---- what it is told of any effect
+-- ---- replies of all effects
 
--- of a call that looks at nothing of another's
+-- A call that breaks no rule about the manager gets the same reply.
 effect_told : (salt : List ℕ) (a b : Airspace) (caller : Caller) (op : Operation) → IsLike caller.uss a b → breaks_manager (Some caller) op (found_of b op) (sub_of b op) ≡ false → (effect_by salt a caller op).1 ≡ (effect_by salt b caller op).1
 effect_told salt a b caller NoRoute l own = refl
 effect_told salt a b caller NoMethod l own = refl
@@ -489,21 +490,23 @@ effect_told salt a b caller (CreateSub id put) l own =
 effect_told salt a b caller (UpdateSub id version put) l own = update_sub_told caller.uss salt a b id put (get a.subscriptions id) (get b.subscriptions id) l (get_sub_like caller.uss a b id l)
 effect_told salt a b caller (DeleteSub id version) l own = delete_sub_told caller a b id (get a.subscriptions id) (get b.subscriptions id) l (get_sub_like caller.uss a b id l) own
 
--- ---- what is missing
+-- ---- missing references
 
--- what is known of an entity, from what is known behind the veil
+-- Whether a key has the OVN of an entity follows from the redacted entity and from what is known of
+-- it.
 seen_known : (own : Bool) (key : List (List ℕ)) (ovn : List ℕ) → in_key key ovn ≡ cond own (in_key key (cond own ovn [])) (own || in_key key ovn)
 seen_known true key ovn = refl
 seen_known false key ovn = refl
 
--- of some entities behind the veil, and what is known of each, those that are sought and missing
+-- The entities that are sought and missing, given the redacted entries and, for each, whether its
+-- OVN is known.
 abbrev missing_known : List ℕ → (EntityKey × Entity → Bool) → List (List ℕ) → List (EntityKey × Entity) → List Bool → List Entity
 missing_known m test key [] bs = []
 missing_known m test key (x ∷ xs) [] = []
 missing_known m test key (x ∷ xs) (b ∷ bs) =
     cond (test x) (cond (not (cond (same_text x.1.manager m) (in_key key x.1.ovn) b)) (x.1 ∷ missing_known m test key xs bs) (missing_known m test key xs bs)) (missing_known m test key xs bs)
 
--- what is sought and not spared, where suppliers have set this
+-- Returns true if an entity is sought and not spared, given the availabilities.
 abbrev met_and_owed : Availabilities → Kind → List Region → Option ℕ → EntityKey × Entity → Bool
 met_and_owed set kind areas except e = is_sought kind areas except e && not (spared e.1 (unwrap_or (get set e.1.manager) (Unknown, [])).0)
 
@@ -536,13 +539,13 @@ met_missing_like m a b kind areas except key l k =
     ∙ missing-veiled m x.availabilities kind areas except key (entries x.entities) in
     side a ∙ ((λ i. missing_known m (met_and_owed (l.availabilities i) kind areas except) key (l.entities i) (k i)) ∙ sym (side b))
 
--- of what is asked for, or else of nothing
+-- The missing entities are equal when redacted, whether the call needs to know this kind or not.
 asked_like : (m : List ℕ) (asked : Bool) (key : List (List ℕ)) (es fs : List Entity) → map (redacted m) (missing_from key es) ≡ map (redacted m) (missing_from key fs)
     → map (redacted m) (missing_from key (cond asked es [])) ≡ map (redacted m) (missing_from key (cond asked fs []))
 asked_like m true key es fs h = h
 asked_like m false key es fs h = refl
 
--- what a subscription is for is seen before the veil
+-- Redaction leaves unchanged what a subscription is for.
 needs_kind-veiled : (m : List ℕ) (kind : Kind) (caller : Option Caller) (named : Option ℕ) (o : Option Sub) → needs_kind kind caller named o ≡ needs_kind kind caller named (option_map (redacted_sub m) o)
 needs_kind-veiled m kinds.Intent caller named o = refl
 needs_kind-veiled m kinds.Constraint caller None o = refl
@@ -573,7 +576,7 @@ missing_put_like a b caller id put l k =
     λ kind. seen_like caller.uss a b (of a kind) (of b kind) l.availabilities (needed_like caller.uss kind a b (Some caller) id put l k) in
     λ i. record { intents = seen kinds.Intent i; constraints = seen kinds.Constraint i }
 
--- of the supplier's own call, the same is missing
+-- The USS's own call lacks the same references in both airspaces.
 missing_like : (a b : Airspace) (caller : Caller) (op : Operation) → IsLike caller.uss a b → known caller.uss op a ≡ known caller.uss op b → missing_for a (Some caller) op ≡ missing_for b (Some caller) op
 unfolding missing_from
 missing_like a b caller NoRoute l k = refl
@@ -592,7 +595,7 @@ missing_like a b caller (CreateSub id put) l k = refl
 missing_like a b caller (UpdateSub id version put) l k = refl
 missing_like a b caller (DeleteSub id version) l k = refl
 
--- of another's call, something is missing in both or in neither
+-- Another USS's call lacks references in both airspaces or in neither.
 none_like : (m : List ℕ) (v w : Entity → Reference) (es fs : List Entity) → map (redacted m) es ≡ map (redacted m) fs → is_none_of (map v es) ≡ is_none_of (map w fs)
 none_like m v w [] [] h = refl
 none_like m v w [] (f ∷ fs) h = cc
@@ -657,7 +660,7 @@ pub last_like : (m : List ℕ) (a b : Airspace) (t : ℕ) (caller : Caller) (op 
 last_like m a b t caller op l k =
     λ i. cond (not (nothing_like m a b caller op l k i)) (Some Key) (cond (limit_like m a b op l i) (Some Limit) None)
 
--- ---- the supplier's own call
+-- ---- calls of the USS
 
 own_first : (m : List ℕ) (a b : Airspace) (t : ℕ) (caller : Caller) (op : Operation) → IsLike m a b → is_uss m (Some caller) ≡ true → known m op a ≡ known m op b
     → first_broken a t (record { caller = Some caller; op = op }) ≡ first_broken b t (record { caller = Some caller; op = op })
@@ -687,7 +690,7 @@ told_like a b caller op Limit h = refl
 told_like a b caller op Subscription h = refl
 told_like a b caller op Depended h = refl
 
--- a call that breaks no rule is made on nothing of another's
+-- A call that breaks no rule does not break the rule about the manager.
 own_managed : (a : Airspace) (t : ℕ) (c : Call) → first_broken a t c ≡ None → breaks a t c Manager ≡ false
 unfolding first_broken
 own_managed a t c h = none_passes (breaks a t c) (Route ∷ Method ∷ Token ∷ Scope ∷ Form ∷ Area ∷ Found ∷ Fresh ∷ []) (Version ∷ Role ∷ Change ∷ Ended ∷ Subscription ∷ Depended ∷ Key ∷ Limit ∷ []) Manager h

@@ -1,4 +1,4 @@
--- After a run, each later put knew the earlier ones that it meets.
+-- Lemmas: after a run, each later put knew the earlier entities that it meets.
 use Rattle.std.specs.Prelude.{◌≡◌, ℕ, ◌+◌, ◌≤◌, not, Bool, true, false, List, [], ◌∷◌, map, Option, Some, None, cond, refl, Contains}
 use Rattle.std.proofs.Common.{arith, sym, ap, ◌∙◌, subst, inl, inr}
 use Rattle.std.proofs.lemmas.Bool.{and_parts}
@@ -41,7 +41,7 @@ use Rattle.entity_core.proofs.Changes.{got, stayed, proper_with, proper_with_tol
 use Rattle.service_step.proofs.Keeps.{told_within}
 use Rattle.service_calls.proofs.Kept.{all_found, all_put, all_where, all_turned}
 
--- ---- what holds all along
+-- ---- the invariant
 
 pub record Kept (salt : List ℕ) (last : EntityKey → Option MadeCall) (a : Airspace) : Type 0 where
   pub proper : IsAirspace a
@@ -55,9 +55,9 @@ within salt a k x n h = (all_found (IsNumbered salt a.serial) (entries a.entitie
 raised : (salt : List ℕ) (serial : ℕ) (x : Entity) → IsNumbered salt serial x → IsNumbered salt (serial + 1) x
 raised salt serial x n = record { positive = n.positive; within = let w = n.within in omega arith; ovn = n.ovn }
 
--- ---- after each change
+-- ---- the invariant after each change
 
--- with an entity that knew the others
+-- The invariant holds after an entity is put that knew the others.
 kept_with : (salt : List ℕ) (last : EntityKey → Option MadeCall) (a : Airspace) (c : Call) (e : Entity) → Kept salt last a → e.serial ≡ a.serial + 1 → e.ovn ≡ ovn_text salt e.serial
     → ((y : Entity) → get a.entities (key_of y) ≡ Some y → eq_by_cmp key_cmp (key_of y) (key_of e) ≡ false → needs_key e.nature ≡ true → any_meet y.volumes (map region_of e.volumes) ≡ true → is_owed (record { before = a; call = c }) y ≡ true → Contains (key_shown c.op) y.ovn)
     → Kept salt (λ k. later_or (cond (eq_by_cmp key_cmp k (key_of e)) (Some (record { before = a; call = c })) None) (last k)) (with_entity a e)
@@ -108,7 +108,7 @@ kept_with salt last a c e s new text knows =
       ];
     }
 
--- without an entity
+-- The invariant holds after an entity is deleted.
 kept_without : (salt : List ℕ) (last : EntityKey → Option MadeCall) (a : Airspace) (k : EntityKey) → Kept salt last a → Kept salt last (without_entity a k)
 kept_without salt last a k s = record {
   proper = proper_without a k s.proper;
@@ -119,7 +119,7 @@ kept_without salt last a k s = record {
   knew = λ p q x y hx hy older needs meet. s.knew p q x y (stayed a.entities k p x hx) (stayed a.entities k q y hy) older needs meet;
 }
 
--- with an availability
+-- The invariant holds after an availability is set.
 kept_stated : (salt : List ℕ) (last : EntityKey → Option MadeCall) (a : Airspace) (uss : List ℕ) (stated : VersionedAvailability) → Kept salt last a → Kept salt last (with_availability a uss stated)
 kept_stated salt last a uss stated s = record {
   proper = proper_stated a uss stated s.proper;
@@ -128,7 +128,7 @@ kept_stated salt last a uss stated s = record {
   knew = s.knew;
 }
 
--- with a subscription, or without one
+-- The invariant holds after a subscription is put or deleted.
 kept_sub : (salt : List ℕ) (last : EntityKey → Option MadeCall) (a : Airspace) (x : Sub) → x.index ≤ a.serial + 1 → Kept salt last a → Kept salt last (with_subscription a x)
 kept_sub salt last a x within s = record {
   proper = proper_sub a x within s.proper;
@@ -145,17 +145,17 @@ kept_without_sub salt last a id s = record {
   knew = s.knew;
 }
 
--- while some are told: the entities and the serial stay
+-- The invariant holds after subscriptions are notified: entities and serial stay unchanged.
 kept_telling : (salt : List ℕ) (last : EntityKey → Option MadeCall) (a : Airspace) (test : ℕ × Sub → Bool) → IsAirspace (with_notified_subs a test) → Kept salt last a → Kept salt last (with_notified_subs a test)
 kept_telling salt last a test proper s = record { proper = proper; numbered = s.numbered; serials = s.serials; knew = s.knew }
 
--- ---- after a call
+-- ---- the invariant after a call
 
--- the last put, after one more call with its reply
+-- The last put of each entity, after one more call with its reply.
 abbrev pub last_with : (EntityKey → Option MadeCall) → Airspace → Call → Reply → EntityKey → Option MadeCall
 last_with last a c r = λ k. later_or (put_in k a c r) (last k)
 
--- the key of an operation has the OVN of each other entity that a put of it needs to know
+-- Holds if the key of an operation has the OVN of each other entity that its put needs to know.
 abbrev Knows : Airspace → Option Caller → Operation → Type 0
 Knows a caller op = (id : ℕ) (put : Put) (y : Entity) → put_of op ≡ Some (id, put) → needs_key put.nature ≡ true → get a.entities (key_of y) ≡ Some y → eq_by_cmp key_cmp (key_of y) (kind_of put.nature, id) ≡ false
     → any_meet y.volumes (map region_of put.volumes) ≡ true → call_needs a (record { caller = caller; op = op }) y.nature ≡ true → is_spared a y ≡ false → Contains put.key y.ovn
@@ -164,7 +164,7 @@ not_true : (b : Bool) → not b ≡ true → b ≡ false
 not_true true h = cc
 not_true false h = refl
 
--- the same of what a call was to know of, where it was made
+-- An operation that knows what its put needs also knows what the call was owed.
 knows_owed : (a : Airspace) (caller : Option Caller) (op : Operation) (id : ℕ) (put : Put) (y : Entity) → Knows a caller op → put_of op ≡ Some (id, put) → needs_key put.nature ≡ true → get a.entities (key_of y) ≡ Some y
     → eq_by_cmp key_cmp (key_of y) (kind_of put.nature, id) ≡ false → any_meet y.volumes (map region_of put.volumes) ≡ true → is_owed (record { before = a; call = record { caller = caller; op = op } }) y ≡ true → Contains put.key y.ovn
 knows_owed a caller op id put y knows is needs found other meet owed =
@@ -217,7 +217,7 @@ kept_delete_sub : (salt : List ℕ) (last : EntityKey → Option MadeCall) (a : 
 kept_delete_sub salt last a caller id version None s = s
 kept_delete_sub salt last a caller id version (Some x) s = kept_without_sub salt last a id s
 
--- the effect of a call
+-- The invariant holds after the effect of a call.
 kept_effect : (salt : List ℕ) (last : EntityKey → Option MadeCall) (a : Airspace) (caller : Option Caller) (op : Operation) → Kept salt last a → Knows a caller op
     → Kept salt (last_with last a (record { caller = caller; op = op }) (effect salt a caller op).1) (effect salt a caller op).0
 kept_effect salt last a None op s knows = s
@@ -245,7 +245,7 @@ kept_step salt last a t c s =
       | Some p ↦ λ h. s
     ] refl
 
--- ---- over a list of calls
+-- ---- lists of calls
 
 pub later_later : {X : Type 0} (x y z : Option X) → later_or x (later_or y z) ≡ later_or (later_or x y) z
 later_later (Some x) y z = refl
@@ -297,7 +297,7 @@ effect_left salt a (Some caller) (CreateSub id put) = refl
 effect_left salt a (Some caller) (UpdateSub id version put) = update_sub_left salt a caller.uss id put (get a.subscriptions id)
 effect_left salt a (Some caller) (DeleteSub id version) = delete_sub_left a id (get a.subscriptions id)
 
--- what is left by a call that the policy answers is what the policy leaves
+-- A call with the policy's reply leaves the airspace that the policy leaves.
 pub step_left : (salt : List ℕ) (a : Airspace) (c : TimedCall) → left_by salt a c (step salt a c.0 c.1).1 ≡ (step salt a c.0 c.1).0
 unfolding step
 step_left salt a c =
@@ -326,7 +326,7 @@ kept_empty salt n =
       knew = λ k l x y hx hy older needs meet. absurd (no_entity k x hx);
     }
 
--- the last put among the calls that were answered is the last put of all
+-- The last put among the answered calls is the last put of all calls.
 pub last_told : (salt : List ℕ) (k : EntityKey) (a : Airspace) (cs : List TimedCall) (rs : List Reply) → has_stopped rs ≡ false → last_writer salt k a (answered_calls cs rs) (delivered_replies rs) ≡ last_writer salt k a cs rs
 last_told salt k a [] rs h = refl
 last_told salt k a (c ∷ cs) [] h = refl
@@ -347,7 +347,7 @@ pub aware_after : (salt : List ℕ) (n : ℕ) (cs : List TimedCall) (rs : List R
     → Aware salt (empty_at n) cs rs (airspace_after salt (empty_at n) (answered_calls cs rs))
 aware_after salt n cs rs told h = let k = kept_told salt n cs rs told h in record { proper = k.proper; serials = k.serials; knew = k.knew }
 
--- each step keeps it, also the one of a call that was answered `Stopped`
+-- Each step keeps entities numbered, also the step of a call with the reply `Stopped`.
 pub stepped_numbered : (salt : List ℕ) (last : EntityKey → Option MadeCall) (a : Airspace) (cs : List TimedCall) (rs : List Reply) (b : Airspace) → Kept salt last a → MayHaveStepped salt a cs rs b → AllNumbered salt b
 stepped_numbered salt last a [] rs b k is = subst (AllNumbered salt) (sym is) k.numbered
 stepped_numbered salt last a (c ∷ cs) [] b k is = subst (AllNumbered salt) (sym is) k.numbered
@@ -360,7 +360,7 @@ stepped_numbered salt last a (c ∷ cs) (Stopped ∷ rs) b k is =
 stepped_numbered salt last a (c ∷ cs) (Done x ∷ rs) b k is = stepped_numbered salt (last_with last a c.1 (step salt a c.0 c.1).1) (step salt a c.0 c.1).0 cs rs b (kept_step salt last a c.0 c.1 k) is
 stepped_numbered salt last a (c ∷ cs) (Denied p m ∷ rs) b k is = stepped_numbered salt (last_with last a c.1 (step salt a c.0 c.1).1) (step salt a c.0 c.1).0 cs rs b (kept_step salt last a c.0 c.1 k) is
 
--- ---- what is held after a run
+-- ---- the airspace after a run
 
 pub held_aware : {S : Type 0} (g : Ghosts S) (salt : List ℕ) (n : ℕ) (cs : List TimedCall) (rs : List Reply) (new : S) → Runs g salt (empty_at n) cs rs new → has_stopped rs ≡ false → (a : Airspace) → g.holds new a → Aware salt (empty_at n) cs rs a
 held_aware g salt n cs rs new t h a held = subst (Aware salt (empty_at n) cs rs) (sym ((t.whole h).only a held)) (aware_after salt n cs rs t.replies h)

@@ -1,4 +1,4 @@
--- What is kept after rounds from the empty airspace.
+-- Lemmas: the durable airspace after batches from the empty airspace.
 use Rattle.std.specs.Prelude.{◌≡◌, ℕ, Bool, true, false, List, [], ◌∷◌, Option}
 use Rattle.std.proofs.Common.{sym, ◌∙◌, subst, inl, inr}
 use Rattle.entity_core.specs.Airspace.{Airspace, EntityKey, empty_at}
@@ -15,7 +15,7 @@ use Rattle.service_calls.proofs.Counts.{counts_after}
 use Rattle.service_calls.proofs.InBatches.{even_in}
 use Rattle.service_calls.proofs.Joined.{airspace_then, goes_first, stops_then}
 
--- where nobody was told `Stopped`, the airspace after all that was answered is kept, and no other
+-- If no reply is `Stopped`, only the airspace after all answered calls is durable.
 pub kept_all : (salt : List ℕ) (a : Airspace) (batches : List Batch) (b : Airspace) → has_stopped (all_delivered batches) ≡ false → MayHavePersisted salt a batches b → b ≡ airspace_after salt a (answered_calls (all_timed batches) (all_delivered batches))
 kept_all salt a [] b goes kept = kept
 kept_all salt a (batch ∷ batches) b goes kept =
@@ -25,7 +25,7 @@ kept_all salt a (batch ∷ batches) b goes kept =
     kept_all salt after batches b (sym (stops_then (replies_delivered batch) (all_delivered batches) first) ∙ goes) then
     ∙ airspace_then salt a (timed_in batch) (replies_delivered batch) (all_timed batches) (all_delivered batches) (even_in batch) first
 
--- whoever was told so
+-- The durable airspace is numbered, whatever the replies are.
 pub kept_numbered : (salt : List ℕ) (batches : List Batch) (last : EntityKey → Option MadeCall) (a b : Airspace) → Kept salt last a → MayHavePersisted salt a batches b → AllNumbered salt b
 kept_numbered salt [] last a b is kept = subst (AllNumbered salt) (sym kept) is.numbered
 kept_numbered salt (batch ∷ batches) last a b is kept =

@@ -1,4 +1,4 @@
--- Over a list of calls, whoever makes them, a supplier is told the same.
+-- Lemmas: over any list of calls, a USS gets the same replies from airspaces that are alike to it.
 use Rattle.std.specs.Prelude.{◌≡◌, ℕ, ◌||◌, not, Bool, true, false, List, [], ◌∷◌, ◌++◌, map, Option, Some, None, cond, find, refl, option_map, unwrap_or}
 use Rattle.std.proofs.Common.{sym, ap, ◌∙◌}
 use Rattle.std.specs.Ordering.{eq_by_cmp, nat_cmp}
@@ -27,14 +27,15 @@ use Rattle.service_calls.specs.Run.{TimedCall, replies_of, airspace_after}
 use Rattle.service_step.specs.Step.{step}
 use Rattle.service_calls.proofs.Alike.{last_like, stays_like, own_call}
 
--- ---- the version that a path names
+-- ---- the version in a path
 
--- whether the path has an entity's OVN, from what is told of it behind the veil
+-- Whether a path has an entity's OVN follows from the redacted entity and from what is known of it.
 seen_path : (own : Bool) (ovn present : List ℕ) → same_text ovn present ≡ cond own (same_text ovn (cond own present [])) (own || same_text ovn present)
 seen_path true ovn present = refl
 seen_path false ovn present = refl
 
--- of some entities behind the veil, and what is told of each, whether the one of a key has another version
+-- Returns true if the entity of a key has another version, given the redacted entries and what is
+-- known of each.
 abbrev another_of : List ℕ → List ℕ → EntityKey → List (EntityKey × Entity) → List Bool → Bool
 another_of m ovn k [] bs = false
 another_of m ovn k (x ∷ xs) [] = false
@@ -58,7 +59,8 @@ another_like m ovn a b k l n =
     ∙ (sym (another-veiled m ovn k (entries b.entities))
     ∙ ap (λ (o : Option Entity). has_another_ovn o ovn) (sym (get-entries b.entities k)))))
 
--- the same of subscriptions
+-- Returns true if the subscription of an id has another version, given the redacted entries and
+-- what is known of each.
 abbrev another_sub_of : List ℕ → List ℕ → ℕ → List (ℕ × Sub) → List Bool → Bool
 another_sub_of m version k [] bs = false
 another_sub_of m version k (x ∷ xs) [] = false
@@ -99,9 +101,9 @@ stale_like m a b (CreateSub id put) l n v = refl
 stale_like m a b (UpdateSub id version put) l n v = another_sub_like m version a b id l v
 stale_like m a b (DeleteSub id version) l n v = another_sub_like m version a b id l v
 
--- ---- another's call
+-- ---- calls of another USS
 
--- P7 to P13, P16 and P17, where it is known whether P10 is broken
+-- The first broken rule of P7 to P13, P16 and P17, given whether P10 is broken.
 abbrev rules_with : Option Caller → Option Entity → Option Sub → Bool → ℕ → Operation → Bool → Option Rule
 rules_with caller found sub depended t op stale =
     cond (breaks_found op found sub) (Some Found) (cond (breaks_fresh op found sub) (Some Fresh) (cond (breaks_manager caller op found sub) (Some Manager) (cond stale (Some Version)
@@ -154,7 +156,7 @@ standing_like m a b t caller op l n v =
     ∙ (sym (rules_sub-veiled m caller (option_map (redacted m) (found_of b op)) (sub_of b op) (depended_of b op) t op (stale b))
     ∙ sym (rules-veiled m caller (found_of b op) (sub_of b op) (depended_of b op) t op (stale b)))))
 
--- a call without a caller breaks P1, P2 or P3, whatever is kept
+-- A call without a caller breaks P1, P2 or P3 in every airspace.
 no_caller : (a b : Airspace) (t : ℕ) (op : Operation) → first_broken a t (record { caller = None; op = op }) ≡ first_broken b t (record { caller = None; op = op })
 unfolding first_broken
 no_caller a b t NoRoute = refl

@@ -1,4 +1,4 @@
--- After a run, each index is the number of calls that told its subscription.
+-- Lemmas: after a run, each index is the number of calls that notified its subscription.
 use Rattle.std.specs.Prelude.{◌≡◌, ℕ, ◌+◌, Bool, true, false, List, [], ◌∷◌, filter, length, Option, Some, None, cond, refl, ◌⊎◌}
 use Rattle.std.proofs.Common.{arith, sym, ap, ◌∙◌, subst, inl, inr}
 use Rattle.std.proofs.lemmas.Option.{same_Some}
@@ -32,7 +32,7 @@ use Rattle.service_calls.proofs.Awares.{step_left}
 
 -- ---- one call
 
--- a subscription that is there after an operation was there before it, and was told or not
+-- A subscription that exists after an operation existed before it, and was notified or not.
 record Since (id : ℕ) (a : Airspace) (op : Operation) (x : Sub) : Type 0 where
   other : creates_sub id op ≡ false
   was : Sub
@@ -43,7 +43,7 @@ record Created (id : ℕ) (op : Operation) (x : Sub) : Type 0 where
   creates : creates_sub id op ≡ true
   zeroth : x.index ≡ 0
 
--- or it was created
+-- Holds if the subscription was created by the operation or existed before it.
 abbrev One : ℕ → Airspace → Operation → Sub → Type 0
 One id a op x = Created id op x ⊎ Since id a op x
 
@@ -51,7 +51,7 @@ told_index : (b : Bool) (s : Sub) → (cond b (notified_again s) s).index ≡ s.
 told_index true s = refl
 told_index false s = omega arith
 
--- nothing is told
+-- An operation that notifies nobody leaves each index.
 same_one : (id : ℕ) (a : Airspace) (op : Operation) (x : Sub) → creates_sub id op ≡ false → ((s : Sub) → notifies a op (id, s) ≡ false) → get a.subscriptions id ≡ Some x → One id a op x
 same_one id a op x other quiet h = inr (record { other = other; was = x; there = h; index = sym (ap (λ (b : Bool). x.index + cond b 1 0) (quiet x) ∙ omega arith) })
 
@@ -86,7 +86,7 @@ delete_sub_one : (a : Airspace) (k : ℕ) (version : List ℕ) (o : Option Sub) 
 delete_sub_one a k version None id x h = same_one id a (DeleteSub k version) x refl (λ s. refl) h
 delete_sub_one a k version (Some r) id x h = same_one id a (DeleteSub k version) x refl (λ s. refl) (stayed_sub a.subscriptions k id x h)
 
--- what an update leaves keeps its index
+-- An update keeps the index of the subscription.
 update_sub_one : (salt : List ℕ) (a : Airspace) (uss : List ℕ) (k : ℕ) (version : List ℕ) (put : SubPut) (o : Option Sub) (id : ℕ) (x : Sub) → get a.subscriptions k ≡ o
     → get (update_sub_effect salt a uss k put o).0.subscriptions id ≡ Some x → One id a (UpdateSub k version put) x
 update_sub_one salt a uss k version put None id x there h = same_one id a (UpdateSub k version put) x refl (λ s. refl) h
@@ -97,7 +97,7 @@ update_sub_one salt a uss k version put (Some r) id x there h =
       | false ↦ λ t e. same_one id a (UpdateSub k version put) x refl (λ s. refl) e
     ] refl (sym (get-insert nat_cmp_total a.subscriptions k new id) ∙ h)
 
--- one that was created has the index 0
+-- A created subscription has the index 0.
 create_sub_one : (salt : List ℕ) (a : Airspace) (caller : Caller) (k : ℕ) (put : SubPut) (id : ℕ) (x : Sub)
     → get (effect salt a (Some caller) (CreateSub k put)).0.subscriptions id ≡ Some x → One id a (CreateSub k put) x
 create_sub_one salt a caller k put id x h =
@@ -133,9 +133,10 @@ step_one salt a t c id x =
       | Some p ↦ λ done h. cc
     ]
 
--- ---- over a list of calls
+-- ---- lists of calls
 
--- it was created among the calls, and is counted from then on; or it was there before them
+-- Holds if the subscription was created by one of the calls and counted since, or existed before
+-- them.
 pub record Older (id : ℕ) (made : List MadeCall) (a : Airspace) (x : Sub) : Type 0 where
   pub none : AllByRecursion (λ m. creates_sub id m.call.op ≡ false) made
   pub was : Sub
@@ -215,6 +216,6 @@ counts_after salt n cs rs told goes id x h =
       | inr was ↦ let e : None ≡ Some was.was = sym (get-empty nat_cmp id) ∙ was.there in cc
     ]
 
--- what is held after a run
+-- ---- the airspace after a run
 pub held_counts : {S : Type 0} (g : Ghosts S) (salt : List ℕ) (n : ℕ) (cs : List TimedCall) (rs : List Reply) (new : S) → Runs g salt (empty_at n) cs rs new → has_stopped rs ≡ false → (a : Airspace) → g.holds new a → Counts salt (empty_at n) cs rs a
 held_counts g salt n cs rs new t h a held = subst (Counts salt (empty_at n) cs rs) (sym ((t.whole h).only a held)) (counts_after salt n cs rs t.replies h)

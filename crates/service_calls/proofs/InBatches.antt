@@ -1,4 +1,4 @@
--- What is told and kept over rounds.
+-- Lemmas: the delivered replies and the durable airspace over batches.
 use Rattle.std.specs.Prelude.{◌≡◌, ◌||◌, ◌↔◌, ◌⊎◌, ℕ, Bool, true, false, All, List, [], ◌∷◌, ◌++◌, map, length, cond, Result, Ok, Err, refl}
 use Rattle.std.specs.List.{AllByRecursion}
 use Rattle.std.proofs.Common.{sym, ap, ◌∙◌, subst, inl, inr}
@@ -23,7 +23,7 @@ use Rattle.service_calls.specs.Batches.{AskedInBatches, IfStopped, IsCommitted, 
 use Rattle.service_calls.proofs.Joined.{airspace_then, policy_stopped, policy_then, stepped_all, stops_then}
 use Rattle.service_calls.proofs.Runs.{answered}
 
--- ---- whether somebody is told `Stopped`
+-- ---- `Stopped` among the delivered replies
 
 or_first : (x y : Bool) → (x || y) ≡ false → x ≡ false
 or_first true y h = absurd (false≢true (sym h))
@@ -38,7 +38,7 @@ unstopped_one false Fault rs qs h f = f h
 unstopped_one false (Done x) rs qs h f = f h
 unstopped_one false (Denied p m) rs qs h f = f h
 
--- where no call was answered `Stopped`, nobody is told so after `Unchanged`
+-- If no reply was made as `Stopped`, none is delivered as `Stopped` after `Unchanged`.
 unstopped : (ms : List CallRecord) → has_stopped (map (λ m. m.reply) ms) ≡ false → has_stopped (map (delivered_reply (Err Unchanged)) ms) ≡ false
 unstopped [] h = refl
 unstopped (m ∷ ms) h = unstopped_one m.waits m.reply (map (λ m. m.reply) ms) (map (delivered_reply (Err Unchanged)) ms) h (unstopped ms)
@@ -50,7 +50,7 @@ as_made_one false Fault rs qs h f = ap (λ (xs : List Reply). Fault ∷ xs) (f h
 as_made_one false (Done x) rs qs h f = ap (λ (xs : List Reply). Done x ∷ xs) (f h)
 as_made_one false (Denied p m) rs qs h f = ap (λ (xs : List Reply). Denied p m ∷ xs) (f h)
 
--- where nobody is told `Stopped` after `Broken`, no reply waited
+-- If no reply is delivered as `Stopped` after `Broken`, no reply was deferred.
 as_made : (ms : List CallRecord) → has_stopped (map (delivered_reply (Err Broken)) ms) ≡ false → map (delivered_reply (Err Broken)) ms ≡ map (λ m. m.reply) ms
 as_made [] h = refl
 as_made (m ∷ ms) h = as_made_one m.waits m.reply (map (λ m. m.reply) ms) (map (delivered_reply (Err Broken)) ms) h (as_made ms)
@@ -59,14 +59,14 @@ told_stopped : (result : Result (Unit {0}) SpaceFault) (m : CallRecord) → m.wa
 told_stopped (Ok x) m w r = r
 told_stopped (Err fault) m w r = ap (λ (b : Bool). cond b (reply_of (Space fault)) m.reply) w ∙ r
 
--- one reply a call
+-- Each call gets one reply.
 pub even_in : (batch : Batch) → length (replies_delivered batch) ≡ length (timed_in batch)
 even_in batch = length-map batch.calls (delivered_reply batch.settled) ∙ sym (length-map batch.calls (λ m. m.timed))
 
--- ---- one round in front of others
+-- ---- one batch before others
 
 module _ {S : Type 0} (k : settles.Ghosts S) (salt : List ℕ) (a : Airspace) (batch : Batch) (rest : List Batch) (new : Service S) (told : delivered_replies (replies_delivered batch) ≡ replies_of salt a (answered_calls (timed_in batch) (replies_delivered batch))) where
-  -- in which nobody is told `Stopped`
+  -- In this batch no reply is `Stopped`.
   front : has_stopped (replies_delivered batch) ≡ false → RunsInBatches k salt (airspace_of salt a batch) rest new → RunsInBatches k salt a (batch ∷ rest) new
   front goes then = record {
     stopped = subst (λ (x : Bool). IfStopped x (All (λ r. r ≡ Stopped) (all_delivered rest)) (StayStoppedIn rest)) (sym goes) then.stopped;
@@ -76,7 +76,7 @@ module _ {S : Type 0} (k : settles.Ghosts S) (salt : List ℕ) (a : Airspace) (b
     kept = λ b held. subst (λ (x : Bool). IfStopped x (MayHaveLeft salt a batch b) (MayHavePersisted salt (airspace_of salt a batch) rest b)) (sym goes) (then.kept b held);
   }
 
-  -- in which somebody is
+  -- In this batch some reply is `Stopped`.
   front_stopped : has_stopped (replies_delivered batch) ≡ true → is_shut new ≡ true → All (λ r. r ≡ Stopped) (all_delivered rest)
       → ((b : Airspace) → k.persists (space_of new) b → MayHaveLeft salt a batch b)
       → RunsInBatches k salt a (batch ∷ rest) new
@@ -88,12 +88,12 @@ module _ {S : Type 0} (k : settles.Ghosts S) (salt : List ℕ) (a : Airspace) (b
     kept = λ b held. subst (λ (x : Bool). IfStopped x (MayHaveLeft salt a batch b) (MayHavePersisted salt (airspace_of salt a batch) rest b)) (sym stops) (kept b held);
   }
 
--- the calls of a round were asked in order
+-- The calls of a batch were made in order.
 pub asked : {S : Type 0} (g : spaces.Ghosts S) (k : settles.Ghosts S) (old : Service S) (ms : List CallRecord) (new : Service S) → CalledInOrder g k old ms new → AskedInOrder g old (map (λ m. m.timed) ms) (map (λ m. m.reply) ms) new
 asked g k old [] new h = h
 asked g k old (m ∷ ms) new h = (h.0, h.1, asked g k h.0 ms new h.3)
 
--- ---- the laws of a space that settles
+-- ---- the laws of a space with group commit
 
 pub record Lawful {S : Type 0} (g : spaces.Ghosts S) (k : settles.Ghosts S) : Type 0 where
   pub quiet : (s : S) (a : Airspace) → k.is_pending s ≡ false → g.holds s a ↔ k.persists s a
@@ -102,7 +102,7 @@ pub record Lawful {S : Type 0} (g : spaces.Ghosts S) (k : settles.Ghosts S) : Ty
   pub live : (s : S) → g.is_sound s → k.is_pending s ≡ true → g.is_broken s ≡ false
 
 module _ {S : Type 0} (g : spaces.Ghosts S) (k : settles.Ghosts S) (laws : Lawful g k) where
-  -- what is held where nothing waits is kept, and the other way round
+  -- Without pending changes, the visible airspace is the durable one, and conversely.
   pub kept_quiet : (s : S) (a : Airspace) → k.is_pending s ≡ false → IsContent g.holds s a → IsContent k.persists s a
   kept_quiet s a calm content = record {
     held = (laws.quiet s a calm).0 content.held;
@@ -121,7 +121,7 @@ module _ {S : Type 0} (g : spaces.Ghosts S) (k : settles.Ghosts S) (laws : Lawfu
     only = λ b h. content.only b ((laws.rests s t b fixed waits).1 h);
   }
 
-  -- a sound space that is broken has no change that waits
+  -- A sound space that is broken has no pending change.
   calm_broken : (s : S) → g.is_sound s → g.is_broken s ≡ true → k.is_pending s ≡ false
   calm_broken s sound broken =
       elim (k.is_pending s) as (λ w. k.is_pending s ≡ w → w ≡ false) [
@@ -129,7 +129,7 @@ module _ {S : Type 0} (g : spaces.Ghosts S) (k : settles.Ghosts S) (laws : Lawfu
         | false ↦ λ w. refl
       ] refl
 
-  -- while changes wait, a call leaves it unbroken
+  -- A call leaves the space unbroken while changes are pending.
   unbroken : (s t : S) → g.is_sound s → g.is_sound t → g.fixed t ≡ g.fixed s → (k.is_pending s || k.is_pending t) ≡ true → g.is_broken t ≡ false
   unbroken s t sound sound' fixed waits =
       elim (k.is_pending s) as (λ w. k.is_pending s ≡ w → (w || k.is_pending t) ≡ true → g.is_broken t ≡ false) [
@@ -137,22 +137,22 @@ module _ {S : Type 0} (g : spaces.Ghosts S) (k : settles.Ghosts S) (laws : Lawfu
         | false ↦ λ w h. laws.live t sound' h
       ] refl waits
 
-  -- nothing waited before or after
+  -- If nothing was pending before or after, nothing was pending before, and nothing after.
   calm_parts : (x y : Bool) → false ≡ (x || y) → (x ≡ false) × (y ≡ false)
   calm_parts true y h = absurd (false≢true h)
   calm_parts false y h = (refl, sym h)
 
-  -- ---- the calls of a round
+  -- ---- the calls of a batch
 
   pub calls : (old : Service S) (ms : List CallRecord) (new : Service S) → CalledInOrder g k old ms new → Answered g old (map (λ m. m.timed) ms) (map (λ m. m.reply) ms) new
   calls old ms new h = answered g old (map (λ m. m.timed) ms) (map (λ m. m.reply) ms) new (asked g k old ms new h)
 
-  -- what is told is the policy's, and its airspace is kept
+  -- The delivered replies are those of the policy, and its airspace is durable.
   record Keeping (salt : List ℕ) (a : Airspace) (cs : List TimedCall) (rs : List Reply) (new : S) : Type 0 where
     replies : delivered_replies rs ≡ replies_of salt a (answered_calls cs rs)
     whole : has_stopped rs ≡ false → IsContent k.persists new (airspace_after salt a (answered_calls cs rs))
 
-  -- of a call whose reply does not wait
+  -- Adds a call whose reply is not deferred.
   keeping_at_once : (old mid : Service S) (c : TimedCall) (r : Reply) (cs : List TimedCall) (rs : List Reply) (new : S) (a : Airspace) → IsReplyTo g old mid c.0 c.1 r → is_shut old ≡ false → k.is_pending (space_of mid) ≡ false → g.is_sound (space_of mid)
       → IsContent g.holds (space_of old) a
       → ((x y : Airspace) → is_shut mid ≡ false → IsContent g.holds (space_of mid) y → IsContent k.persists (space_of mid) x → Keeping (salt_of old) x cs rs new)
@@ -180,7 +180,7 @@ module _ {S : Type 0} (g : spaces.Ghosts S) (k : settles.Ghosts S) (laws : Lawfu
         whole = rest.whole;
       }
 
-  -- of one whose reply waits, where the changes are not kept
+  -- Adds a call whose reply is deferred and whose changes are not committed.
   keeping_later : (old mid : Service S) (c : TimedCall) (r : Reply) (cs : List TimedCall) (rs : List Reply) (new : S) (a b : Airspace) → IsReplyTo g old mid c.0 c.1 r → is_shut old ≡ false → g.is_broken (space_of mid) ≡ false → g.is_sound (space_of mid)
       → IsContent g.holds (space_of old) b → IsContent k.persists (space_of mid) a
       → ((x y : Airspace) → is_shut mid ≡ false → IsContent g.holds (space_of mid) y → IsContent k.persists (space_of mid) x → Keeping (salt_of old) x cs rs new)
@@ -221,9 +221,9 @@ module _ {S : Type 0} (g : spaces.Ghosts S) (k : settles.Ghosts S) (laws : Lawfu
       keeping_first fault old h.0 m.timed m.reply m.waits (map (λ m. m.timed) ms) (map (delivered_reply (Err fault)) ms) (space_of new) a b h.1 h.2 n ((calls h.0 ms new h.3).stays.sound sound) content kept
       (λ x y n' held keeps. subst (λ (salt : List ℕ). Keeping salt x (map (λ m. m.timed) ms) (map (delivered_reply (Err fault)) ms) (space_of new)) h.1.stays.salt (keeping fault h.0 ms new x y h.3 n' sound held keeps))
 
-  -- ---- a round, and what follows
+  -- ---- a batch, and the batches after it
 
-  -- What rounds are, from a service in which nothing waits: where it is not shut, and where it is.
+  -- What holds for batches from a service without pending changes, whether it is shut or not.
   pub record Follows (s : Service S) (rest : List Batch) (new : Service S) : Type 0 where
     pub live : (a : Airspace) → is_shut s ≡ false → IsContent g.holds (space_of s) a → RunsInBatches k (salt_of s) a rest new
     pub shut : (a : Airspace) → is_shut s ≡ true → g.is_broken (space_of s) ≡ true → ((b : Airspace) → k.persists (space_of s) b → b ≡ a) → RunsInBatches k (salt_of s) a rest new
@@ -231,7 +231,7 @@ module _ {S : Type 0} (g : spaces.Ghosts S) (k : settles.Ghosts S) (laws : Lawfu
     pub same : is_shut s ≡ true → g.is_broken (space_of s) ≡ true → (salt : List ℕ) (a : Airspace) → MayHavePersisted salt a rest a
     pub ends : is_shut s ≡ true → g.is_broken (space_of s) ≡ true → (is_shut new ≡ true) × (g.is_broken (space_of new) ≡ true) × ((b : Airspace) → k.persists (space_of new) b → k.persists (space_of s) b)
 
-  -- no round
+  -- No batch follows.
   pub follows_none : (s : Service S) → k.is_pending (space_of s) ≡ false → Follows s [] s
   follows_none s calm = record {
     live = λ a n content. record {
@@ -253,7 +253,7 @@ module _ {S : Type 0} (g : spaces.Ghosts S) (k : settles.Ghosts S) (laws : Lawfu
     ends = λ n broken. (n, broken, λ b held. held);
   }
 
-  -- each call of a service that was shut is told `Stopped`
+  -- Each call of a shut service gets the reply `Stopped`.
   told_shut : (result : Result (Unit {0}) SpaceFault) (old : Service S) (m : CallRecord) (mid : Service S) → IsReplyTo g old mid m.timed.0 m.timed.1 m.reply → m.waits ≡ (k.is_pending (space_of old) || k.is_pending (space_of mid)) → is_shut old ≡ true → k.is_pending (space_of old) ≡ false → delivered_reply result m ≡ Stopped
   told_shut result old m mid reply waits n calm =
       told_stopped result m (waits ∙ (ap (λ (s : Service S). k.is_pending (space_of old) || k.is_pending (space_of s)) (reply.stays.shut n) ∙ ap (λ (b : Bool). b || b) calm)) (reply.shut n)
@@ -265,7 +265,7 @@ module _ {S : Type 0} (g : spaces.Ghosts S) (k : settles.Ghosts S) (laws : Lawfu
       All-cons (λ r. r ≡ Stopped) (delivered_reply result m) (map (delivered_reply result) ms ++ rs) (told_shut result old m h.0 h.1 h.2 n calm)
       (all_shut result h.0 ms mid rs h.3 (ap (λ (s : Service S). is_shut s) same ∙ n) (ap (λ (s : Service S). k.is_pending (space_of s)) same ∙ calm) others)
 
-  -- a round of a service that was shut
+  -- A batch of a shut service comes before the others.
   front_shut : (salt : List ℕ) (a : Airspace) (ms : List CallRecord) (result : Result (Unit {0}) SpaceFault) (old mid : Service S) (rest : List Batch) (new : Service S) → CalledInOrder g k old ms mid → is_shut old ≡ true → k.is_pending (space_of old) ≡ false
       → is_shut new ≡ true → ((b : Airspace) → k.persists (space_of new) b → b ≡ a) → All (λ r. r ≡ Stopped) (all_delivered rest) → RunsInBatches k salt a rest new
       → RunsInBatches k salt a (record { calls = ms; settled = result } ∷ rest) new
@@ -280,7 +280,7 @@ module _ {S : Type 0} (g : spaces.Ghosts S) (k : settles.Ghosts S) (laws : Lawfu
       shut others
       (λ b held. inl (subst (λ (r : Reply). b ≡ airspace_after salt a (answered_calls (m.timed ∷ cs) (r ∷ map (delivered_reply (Err Unchanged)) ms))) (sym (is (Err Unchanged))) (only b held)))
 
-  -- what may be kept of it, of any airspace
+  -- A batch of a shut service may leave any airspace as it was.
   same_shut : (salt : List ℕ) (a : Airspace) (ms : List CallRecord) (result : Result (Unit {0}) SpaceFault) (old mid : Service S) (rest : List Batch) → CalledInOrder g k old ms mid → is_shut old ≡ true → k.is_pending (space_of old) ≡ false
       → MayHavePersisted salt a rest a → MayHavePersisted salt a (record { calls = ms; settled = result } ∷ rest) a
   same_shut salt a [] result old mid rest h n calm then = then
@@ -290,7 +290,7 @@ module _ {S : Type 0} (g : spaces.Ghosts S) (k : settles.Ghosts S) (laws : Lawfu
       subst (λ (r : Reply). IfStopped (has_stopped (r ∷ map (delivered_reply result) ms)) (MayHaveLeft salt a batch a) (MayHavePersisted salt (airspace_of salt a batch) rest a)) (sym (is result))
       (inl (subst (λ (r : Reply). a ≡ airspace_after salt a (answered_calls (m.timed ∷ map (λ m. m.timed) ms) (r ∷ map (delivered_reply (Err Unchanged)) ms))) (sym (is (Err Unchanged))) refl))
 
-  -- what is known of the calls of a round of a service that was not shut
+  -- Facts about the calls of a batch of a service that was not shut.
   module _ (old : Service S) (ms : List CallRecord) (mid : Service S) (made : CalledInOrder g k old ms mid) (n : is_shut old ≡ false) (calm : k.is_pending (space_of old) ≡ false) (sound : g.is_sound (space_of mid)) (a : Airspace) (content : IsContent g.holds (space_of old) a) where
     abbrev cs : List TimedCall
     cs = map (λ m. m.timed) ms
@@ -307,7 +307,8 @@ module _ {S : Type 0} (g : spaces.Ghosts S) (k : settles.Ghosts S) (laws : Lawfu
     goes_unbroken : g.is_broken (space_of mid) ≡ false → has_stopped rs ≡ false
     goes_unbroken works = or_first (has_stopped rs) (g.is_broken (space_of old)) (sym ((calls old ms mid made).breaks n) ∙ works)
 
-    -- what is kept then: what was kept before the changes that wait, or what is seen where none does
+    -- The durable airspace is the one before the pending changes, or the visible one if none is
+    -- pending.
     kept_open : (b : Airspace) → k.persists (space_of mid) b → MayHaveLeft (salt_of old) a (uncommitted ms) b
     kept_open b held =
         elim (has_stopped rs) as (λ x. has_stopped rs ≡ x → MayHaveLeft (salt_of old) a (uncommitted ms) b) [
@@ -324,7 +325,7 @@ module _ {S : Type 0} (g : spaces.Ghosts S) (k : settles.Ghosts S) (laws : Lawfu
           | false ↦ λ x. absurd (false≢true (sym (unstopped ms x) ∙ stops))
         ] refl
 
-    -- a round that is still open
+    -- The batch is still open.
     open_live : RunsInBatches k (salt_of old) a (uncommitted ms ∷ []) mid
     open_live =
         elim (has_stopped (map (delivered_reply (Err Unchanged)) ms)) as (λ x. has_stopped (map (delivered_reply (Err Unchanged)) ms) ≡ x → RunsInBatches k (salt_of old) a (uncommitted ms ∷ []) mid) [
@@ -334,7 +335,7 @@ module _ {S : Type 0} (g : spaces.Ghosts S) (k : settles.Ghosts S) (laws : Lawfu
               front k (salt_of old) a (uncommitted ms) [] mid (told_keeping Unchanged).replies x (record { stopped = tt; replies = refl; goes = λ y. refl; whole = λ y. kept; kept = λ b held. kept.only b held })
         ] refl
 
-    -- a round that ended so
+    -- The batch has ended.
     module _ (end : Service S) (rest : List Batch) (new : Service S) (ended : g.is_sound (space_of end)) (follows : Follows end rest new) where
       abbrev Front : Result (Unit {0}) SpaceFault → Type 0
       Front result = IsCommitted g k mid end result → RunsInBatches k (salt_of old) a (record { calls = ms; settled = result } ∷ rest) new
@@ -397,7 +398,7 @@ module _ {S : Type 0} (g : spaces.Ghosts S) (k : settles.Ghosts S) (laws : Lawfu
       front_live (Err Unchanged) = front_refused
       front_live (Err Broken) = front_broken
 
-  -- a round that is still open
+  -- The batch is still open.
   pub follows_open : (mid : Service S) (ms : List CallRecord) (new : Service S) → CalledInOrder g k mid ms new → k.is_pending (space_of mid) ≡ false → g.is_sound (space_of new) → Follows mid (uncommitted ms ∷ []) new
   follows_open mid ms new made calm sound = record {
     live = λ a n content. open_live mid ms new made n calm sound a content;
@@ -414,7 +415,7 @@ module _ {S : Type 0} (g : spaces.Ghosts S) (k : settles.Ghosts S) (laws : Lawfu
     same = λ n broken salt a. same_shut salt a ms (Err Unchanged) mid new [] made n calm refl;
   }
 
-  -- one round more
+  -- One more batch.
   module _ (old : Service S) (ms : List CallRecord) (mid : Service S) (result : Result (Unit {0}) SpaceFault) (end : Service S) (rest : List Batch) (new : Service S) (made : CalledInOrder g k old ms mid) (settled : IsCommitted g k mid end result) (calm : k.is_pending (space_of old) ≡ false) (sound : g.is_sound (space_of end)) (follows : Follows end rest new) where
     ends_more : is_shut old ≡ true → g.is_broken (space_of old) ≡ true
         → (is_shut end ≡ true) × (g.is_broken (space_of end) ≡ true) × ((b : Airspace) → k.persists (space_of end) b → k.persists (space_of old) b)
@@ -450,7 +451,7 @@ module _ {S : Type 0} (g : spaces.Ghosts S) (k : settles.Ghosts S) (laws : Lawfu
           (ends.0, ends.1, λ b held. more.2 b (ends.2 b held));
     }
 
-  -- ---- all rounds
+  -- ---- all batches
 
   pub sound_batches : (old : Service S) (batches : List Batch) (new : Service S) → MadeBatches g k old batches new → g.is_sound (space_of new) → g.is_sound (space_of old)
   sound_batches old [] new h sound = subst (λ (s : Service S). g.is_sound (space_of s)) h sound
@@ -470,7 +471,7 @@ module _ {S : Type 0} (g : spaces.Ghosts S) (k : settles.Ghosts S) (laws : Lawfu
       subst (λ (all : List Batch). Follows old all new) (append-nil batches)
       (follows_batches old batches new [] new made calm sound (follows_none new (calm_batches old batches new made calm)))
 
-  -- a service goes on where the changes of each round were kept
+  -- A service that commits every batch is not shut.
   pub goes_batches : (old : Service S) (batches : List Batch) (new : Service S) → MadeBatches g k old batches new → AllByRecursion (λ batch. batch.settled ≡ Ok tt) batches → is_shut old ≡ false → is_shut new ≡ false
   goes_batches old [] new h kept n = ap (λ (s : Service S). is_shut s) h ∙ n
   goes_batches old (batch ∷ batches) new h kept n =

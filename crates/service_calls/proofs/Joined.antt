@@ -1,4 +1,4 @@
--- What is told of calls, after what is told of the calls before them.
+-- Lemmas: the replies to calls, after the replies to the calls before them.
 use Rattle.std.specs.Prelude.{◌≡◌, ℕ, true, false, List, [], ◌∷◌, ◌++◌, length, refl}
 use Rattle.std.proofs.Common.{arith, sym, ap, ◌∙◌}
 use Rattle.std.proofs.lemmas.Bool.{false≢true}
@@ -11,7 +11,7 @@ use Rattle.service_calls.specs.Run.{MayHaveStepped, TimedCall, airspace_after, a
 one_less : {X Y : Type 0} (x : X) (y : Y) (xs : List X) (ys : List Y) → length (x ∷ xs) ≡ length (y ∷ ys) → length xs ≡ length ys
 one_less x y xs ys e = omega (arith, e)
 
--- ---- where nobody was told `Stopped`
+-- ---- without `Stopped` among the first replies
 
 pub stops_then : (rs qs : List Reply) → has_stopped rs ≡ false → has_stopped (rs ++ qs) ≡ has_stopped qs
 stops_then [] qs h = refl
@@ -48,7 +48,7 @@ module _ (salt : List ℕ) (a : Airspace) (cs : List TimedCall) (rs : List Reply
   abbrev mid : Airspace
   mid = airspace_after salt a (answered_calls cs rs)
 
-  -- the policy's replies to calls, and then to others
+  -- The replies of the policy to two lists of calls, one after the other.
   pub policy_then : has_stopped rs ≡ false → delivered_replies rs ≡ replies_of salt a (answered_calls cs rs) → delivered_replies qs ≡ replies_of salt mid (answered_calls ds qs)
       → delivered_replies (rs ++ qs) ≡ replies_of salt a (answered_calls (cs ++ ds) (rs ++ qs))
   policy_then h first then =
@@ -58,11 +58,11 @@ module _ (salt : List ℕ) (a : Airspace) (cs : List TimedCall) (rs : List Reply
       ∙ (sym (replies_then salt a (answered_calls cs rs) (answered_calls ds qs))
       ∙ ap (replies_of salt a) (sym (answered_then cs rs ds qs even h)))))
 
-  -- the airspace after calls, and then after others
+  -- The airspace after two lists of calls, one after the other.
   pub airspace_then : has_stopped rs ≡ false → airspace_after salt mid (answered_calls ds qs) ≡ airspace_after salt a (answered_calls (cs ++ ds) (rs ++ qs))
   airspace_then h = sym (after_then salt a (answered_calls cs rs) (answered_calls ds qs)) ∙ ap (airspace_after salt a) (sym (answered_then cs rs ds qs even h))
 
--- ---- where somebody was
+-- ---- with `Stopped` among the first replies
 
 stopped_then : (rs qs : List Reply) → has_stopped rs ≡ true → delivered_replies (rs ++ qs) ≡ delivered_replies rs
 stopped_then [] qs h = absurd (false≢true h)
@@ -79,7 +79,7 @@ answered_stopped (c ∷ cs) (Fault ∷ rs) ds qs e h = answered_stopped cs rs ds
 answered_stopped (c ∷ cs) (Done x ∷ rs) ds qs e h = ap (λ (xs : List TimedCall). c ∷ xs) (answered_stopped cs rs ds qs (one_less (Done x) c rs cs e) h)
 answered_stopped (c ∷ cs) (Denied p m ∷ rs) ds qs e h = ap (λ (xs : List TimedCall). c ∷ xs) (answered_stopped cs rs ds qs (one_less (Denied p m) c rs cs e) h)
 
--- then nothing more is told
+-- After `Stopped`, no further reply counts.
 pub policy_stopped : (salt : List ℕ) (a : Airspace) (cs : List TimedCall) (rs : List Reply) (ds : List TimedCall) (qs : List Reply) → length rs ≡ length cs → has_stopped rs ≡ true → delivered_replies rs ≡ replies_of salt a (answered_calls cs rs)
     → delivered_replies (rs ++ qs) ≡ replies_of salt a (answered_calls (cs ++ ds) (rs ++ qs))
 policy_stopped salt a cs rs ds qs e h first = stopped_then rs qs h ∙ (first ∙ ap (replies_of salt a) (sym (answered_stopped cs rs ds qs e h)))
@@ -91,7 +91,7 @@ goes_first (Fault ∷ rs) qs h = goes_first rs qs h
 goes_first (Done x ∷ rs) qs h = goes_first rs qs h
 goes_first (Denied p m ∷ rs) qs h = goes_first rs qs h
 
--- the airspace after all that was answered, where nobody was told `Stopped`
+-- If no reply is `Stopped`, the airspace is that after all answered calls.
 pub stepped_all : (salt : List ℕ) (a : Airspace) (cs : List TimedCall) (rs : List Reply) (b : Airspace) → has_stopped rs ≡ false → b ≡ airspace_after salt a (answered_calls cs rs) → MayHaveStepped salt a cs rs b
 stepped_all salt a [] rs b h is = is
 stepped_all salt a (c ∷ cs) [] b h is = is

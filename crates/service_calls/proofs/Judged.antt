@@ -1,4 +1,4 @@
--- Which rule is the first that is broken, and what is missing.
+-- Lemmas: the first broken rule, and the missing references.
 use Rattle.std.specs.Prelude.{◌≡◌, ◌⊎◌, ℕ, ◌&&◌, Bool, true, false, List, [], ◌∷◌, ◌++◌, map, Option, Some, None, find, cond, refl, IfSome, not}
 use Rattle.std.proofs.Common.{sym, ap, ◌∙◌, subst, inl, inr}
 use Rattle.grid_core.specs.Extent.{Region, region_of}
@@ -77,10 +77,10 @@ told_early a t c r h = find_has (λ (p : Rule). missing_views a c p ≡ nothing_
 told_standing : (a : Airspace) (t : ℕ) (c : Call) (r : Rule) → find (breaks a t c) standing_rules ≡ Some r → missing_views a c r ≡ nothing_missing
 told_standing a t c r h = find_has (λ (p : Rule). missing_views a c p ≡ nothing_missing) (breaks a t c) standing_rules r (refl, (refl, (refl, (refl, (refl, (refl, (refl, (refl, (refl, tt))))))))) h
 
--- ---- what was looked up
+-- ---- looked-up facts
 
 module _ (q : Admitted) (g : own.OwnedFacts) where
-  -- what is first where what was looked up was lent
+  -- Borrowed facts have the same first broken rule.
   pub lent_first : (f : Facts) (r : Option Rule) → f ≡ facts_in g → r ≡ find (breaks_given f q.moment q.call.now) standing_rules → find (breaks_given (facts_in g) q.moment q.call.now) standing_rules ≡ r
   lent_first f r one is = sym (is ∙ ap (λ (x : Facts). find (breaks_given x q.moment q.call.now) standing_rules) one)
 
@@ -94,26 +94,26 @@ key_is : (a : Airspace) (t : ℕ) (c : Call) (m : Missing) (b : Bool) → m ≡ 
 key_is a t c m b is h = ap (λ (x : Missing). not (is_nothing x)) (sym is) ∙ sym h
 
 module _ (q : Admitted) (is_admitted : IsAdmitted q) (g : own.OwnedFacts) (a : Airspace) (regards : AreFacts q.call.now.op a g) where
-  -- the first of P7 to P13, P16 and P17 that is broken is the first of all
+  -- The first broken rule of P7 to P13, P16 and P17 is the first broken rule of all.
   pub judged_standing : (r : Rule) (m : Missing) → find (breaks_given (facts_in g) q.moment q.call.now) standing_rules ≡ Some r → m ≡ nothing_missing → IsFirst q a (Some (r, m))
   judged_standing r m is none =
       let e : find (breaks a q.moment q.call.now) standing_rules ≡ Some r = sym (standing_from a q.moment q.call.now g regards) ∙ is in
       (first_standing a q.moment q.call.now r (is_admitted.early a) e, none ∙ sym (told_standing a q.moment q.call.now r e))
 
-  -- where none of them is, only the last rules are left
+  -- If a call breaks none of these, only the last rules remain.
   first_of_last : BreaksNoStandingBy q g → first_broken a q.moment q.call.now ≡ find (breaks a q.moment q.call.now) last_rules
   first_of_last is = first_last a q.moment q.call.now (is_admitted.early a) (sym (standing_from a q.moment q.call.now g regards) ∙ is)
 
   is_missing : (m : Missing) → IsMissingFor q g.sub a m → m ≡ missing_for a q.call.now.caller q.call.now.op
   is_missing m is = is (ap (λ (f : Facts). f.sub) regards) ∙ ap (λ (o : Option Caller). missing_for a o q.call.now.op) (sym is_admitted.caller)
 
-  -- where something is missing, the key is the first
+  -- If a reference is missing, P14 is the first broken rule.
   pub judged_key : (m : Missing) → BreaksNoStandingBy q g → IsMissingFor q g.sub a m → true ≡ not (is_nothing m) → IsFirst q a (Some (Key, m))
   judged_key m none missing some =
       let f = is_missing m missing in
       (first_of_last none ∙ ap (λ (b : Bool). cond b (Some Key) (cond (breaks a q.moment q.call.now Limit) (Some Limit) None)) (key_is a q.moment q.call.now m true f some), f)
 
-  -- where nothing is missing, the limit is all that is left
+  -- If nothing is missing, only the limit remains.
   pub last_limit : (m : Missing) (limit : Bool) → BreaksNoStandingBy q g → IsMissingFor q g.sub a m → false ≡ not (is_nothing m) → limit ≡ breaks_given (facts_in g) q.moment q.call.now Limit → first_broken a q.moment q.call.now ≡ cond limit (Some Limit) None
   last_limit m limit none missing nothing l =
       let n : limit ≡ breaks a q.moment q.call.now Limit = l ∙ ap (λ (f : Facts). breaks_given f q.moment q.call.now Limit) regards in
@@ -123,7 +123,7 @@ module _ (q : Admitted) (is_admitted : IsAdmitted q) (g : own.OwnedFacts) (a : A
 pub some_of_none : (o : Option Rule) (P : Rule → Type 0) → None ≡ o → IfSome o P
 some_of_none o P e = subst (λ (x : Option Rule). IfSome x P) e tt
 
--- ---- what is missing
+-- ---- missing references
 
 both : (i j k l : List Reference) → i ≡ j → k ≡ l → ◌≡◌ {A = Missing} (record { intents = i; constraints = k }) (record { intents = j; constraints = l })
 both i j k l h g = ap (λ (x : List Reference). record { intents = x; constraints = k }) h ∙ ap (λ (x : List Reference). record { intents = j; constraints = x }) g
@@ -132,7 +132,7 @@ missing_none : {A : Type 0} (f : Entity → A) (key : List (List ℕ)) → [] �
 unfolding missing_from
 missing_none f key = refl
 
--- a put without a key needs nothing
+-- A put without a key needs to know nothing.
 pub needs_nothing : (a : Airspace) (judged : JudgedPut) (m : Missing) → needs_key judged.put.now.nature ≡ false → m ≡ nothing_missing → m ≡ missing_by a judged
 needs_nothing a judged m lacks none =
     let put = judged.put.now in
@@ -143,7 +143,7 @@ needs_nothing a judged m lacks none =
     (missing_none (view_of a uss) put.key ∙ ap (λ (b : Bool). map (view_of a uss) (missing_from put.key (cond (b && told kinds.Intent) (unspared a (meeting_in a.entities kinds.Intent areas (Some judged.id))) []))) (sym lacks))
     (missing_none (view_of a uss) put.key ∙ ap (λ (b : Bool). map (view_of a uss) (missing_from put.key (cond (b && told kinds.Constraint) (unspared a (meeting_in a.entities kinds.Constraint areas None)) []))) (sym lacks))
 
--- of the subscription that is there, what is missing is what the policy says
+-- Given the referenced subscription, the missing references are those of the policy.
 put_missing : (a : Airspace) (caller : Caller) (op : Operation) (sub : Option Sub) (id : ℕ) (put : Put) (m : Missing) → missing_for a (Some caller) op ≡ missing_put a caller id put → sub_of a op ≡ sub_under a (subscription_of put.nature)
     → m ≡ missing_with a caller sub id put → sub ≡ sub_of a op → m ≡ missing_for a (Some caller) op
 put_missing a caller op sub id put m one two is h = is ∙ (ap (λ (s : Option Sub). missing_with a caller s id put) (h ∙ two) ∙ sym one)

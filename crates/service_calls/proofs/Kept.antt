@@ -1,4 +1,4 @@
--- What holds of all that is kept, after changes.
+-- Lemmas: properties of all stored entries, after changes.
 use Rattle.std.specs.Prelude.{◌≡◌, Bool, true, false, List, [], ◌∷◌, Some, cond}
 use Rattle.std.proofs.Common.{subst}
 use Rattle.std.proofs.lemmas.Option.{same_Some}
@@ -10,7 +10,7 @@ use Rattle.std.specs.FinMap.Entries.{put, where_key, by_order}
 use Rattle.entity_core.specs.Airspace.{EntityKey, key_cmp}
 use Rattle.entity_core.specs.declared.entity.Entity.{Entity}
 
--- ---- by entries
+-- ---- properties of entries
 
 pub all_found : (P : Entity → Type 0) (es : List (EntityKey × Entity)) (q : EntityKey) (x : Entity) → AllByRecursion (λ e. P e.1) es → maps.find key_cmp q es ≡ Some x → P x
 all_found P [] q x all h = cc

@@ -1,4 +1,4 @@
--- Meeting is mutual.
+-- Lemma: meeting is symmetric.
 use Rattle.std.specs.Prelude.{◌≡◌, ◌&&◌, ◌||◌, nat_le, int_le, Bool, true, false, List, [], ◌∷◌, map, Option, refl}
 use Rattle.std.proofs.Common.{sym, ap, ◌∙◌}
 use Rattle.std.specs.List.{list_any}

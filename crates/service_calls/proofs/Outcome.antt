@@ -1,4 +1,4 @@
--- What a call's reply and its space are, from its parts.
+-- Lemmas: the reply to a call and the space after it, from their parts.
 use Rattle.std.specs.Prelude.{◌≡◌, ◌||◌, ℕ, Bool, Option, Some, None, Ok, Err, refl, is_some, List}
 use Rattle.std.proofs.Common.{arith, sym, ap, ◌∙◌, subst, inl, inr}
 use Rattle.std.proofs.lemmas.Bool.{false≢true, cases_lt}
@@ -46,7 +46,7 @@ same_content g old new a forth back content = record {
 fails_from : (a : Airspace) (t : ℕ) (c : Call) (reply : Reply) (n m k : ℕ) → m ≡ n → MayFail a t c reply m k → MayFail a t c reply n k
 fails_from a t c reply n m k e h = subst (λ (x : ℕ). MayFail a t c reply x k) e h
 
--- an early rule is broken
+-- The call breaks a stateless rule.
 pub early_answers : {S : Type 0} (g : Ghosts S) (salt : List ℕ) (t : ℕ) (c : Call) (old : S) (p : Rule) (m : Missing) → ((a : Airspace) → first_broken a t c ≡ Some p) → ((a : Airspace) → m ≡ missing_views a c p) → Answers g salt t c old old (Denied p m)
 early_answers g salt t c old p m first missing = record {
   step = λ s a h. (step_denied salt a t c p m (first a) (missing a), h);
@@ -77,7 +77,7 @@ module _ {S : Type 0} (g : Ghosts S) (q : Admitted) where
     breaks = looks.told.1;
   }
 
-  -- a halted look, where want of memory comes only where no standing rule is broken
+  -- A lookup fails, and it runs out of memory only if no stateful rule is broken.
   pub halted_answers : {X : Type 0} (old new : S) (h : CallFault) (P : Airspace → X → Type 0) → LooksUp g old new (Err h) P → IsAdmitted q → (h ≡ NoMemory → g.is_sound new → (a : Airspace) → g.holds old a → BreaksNoStanding q a) → AnswersTo g q old new (reply_of h)
   halted_answers old new NoMemory P looks is_admitted quiet = record {
     step = λ s a h. same_content g old new a (looks.stays s) (looks.no_other s) h;
@@ -104,7 +104,7 @@ module _ {S : Type 0} (g : Ghosts S) (q : Admitted) where
     breaks = looks.told;
   }
 
-  -- what follows a look
+  -- A reply after a lookup is a reply to the call.
   pub after_answers : {X : Type 0} (old mid new : S) (x : X) (P : Airspace → X → Type 0) (reply : Reply) → LooksUp g old mid (Ok x) P → AnswersTo g q mid new reply → AnswersTo g q old new reply
   after_answers old mid new x P reply looks rest = record {
     step = λ s a h. rest.step s a (same_content g old mid a (looks.stays (rest.sound s)) (looks.no_other (rest.sound s)) h);
@@ -115,7 +115,7 @@ module _ {S : Type 0} (g : Ghosts S) (q : Admitted) where
     breaks = rest.breaks ∙ ap (λ (b : Bool). is_stopped reply || b) looks.told.1;
   }
 
-  -- a call that changes nothing
+  -- The call changes nothing.
   pub read_answers : (old new : S) (facts : OwnedFacts) (made : Prepared) → made.change ≡ None → LooksUp g old new (Ok made) (Prepares q facts) → ForEachHeld g old IsAirspace → ForEachHeld g old (λ a. Decides q a (Allowed facts)) → AnswersTo g q old new (Done made.answer)
   read_answers old new facts made is looks proper given = record {
     step = λ s a h.
@@ -129,7 +129,7 @@ module _ {S : Type 0} (g : Ghosts S) (q : Admitted) where
     breaks = looks.told.1;
   }
 
-  -- a change that was made
+  -- The change was made.
   pub change_done : (old new : S) (change : Change) (told : List ℕ) (answer : Answer) → g.fixed new ≡ g.fixed old → Changes {T = Unit {0}} g.holds g.is_sound g.is_whole (g.is_broken old) old new (Ok tt) (changed change told)
       → ReportsFault {T = Unit {0}} (g.refusals old) (g.refusals new) (g.is_broken old) (g.is_broken new) (Ok tt)
       → ForEachHeld g old (λ a. Allows q a (Some change) told answer) → AnswersTo g q old new (Done answer)
@@ -145,7 +145,7 @@ module _ {S : Type 0} (g : Ghosts S) (q : Admitted) where
     breaks = tells.breaks;
   }
 
-  -- a change that was not made, or of which nothing is known
+  -- The change was not made, or its outcome is unknown.
   pub change_failed : (old new : S) (change : Change) (told : List ℕ) (answer : Answer) (e : SpaceFault) → g.fixed new ≡ g.fixed old → Changes {T = Unit {0}} g.holds g.is_sound g.is_whole (g.is_broken old) old new (Err e) (changed change told) → ReportsFault {T = Unit {0}} (g.refusals old) (g.refusals new) (g.is_broken old) (g.is_broken new) (Err e)
       → IsAdmitted q → ForEachHeld g old (λ a. Allows q a (Some change) told answer) → AnswersTo g q old new (reply_of (Space e))
   change_failed old new change told answer Unchanged fixed changes tells is_admitted given = record {

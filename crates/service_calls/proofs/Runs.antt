@@ -1,4 +1,4 @@
--- What is known of all replies to a list of calls, from what is known of each.
+-- Lemmas: the replies to a list of calls, from the reply to each.
 use Rattle.std.specs.Prelude.{◌≡◌, ℕ, ◌||◌, Bool, true, false, List, [], ◌∷◌, ◌++◌, length, refl, All}
 use Rattle.std.proofs.Common.{arith, sym, ap, ◌∙◌, subst}
 use Rattle.std.proofs.lemmas.Bool.{false≢true}
@@ -15,7 +15,7 @@ use Rattle.service_calls.specs.Service.{Leaves}
 use Rattle.service_calls.specs.Run.{Answered, AskedInOrder, IsReplyTo, Runs, StayStopped, TimedCall, answered_calls, has_stopped, replies_of, delivered_replies}
 
 module _ {S : Type 0} (g : Ghosts S) where
-  -- one more call that was asked
+  -- Adds one more call to a list of calls.
   pub asked_more : (old : Service S) (cs : List TimedCall) (rs : List Reply) (mid new : Service S) (c : TimedCall) (r : Reply) → AskedInOrder g old cs rs mid
       → IsReplyTo g mid new c.0 c.1 r → AskedInOrder g old (cs ++ c ∷ []) (rs ++ r ∷ []) new
   asked_more old [] [] mid new c r same reply = (new, subst (λ (x : Service S). IsReplyTo g x new c.0 c.1 r) same reply, refl)
@@ -23,7 +23,7 @@ module _ {S : Type 0} (g : Ghosts S) where
   asked_more old (d ∷ cs) [] mid new c r h reply = absurd h
   asked_more old (d ∷ cs) (x ∷ rs) mid new c r h reply = (h.0, h.1, asked_more h.0 cs rs mid new c r h.2 reply)
 
-  -- ---- what stays
+  -- ---- invariants of a service
 
   pub stays_same : (s : Service S) → Stays g s s
   stays_same s = record { salt = refl; shut = λ h. refl; fixed = refl; sound = λ s. s; whole = λ s w. w }
@@ -43,7 +43,7 @@ module _ {S : Type 0} (g : Ghosts S) where
   stays_all old (c ∷ cs) [] new h = absurd h
   stays_all old (c ∷ cs) (r ∷ rs) new h = stays_then old h.0 new h.1.stays (stays_all h.0 cs rs new h.2)
 
-  -- ---- where the service was shut
+  -- ---- a shut service
 
   shut_all : (old : Service S) (cs : List TimedCall) (rs : List Reply) (new : Service S) → AskedInOrder g old cs rs new → is_shut old ≡ true → All (λ r. r ≡ Stopped) rs
   shut_all old [] [] new h n = All-nil (λ r. r ≡ Stopped)
@@ -52,11 +52,11 @@ module _ {S : Type 0} (g : Ghosts S) where
   shut_all old (c ∷ cs) (r ∷ rs) new h n =
       All-cons (λ r. r ≡ Stopped) r rs (h.1.shut n) (shut_all h.0 cs rs new h.2 (ap (λ (x : Service S). is_shut x) (h.1.stays.shut n) ∙ n))
 
-  -- after a stop nothing changes
+  -- After `Stopped`, nothing changes.
   same_after : (old mid : Service S) (cs : List TimedCall) (rs : List Reply) (new : Service S) (c : TimedCall) → IsReplyTo g old mid c.0 c.1 Stopped → AskedInOrder g mid cs rs new → is_shut old ≡ false → new ≡ mid
   same_after old mid cs rs new c reply h n = (stays_all mid cs rs new h).shut (reply.shuts n)
 
-  -- ---- where it was not
+  -- ---- a service that is not shut
 
   one_each : (old : Service S) (cs : List TimedCall) (rs : List Reply) (new : Service S) → AskedInOrder g old cs rs new → length rs ≡ length cs
   one_each old [] [] new h = refl
@@ -92,7 +92,7 @@ module _ {S : Type 0} (g : Ghosts S) where
   breaks_all old (c ∷ cs) (Done x ∷ rs) new h n = breaks_all h.0 cs rs new h.2 (h.1.shuts n) ∙ ap (λ (b : Bool). has_stopped rs || b) (h.1.answers n).breaks
   breaks_all old (c ∷ cs) (Denied p m ∷ rs) new h n = breaks_all h.0 cs rs new h.2 (h.1.shuts n) ∙ ap (λ (b : Bool). has_stopped rs || b) (h.1.answers n).breaks
 
-  -- a call that was answered by the policy's reply, and then the others
+  -- Adds a call with the policy's reply before the others.
   runs_on : (salt : List ℕ) (a : Airspace) (c : TimedCall) (r : Reply) (cs : List TimedCall) (rs : List Reply) (new : S) → (step salt a c.0 c.1).1 ≡ r → Runs g salt (step salt a c.0 c.1).0 cs rs new
       → r ∷ delivered_replies rs ≡ replies_of salt a (c ∷ answered_calls cs rs)
   runs_on salt a c r cs rs new is rest =
@@ -130,7 +130,7 @@ module _ {S : Type 0} (g : Ghosts S) where
       let rest = subst (λ (x : List ℕ). Runs g x then.0 cs rs (space_of new)) h.1.stays.salt (runs_all h.0 cs rs new h.2 (h.1.shuts n) s then.0 there) in
       record { replies = runs_on (salt_of old) a c (Denied p m) cs rs (space_of new) (ap (λ (x : Airspace × Reply). x.1) l.0) rest; whole = rest.whole; kept = rest.kept }
 
-  -- what is known of all replies
+  -- All replies to a list of calls have the stated properties.
   pub answered : (old : Service S) (cs : List TimedCall) (rs : List Reply) (new : Service S) → AskedInOrder g old cs rs new → Answered g old cs rs new
   answered old cs rs new h = record {
     in_order = h;

@@ -1,4 +1,4 @@
--- What is kept after segments and rounds from the empty airspace.
+-- Lemmas: the durable airspace after segments and batches from the empty airspace.
 use Rattle.std.specs.Prelude.{◌≡◌, ℕ, ◌≤◌, Bool, true, false, cond, T, List, [], ◌∷◌, Option, Some, None, refl}
 use Rattle.std.proofs.Common.{sym, ap, ◌∙◌, subst}
 use Rattle.std.proofs.lemmas.Cmp.{tied_itself}
@@ -26,7 +26,7 @@ use Rattle.service_calls.proofs.Awares.{Kept, kept_empty, kept_run}
 use Rattle.service_calls.proofs.Kept.{all_found}
 use Rattle.service_calls.proofs.BatchLaws.{kept_numbered}
 
--- ---- what holds of each entry that is found holds of each
+-- ---- a property of each found entry holds for all
 
 below_found : {K X : Type 0} (R : K → K → Ordering) (k q : K) (x : X) (es : List (K × X)) → IsTotalOrder R → T (below_all R k es) → find R q es ≡ Some x → eq_by_cmp R q k ≡ true → ⊥
 below_found R k q x [] o below h t = cc
@@ -52,9 +52,9 @@ all_entries R P (e ∷ es) o rises found = (
       ] refl)),
 )
 
--- ---- a sweep
+-- ---- purges
 
--- an airspace swept in part is numbered as it was
+-- A partly purged airspace keeps the invariant.
 pub kept_partly : (salt : List ℕ) (last : EntityKey → Option MadeCall) (until : ℕ) (a b : Airspace) → Kept salt last a → IsPartlyPurged until a b → Kept salt last b
 kept_partly salt last until a b is partly =
     let serial : b.serial ≡ a.serial = ap (λ (x : Airspace). x.serial) partly.same in

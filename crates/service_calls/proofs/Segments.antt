@@ -1,4 +1,4 @@
--- What is told and kept over rounds between which some of what has ended is let go.
+-- Lemmas: the delivered replies and the durable airspace over batches with purges between them.
 use Rattle.std.specs.Prelude.{◌≡◌, ◌||◌, ◌↔◌, ℕ, Bool, true, false, All, List, [], ◌∷◌, ◌++◌, Result, Ok, Err, refl}
 use Rattle.std.proofs.Common.{sym, ap, ◌∙◌, subst}
 use Rattle.std.proofs.lemmas.Bool.{false≢true}
@@ -22,7 +22,7 @@ use Rattle.service_calls.proofs.InBatches.{Follows, Lawful, calls, calm_batches,
 use Rattle.service_calls.proofs.Joined.{stops_then}
 use Rattle.service_calls.proofs.BatchLaws.{kept_all}
 
--- ---- rounds in which each caller is told `Stopped`
+-- ---- batches with only `Stopped` delivered
 
 after_first : (rs qs : List Reply) → All (λ r. r ≡ Stopped) (rs ++ qs) → All (λ r. r ≡ Stopped) qs
 after_first [] qs all = all
@@ -44,25 +44,26 @@ stopped_stay (batch ∷ batches) all =
       | false ↦ stopped_stay batches rest
     ]
 
--- it is the policy's over any airspace
+-- Such replies are those of the policy over any airspace.
 stopped_told : (salt : List ℕ) (a : Airspace) (batches : List Batch) → All (λ r. r ≡ Stopped) (all_delivered batches) → AreTold salt a batches
 stopped_told salt a batches all = record {
   replies = stopped_replies salt a (all_timed batches) (all_delivered batches) all;
   stopped = stopped_stay batches all;
 }
 
--- where a service is shut only in a space that broke, it is so after a call that may break it
+-- If a service is shut only when its space is broken, this still holds after a call that can break
+-- it.
 broken_then : {T : Type 0} (result : Result T SpaceFault) (n b n' b' : Bool) → n' ≡ is_broken_after n result → b' ≡ is_broken_after b result → (n ≡ true → b ≡ true) → n' ≡ true → b' ≡ true
 broken_then (Ok x) n b n' b' is so h t = so ∙ h (sym is ∙ t)
 broken_then (Err Unchanged) n b n' b' is so h t = so ∙ h (sym is ∙ t)
 broken_then (Err Broken) n b n' b' is so h t = so
 
--- whichever it is
+-- A fact that follows from each value of a flag holds.
 either : {P : Type 0} (x : Bool) → (x ≡ true → P) → (x ≡ false → P) → P
 either true is not = is refl
 either false is not = not refl
 
--- what may be kept where that is told may be kept
+-- The durable airspace is one that these replies allow.
 kept_of_both : (salt : List ℕ) (a : Airspace) (segments : List Segment) (batches : List Batch) (b : Airspace) → AreDeliveredAndDurable salt a segments batches b → MayHavePersistedPurged salt a segments batches b
 kept_of_both salt a [] batches b both = both.1
 kept_of_both salt a (segment ∷ segments) batches b both =
@@ -74,10 +75,10 @@ kept_of_both salt a (segment ∷ segments) batches b both =
       | false ↦ λ more. (more.0, more.1, kept_of_both salt more.0 segments batches b more.2)
     ] both.1
 
--- ---- one segment in front of others
+-- ---- one segment before others
 
 module _ (salt : List ℕ) (a : Airspace) (segment : Segment) (segments : List Segment) (batches : List Batch) where
-  -- in which somebody is told `Stopped`
+  -- In this segment some reply is `Stopped`.
   told_stop : has_stopped (all_delivered segment.batches) ≡ true → AreTold salt a segment.batches → AllStopped segments batches → AreDeliveredPurged salt a (segment ∷ segments) batches
   told_stop stops told others =
       (told, subst (λ (x : Bool). IfStopped x (AllStopped segments batches) ((b : Airspace) × IsPartlyPurged segment.until (airspace_after_batches salt a segment.batches) b × AreDeliveredPurged salt b segments batches)) (sym stops) others)
@@ -86,7 +87,7 @@ module _ (salt : List ℕ) (a : Airspace) (segment : Segment) (segments : List S
   both_stop after stops told others kept =
       (told, subst (λ (x : Bool). IfStopped x (AllStopped segments batches × MayHavePersisted salt a segment.batches after) ((b : Airspace) × IsPartlyPurged segment.until (airspace_after_batches salt a segment.batches) b × AreDeliveredAndDurable salt b segments batches after)) (sym stops) (others, kept))
 
-  -- in which nobody is
+  -- In this segment no reply is `Stopped`.
   told_go : (b : Airspace) → has_stopped (all_delivered segment.batches) ≡ false → AreTold salt a segment.batches → IsPartlyPurged segment.until (airspace_after_batches salt a segment.batches) b → AreDeliveredPurged salt b segments batches → AreDeliveredPurged salt a (segment ∷ segments) batches
   told_go b goes told partly then =
       (told, subst (λ (x : Bool). IfStopped x (AllStopped segments batches) ((b : Airspace) × IsPartlyPurged segment.until (airspace_after_batches salt a segment.batches) b × AreDeliveredPurged salt b segments batches)) (sym goes) (b, partly, then))
@@ -96,7 +97,7 @@ module _ (salt : List ℕ) (a : Airspace) (segment : Segment) (segments : List S
       (told, subst (λ (x : Bool). IfStopped x (AllStopped segments batches × MayHavePersisted salt a segment.batches after) ((b : Airspace) × IsPartlyPurged segment.until (airspace_after_batches salt a segment.batches) b × AreDeliveredAndDurable salt b segments batches after)) (sym goes) (b, partly, then))
 
 module _ {S : Type 0} (g : spaces.Ghosts S) (k : settles.Ghosts S) (laws : Lawful g k) where
-  -- ---- a service that is shut in a space that broke, while nothing waits
+  -- ---- a shut service over a broken space without pending changes
 
   record IsOver (s : Service S) : Type 0 where
     shut : is_shut s ≡ true
@@ -121,10 +122,10 @@ module _ {S : Type 0} (g : spaces.Ghosts S) (k : settles.Ghosts S) (laws : Lawfu
   salt_batches old [] new h = ap (λ (s : Service S). salt_of s) h
   salt_batches old (batch ∷ batches) new h = salt_batches h.1 batches new h.4 ∙ (h.3.salt ∙ (calls g k laws old batch.calls h.0 h.2).stays.salt)
 
-  -- ---- segments, and what follows
+  -- ---- segments, and what follows them
 
-  -- What segments and rounds are, from a service in which nothing waits: where it is not shut, and
-  -- where it is over.
+  -- What holds for segments and batches from a service without pending changes, whether it is over
+  -- or not.
   record Goes (s : Service S) (segments : List Segment) (batches : List Batch) (new : Service S) : Type 0 where
     live : (a : Airspace) → is_shut s ≡ false → IsContent g.holds (space_of s) a → RunsPurged k (salt_of s) a segments batches new
     others : IsOver s → AllStopped segments batches
@@ -132,7 +133,7 @@ module _ {S : Type 0} (g : spaces.Ghosts S) (k : settles.Ghosts S) (laws : Lawfu
     both : IsOver s → (salt : List ℕ) (a : Airspace) → AreDeliveredAndDurable salt a segments batches a
     ends : IsOver s → (is_shut new ≡ true) × ((b : Airspace) → k.persists (space_of new) b → k.persists (space_of s) b)
 
-  -- no segment
+  -- No segment follows.
   goes_none : (s : Service S) (batches : List Batch) (new : Service S) → Follows g k laws s batches new → Goes s [] batches new
   goes_none s batches new follows = record {
     live = λ a n content.
@@ -151,7 +152,7 @@ module _ {S : Type 0} (g : spaces.Ghosts S) (k : settles.Ghosts S) (laws : Lawfu
     ends = λ over. let ends = follows.ends over.shut over.broken in (ends.0, ends.2);
   }
 
-  -- one segment more
+  -- One more segment.
   module _ (old : Service S) (segment : Segment) (mid end : Service S) (most : ℕ) (result : Result ℕ SpaceFault) (segments : List Segment) (batches : List Batch) (new : Service S) (made : MadeBatches g k old segment.batches mid) (purge : IsPurge g k segment.until most mid end result) (calm : k.is_pending (space_of old) ≡ false) (sound : g.is_sound (space_of end)) (next : Goes end segments batches new) where
     follows : Follows g k laws old segment.batches mid
     follows = follows_these g k laws old segment.batches mid made calm (purge.sound sound)
@@ -165,7 +166,7 @@ module _ {S : Type 0} (g : spaces.Ghosts S) (k : settles.Ghosts S) (laws : Lawfu
     same_end : IsOver mid → (b : Airspace) → k.persists (space_of end) b → k.persists (space_of mid) b
     same_end over b held = subst (λ (s : Service S). k.persists (space_of s) b) (purge.shut over.shut).0 held
 
-    -- from a service that is over
+    -- The service was over before.
     module _ (over : IsOver old) where
       over_mid : IsOver mid
       over_mid = let ends = follows.ends over.shut over.broken in record { shut = ends.0; broken = ends.1; calm = calm_mid }
@@ -196,7 +197,7 @@ module _ {S : Type 0} (g : spaces.Ghosts S) (k : settles.Ghosts S) (laws : Lawfu
           let ends = next.ends (over_end over_mid) in
           (ends.0, λ b held. (follows.ends over.shut over.broken).2 b (same_end over_mid b (ends.1 b held)))
 
-    -- from one that is not shut
+    -- The service was not shut before.
     module _ (a : Airspace) (n : is_shut old ≡ false) (content : IsContent g.holds (space_of old) a) where
       runs : RunsInBatches k (salt_of old) a segment.batches mid
       runs = follows.live a n content
@@ -214,7 +215,7 @@ module _ {S : Type 0} (g : spaces.Ghosts S) (k : settles.Ghosts S) (laws : Lawfu
         calm = calm_mid;
       }
 
-      -- of a service that is shut then
+      -- The service is shut afterwards.
       run_over : is_shut new ≡ true → AreDeliveredPurged (salt_of old) a (segment ∷ segments) batches → ((b : Airspace) → k.persists (space_of new) b → AreDeliveredAndDurable (salt_of old) a (segment ∷ segments) batches b) → RunsPurged k (salt_of old) a (segment ∷ segments) batches new
       run_over shut told both = record {
         told = told;
@@ -224,7 +225,7 @@ module _ {S : Type 0} (g : spaces.Ghosts S) (k : settles.Ghosts S) (laws : Lawfu
         both = both;
       }
 
-      -- a caller was told `Stopped`
+      -- Some reply was `Stopped`.
       live_stopped : has_stopped (all_delivered segment.batches) ≡ true → RunsPurged k (salt_of old) a (segment ∷ segments) batches new
       live_stopped stops =
           let over = over_shut (either (is_shut mid) (λ x. x) (λ x. absurd (false≢true (sym (runs.goes x) ∙ stops)))) in
@@ -234,7 +235,7 @@ module _ {S : Type 0} (g : spaces.Ghosts S) (k : settles.Ghosts S) (laws : Lawfu
           (λ b held. both_stop (salt_of old) a segment segments batches b stops told_first others (runs.kept b (same_end over b (ends.1 b held))))
 
       module _ (goes : has_stopped (all_delivered segment.batches) ≡ false) where
-        -- nobody was, but it is shut
+        -- No reply was `Stopped`, but the service is shut.
         live_over : is_shut mid ≡ true → RunsPurged k (salt_of old) a (segment ∷ segments) batches new
         live_over shut =
             let over = over_shut shut in
@@ -250,7 +251,7 @@ module _ {S : Type 0} (g : spaces.Ghosts S) (k : settles.Ghosts S) (laws : Lawfu
           held : IsContent g.holds (space_of mid) after
           held = held_quiet g k laws (space_of mid) after calm_mid (runs.whole live)
 
-          -- the sweep left one airspace
+          -- The purge left one airspace.
           live_left : (b : Airspace) → is_shut end ≡ false → IsContent g.holds (space_of end) b → IsPartlyPurged segment.until after b → RunsPurged k (salt_of old) a (segment ∷ segments) batches new
           live_left b x there partly =
               let then : RunsPurged k (salt_of old) b segments batches new = subst (λ (salt : List ℕ). RunsPurged k salt b segments batches new) (purge.salt ∙ salt_batches old segment.batches mid made) (next.live b x there) in
@@ -263,7 +264,7 @@ module _ {S : Type 0} (g : spaces.Ghosts S) (k : settles.Ghosts S) (laws : Lawfu
                 both = both;
               }
 
-          -- the space broke in the sweep
+          -- The space broke in the purge.
           live_broken : IsOver end → ((b : Airspace) → g.holds (space_of end) b → IsPartlyPurged segment.until after b) → RunsPurged k (salt_of old) a (segment ∷ segments) batches new
           live_broken over left =
               let ends = next.ends over in

@@ -1,4 +1,4 @@
--- A put whose key has old OVNs alone is refused.
+-- Lemmas: a put whose key has only old OVNs is denied.
 use Rattle.std.specs.Prelude.{◌≡◌, ℕ, ◌||◌, not, Bool, true, false, List, [], ◌∷◌, map, filter, Option, cond, refl, Contains}
 use Rattle.std.proofs.Common.{sym, ap, ◌∙◌, subst, inl, inr}
 use Rattle.std.specs.Cmp.Lexicographic.{same_text as one_text}
@@ -56,7 +56,7 @@ all_unspared P a (e ∷ es) all =
       | false ↦ (all.0, all_unspared P a es all.1)
     ]
 
--- ---- what is needed is numbered, and not in the key
+-- ---- needed entities are numbered, and missing from the key
 
 all_asked : (P : Entity → Type 0) (asked : Bool) (xs : List Entity) → AllByRecursion P xs → AllByRecursion P (cond asked xs [])
 all_asked P true xs all = all
@@ -95,7 +95,7 @@ call_numbered salt kind a caller (CreateSub id put) n = tt
 call_numbered salt kind a caller (UpdateSub id version put) n = tt
 call_numbered salt kind a caller (DeleteSub id version) n = tt
 
--- ---- it is refused
+-- ---- the denial
 
 pub stale_step : (salt : List ℕ) (a : Airspace) (t : ℕ) (c : Call) (kind : Kind) (y : Entity) → IsStale salt kind a c y → IsRefusedFor kind a c y (step salt a t c).1
 unfolding step
@@ -105,7 +105,7 @@ stale_step salt a t c kind y s =
     subst (λ (r : Option Rule). IsRefusedFor kind a c y (step_by salt a c r).1) (sym asked.first)
     (asked.number, λ is. subst (λ (p : Rule). IsListed kind a c.caller y (missing_views a c p)) (sym is) (asked.listed is))
 
--- ---- what a service tells
+-- ---- the reply of a service
 
 pub stale_reply : {S : Type 0} (g : Ghosts S) (salt : List ℕ) (a : Airspace) (t : ℕ) (c : Call) (kind : Kind) (y : Entity) (reply : Reply) (new : S) → IsStale salt kind a c y → Leaves g salt a t c reply new → FailsOrIsRefused kind a c y reply
 stale_reply g salt a t c kind y Fault new s l = tt

@@ -1,4 +1,4 @@
--- What a piece of a sweep leaves of a space.
+-- Lemmas: the space after a purge chunk.
 use Rattle.std.specs.Prelude.{◌≡◌, ℕ, Bool, List, Result, Ok, Err, refl}
 use Rattle.std.proofs.Common.{inl, inr, subst, sym}
 use Rattle.entity_core.specs.Airspace.{Airspace}
@@ -13,7 +13,7 @@ use Rattle.space_core.specs.declared.space.SpaceFault.TheVariants.{Broken, Uncha
 use Rattle.space_core.specs.Space.{Changes, IsContent, Reads}
 use Rattle.service_calls.specs.Purged.{LeavesPartly}
 
--- what was found goes, of a space whose content was the airspace
+-- Deletes the found items of a space with a single airspace.
 module _ {S T : Type 0} (g : spaces.Ghosts S) (until most : ℕ) (list : T → List PurgeItem) (old mid : S) (found : T) (reads : Reads g.holds g.is_sound g.is_whole old mid (Ok found) (λ a x. IsPurgeChunk until most (list x) a)) where
   pub can_go : g.is_sound mid → (a : Airspace) → g.holds mid a → CanPurgeAll (list found) a
   can_go sound a held = gone_purged.can until (list found) a (reads.answer sound a (reads.no_other sound a held)).go

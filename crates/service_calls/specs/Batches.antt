@@ -1,4 +1,4 @@
--- What a service is asked in rounds, each of which ends as the changes that wait are kept or not.
+-- Batches of calls. Each batch ends when its pending changes are committed, or not.
 use Rattle.std.specs.Prelude.{◌≡◌, ◌||◌, ◌⊎◌, ℕ, Bool, true, false, List, [], ◌∷◌, ◌++◌, map, All, Result, Ok, Err, if◌then◌else◌}
 use Rattle.std.specs.List.{AllByRecursion, flat_map}
 use Rattle.entity_core.specs.Airspace.{Airspace, empty_at}
@@ -19,21 +19,21 @@ use Rattle.service_calls.specs.Run.{AskedInOrder, IsReplyTo, MayHaveStepped, Run
 use Rattle.service_calls.specs.Service.{reply_of}
 use Rattle.service_calls.specs.Stale.{AllNumbered}
 
--- a call that was made, its reply, and whether that waits for the end of its round
+-- A call, its reply, and whether the reply is deferred until the batch ends.
 pub record CallRecord : Type 0 where
   pub timed : TimedCall
   pub reply : Reply
   pub waits : Bool
 
--- calls that were made one after the other, and whether the changes that waited were kept then
+-- Calls in sequence, and the result of the commit at the end.
 pub record Batch : Type 0 where
   pub calls : List CallRecord
   pub settled : Result (Unit {0}) SpaceFault
 
--- ---- what is told
+-- ---- delivered replies
 
--- what a caller is told, by how its round ended: a reply that waited for changes that were not kept
--- is told as a failure
+-- The reply sent to the caller, given the outcome of its batch. A deferred reply becomes a failure
+-- if the commit failed.
 abbrev pub delivered_reply : Result (Unit {0}) SpaceFault → CallRecord → Reply
 delivered_reply (Ok x) made = made.reply
 delivered_reply (Err fault) made = if made.waits then reply_of (Space fault) else made.reply
@@ -41,33 +41,33 @@ delivered_reply (Err fault) made = if made.waits then reply_of (Space fault) els
 abbrev pub timed_in : Batch → List TimedCall
 timed_in batch = map (λ made. made.timed) batch.calls
 
--- the replies of a round as they were made, and as they are told
+-- The replies of a batch as they were made, and as they are delivered.
 abbrev pub replies_made : Batch → List Reply
 replies_made batch = map (λ made. made.reply) batch.calls
 
 abbrev pub replies_delivered : Batch → List Reply
 replies_delivered batch = map (delivered_reply batch.settled) batch.calls
 
--- the calls of all rounds, and what is told of them
+-- The calls of all batches, and the replies delivered to them.
 abbrev pub all_timed : List Batch → List TimedCall
 all_timed batches = flat_map timed_in batches
 
 abbrev pub all_delivered : List Batch → List Reply
 all_delivered batches = flat_map replies_delivered batches
 
--- ---- what is asked
+-- ---- calls and commits
 
 module _ {S : Type 0} (g : spaces.Ghosts S) (k : settles.Ghosts S) where
-  -- The service was asked these calls in order, each once. A reply waits where changes wait before
-  -- the call or after it: where the call made one, or may have seen one.
+  -- Holds if the service received these calls in order, each once. A reply is deferred if changes
+  -- are pending before or after the call: the call made one, or may have seen one.
   abbrev pub CalledInOrder : Service S → List CallRecord → Service S → Type 0
   CalledInOrder old [] new = new ≡ old
   CalledInOrder old (m ∷ ms) new =
       (mid : Service S) × IsReplyTo g old mid m.timed.0 m.timed.1 m.reply
       × (m.waits ≡ (k.is_pending (space_of old) || k.is_pending (space_of mid))) × CalledInOrder mid ms new
 
-  -- The changes that waited were kept, or none of them; none waits any more. A service whose space
-  -- broke then is shut.
+  -- Holds if all pending changes were committed, or none of them, and none is pending any more. If
+  -- the space broke, the service is shut.
   pub record IsCommitted (old new : Service S) (result : Result (Unit {0}) SpaceFault) : Type 0 where
     pub salt : salt_of new ≡ salt_of old
     pub shuts : is_shut new ≡ is_broken_after (is_shut old) result
@@ -75,15 +75,15 @@ module _ {S : Type 0} (g : spaces.Ghosts S) (k : settles.Ghosts S) where
     pub tells : CallReportsFault g (space_of old) (space_of new) result
     pub settles : CallCommits g (space_of old) (space_of new) result k.persists
 
-  -- one round after the other
+  -- Holds if the service ran these batches in order.
   abbrev pub MadeBatches : Service S → List Batch → Service S → Type 0
   MadeBatches old [] new = new ≡ old
   MadeBatches old (batch ∷ batches) new =
       (mid : Service S) × (end : Service S) × CalledInOrder old batch.calls mid
       × IsCommitted mid end batch.settled × MadeBatches end batches new
 
-  -- A service that was not shut, over a space of one airspace in which nothing waited, was asked in
-  -- rounds. What is said of its space still stands.
+  -- Holds if a service that was not shut ran these batches. Its space had a single airspace and
+  -- nothing pending before, and is sound afterwards.
   pub record AskedInBatches (old : Service S) (batches : List Batch) (new : Service S) (a : Airspace)
       : Type 0 where
     pub goes : is_shut old ≡ false
@@ -92,18 +92,19 @@ module _ {S : Type 0} (g : spaces.Ghosts S) (k : settles.Ghosts S) where
     pub made : MadeBatches old batches new
     pub sound : g.is_sound (space_of new)
 
--- ---- what is kept
+-- ---- durable airspaces
 
--- a round of these calls whose changes were not kept, as where a crash comes before that
+-- A batch of these calls without a commit, as after a crash before the commit.
 abbrev pub uncommitted : List CallRecord → Batch
 uncommitted calls = record { calls = calls; settled = Err Unchanged }
 
--- the airspace after what was answered of a round
+-- The airspace after the answered calls of a batch.
 abbrev pub airspace_of : List ℕ → Airspace → Batch → Airspace
 airspace_of salt a batch = airspace_after salt a (answered_calls (timed_in batch) (replies_delivered batch))
 
--- What may be kept of a round in which a caller is told `Stopped`: the airspace without the changes
--- that waited, or that with them; a call that itself was answered so may have had its effect.
+-- Holds if the airspace can be durable after a batch in which some reply is `Stopped`: the airspace
+-- without the pending changes, or with them. A call with the reply `Stopped` may have had its
+-- effect.
 abbrev pub MayHaveLeft : List ℕ → Airspace → Batch → Airspace → Type 0
 MayHaveLeft salt a batch after = (after ≡ airspace_of salt a (uncommitted batch.calls))
     ⊎ MayHaveStepped salt a (timed_in batch) (replies_made batch) after
@@ -112,22 +113,23 @@ abbrev pub IfStopped : Bool → Type 0 → Type 0 → Type 0
 IfStopped true P Q = P
 IfStopped false P Q = Q
 
--- What may be kept after rounds: the airspace after all that was answered, or what the first round
--- in which a caller is told `Stopped` may have left.
+-- Holds if the airspace can be durable after batches. It is the one after all answered calls, or
+-- one that the first batch with a reply `Stopped` may have left.
 abbrev pub MayHavePersisted : List ℕ → Airspace → List Batch → Airspace → Type 0
 MayHavePersisted salt a [] after = after ≡ a
 MayHavePersisted salt a (batch ∷ batches) after =
     IfStopped (has_stopped (replies_delivered batch)) (MayHaveLeft salt a batch after)
     (MayHavePersisted salt (airspace_of salt a batch) batches after)
 
--- after the first round in which a caller is told `Stopped` each is told so
+-- Holds if every reply after the first batch with a reply `Stopped` is `Stopped`.
 abbrev pub StayStoppedIn : List Batch → Type 0
 StayStoppedIn [] = Unit {0}
 StayStoppedIn (batch ∷ batches) = IfStopped (has_stopped (replies_delivered batch))
     (All (λ r. r ≡ Stopped) (all_delivered batches)) (StayStoppedIn batches)
 
--- What is told over rounds is the policy's, but for the calls that failed. While the service is not
--- shut, nobody is told `Stopped`, and the policy's airspace is kept; and never is another kept.
+-- Holds if the delivered replies are those of the policy, except for the calls that failed. While
+-- the service is not shut, no reply is `Stopped` and the airspace of the policy is durable. No
+-- airspace is durable that the batches cannot have left.
 pub record RunsInBatches {S : Type 0} (k : settles.Ghosts S) (salt : List ℕ) (a : Airspace)
     (batches : List Batch) (new : Service S) : Type 0 where
   pub replies : delivered_replies (all_delivered batches)
@@ -140,13 +142,14 @@ pub record RunsInBatches {S : Type 0} (k : settles.Ghosts S) (salt : List ℕ) (
 
 -- ---- laws
 
--- What is told in rounds, and what is kept after them, is the policy's.
+-- States that the delivered replies over batches, and the durable airspace after them, are those of
+-- the policy.
 abbrev pub BatchesAreThePolicy : {S : Type 0} → spaces.Ghosts S → settles.Ghosts S → Type 0
 BatchesAreThePolicy {S} g k = (old new : Service S) (batches : List Batch) (a : Airspace)
     → AskedInBatches g k old batches new a → RunsInBatches k (salt_of old) a batches new
 
--- In the midst of a round, as where a crash comes then, that is kept which is kept where its
--- changes are not; a reply that waits was told to nobody yet, and counts as a failure.
+-- States what is durable within an open batch, as after a crash: the same as if its changes were
+-- not committed. Its deferred replies were not delivered yet, and count as failures.
 abbrev pub OpenBatchIsNotDurable : {S : Type 0} → spaces.Ghosts S → settles.Ghosts S → Type 0
 OpenBatchIsNotDurable {S} g k =
     (old mid new : Service S) (batches : List Batch) (calls : List CallRecord) (a : Airspace)
@@ -154,26 +157,26 @@ OpenBatchIsNotDurable {S} g k =
     → g.is_sound (space_of new)
     → RunsInBatches k (salt_of old) a (batches ++ uncommitted calls ∷ []) new
 
--- The calls of a round were asked in order.
+-- States that the calls of a batch were made in order.
 abbrev pub BatchIsAsked : {S : Type 0} → spaces.Ghosts S → settles.Ghosts S → Type 0
 BatchIsAsked {S} g k = (old new : Service S) (batch : Batch) → CalledInOrder g k old batch.calls new
     → AskedInOrder g old (timed_in batch) (replies_made batch) new
 
--- Where the changes of each round were kept, it is as if its calls were made one after the other in
--- a space in which none waits.
+-- States that if every batch was committed, the calls have the replies of a run without pending
+-- changes.
 abbrev pub CommittedBatchesRun : {S : Type 0} → spaces.Ghosts S → settles.Ghosts S → Type 0
 CommittedBatchesRun {S} g k = (old new : Service S) (batches : List Batch) (a : Airspace)
     → AskedInBatches g k old batches new a → AllByRecursion (λ batch. batch.settled ≡ Ok tt) batches
     → Runs g (salt_of old) a (all_timed batches) (all_delivered batches) (space_of new)
 
--- Over rounds from the empty airspace: each entity that is kept has the OVN of its serial.
+-- States that after batches from the empty airspace, each durable entity has the OVN of its serial.
 abbrev pub BatchesAreNumbered : {S : Type 0} → settles.Ghosts S → Type 0
 BatchesAreNumbered {S} k =
     (salt : List ℕ) (n : ℕ) (batches : List Batch) (new : Service S) (a : Airspace)
     → RunsInBatches k salt (empty_at n) batches new → k.persists (space_of new) a → AllNumbered salt a
 
--- Where nobody was told `Stopped`: the later of two that meet knew the other, and each index is the
--- number of calls that notified the subscription.
+-- States that the later of two meeting entities knew the other, and each index is the number of
+-- calls that notified the subscription. It assumes that no reply was `Stopped`.
 abbrev pub BatchesAreAware : {S : Type 0} → settles.Ghosts S → Type 0
 BatchesAreAware {S} k =
     (salt : List ℕ) (n : ℕ) (batches : List Batch) (new : Service S) (a : Airspace)

@@ -1,4 +1,4 @@
--- What a supplier is told does not depend on OVNs that it does not know.
+-- Replies to a USS do not depend on OVNs that it does not know.
 use Rattle.std.specs.Prelude.{◌≡◌, ℕ, true, false, List, [], ◌∷◌, if◌then◌else◌}
 use Rattle.entity_core.specs.Airspace.{Airspace}
 use Rattle.policy_core.specs.declared.call.Call.{Call}
@@ -7,19 +7,19 @@ use Rattle.service_step.specs.declared.reply.Reply.{Reply}
 use Rattle.service_step.specs.Step.{step}
 use Rattle.service_calls.specs.Run.{TimedCall, replies_of, airspace_after}
 
--- A call is made in two airspaces: if it is the supplier's, its key knows as much of both; if it is
--- another's, its key and its path do.
+-- Holds if a call knows as much in both airspaces. For a call of the USS this is by its key; for a
+-- call of another USS, by its key and its path.
 pub record MadeAlike (m : List ℕ) (c : Call) (a b : Airspace) : Type 0 where
   pub own : is_by m c ≡ true → KnowsTheSame m c a b
   pub others : is_by m c ≡ false → ToldTheSame m c a b
 
--- each call of a list, where it is made
+-- Holds if each call of a list knows as much in both airspaces at its time.
 abbrev pub AllMadeAlike : List ℕ → List ℕ → List TimedCall → Airspace → Airspace → Type 0
 AllMadeAlike salt m [] a b = Unit {0}
 AllMadeAlike salt m (c ∷ cs) a b = MadeAlike m c.1 a b
     × AllMadeAlike salt m cs (step salt a c.0 c.1).0 (step salt b c.0 c.1).0
 
--- the replies to the calls that the supplier made
+-- The replies to the calls that the USS made.
 abbrev pub replies_to : List ℕ → List TimedCall → List Reply → List Reply
 replies_to m [] rs = []
 replies_to m (c ∷ cs) [] = []
@@ -27,16 +27,16 @@ replies_to m (c ∷ cs) (r ∷ rs) = if is_by m c.1 then r ∷ replies_to m cs r
 
 -- ---- laws
 
--- A supplier's call with the same knowledge of airspaces that are alike to it is told the same in
--- both, and leaves them alike.
+-- States that a USS's call with the same knowledge gets the same reply from airspaces that are
+-- alike to it, and leaves them alike.
 abbrev pub CallIsBlind : Type 0
 CallIsBlind = (salt m : List ℕ) (a b : Airspace) (now : ℕ) (c : Call) → IsLike m a b
     → is_by m c ≡ true → KnowsTheSame m c a b
     → ((step salt a now c).1 ≡ (step salt b now c).1)
     × IsLike m (step salt a now c).0 (step salt b now c).0
 
--- Over every list of calls, whoever makes them, the supplier is told the same, and the airspaces
--- stay alike.
+-- States that over any list of calls, whoever makes them, the USS gets the same replies, and the
+-- airspaces stay alike.
 abbrev pub RunIsBlind : Type 0
 RunIsBlind = (salt m : List ℕ) (cs : List TimedCall) (a b : Airspace) → IsLike m a b
     → AllMadeAlike salt m cs a b

@@ -1,4 +1,4 @@
--- How often a subscription was told.
+-- How many times a subscription was notified.
 use Rattle.std.specs.Prelude.{◌≡◌, ℕ, Bool, true, false, List, [], ◌∷◌, ◌++◌, filter, length, Option, Some, None, if◌then◌else◌}
 use Rattle.std.specs.List.{AllByRecursion}
 use Rattle.std.specs.Ordering.{eq_by_cmp, nat_cmp}
@@ -12,10 +12,10 @@ use Rattle.service_calls.specs.Aware.{MadeCall, is_done, left_by}
 use Rattle.service_notify.specs.Notices.{notifies}
 use Rattle.service_calls.specs.Run.{TimedCall}
 
--- ---- the calls that were answered `Done`
+-- ---- calls answered `Done`
 
--- Of calls that were made from an airspace on and answered so, those answered `Done`, in order,
--- each with the airspace before it.
+-- The calls that were answered `Done`, in order, each with the airspace before it. The calls were
+-- made from the airspace `a` on.
 abbrev pub done_calls : List ℕ → Airspace → List TimedCall → List Reply → List MadeCall
 done_calls salt a [] rs = []
 done_calls salt a (c ∷ cs) [] = []
@@ -26,22 +26,22 @@ done_calls salt a (c ∷ cs) (r ∷ rs) =
 
 -- ---- one subscription
 
--- whether an operation creates the subscription of an id
+-- Returns true if an operation creates the subscription of an id.
 abbrev pub creates_sub : ℕ → Operation → Bool
 creates_sub id (CreateSub created put) = eq_by_cmp nat_cmp id created
 creates_sub id op = false
 
--- whether a call notifies a subscription that stood there before it, if one did
+-- Returns true if a call notifies a subscription, if the subscription existed before the call.
 abbrev pub notifies_one : Airspace → Operation → ℕ → Option Sub → Bool
 notifies_one a op id None = false
 notifies_one a op id (Some s) = notifies a op (id, s)
 
--- whether a call notified the subscription of an id as it stood before that call
+-- Returns true if a call notified the subscription of an id, as it was before that call.
 abbrev pub notified : ℕ → MadeCall → Bool
 notified id made = notifies_one made.before made.call.op id (get made.before.subscriptions id)
 
--- An index is the number of calls, after the one that last created the subscription of an id, that
--- notified it.
+-- Holds if the index is the number of calls that notified the subscription after the last call that
+-- created it.
 pub record IsCounted (id : ℕ) (made : List MadeCall) (index : ℕ) : Type 0 where
   pub earlier : List MadeCall
   pub creation : MadeCall
@@ -53,8 +53,8 @@ pub record IsCounted (id : ℕ) (made : List MadeCall) (index : ℕ) : Type 0 wh
 
 -- ---- the law
 
--- After calls that were made from an airspace on and answered so, each subscription's index is that
--- number.
+-- Holds if the index of each subscription is the number of calls that notified it. The calls were
+-- made from the airspace `from` on.
 abbrev pub Counts : List ℕ → Airspace → List TimedCall → List Reply → Airspace → Type 0
 Counts salt from cs rs a = (id : ℕ) (s : Sub) → get a.subscriptions id ≡ Some s
     → IsCounted id (done_calls salt from cs rs) s.index

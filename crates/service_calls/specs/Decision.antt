@@ -1,4 +1,4 @@
--- What is decided of a call.
+-- The decision about a call.
 use Rattle.std.specs.Prelude.{◌≡◌, ℕ, List, Option, Some, None, find, map}
 use Rattle.entity_core.specs.Airspace.{Airspace}
 use Rattle.entity_core.specs.declared.nature.Kind.{Kind}
@@ -23,9 +23,9 @@ use Rattle.service_step.specs.Step.{missing_views}
 use Rattle.service_calls.specs.declared.decide.Decision.{Decision}
 use Rattle.service_calls.specs.declared.decide.Decision.TheVariants as decisions
 
--- ---- what is missing
+-- ---- missing references
 
--- what the key of a put does not have of what it needs of a kind, as its caller may see it
+-- The references that a put needs of a kind and its key lacks, as the caller sees them.
 abbrev pub missing_kind_by : Kind → Airspace → JudgedPut → List Reference
 missing_kind_by kind a judged =
     map (view_of a judged.caller.now.uss)
@@ -35,14 +35,15 @@ abbrev pub missing_by : Airspace → JudgedPut → Missing
 missing_by a judged =
     missing_with a judged.caller.now judged.sub.now judged.id judged.put.now
 
--- it is what a call needs to know and its key does not have, where it names that subscription
+-- Holds if the references are those that the call needs and its key lacks, given the subscription
+-- that it references.
 abbrev pub IsMissingFor : Admitted → Option Sub → Airspace → Missing → Type 0
 IsMissingFor admitted sub a missing = sub ≡ sub_of a admitted.call.now.op
     → missing ≡ missing_for a (Some admitted.caller.now) admitted.call.now.op
 
--- ---- the first rule
+-- ---- the first broken rule
 
--- none of P7 to P13, P16 and P17 is broken, by what was looked up or in an airspace
+-- Holds if the call breaks none of P7 to P13, P16 and P17, by the facts or in an airspace.
 abbrev pub BreaksNoStandingBy : Admitted → OwnedFacts → Type 0
 BreaksNoStandingBy admitted g =
     find (breaks_given (facts_in g) admitted.moment admitted.call.now) standing_rules ≡ None
@@ -51,14 +52,14 @@ abbrev pub BreaksNoStanding : Admitted → Airspace → Type 0
 BreaksNoStanding admitted a =
     find (breaks a admitted.moment admitted.call.now) standing_rules ≡ None
 
--- the first rule that a call breaks, with what is missing
+-- Holds if this is the first rule that the call breaks, with the missing references.
 abbrev pub IsFirst : Admitted → Airspace → Option (Rule × Missing) → Type 0
 IsFirst admitted a None = BreaksNone admitted a
 IsFirst admitted a (Some broken) =
     (first_broken a admitted.moment admitted.call.now ≡ Some broken.0)
     × (broken.1 ≡ missing_views a admitted.call.now broken.0)
 
--- it is, where this was looked up for the call
+-- Holds if this is the first broken rule, provided that the facts are those of the airspace.
 abbrev pub IsFirstBy : Admitted → OwnedFacts → Airspace → Option (Rule × Missing) → Type 0
 IsFirstBy admitted g a broken =
     AreFacts admitted.call.now.op a g → IsFirst admitted a broken
@@ -69,13 +70,13 @@ abbrev pub decision_of : OwnedFacts → Option (Rule × Missing) → Decision
 decision_of g None = decisions.Allowed g
 decision_of g (Some broken) = decisions.Refused broken.0 broken.1
 
--- what was decided of a call is what the policy says
+-- Holds if the decision is that of the policy.
 abbrev pub Decides : Admitted → Airspace → Decision → Type 0
 Decides admitted a (decisions.Refused p m) = IsFirst admitted a (Some (p, m))
 Decides admitted a (decisions.Allowed g) =
     BreaksNone admitted a × AreFacts admitted.call.now.op a g
 
--- a call breaks no rule, and this is its effect
+-- Holds if the call breaks no rule, and this is its effect.
 abbrev pub Allows : Admitted → Airspace → Option Change → List ℕ → Answer → Type 0
 Allows admitted a change told answer =
     BreaksNone admitted a × Makes admitted a change told answer

@@ -1,4 +1,4 @@
--- What is known of a run on an empty airspace.
+-- Properties of a run on an empty airspace.
 use Rattle.std.specs.Prelude.{◌≡◌, ℕ, false, List}
 use Rattle.entity_core.specs.Airspace.{Airspace, empty_at}
 use Rattle.space_core.specs.Space.{IsContent}
@@ -11,8 +11,8 @@ use Rattle.service_calls.specs.Run.{TimedCall, has_stopped}
 use Rattle.service_calls.specs.Stale.{AllNumbered}
 use Rattle.service_step.specs.declared.reply.Reply.{Reply}
 
--- Whatever a space may then hold that held an empty airspace, of whatever serial, each entity has
--- the OVN of its own serial.
+-- Holds if each entity has the OVN of its own serial after a run on an empty airspace, which can
+-- have any serial.
 abbrev pub RunIsNumbered : {S : Type 0} → Ghosts S → Service S → Service S → Type 0
 RunIsNumbered g old new = g.is_sound (space_of new)
     → (n : ℕ) → IsContent g.holds (space_of old) (empty_at n)
@@ -20,17 +20,18 @@ RunIsNumbered g old new = g.is_sound (space_of new)
 
 module _ {S : Type 0} (g : Ghosts S) (old : Service S) (cs : List TimedCall) (rs : List Reply)
     (new : Service S) where
-  -- Where the service was not shut, and nothing stopped: P of an empty airspace, of whatever
-  -- serial, that its space held, and of one that it may then hold.
+  -- Holds if P relates the empty airspace before the run to each airspace that the space may hold
+  -- after it. Assumes that the service was not shut and no reply is `Stopped`. The empty airspace
+  -- can have any serial.
   abbrev pub FromEmpty : (Airspace → Airspace → Type 0) → Type 0
   FromEmpty P = is_shut old ≡ false → g.is_sound (space_of new) → has_stopped rs ≡ false
       → (n : ℕ) → IsContent g.holds (space_of old) (empty_at n)
       → (a : Airspace) → g.holds (space_of new) a → P (empty_at n) a
 
-  -- there, of two entities that meet, the last put of the later one knew the other
+  -- Holds if of two meeting entities, the last put of the later one knew the other.
   abbrev pub RunIsAware : Type 0
   RunIsAware = FromEmpty (λ empty a. Aware (salt_of old) empty cs rs a)
 
-  -- there, the index of each subscription is the number of calls that notified it
+  -- Holds if the index of each subscription is the number of calls that notified it.
   abbrev pub RunIsCounted : Type 0
   RunIsCounted = FromEmpty (λ empty a. Counts (salt_of old) empty cs rs a)

@@ -1,4 +1,4 @@
--- What a service holds.
+-- The parts of a service.
 use Rattle.std.specs.Prelude.{◌≡◌, ℕ, List, Bool, true}
 use Rattle.space_core.specs.declared.space.Space.{Ghosts}
 use Rattle.service_calls.specs.declared.service.Service.{Service}
@@ -9,16 +9,16 @@ space_of s = s.space
 abbrev pub salt_of : {S : Type 0} → Service S → List ℕ
 salt_of s = s.salt
 
--- whether it has answered `Stopped`
+-- Returns true if the service has replied `Stopped`.
 abbrev pub is_shut : {S : Type 0} → Service S → Bool
 is_shut s = s.stopped
 
--- the service over another space
+-- The service over another space.
 abbrev pub with_space : {S : Type 0} → Service S → S → Service S
 with_space s space = record s { space = space }
 
--- What stays however a service is asked: its salt; all of it, where it was shut; what no call
--- changes of its space; and that was sound where it is sound, and is whole where it was whole.
+-- Holds if a call leaves the salt and the fixed part of the space. A shut service stays unchanged.
+-- If the space is sound, it was sound before; if it was whole before, it is whole.
 pub record Stays {S : Type 0} (g : Ghosts S) (old new : Service S) : Type 0 where
   pub salt : salt_of new ≡ salt_of old
   pub shut : is_shut old ≡ true → new ≡ old

@@ -1,4 +1,4 @@
--- What a service is asked in rounds between which some of what has ended is let go.
+-- Batches with purges of ended items between them.
 use Rattle.std.specs.Prelude.{◌≡◌, ◌<◌, ◌≤◌, ℕ, true, false, List, [], ◌∷◌, ◌++◌, length, All, Result, Ok, Err, IsErrOf, IfOk}
 use Rattle.entity_core.specs.Airspace.{Airspace, empty_at}
 use Rattle.entity_purge.specs.declared.purge_item.PurgeItem.{PurgeItem}
@@ -18,11 +18,11 @@ use Rattle.service_calls.specs.Batches.{IfStopped, CallRecord, CalledInOrder, Ma
 use Rattle.service_calls.specs.Run.{airspace_after, answered_calls, has_stopped, replies_of, delivered_replies}
 use Rattle.service_calls.specs.Stale.{AllNumbered}
 
--- ---- a piece of a sweep
+-- ---- purge chunks
 
--- What a piece of a sweep leaves of a space whose content was the airspace `a`: after `Ok` that
--- airspace, swept in part; after `Unchanged` itself; after `Broken` nothing but one that is swept
--- in part, or not at all.
+-- Holds if the space has the right content after a purge chunk, given its content `a` before. After
+-- `Ok` it is `a`, partly purged; after `Unchanged` it is `a`. After `Broken` the space holds only
+-- airspaces that are `a`, purged in part or not at all.
 abbrev pub LeavesPartly : {S : Type 0} → spaces.Ghosts S → ℕ → Airspace → S → Result ℕ SpaceFault
     → Type 0
 LeavesPartly g until a new (Ok n) =
@@ -30,8 +30,8 @@ LeavesPartly g until a new (Ok n) =
 LeavesPartly g until a new (Err Unchanged) = IsContent g.holds new a
 LeavesPartly g until a new (Err Broken) = (b : Airspace) → g.holds new b → IsPartlyPurged until a b
 
--- So many things went, at most `most`, and a sweep until a moment takes each of them: the airspace
--- `a` without them is the content.
+-- Holds if `n` items were purged, at most `most`, and each was due for the purge. The content is
+-- the airspace `a` without them.
 pub record HaveGone {S : Type 0} (g : spaces.Ghosts S) (until most n : ℕ) (a : Airspace) (new : S)
     : Type 0 where
   pub gone : List PurgeItem
@@ -41,8 +41,9 @@ pub record HaveGone {S : Type 0} (g : spaces.Ghosts S) (until most n : ℕ) (a :
   pub content : IsContent g.holds new (without_items gone a)
 
 module _ {S : Type 0} (g : spaces.Ghosts S) (k : settles.Ghosts S) where
-  -- Some of what had ended by a moment was let go of, and it was so much; none only where nothing
-  -- is left that has. A service whose space broke then is shut, and one that was shut is as it was.
+  -- Holds if some of what had ended by a time was purged, and the result is their number. The
+  -- number is zero only if nothing is left to purge. If the space broke, the service is shut. A
+  -- service that was shut is unchanged.
   pub record IsPurge (until most : ℕ) (old new : Service S) (result : Result ℕ SpaceFault)
       : Type 0 where
     pub salt : salt_of new ≡ salt_of old
@@ -59,28 +60,28 @@ module _ {S : Type 0} (g : spaces.Ghosts S) (k : settles.Ghosts S) where
     pub last : g.is_sound (space_of new) → IfOk result (λ n. n ≡ 0 → 0 < most
         → (a : Airspace) → g.holds (space_of new) a → IsPurgedAlready until a)
 
-  -- a piece of a sweep, of whatever size, however it ended
+  -- Holds for a purge chunk of any size with any result.
   abbrev pub PurgesOnce : ℕ → Service S → Service S → Type 0
   PurgesOnce until old new =
       (most : ℕ) × (result : Result ℕ SpaceFault) × IsPurge until most old new result
 
--- ---- what is asked
+-- ---- segments
 
--- rounds, and then a piece of a sweep until a moment
+-- Batches, and then a purge chunk up to a time.
 pub record Segment : Type 0 where
   pub batches : List Batch
   pub until : ℕ
 
 module _ {S : Type 0} (g : spaces.Ghosts S) (k : settles.Ghosts S) where
-  -- one segment after the other
+  -- Holds if the service ran these segments in order.
   abbrev pub MadeSegments : Service S → List Segment → Service S → Type 0
   MadeSegments old [] new = new ≡ old
   MadeSegments old (segment ∷ segments) new =
       (mid : Service S) × (end : Service S) × MadeBatches g k old segment.batches mid
       × PurgesOnce g k segment.until mid end × MadeSegments end segments new
 
-  -- A service that was not shut, over a space of one airspace in which nothing waited, was asked in
-  -- segments, and after the last of them in rounds. What is said of its space still stands.
+  -- Holds if a service that was not shut ran these segments, and then these batches. Its space had
+  -- a single airspace and nothing pending before, and is sound afterwards.
   pub record AskedInSegments (old : Service S) (segments : List Segment) (batches : List Batch)
       (new : Service S) (a : Airspace) : Type 0 where
     pub goes : is_shut old ≡ false
@@ -91,30 +92,31 @@ module _ {S : Type 0} (g : spaces.Ghosts S) (k : settles.Ghosts S) where
     pub made : MadeBatches g k last batches new
     pub sound : g.is_sound (space_of new)
 
--- ---- what is told, and what is kept
+-- ---- delivered replies and durable airspaces
 
--- the airspace after what was answered of rounds
+-- The airspace after the answered calls of batches.
 abbrev pub airspace_after_batches : List ℕ → Airspace → List Batch → Airspace
 airspace_after_batches salt a batches =
     airspace_after salt a (answered_calls (all_timed batches) (all_delivered batches))
 
--- what is told over rounds is the policy's, but for the calls that failed
+-- Holds if the delivered replies over batches are those of the policy, except for the calls that
+-- failed.
 pub record AreTold (salt : List ℕ) (a : Airspace) (batches : List Batch) : Type 0 where
   pub replies : delivered_replies (all_delivered batches)
       ≡ replies_of salt a (answered_calls (all_timed batches) (all_delivered batches))
   pub stopped : StayStoppedIn batches
 
--- what is told in segments, and in the rounds after them
+-- The replies delivered in segments, and in the batches after them.
 abbrev pub all_delivered_in : List Segment → List Batch → List Reply
 all_delivered_in [] batches = all_delivered batches
 all_delivered_in (segment ∷ segments) batches = all_delivered segment.batches ++ all_delivered_in segments batches
 
--- each caller is told `Stopped`
+-- Holds if every delivered reply is `Stopped`.
 abbrev pub AllStopped : List Segment → List Batch → Type 0
 AllStopped segments batches = All (λ r. r ≡ Stopped) (all_delivered_in segments batches)
 
--- What is told in each segment is the policy's over the airspace that was left of that before it,
--- swept in part; after the first that stopped, each is told so.
+-- Holds if the replies in each segment are those of the policy over the airspace that the segment
+-- before left, partly purged. After the first segment that stopped, every reply is `Stopped`.
 abbrev pub AreDeliveredPurged : List ℕ → Airspace → List Segment → List Batch → Type 0
 AreDeliveredPurged salt a [] batches = AreTold salt a batches
 AreDeliveredPurged salt a (segment ∷ segments) batches = AreTold salt a segment.batches
@@ -122,8 +124,8 @@ AreDeliveredPurged salt a (segment ∷ segments) batches = AreTold salt a segmen
     ((b : Airspace) × IsPartlyPurged segment.until (airspace_after_batches salt a segment.batches) b
     × AreDeliveredPurged salt b segments batches)
 
--- What may be kept after segments and rounds: what may be of the segment that stopped, or of rounds
--- over the airspace that was left of each before, swept in part.
+-- Holds if the airspace can be durable after segments and batches: after the segment that stopped,
+-- or after the batches over the airspace that the segments before left, partly purged.
 abbrev pub MayHavePersistedPurged : List ℕ → Airspace → List Segment → List Batch → Airspace → Type 0
 MayHavePersistedPurged salt a [] batches after = MayHavePersisted salt a batches after
 MayHavePersistedPurged salt a (segment ∷ segments) batches after =
@@ -131,7 +133,8 @@ MayHavePersistedPurged salt a (segment ∷ segments) batches after =
     ((b : Airspace) × IsPartlyPurged segment.until (airspace_after_batches salt a segment.batches) b
     × MayHavePersistedPurged salt b segments batches after)
 
--- Both, over the same airspaces that were left.
+-- Holds if both the replies and the durable airspace are possible over the same airspaces between
+-- segments.
 abbrev pub AreDeliveredAndDurable : List ℕ → Airspace → List Segment → List Batch → Airspace → Type 0
 AreDeliveredAndDurable salt a [] batches after = AreTold salt a batches × MayHavePersisted salt a batches after
 AreDeliveredAndDurable salt a (segment ∷ segments) batches after = AreTold salt a segment.batches
@@ -140,9 +143,9 @@ AreDeliveredAndDurable salt a (segment ∷ segments) batches after = AreTold sal
     ((b : Airspace) × IsPartlyPurged segment.until (airspace_after_batches salt a segment.batches) b
     × AreDeliveredAndDurable salt b segments batches after)
 
--- What is told and what is kept is the policy's over what the sweeps between left. While the
--- service is not shut, nobody is told `Stopped`, and one airspace is kept; and never is another
--- kept than may be.
+-- Holds if the delivered replies and the durable airspace are those of the policy over what the
+-- purges left. While the service is not shut, no reply is `Stopped` and one airspace is durable. No
+-- airspace is durable that the segments cannot have left.
 pub record RunsPurged {S : Type 0} (k : settles.Ghosts S) (salt : List ℕ) (a : Airspace)
     (segments : List Segment) (batches : List Batch) (new : Service S) : Type 0 where
   pub told : AreDeliveredPurged salt a segments batches
@@ -153,16 +156,16 @@ pub record RunsPurged {S : Type 0} (k : settles.Ghosts S) (salt : List ℕ) (a :
 
 -- ---- laws
 
--- Over segments and rounds, what is told and what is kept is the policy's over what the sweeps
--- left.
+-- States that over segments and batches, the delivered replies and the durable airspace are those
+-- of the policy over what the purges left.
 abbrev pub SegmentsAreThePolicy : {S : Type 0} → spaces.Ghosts S → settles.Ghosts S → Type 0
 SegmentsAreThePolicy {S} g k =
     (old new : Service S) (segments : List Segment) (batches : List Batch) (a : Airspace)
     → AskedInSegments g k old segments batches new a
     → RunsPurged k (salt_of old) a segments batches new
 
--- In the midst of a round, as where a crash comes then, that is kept which is kept where its
--- changes are not.
+-- States what is durable within an open batch, as after a crash: the same as if its changes were
+-- not committed.
 abbrev pub OpenSegmentIsNotDurable : {S : Type 0} → spaces.Ghosts S → settles.Ghosts S → Type 0
 OpenSegmentIsNotDurable {S} g k =
     (old mid new : Service S) (segments : List Segment) (batches : List Batch) (calls : List CallRecord)
@@ -171,8 +174,8 @@ OpenSegmentIsNotDurable {S} g k =
     → g.is_sound (space_of new)
     → RunsPurged k (salt_of old) a segments (batches ++ uncommitted calls ∷ []) new
 
--- Over segments and rounds from the empty airspace: each entity that is kept has the OVN of its
--- serial.
+-- States that after segments and batches from the empty airspace, each durable entity has the OVN
+-- of its serial.
 abbrev pub PurgedIsNumbered : {S : Type 0} → settles.Ghosts S → Type 0
 PurgedIsNumbered {S} k =
     (salt : List ℕ) (n : ℕ) (segments : List Segment) (batches : List Batch) (new : Service S)

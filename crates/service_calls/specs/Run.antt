@@ -1,4 +1,4 @@
--- What a service may answer to a list of calls.
+-- Possible replies of a service to a list of calls.
 use Rattle.std.specs.Prelude.{◌≡◌, ℕ, Bool, true, false, List, [], ◌∷◌, ◌⊎◌, ◌||◌, All, IfSome, IsNone, find, length}
 use Rattle.entity_core.specs.Airspace.{Airspace}
 use Rattle.policy_core.specs.declared.call.Call.{Call}
@@ -14,13 +14,14 @@ use Rattle.space_core.specs.declared.space.Space.{Ghosts}
 use Rattle.space_core.specs.Space.{IsContent}
 use Rattle.service_step.specs.Step.{step}
 
--- a call and its moment
+-- A call and its time.
 abbrev pub TimedCall : Type 0
 TimedCall = ℕ × Call
 
--- The service was asked once, and this is its reply. Where it was not shut: what the policy says,
--- or a fault where one may come, or `Stopped`, which shuts it; a call that breaks an early rule is
--- denied at once, and over a space that was broken before any other is answered `Stopped`.
+-- Holds if the service received this call once and replied so. If it was not shut, the reply is
+-- that of the policy, `Fault` if the call may fail, or `Stopped`, which shuts the service. A call
+-- that breaks a stateless rule is denied at once. If the space was broken before, any other call
+-- gets `Stopped`.
 pub record IsReplyTo {S : Type 0} (g : Ghosts S) (old new : Service S) (moment : ℕ) (call : Call)
     (reply : Reply) : Type 0 where
   pub stays : Stays g old new
@@ -34,7 +35,7 @@ pub record IsReplyTo {S : Type 0} (g : Ghosts S) (old new : Service S) (moment :
   pub answers : is_shut old ≡ false
       → Answers g (salt_of old) moment call (space_of old) (space_of new) reply
 
--- The service was asked the calls in order, each once, and these are its replies.
+-- Holds if the service received these calls in order, each once, and these are the replies.
 abbrev pub AskedInOrder : {S : Type 0} → Ghosts S → Service S → List TimedCall → List Reply → Service S
     → Type 0
 AskedInOrder g old [] [] new = new ≡ old
@@ -43,7 +44,7 @@ AskedInOrder g old (c ∷ cs) [] new = ⊥
 AskedInOrder {S} g old (c ∷ cs) (r ∷ rs) new =
     (mid : Service S) × IsReplyTo g old mid c.0 c.1 r × AskedInOrder g mid cs rs new
 
--- the policy over a list of calls: the replies, and the airspace after them
+-- The policy over a list of calls: the replies, and the airspace after them.
 abbrev pub replies_of : List ℕ → Airspace → List TimedCall → List Reply
 replies_of salt a [] = []
 replies_of salt a (c ∷ cs) = (step salt a c.0 c.1).1 ∷ replies_of salt (step salt a c.0 c.1).0 cs
@@ -52,7 +53,7 @@ abbrev pub airspace_after : List ℕ → Airspace → List TimedCall → Airspac
 airspace_after salt a [] = a
 airspace_after salt a (c ∷ cs) = airspace_after salt (step salt a c.0 c.1).0 cs
 
--- up to the first `Stopped`: the calls that were answered otherwise than by `Fault`
+-- The calls up to the first `Stopped` whose reply is not `Fault`.
 abbrev pub answered_calls : List TimedCall → List Reply → List TimedCall
 answered_calls [] rs = []
 answered_calls (c ∷ cs) [] = []
@@ -61,7 +62,7 @@ answered_calls (c ∷ cs) (Stopped ∷ rs) = []
 answered_calls (c ∷ cs) (Done x ∷ rs) = c ∷ answered_calls cs rs
 answered_calls (c ∷ cs) (Denied p m ∷ rs) = c ∷ answered_calls cs rs
 
--- and those answers
+-- The replies to those calls.
 abbrev pub delivered_replies : List Reply → List Reply
 delivered_replies [] = []
 delivered_replies (Fault ∷ rs) = delivered_replies rs
@@ -69,7 +70,8 @@ delivered_replies (Stopped ∷ rs) = []
 delivered_replies (Done x ∷ rs) = Done x ∷ delivered_replies rs
 delivered_replies (Denied p m ∷ rs) = Denied p m ∷ delivered_replies rs
 
--- the first call that was answered `Stopped`, if there is one, may have had its effect
+-- Holds if the airspace is possible after the calls. The first call with the reply `Stopped`, if
+-- there is one, may have had its effect.
 abbrev pub MayHaveStepped : List ℕ → Airspace → List TimedCall → List Reply → Airspace → Type 0
 MayHaveStepped salt a [] rs after = after ≡ a
 MayHaveStepped salt a (c ∷ cs) [] after = after ≡ a
@@ -88,7 +90,7 @@ has_stopped (Fault ∷ rs) = has_stopped rs
 has_stopped (Done x ∷ rs) = has_stopped rs
 has_stopped (Denied p m ∷ rs) = has_stopped rs
 
--- after the first `Stopped` there is nothing else
+-- Holds if every reply after the first `Stopped` is `Stopped`.
 abbrev pub StayStopped : List Reply → Type 0
 StayStopped [] = Unit {0}
 StayStopped (Stopped ∷ rs) = All (λ r. r ≡ Stopped) rs
@@ -96,9 +98,9 @@ StayStopped (Fault ∷ rs) = StayStopped rs
 StayStopped (Done x ∷ rs) = StayStopped rs
 StayStopped (Denied p m ∷ rs) = StayStopped rs
 
--- The replies are the policy's, but for the calls that failed. Where none is `Stopped`, its
--- airspace is the content; else nothing is held but that up to the call so answered, or that call's
--- step.
+-- Holds if the replies are those of the policy, except for the calls that failed. If none is
+-- `Stopped`, the airspace of the policy is the content of the space. Otherwise the space holds only
+-- the airspace before the call with the reply `Stopped`, or that after the step of this call.
 pub record Runs {S : Type 0} (g : Ghosts S) (salt : List ℕ) (a : Airspace) (cs : List TimedCall)
     (rs : List Reply) (new : S) : Type 0 where
   pub replies : delivered_replies rs ≡ replies_of salt a (answered_calls cs rs)
@@ -106,9 +108,10 @@ pub record Runs {S : Type 0} (g : Ghosts S) (salt : List ℕ) (a : Airspace) (cs
       → IsContent g.holds new (airspace_after salt a (answered_calls cs rs))
   pub kept : (b : Airspace) → g.holds new b → MayHaveStepped salt a cs rs b
 
--- What is known of the replies to a list of calls: each call was asked once, in order. A service
--- that was shut says nothing but `Stopped`. Else its replies are the policy's; the first `Stopped`
--- shuts it, exactly where the space answered `Broken`, and then there is nothing else.
+-- The properties of the replies to a list of calls. Each call was made once, in order. A service
+-- that was shut only replies `Stopped`. Otherwise its replies are those of the policy. The first
+-- `Stopped` shuts the service, exactly if the space answered `Broken`, and every reply after it is
+-- `Stopped`.
 pub record Answered {S : Type 0} (g : Ghosts S) (old : Service S) (cs : List TimedCall)
     (rs : List Reply) (new : Service S) : Type 0 where
   pub in_order : AskedInOrder g old cs rs new

@@ -1,4 +1,4 @@
--- What a service may answer.
+-- Possible replies of a service to one call.
 use Rattle.std.specs.Prelude.{◌≡◌, ℕ, ◌<◌, ◌||◌, List, find, ◌⊎◌, IsSome, IsNone}
 use Rattle.entity_core.specs.Airspace.{Airspace}
 use Rattle.space_core.specs.declared.space.Space.{Ghosts}
@@ -14,15 +14,15 @@ use Rattle.service_step.specs.declared.call_fault.CallFault.TheVariants.{NoMemor
 use Rattle.service_step.specs.Reply.{is_stopped}
 use Rattle.service_step.specs.Step.{step}
 
--- the reply where a call was given up
+-- The reply to an aborted call.
 abbrev pub reply_of : CallFault → Reply
 reply_of NoMemory = Fault
 reply_of (Space Unchanged) = Fault
 reply_of (Space Broken) = Stopped
 
--- What a call leaves of a space whose content was the airspace `a`: after an answer the policy's
--- airspace, after a denial or a fault `a` itself, and after `Stopped` nothing is held but `a` or
--- the policy's.
+-- Holds if a call leaves the right content in a space whose content was `a`. After `Done` it is the
+-- policy's airspace; after a denial or a fault it is `a`. After `Stopped` the space holds only `a`
+-- or the policy's airspace.
 abbrev pub Leaves : {S : Type 0} → Ghosts S → List ℕ → Airspace → ℕ → Call → Reply → S → Type 0
 Leaves g salt a now c (Done answer) new = ((step salt a now c).1 ≡ Done answer)
     × IsContent g.holds new (step salt a now c).0
@@ -32,8 +32,8 @@ Leaves g salt a now c Fault new = IsContent g.holds new a
 Leaves g salt a now c Stopped new = (b : Airspace) → g.holds new b
     → (b ≡ a) ⊎ (b ≡ (step salt a now c).0)
 
--- when a call may fail: only where no early rule is broken, and where a later one of P7 to P13, P16
--- and P17 is, only for the space
+-- Holds if the call may get this reply, as far as failure goes. A call fails only if it breaks no
+-- stateless rule. If it breaks one of P7 to P13, P16 or P17, it fails only by a fault of the space.
 abbrev pub MayFail : Airspace → ℕ → Call → Reply → ℕ → ℕ → Type 0
 MayFail a now c Fault refusals refusals' = IsNone (find (breaks a now c) early_rules)
     × (IsSome (find (breaks a now c) standing_rules)
@@ -42,9 +42,9 @@ MayFail a now c (Done answer) refusals refusals' = Unit {0}
 MayFail a now c (Denied r m) refusals refusals' = Unit {0}
 MayFail a now c Stopped refusals refusals' = Unit {0}
 
--- What is known of a call of a service that was not stopped. The space has answered `Broken` in it
--- exactly where the reply is `Stopped`. A space that was whole stays so: then after `Stopped`, too,
--- some airspace is held.
+-- The properties of the reply to one call of a service that was not stopped. The space answered
+-- `Broken` in the call exactly if the reply is `Stopped`. A space that was whole stays whole, so
+-- that it holds some airspace also after `Stopped`.
 pub record Answers {S : Type 0} (g : Ghosts S) (salt : List ℕ) (now : ℕ) (c : Call) (old new : S)
     (reply : Reply) : Type 0 where
   pub step : g.is_sound new → (a : Airspace) → IsContent g.holds old a
@@ -56,7 +56,7 @@ pub record Answers {S : Type 0} (g : Ghosts S) (salt : List ℕ) (now : ℕ) (c 
   pub whole : g.is_sound new → g.is_whole old → g.is_whole new
   pub breaks : g.is_broken new ≡ (is_stopped reply || g.is_broken old)
 
--- of a call that was admitted
+-- Holds if these properties hold for an admitted call.
 abbrev pub AnswersTo : {S : Type 0} → Ghosts S → Admitted → S → S → Reply → Type 0
 AnswersTo g admitted old new reply =
     Answers g admitted.salt.now admitted.moment admitted.call.now old new reply

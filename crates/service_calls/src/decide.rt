@@ -1,4 +1,4 @@
-//! What a call is: refused, or allowed.
+//! The decision to deny or to allow a call.
 ghost use Rattle.std.specs.Prelude.{◌≡◌, map, not, Ok, Err, None, IfOk, IsErrOf, true};
 ghost use Rattle.entity_core.specs.Airspace.{Airspace};
 ghost use Rattle.grid_core.specs.Extent.{region_of};
@@ -24,16 +24,16 @@ use service_step::needed::{JudgedPut, missing_from, needed_with};
 use space_core::space::{Space, SpaceFault};
 use std::alloc::Global;
 
-/// What was decided of a call.
+/// The decision about a call.
 #[derive(Debug, Drop)]
 pub enum Decision {
-    /// It breaks this rule first; this is what is missing.
+    /// The call breaks this rule first; these references are missing.
     Refused(Rule, Missing),
-    /// It breaks no rule; this was looked up for it.
+    /// The call breaks no rule; these facts were looked up for it.
     Allowed(OwnedFacts),
 }
 
-// All that is missing from the key of a call, where this is the subscription that it names.
+// Returns all references that the key of a call lacks, given the subscription that it references.
 #[tactic(auto, unfolding(policy_core::specs::Missing::missing_from))]
 fn missing_for<S: Space>(
     space: &mut S,
@@ -57,7 +57,7 @@ fn missing_for<S: Space>(
     }
 }
 
-// All that is missing from the key of a put.
+// Returns all references that the key of a put lacks.
 fn missing_with<S: Space>(
     space: &mut S,
     alloc: Global,
@@ -72,7 +72,7 @@ fn missing_with<S: Space>(
     missing_kinds(space, alloc, judged)
 }
 
-// What is missing from the key of a put that needs to know others.
+// Returns the missing references of both kinds.
 fn missing_kinds<S: Space>(
     space: &mut S,
     alloc: Global,
@@ -90,7 +90,7 @@ fn missing_kinds<S: Space>(
     })
 }
 
-// What is missing of a kind.
+// Returns the missing references of a kind.
 fn missing_kind<S: Space>(
     space: &mut S,
     alloc: Global,
@@ -106,14 +106,14 @@ fn missing_kind<S: Space>(
     Ok(missing_from(alloc, &judged.caller.uss, judged.put.key.items(), &needed)?)
 }
 
-// P14 KEY
+// Returns true if P14 KEY is broken.
 fn breaks_key(missing: &Missing) -> bool
     ensures { result ≡ not (is_nothing missing.now) }
 {
     !missing.is_empty()
 }
 
-// The first broken rule that is not early, and what is missing.
+// Returns the first broken stateful rule, and the missing references.
 fn judge<S: Space>(
     space: &mut S,
     alloc: Global,
@@ -150,8 +150,9 @@ fn decision_of(facts: OwnedFacts, judged: Option<(Rule, Missing)>) -> Decision
     }
 }
 
-/// Decides a call that breaks no early rule. Want of memory comes only where none of P7 to P13,
-/// P16 and P17 is broken.
+/// Evaluates a call that breaks no stateless rule.
+///
+/// Returns `NoMemory` only if the call breaks none of P7 to P13, P16 and P17.
 pub fn decide<S: Space>(
     space: &mut S,
     alloc: Global,

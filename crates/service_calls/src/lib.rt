@@ -1,4 +1,4 @@
-//! The service: one call, and a run of calls, answered as the policy says.
+//! The service: replies to one call, to a run of calls and to batches, as the policy says.
 #![tactic(auto)]
 
 mod decide;

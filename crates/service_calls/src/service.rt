@@ -1,4 +1,4 @@
-//! A service over a space.
+//! The service over a space.
 ghost use Rattle.std.specs.Prelude.{◌≡◌, ◌<◌, ℕ, Some, IfOk, OnErr, true, false};
 ghost use Rattle.std.specs.Borrow.{Lends, sem};
 ghost use Rattle.entity_core.specs.Airspace.{Airspace};
@@ -33,7 +33,7 @@ use space_core::space::{Change, Space, SpaceFault};
 use space_purge::purge_ended::PurgeEnded;
 use std::alloc::{AllocError, Global};
 
-// The reply where a call was given up.
+// Returns the reply to an aborted call.
 fn gave_up(halt: CallFault) -> Reply
     ensures { result ≡ reply_of halt }
 {
@@ -44,7 +44,7 @@ fn gave_up(halt: CallFault) -> Reply
     }
 }
 
-// The reply to a call that breaks no early rule.
+// Returns the reply to a call that breaks no stateless rule.
 fn answer_admitted<S: Space>(space: &mut S, alloc: Global, admitted: &Admitted<'_>) -> Reply
     requires { IsAdmitted admitted.now }
     ensures answers { AnswersTo S.Space admitted.now space.old space.new result }
@@ -57,7 +57,7 @@ fn answer_admitted<S: Space>(space: &mut S, alloc: Global, admitted: &Admitted<'
     }
 }
 
-// The reply to a call that breaks no rule.
+// Returns the reply to a call that breaks no rule.
 fn answer_allowed<S: Space>(
     space: &mut S,
     alloc: Global,
@@ -84,7 +84,7 @@ fn answer_allowed<S: Space>(
     }
 }
 
-// The change is made.
+// Makes the change, and returns the reply.
 fn answer_changed<S: Space>(
     space: &mut S,
     admitted: &Admitted<'_>,
@@ -104,7 +104,7 @@ fn answer_changed<S: Space>(
     }
 }
 
-// Some of what has ended goes.
+// Purges some of what has ended.
 fn purged<S: PurgeEnded>(space: &mut S, until: u64, most: usize) -> Result<usize, SpaceFault>
     ensures tells { CallReportsFault S.Space space.old space.new result }
     ensures waits { S.is_pending space.new ≡ S.is_pending space.old }
@@ -124,7 +124,7 @@ fn purged<S: PurgeEnded>(space: &mut S, until: u64, most: usize) -> Result<usize
     Ok(gone.len())
 }
 
-/// Answers calls by the policy, over a space.
+/// A service that answers calls by the policy, over a storage backend (trait `Space`).
 #[derive(Drop)]
 pub struct Service<S: Space> {
     space: S,
@@ -133,7 +133,7 @@ pub struct Service<S: Space> {
 }
 
 impl<S: Space + Drop> Service<S> {
-    /// A service over a space, which makes its versions with the salt. It takes no memory.
+    /// Creates a service over a space, with the salt of its OVNs and versions. Allocates nothing.
     pub fn new(space: S, salt: Salt) -> Self
         ensures space { space_of result ≡ space }
         ensures salt { salt_of result ≡ salt }
@@ -146,7 +146,7 @@ impl<S: Space + Drop> Service<S> {
         }
     }
 
-    /// The space, lent.
+    /// Borrows the space.
     pub fn space(&mut self) -> &mut S
         ensures* lends { sem 𝓛 (Lends (the_row S.row) S.row self.entry result
             (with_space self.entry.now)) }
@@ -155,7 +155,7 @@ impl<S: Space + Drop> Service<S> {
         &mut self.space
     }
 
-    /// The space, as it is then.
+    /// Returns the space as it is now.
     pub fn into_space(self) -> S
         ensures { result ≡ space_of self }
     {
@@ -167,17 +167,18 @@ impl<S: Space + Drop> Service<S> {
         space
     }
 
-    /// Answers one call at a moment (in seconds since 1970) with what the policy says of it.
+    /// Replies to one call at a time (Unix seconds) as the policy says.
     ///
-    /// After `Fault` (want of memory, or the space answered `Unchanged`) the content is as before.
-    /// It does not come for a call that breaks one of P1 to P6, and for one that breaks one of P7
-    /// to P13, P16 or P17 only where the space's count of refusals rose, or is at its greatest.
-    /// `Stopped` comes for the call in which the space answered `Broken`, and for each call after
-    /// it: where the space was broken before, for the first call that breaks none of P1 to P6. One
-    /// that does is denied without memory, and the space is not asked.
+    /// After `Fault` the content is as before: memory ran out, or the space answered `Unchanged`. A
+    /// call that breaks one of P1 to P6 never gets it. A call that breaks one of P7 to P13, P16 or
+    /// P17 gets it only if the space's count of refusals rose, or is at its maximum.
     ///
-    /// A put that needs to know an entity, and whose key has OVNs of other serials alone, is not
-    /// done: it is denied by one of P1 to P14 or by P16, and where it is P14, the entity is listed.
+    /// The call in which the space answers `Broken` gets `Stopped`, and so does each call after it.
+    /// If the space was broken before, so does the first call that breaks none of P1 to P6. A call
+    /// that does is denied without memory and without a call of the space.
+    ///
+    /// A put that needs to know an entity, and whose key has only OVNs of other serials, is never
+    /// done. It is denied by one of P1 to P14 or by P16; a denial by P14 lists the entity.
     pub fn call(&mut self, alloc: Global, now: u64, call: &Call) -> Reply
         ensures reply { IsReplyTo S.Space self.old self.new now call.now result }
         ensures stale { RefusesStale S.Space self.old self.new call.now result }
@@ -202,17 +203,19 @@ impl<S: Space + Drop> Service<S> {
         reply
     }
 
-    /// Answers calls in order, each at its moment. The room for the replies is taken first, so that
-    /// after an error no call was made.
+    /// Replies to calls in order, each at its time.
     ///
-    /// Where the space was empty, each entity that is held then has the OVN of its own serial.
-    /// Where also nothing stopped: of two entities that meet in the end, where
-    /// the later one is an intent that is planned or flown as planned, the last put of the later
-    /// one had the OVN of the other in its key (that of a constraint, if it named a subscription
-    /// that was for constraints, or none and its caller processes them; that of an intent that was
-    /// only planned then, if its manager was not down).
-    /// And the index of each subscription is the number of calls answered `Done`, after the one
-    /// that last created it, that notified it as it stood before that call.
+    /// Allocates the room for the replies first: after an error no call was made.
+    ///
+    /// If the space was empty, each entity has the OVN of its own serial afterwards. If also no
+    /// reply is `Stopped`, the last put of the later of two meeting entities had the OVN of the
+    /// other in its key. This applies if the later one is an intent that is planned or flown as
+    /// planned. It applies to a constraint if the put referenced a subscription for constraints, or
+    /// none and its caller processes constraints. It applies to an intent that was only planned
+    /// then if its manager was not down.
+    ///
+    /// The index of each subscription is the number of calls with the reply `Done` that notified
+    /// it, as it was before that call, after the last call that created it.
     pub fn run(&mut self, alloc: Global, calls: &[(u64, Call)]) -> Result<Vec<Reply>, AllocError>
         ensures none_made { OnErr result (self.new ≡ self.old) }
         ensures answered { IfOk result (λ replies.
@@ -237,20 +240,20 @@ impl<S: Space + Drop> Service<S> {
 impl<S: GroupCommit + Drop> Service<S> {
     ghost use Rattle.service_calls.specs.Batches.{IsCommitted};
 
-    /// Whether changes wait to be kept. Where they do before a call or after it, its reply waits.
+    /// Returns true if changes are pending. If so before or after a call, its reply is deferred.
     pub fn has_pending(&self) -> bool
         ensures { result ≡ S.is_pending (space_of self.now) }
     {
         self.space.has_pending()
     }
 
-    /// Keeps the changes that wait, or none of them; none waits any more.
+    /// Commits all pending changes, or none. Afterwards none is pending.
     ///
-    /// Until then the reply to a call waits, before or after which changes wait: what it tells may
-    /// yet come to nothing. After `Ok` it is told as it was made. After `Unchanged` it is told as
-    /// `Fault`, and what is seen is again what was kept before those changes. After `Broken` it is
-    /// told as `Stopped`, and so is each call from then on. What is told so is the policy's by the
-    /// law `rounds_are_the_policy`.
+    /// A reply is deferred until then if changes are pending before or after its call, since its
+    /// changes may still be lost. After `Ok` it is delivered as it was made. After `Unchanged` it
+    /// is delivered as `Fault`, and the last durable airspace is visible again. After `Broken` it
+    /// is delivered as `Stopped`, and each later call gets `Stopped`. By the law
+    /// `batches_are_the_policy`, the delivered replies are those of the policy.
     pub fn commit(&mut self) -> Result<(), SpaceFault>
         ensures { IsCommitted S.Space S.GroupCommit.own self.old self.new result }
     {
@@ -265,12 +268,16 @@ impl<S: GroupCommit + Drop> Service<S> {
 impl<S: PurgeEnded + Drop> Service<S> {
     ghost use Rattle.service_calls.specs.Purged.{IsPurge};
 
-    /// Lets go of some of what has ended by a moment (in seconds since 1970), at most so many
-    /// intents, constraints and subscriptions together, and tells how many: none only where nothing
-    /// is left that has ended. It is no call: the serial stays, and nobody is told. While changes
-    /// wait, nothing goes: where something has ended, it answers `Unchanged`, as where it cannot be
-    /// told what has, and all is as it was. After `Broken`, and where the service was shut, each
-    /// call is told `Stopped`.
+    /// Purges some of what has ended by a time (Unix seconds), and returns the number of purged
+    /// items.
+    ///
+    /// Purges at most `most` intents, constraints and subscriptions together. Returns zero only if
+    /// nothing is left that has ended. A purge is no call: the serial stays, and nobody is
+    /// notified.
+    ///
+    /// Purges nothing while changes are pending: returns `Unchanged` then if something has ended.
+    /// Also returns `Unchanged` if the space cannot determine what has ended. Everything is as
+    /// before in both cases. After `Broken`, and if the service was shut, each call gets `Stopped`.
     pub fn purge(&mut self, until: u64, most: usize) -> Result<usize, SpaceFault>
         ensures { IsPurge S.Space S.GroupCommit.own until most self.old self.new result }
     {

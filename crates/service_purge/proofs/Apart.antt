@@ -1,4 +1,4 @@
--- What has ended does not meet what begins later.
+-- Lemmas: an ended entity does not meet an area that begins later.
 use Rattle.std.specs.Prelude.{◌≡◌, ℕ, ◌≤◌, ◌<◌, ◌&&◌, ◌||◌, not, nat_le, nat_lt, int_le, Bool, true, false, List, [], ◌∷◌, map, Option, Some, None, refl}
 use Rattle.std.proofs.Common.{arith, ap, ◌∙◌}
 use Rattle.std.proofs.lemmas.Cmp.{nat_cmp_total}
@@ -48,7 +48,7 @@ none_meets : (until : ℕ) (es : List Extent) (rs : List Region) → HaveEnded u
 none_meets until [] rs ended begin = refl
 none_meets until (v ∷ es) rs ended begin = ap (λ (b : Bool). b || any_meet es rs) (none_met until v rs ended.0 begin) ∙ none_meets until es rs ended.1 begin
 
--- ---- what meets it has not ended
+-- ---- an entity that meets a later area has not ended
 
 pub not_true : (b c : Bool) → (b ≡ true → c ≡ false) → c ≡ true → b ≡ false
 not_true true c on h = absurd (apart c h (on refl))
@@ -63,7 +63,7 @@ near_stays until s area begin met = not_true (sub_has_ended until s) (meets (reg
 pub not_ended_stays : (until : ℕ) (m : Entities) (id : ℕ) (s : Sub) → sub_has_ended until s ≡ false → is_due_by until m (id, s) ≡ false
 not_ended_stays until m id s h = ap (λ (b : Bool). b && not (is_named_in m id)) h
 
--- ---- what is looked for among what stays
+-- ---- searches among the retained entities
 
 pub meeting_ahead : (until : ℕ) (m : Entities) (kind : Kind) (areas : List Region) (except : Option ℕ) → BeginAfter until areas → meeting_in (retained until m) kind areas except ≡ meeting_in m kind areas except
 unfolding meeting_in

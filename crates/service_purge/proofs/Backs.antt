@@ -1,4 +1,4 @@
--- What is told to who looks back, after a sweep.
+-- Lemmas: replies to backward-looking calls after a purge.
 use Rattle.std.specs.Prelude.{◌≡◌, ℕ, ◌&&◌, not, Bool, true, false, cond, List, [], ◌∷◌, ◌++◌, map, filter, find, Option, Some, None, refl}
 use Rattle.std.proofs.Common.{sym, ap, ◌∙◌}
 use Rattle.std.proofs.lemmas.Cmp.{nat_cmp_total}
@@ -30,7 +30,7 @@ use Rattle.service_purge.specs.Back.{LookingBackFindsLess, asks_for_one}
 
 -- ---- lists
 
--- to look among what is kept is to keep of what is found
+-- Searching the retained items finds the retained ones of what a search finds.
 looked_kept : {X Y : Type 0} (f : X → Y) (look keep : X → Bool) (keep_one : Y → Bool) (xs : List X) → AllByRecursion (λ x. keep x ≡ keep_one (f x)) xs → map f (filter look (filter keep xs)) ≡ filter keep_one (map f (filter look xs))
 looked_kept f look keep keep_one [] same = refl
 looked_kept {X} {Y} f look keep keep_one (x ∷ xs) same =
@@ -103,7 +103,7 @@ naming_back until a id =
     ∙ (ap (λ (es : List (EntityKey × Entity)). map {B = ℕ} (λ e. e.1.id) (filter (is_naming id) es)) (entries_kept key_total key_exact (has_not_ended until) a.entities)
     ∙ two_tests (λ (e : EntityKey × Entity). e.1.id) (is_naming id) (has_not_ended until) (entries a.entities))
 
--- ---- what is asked for
+-- ---- lookups
 
 gone : (until : ℕ) (a : Airspace) (k : EntityKey) (e : Entity) → get a.entities k ≡ Some e → has_ended until e ≡ true → get (purged until a).entities k ≡ None
 gone until a k e there ended =

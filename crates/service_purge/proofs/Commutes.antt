@@ -1,4 +1,4 @@
--- To sweep before a call that looks on, and to sweep after it, is one thing.
+-- Lemmas: a purge before a forward-looking call leaves the same as a purge after it.
 use Rattle.std.specs.Prelude.{◌≡◌, ℕ, ◌+◌, ◌≤◌, ◌&&◌, not, nat_le, Bool, true, false, cond, List, [], ◌∷◌, Option, Some, None, is_some, option_map, refl}
 use Rattle.std.proofs.Common.{sym, ap, ◌∙◌}
 use Rattle.std.proofs.lemmas.Cmp.{nat_cmp_total}
@@ -31,13 +31,14 @@ use Rattle.service_purge.proofs.Leaves.{goes_unless, named_one, put_goes, remove
 use Rattle.entity_purge.proofs.Maps.{apart, kept_insert, kept_remove, same_tests}
 use Rattle.entity_purge.proofs.Purges.{ended_later, found_subs, gone_unnamed, sub_ended_later}
 
--- ---- which subscriptions go after a change
+-- ---- purged subscriptions after a change
 
--- what goes with these entities is what goes with those
+-- Holds if the same subscriptions are due with the entities `m` and with the entities `n`.
 abbrev SameGo : ℕ → Entities → Entities → Subscriptions → Type 0
 SameGo until m n subs = (id : ℕ) (s : Sub) → get subs id ≡ Some s → is_due_by until m (id, s) ≡ is_due_by until n (id, s)
 
--- what stands under a key frees no subscription that has ended, where this is put in its place
+-- Holds if replacing the entity at a key frees no ended subscription. `named` is the subscription
+-- that the new entity references.
 abbrev FreesAt : ℕ → Entities → Subscriptions → EntityKey → Option ℕ → Type 0
 FreesAt until m subs k named = (e : Entity) (id : ℕ) (s : Sub) → get m k ≡ Some e → subscription_of e.nature ≡ Some id → is_id id named ≡ false → get subs id ≡ Some s → sub_has_ended until s ≡ false
 
@@ -79,7 +80,7 @@ same_removed until m subs k frees id s there =
     same_tests (is_due_by until old (id, s)) (is_due_by until new (id, s)) (removed_goes until m subs k id s there)
     (goes_unless until new old id s (λ named gone. removed_named until m subs k frees id s there (gone_unnamed until new id s gone).0 named))
 
--- to be told before or after
+-- Notifying subscriptions before or after a purge leaves the same ones.
 told_passes : (until : ℕ) (m n : Entities) (test : ℕ × Sub → Bool) (id : ℕ) (o : Option Sub) → ((s : Sub) → o ≡ Some s → is_due_by until m (id, s) ≡ is_due_by until n (id, s))
     → option_map (λ s. (notified_if test (id, s)).1) (if_kept (λ s. not (is_due_by until m (id, s))) o) ≡ if_kept (λ s. not (is_due_by until n (id, s))) (option_map (λ s. (notified_if test (id, s)).1) o)
 told_passes until m n test id None same = refl
@@ -149,7 +150,7 @@ read_sub_same : (until : ℕ) (a : Airspace) (o : Option Sub) → (read_sub_effe
 read_sub_same until a None = refl
 read_sub_same until a (Some s) = refl
 
--- ---- what a call that breaks no rule puts has not ended, and is fresh
+-- ---- an entity that a call puts has not ended, and is fresh
 
 not_ended_yet : (until now : ℕ) (es : List Extent) → until ≤ now → have_ended now es ≡ false → have_ended until es ≡ false
 not_ended_yet until now es h lasts =
@@ -178,7 +179,7 @@ is_fresh a t caller id put h =
 frees_nothing : (until : ℕ) (m : Entities) (subs : Subscriptions) (k : EntityKey) (named : Option ℕ) → is_some (get m k) ≡ false → FreesAt until m subs k named
 frees_nothing until m subs k named none e id s there names other found = absurd (apart (is_some (get m k)) (ap is_some there) none)
 
--- ---- the effect
+-- ---- effects
 
 effect_same : (until : ℕ) (salt : List ℕ) (a : Airspace) (t : ℕ) (caller : Option Caller) (op : Operation) → until ≤ t → LooksAhead until a (record { caller = caller; op = op }) → FreesNone until a op
     → first_broken a t (record { caller = caller; op = op }) ≡ None → (effect salt (purged until a) caller op).0 ≡ purged until (effect salt a caller op).0

@@ -1,4 +1,4 @@
--- Who looks ahead of a moment looks ahead of each earlier one.
+-- Lemmas: a call that is forward-looking from a time is forward-looking from each earlier time.
 use Rattle.std.specs.Prelude.{◌≡◌, ℕ, ◌≤◌, ◌&&◌, not, nat_lt, Bool, true, false, List, [], ◌∷◌, ◌++◌, Option, Some, None, refl}
 use Rattle.std.proofs.Common.{arith, sym, ap, ◌∙◌}
 use Rattle.std.specs.FinMap.{get}
@@ -32,7 +32,7 @@ begin_earlier u v (area ∷ areas) h begin = (after_earlier u v area.first h beg
 
 -- ---- subscriptions
 
--- who is named by one that stays until later is named by one that stays until earlier
+-- A subscription that a later retained entity references is referenced by an earlier retained one.
 named_earlier : (u v : ℕ) (m : Entities) (id : ℕ) → u ≤ v → is_named_in (retained v m) id ≡ true → is_named_in (retained u m) id ≡ true
 named_earlier u v m id h t =
     let by = who_names (retained v (retained u m)) id (ap (λ (x : Entities). is_named_in x id) (staying_join u v m h) ∙ t) in

@@ -1,4 +1,4 @@
--- What has ended is what the policy refuses to put.
+-- Lemma: an entity has ended exactly if the policy denies putting it.
 use Rattle.std.specs.Prelude.{refl}
 use Rattle.service_purge.specs.Ended.{EndedIsRefused}
 

@@ -1,4 +1,5 @@
--- What is looked up for a call that looks ahead, and which rule it breaks first.
+-- Lemmas: the facts that are looked up for a forward-looking call, and the first rule that it
+-- breaks.
 use Rattle.std.specs.Prelude.{◌≡◌, ℕ, not, false, cond, List, [], map, find, Option, Some, None, refl, unwrap_or}
 use Rattle.std.proofs.Common.{ap, ◌∙◌}
 use Rattle.std.specs.FinMap.{get}
@@ -28,13 +29,13 @@ use Rattle.service_purge.proofs.Apart.{dependents_ahead, meeting_ahead}
 use Rattle.entity_purge.proofs.Maps.{kept_whole}
 use Rattle.entity_purge.proofs.Purges.{found_staying, found_subs}
 
--- ---- what is seen
+-- ---- views
 
 pub view_same : (uss : List ℕ) (a b : Airspace) → a.availabilities ≡ b.availabilities → view_of a uss ≡ view_of b uss
 unfolding view_of
 view_same uss a b l = λ i e. view_with uss e (unwrap_or (get (l i) e.manager) (Unknown, [])).0
 
--- ---- what is found
+-- ---- lookups
 
 pub get_ahead : (until : ℕ) (m : Entities) (k : EntityKey) → ((e : Entity) → get m k ≡ Some e → has_ended until e ≡ false) → get (retained until m) k ≡ get m k
 get_ahead until m k stays = found_staying until m k ∙ kept_whole (λ e. not (has_ended until e)) (get m k) (λ e h. ap not (stays e h))
@@ -97,7 +98,7 @@ depended_ahead until a caller (CreateSub id put) look = refl
 depended_ahead until a caller (UpdateSub id version put) look = refl
 depended_ahead until a caller (DeleteSub id version) look = ap is_some_of (dependents_ahead until a id (look.shows id refl))
 
--- ---- what is needed, and missing: whatever the key lists
+-- ---- needed and missing entities, whatever the key lists
 
 needed_ahead : (until : ℕ) (kind : Kind) (a : Airspace) (caller : Option Caller) (id : ℕ) (put : Put) → BeginAfter until (map region_of put.volumes)
     → sub_under (purged until a) (subscription_of put.nature) ≡ sub_under a (subscription_of put.nature) → needed_put kind (purged until a) caller id put ≡ needed_put kind a caller id put
@@ -135,7 +136,7 @@ missing_ahead until a (Some caller) (DeleteSub id version) look = refl
 
 -- ---- the rules
 
--- what the rules look at is the same for a call in two airspaces
+-- Holds if the rules see the same facts for a call in two airspaces.
 pub record RulesSeeTheSame (a b : Airspace) (c : Call) : Type 0 where
   pub found : found_of a c.op ≡ found_of b c.op
   pub stated : stated_of a c.op ≡ stated_of b c.op

@@ -1,4 +1,4 @@
--- What is known of an airspace after a run is known of what a sweep leaves of it.
+-- Lemmas: a purge preserves what is known of an airspace after a run.
 use Rattle.std.specs.Prelude.{◌≡◌, ℕ, List, [], ◌∷◌, Some}
 use Rattle.std.proofs.Common.{sym, subst}
 use Rattle.std.specs.List.{AllByRecursion}

@@ -1,4 +1,4 @@
--- What is known over segments from the empty airspace.
+-- Lemmas: what is known over segments from the empty airspace.
 use Rattle.std.specs.Prelude.{◌≡◌, ℕ, ◌+◌, false, List, [], ◌∷◌, ◌++◌, filter, length, Option, Some, None, refl}
 use Rattle.std.proofs.Common.{sym, ap, ◌∙◌, subst, inl, inr, append_assoc}
 use Rattle.std.proofs.lemmas.List.{append-nil, length-append}
@@ -23,13 +23,13 @@ use Rattle.service_calls.proofs.BatchLaws.{kept_all}
 use Rattle.service_calls.proofs.SegmentLaws.{kept_partly}
 use Rattle.service_purge.specs.Segments.{Follow, SegmentsAreAware, Stretch, done_in, last_put}
 
--- ---- what is counted over calls, and over calls after them
+-- ---- counts over calls, and over later calls
 
 all_append : (P : MadeCall → Type 0) (ms ns : List MadeCall) → AllByRecursion P ms → AllByRecursion P ns → AllByRecursion P (ms ++ ns)
 all_append P [] ns all more = more
 all_append P (m ∷ ms) ns all more = (all.0, all_append P ms ns all.1 more)
 
--- one that was created among the later calls
+-- The count also holds if one of the later calls created the subscription.
 counted_late : (id : ℕ) (made more : List MadeCall) (index : ℕ) → IsCounted id more index → IsCounted id (made ++ more) index
 counted_late id made more index counted = record {
   earlier = made ++ counted.earlier;
@@ -41,7 +41,7 @@ counted_late id made more index counted = record {
   count = counted.count;
 }
 
--- one that was there before them
+-- The count continues if none of the later calls created the subscription.
 counted_on : (id : ℕ) (made more : List MadeCall) (was index : ℕ) → IsCounted id made was → AllByRecursion (λ m. creates_sub id m.call.op ≡ false) more → index ≡ was + length (filter (notified id) more) → IsCounted id (made ++ more) index
 counted_on id made more was index counted none is =
     let notifying : List MadeCall → List MadeCall = filter (notified id) in
@@ -56,7 +56,7 @@ counted_on id made more was index counted none is =
           ∙ sym (ap length (filter-append (notified id) counted.later more) ∙ length-append (notifying counted.later) (notifying more)));
     }
 
--- each index is the number of these calls that notified its subscription
+-- Holds if each index is the number of these calls that notified its subscription.
 abbrev AllCounted : List MadeCall → Airspace → Type 0
 AllCounted made a = (id : ℕ) (s : Sub) → get a.subscriptions id ≡ Some s → IsCounted id made s.index
 
@@ -89,7 +89,7 @@ module _ (salt : List ℕ) (a : Airspace) (batches : List Batch) (told : AreTold
 
 -- ---- all stretches
 
--- what is known over them, after a last put of each entity and calls that were counted
+-- The properties over all stretches, given a last put of each entity and the counted calls.
 record KnownSince (salt : List ℕ) (last : EntityKey → Option MadeCall) (made : List MadeCall) (from : Airspace) (segments : List Segment) (batches : List Batch) (a : Airspace) : Type 0 where
   stretches : List Stretch
   follow : Follow salt from segments batches stretches a

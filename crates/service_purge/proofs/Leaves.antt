@@ -1,4 +1,4 @@
--- A call that looks ahead leaves airspaces that differ by a sweep alone.
+-- Lemmas: a forward-looking call leaves airspaces that differ only by a purge.
 use Rattle.std.specs.Prelude.{◌≡◌, ℕ, ◌+◌, ◌&&◌, not, Bool, true, false, cond, List, [], Option, Some, None, option_map, refl}
 use Rattle.std.proofs.Common.{arith, sym, ap, ◌∙◌, inl, inr}
 use Rattle.std.proofs.lemmas.Cmp.{nat_cmp_total}
@@ -28,7 +28,7 @@ use Rattle.service_purge.proofs.Facts.{get_ahead, get_sub_ahead, same_first, see
 use Rattle.entity_purge.proofs.Maps.{apart, get_kept, insert_twice, kept_was, maps_twice, not_back, remove_twice, same_id}
 use Rattle.entity_purge.proofs.Purges.{found_staying, found_subs, gone_unnamed, named_by_one, once_purged, purges_join, who_names}
 
--- a swept airspace, and the same before the sweep
+-- A purged airspace differs from the original only by the purge.
 purged_alone : (until : ℕ) (a : Airspace) → SameOncePurged until (purged until a) a
 purged_alone until a = purges_join until until a (omega arith)
 
@@ -45,7 +45,7 @@ staying_remove until m k = remove_twice key_total key_exact (has_not_ended until
 
 -- ---- subscriptions
 
--- what goes with these entities goes with those
+-- Holds if each subscription that is due with the entities `m` is also due with the entities `n`.
 abbrev pub GoesOn : ℕ → Entities → Entities → Subscriptions → Type 0
 GoesOn until m n subs = (id : ℕ) (s : Sub) → get subs id ≡ Some s → is_due_by until m (id, s) ≡ true → is_due_by until n (id, s) ≡ true
 
@@ -62,7 +62,7 @@ subs_insert until m subs k s = insert_twice nat_cmp_total nat_cmp-IsAntisymmetri
 subs_remove : (until : ℕ) (m : Entities) (subs : Subscriptions) (k : ℕ) → retained_subs until m (remove (retained_subs until m subs) k) ≡ retained_subs until m (remove subs k)
 subs_remove until m subs k = remove_twice nat_cmp_total nat_cmp-IsAntisymmetric (λ x. not (is_due_by until m x)) (λ x. not (is_due_by until m x)) subs k (λ j x there t. t)
 
--- to be told of a change does not keep a subscription
+-- Notifying a subscription does not change whether it is due.
 pub told_goes : (until : ℕ) (m : Entities) (id : ℕ) (b : Bool) (s : Sub) → is_due_by until m (id, cond b (notified_again s) s) ≡ is_due_by until m (id, s)
 told_goes until m id true s = refl
 told_goes until m id false s = refl
@@ -89,18 +89,19 @@ subs_told until m n test subs on =
     ∙ (ap (λ (o : Option Sub). if_kept (λ s. stays (id, s)) (option_map (λ s. (notified_if test (id, s)).1) o)) (found_subs until m subs id)
     ∙ (told_kept until m n test id (get subs id) (on id) ∙ sym (found subs id))))
 
--- ---- who names a subscription after a change
+-- ---- references to a subscription after a change
 
 pub named_one : (id : ℕ) (o : Option ℕ) → is_id id o ≡ true → o ≡ Some id
 named_one id None h = cc
 named_one id (Some named) h = ap (λ (n : ℕ). Some n) (same_id named id h)
 
--- what stays, and names it, is found among what stays
+-- If a retained entity references a subscription, the reference is found among the retained
+-- entities.
 pub still_named : (until : ℕ) (m : Entities) (id : ℕ) (k : EntityKey) (e : Entity) → get m k ≡ Some e → not (has_ended until e) ≡ true → is_naming id (k, e) ≡ true → is_named_in (retained until m) id ≡ true
 still_named until m id k e there stays names =
     named_by_one (retained until m) id k e (found_staying until m k ∙ (ap (if_kept (λ x. not (has_ended until x))) there ∙ ap (λ (b : Bool). cond b (Some e) None) stays)) names
 
--- who names it among what stays was there
+-- A reference found among the retained entities belongs to an entity that existed before.
 pub who_stays : (until : ℕ) (m : Entities) (id : ℕ) → is_named_in (retained until m) id ≡ true → (k : EntityKey) × (e : Entity) × (get m k ≡ Some e) × (not (has_ended until e) ≡ true) × (is_naming id (k, e) ≡ true)
 who_stays until m id h =
     let by = who_names (retained until m) id h in
@@ -115,7 +116,7 @@ goes_unless until m n id s back h =
       | false ↦ λ t. ap (λ (b : Bool). b && true) gone.0
     ] refl
 
--- an entity that is put frees nothing, and names nothing that goes
+-- Putting an entity frees no subscription, and references none that is due.
 pub put_goes : (until : ℕ) (m : Entities) (subs : Subscriptions) (k : EntityKey) (e : Entity)
     → ((id : ℕ) (s : Sub) → subscription_of e.nature ≡ Some id → get subs id ≡ Some s → is_due_by until (retained until m) (id, s) ≡ false)
     → GoesOn until (retained until m) (retained until (insert m k e)) subs
@@ -184,7 +185,7 @@ read_sub_alone : (until : ℕ) (a : Airspace) (o : Option Sub) → SameOncePurge
 read_sub_alone until a None = purged_alone until a
 read_sub_alone until a (Some s) = purged_alone until a
 
--- ---- the effect
+-- ---- effects
 
 effect_alone : (until : ℕ) (salt : List ℕ) (a : Airspace) (caller : Option Caller) (op : Operation) → LooksAhead until a (record { caller = caller; op = op })
     → SameOncePurged until (effect salt (purged until a) caller op).0 (effect salt a caller op).0

@@ -1,4 +1,4 @@
--- Which calls look ahead.
+-- Lemmas: which calls are forward-looking.
 use Rattle.std.specs.Prelude.{◌≡◌, ℕ, true, false, List, [], ◌∷◌, ◌++◌, map, Option, Some, None, is_some, refl}
 use Rattle.std.proofs.Common.{sym, ap, ◌∙◌, subst}
 use Rattle.std.specs.FinMap.{get}
@@ -19,7 +19,7 @@ use Rattle.service_purge.proofs.Leaves.{named_one}
 use Rattle.entity_purge.proofs.Maps.{apart, both_hold}
 use Rattle.entity_purge.proofs.Purges.{le_holds}
 
--- who is near areas that begin later does not go
+-- A subscription that meets a later area is not due.
 near_later : (until : ℕ) (a : Airspace) (kind : Kind) (areas : List Region) (id : ℕ) (s : Sub) → BeginAfter until areas → is_for_near kind areas (id, s) ≡ true → is_due_for_purge until a (id, s) ≡ false
 near_later until a kind areas id s begin near =
     let met : meets_some s.volume areas ≡ true = (both_hold (wants s.interest kind) (meets_some s.volume areas) near).1 in
@@ -34,7 +34,7 @@ old_begin : (until : ℕ) (o : Option Entity) → ((e : Entity) → o ≡ Some e
 old_begin until None ahead = tt
 old_begin until (Some e) ahead = (ahead e refl).begins
 
--- where those that intents name are there, nothing names one that is not
+-- If every referenced subscription exists, no entity references one that does not exist.
 none_names : (until : ℕ) (a : Airspace) (id : ℕ) → NamesStand a → get a.subscriptions id ≡ None → IsUnnamed until a id
 none_names until a id stand none k e there ended =
     elim (is_naming id (k, e)) as (λ b. is_naming id (k, e) ≡ b → b ≡ false) [

@@ -1,4 +1,4 @@
--- A call that looks ahead is told the same.
+-- Lemmas: a forward-looking call gets the same reply before and after a purge.
 use Rattle.std.specs.Prelude.{◌≡◌, ℕ, ◌+◌, Bool, true, false, cond, List, [], ◌∷◌, map, filter, Option, Some, None, refl}
 use Rattle.std.proofs.Common.{sym, ap, ◌∙◌, subst}
 use Rattle.std.proofs.lemmas.Cmp.{nat_cmp_total}
@@ -42,7 +42,7 @@ read_told : (uss : List ℕ) (a b : Airspace) (o : Option Entity) → a.availabi
 read_told uss a b None l = refl
 read_told uss a b (Some e) l = λ i. Done (FoundOne (view_same uss a b l i e))
 
--- who is told is the same, where none of them goes
+-- Holds if the notices are the same after a purge.
 abbrev TellsTheSame : ℕ → Airspace → Kind → List Region → Type 0
 TellsTheSame until a kind areas = notices_in (purged until a) kind areas ≡ notices_in a kind areas
 
@@ -51,7 +51,7 @@ create_told : (until : ℕ) (a : Airspace) (uss : List ℕ) (e : Entity) → Tel
     ≡ Done (Created (view_of (stored_with a [] e) uss e) (notices_in a (kind_of e.nature) (touched [] e.volumes)))
 create_told until a uss e told = λ i. Done (Created (view_same uss (stored_with (purged until a) [] e) (stored_with a [] e) refl i e) (told i))
 
--- those that are told of an update do not go
+-- Holds if no subscription that an update notifies is due.
 abbrev UpdateTold : ℕ → Airspace → Put → Option Entity → Type 0
 UpdateTold until a put o = (id : ℕ) (s : Sub) → get a.subscriptions id ≡ Some s → is_for_near (kind_of put.nature) (touched (volumes_of o) put.volumes) (id, s) ≡ true → is_due_for_purge until a (id, s) ≡ false
 
@@ -76,7 +76,7 @@ delete_told until a uss k (Some e) told =
 seen_ahead : (until : ℕ) (a : Airspace) (s : Sub) → IsUnnamed until a s.id → seen_sub (purged until a) s ≡ seen_sub a s
 seen_ahead until a s unnamed = ap (sub_view_of s) (dependents_ahead until a s.id unnamed)
 
--- under an id stands what has that id
+-- The subscription stored under an id has that id.
 unnamed_own : (until : ℕ) (a : Airspace) (id : ℕ) (s : Sub) → IsAirspace a → get a.subscriptions id ≡ Some s → IsUnnamed until a id → IsUnnamed until a s.id
 unnamed_own until a id s proper there unnamed = subst (IsUnnamed until a) (sym (proper.own id s there)) unnamed
 
@@ -88,7 +88,7 @@ delete_sub_told : (until : ℕ) (a : Airspace) (id : ℕ) (o : Option Sub) → I
 delete_sub_told until a id None proper there unnamed = refl
 delete_sub_told until a id (Some s) proper there unnamed = ap (λ (v : SubView). Done (SubFound v)) (seen_ahead until a s (unnamed_own until a id s proper there unnamed))
 
--- of a subscription that begins later, the same is seen
+-- The same entities are seen for a subscription that begins later.
 seen_of_ahead : (until : ℕ) (kind : Kind) (a : Airspace) (uss : List ℕ) (s : Sub) → BeginAfter until (region_of s.volume ∷ []) → seen_of kind (with_subscription (purged until a) s) uss s ≡ seen_of kind (with_subscription a s) uss s
 seen_of_ahead until kind a uss s begin =
     λ i. cond (wants s.interest kind) (map (view_same uss (with_subscription (purged until a) s) (with_subscription a s) refl i) (meeting_ahead until a.entities kind (region_of s.volume ∷ []) None begin i)) []
@@ -102,7 +102,7 @@ update_sub_told : (until : ℕ) (salt : List ℕ) (a : Airspace) (uss : List ℕ
 update_sub_told until salt a uss id put None begin unnamed = refl
 update_sub_told until salt a uss id put (Some s) begin unnamed = stored_ahead until a uss (sub_stored_as salt (a.serial + 1) s.manager s.index id put) begin unnamed
 
--- each of a supplier's subscriptions near an area is seen the same
+-- Each subscription of a USS that meets an area is seen the same.
 each_seen : (until : ℕ) (a : Airspace) (uss : List ℕ) (area : Region) (ss : List (ℕ × Sub)) → IsAirspace a → ((id : ℕ) (s : Sub) → get a.subscriptions id ≡ Some s → is_own_near uss area (id, s) ≡ true → IsUnnamed until a id)
     → AllByRecursion (λ s. get a.subscriptions s.0 ≡ Some s.1) ss
     → map (seen_sub (purged until a)) (map (λ s. s.1) (filter (is_own_near uss area) ss)) ≡ map (seen_sub a) (map (λ s. s.1) (filter (is_own_near uss area) ss))
@@ -122,7 +122,7 @@ query_sub_ahead until a uss area proper begin unnamed =
     ap (map (seen_sub (purged until a))) (own_ahead until (purged until a).entities a.subscriptions uss area begin)
     ∙ each_seen until a uss area (entries a.subscriptions) proper unnamed (each_found nat_cmp_total a.subscriptions)
 
--- ---- the effect
+-- ---- effects
 
 effect_told : (until : ℕ) (salt : List ℕ) (a : Airspace) (caller : Option Caller) (op : Operation) → IsAirspace a → LooksAhead until a (record { caller = caller; op = op })
     → (effect salt (purged until a) caller op).1 ≡ (effect salt a caller op).1
@@ -160,7 +160,7 @@ effect_told until salt a (Some caller) (DeleteSub id version) proper look =
     ap (λ (o : Option Sub). (delete_sub_effect (purged until a) id o).1) (get_sub_ahead until a id (λ s h. look.names_sub id s refl h))
     ∙ delete_sub_told until a id (get a.subscriptions id) proper refl (look.shows id refl)
 
--- ---- the reply
+-- ---- replies
 
 missing_told : (a b : Airspace) (c : Call) (p : Rule) → missing_for a c.caller c.op ≡ missing_for b c.caller c.op → missing_views a c p ≡ missing_views b c p
 missing_told a b c Route h = refl

@@ -1,4 +1,4 @@
--- Lists of calls that look ahead.
+-- Lemmas: lists of forward-looking calls.
 use Rattle.std.specs.Prelude.{◌≡◌, ℕ, ◌+◌, Bool, true, false, cond, List, [], ◌∷◌, Option, Some, None, option_map, refl}
 use Rattle.std.proofs.Common.{sym, ap, ◌∙◌, subst}
 use Rattle.std.proofs.lemmas.Cmp.{nat_cmp_total}
@@ -36,12 +36,12 @@ use Rattle.service_purge.proofs.Leaves.{stays_alone}
 use Rattle.service_purge.proofs.Replies.{purge_unseen}
 use Rattle.entity_purge.proofs.Chunks.{part_proper, same_serial}
 
--- ---- an airspace of which some is let go
+-- ---- a partly purged airspace
 
 same_staying : (until : ℕ) (a b : Airspace) → IsPartlyPurged until a b → retained until b.entities ≡ retained until a.entities
 same_staying until a b part = ap (λ (x : Airspace). x.entities) part.same
 
--- what does not go in the one does not go in the other
+-- A subscription that is not due in an airspace is not due after a part of it is purged.
 part_goes : (until : ℕ) (a b : Airspace) (id : ℕ) (s : Sub) → IsPartlyPurged until a b → is_due_for_purge until a (id, s) ≡ false → is_due_for_purge until b (id, s) ≡ false
 part_goes until a b id s part h = ap (λ (m : Entities). is_due_by until m (id, s)) (same_staying until a b part) ∙ h
 
@@ -79,7 +79,7 @@ shows_part until a b caller (CreateSub k put) id part h = h
 shows_part until a b caller (UpdateSub k version put) id part h = h
 shows_part until a b caller (DeleteSub k version) id part h = h
 
--- ---- a call looks ahead in it, too
+-- ---- calls stay forward-looking
 
 part_found : (until : ℕ) (a b : Airspace) (k : EntityKey) → IsPartlyPurged until a b → ((e : Entity) → get a.entities k ≡ Some e → has_ended until e ≡ false) → get b.entities k ≡ get a.entities k
 part_found until a b k part names =
@@ -127,7 +127,7 @@ sees_part until a b c part look =
       serial = same_serial until a b part;
     }
 
--- ---- what is there after a call was there after it, or was put by it, in the other
+-- ---- entities after a call in both airspaces
 
 record IsPart (a b : Airspace) : Type 0 where
   entities : (k : EntityKey) (e : Entity) → get b.entities k ≡ Some e → get a.entities k ≡ Some e
@@ -243,7 +243,7 @@ unfolding step
 step_part salt a b t c sees part =
     subst (λ (r : Option Rule). IsPart (step_by salt a c (first_broken a t c)).0 (step_by salt b c r).0) (sym (same_first b a t c sees)) (step_by_part salt a b c (first_broken a t c) sees part)
 
--- ---- lists
+-- ---- lists of calls
 
 one_part : (until : ℕ) (salt : List ℕ) (a b : Airspace) (t : ℕ) (c : Call) → IsPartlyPurged until a b → LooksAhead until a c → IsPartlyPurged until (step salt a t c).0 (step salt b t c).0
 one_part until salt a b t c part look =

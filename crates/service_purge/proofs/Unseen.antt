@@ -1,4 +1,4 @@
--- Over segments, who looks ahead of the sweeps cannot tell that something was let go.
+-- Lemmas: over segments, forward-looking calls get the same replies as without purges.
 use Rattle.std.specs.Prelude.{◌≡◌, ℕ, ◌≤◌, max, false, List, [], ◌∷◌, length, refl}
 use Rattle.std.proofs.Common.{arith, sym, ap, ◌∙◌, subst}
 use Rattle.std.proofs.lemmas.List.{length-append}
@@ -20,9 +20,9 @@ use Rattle.service_purge.specs.Ahead.{AllLookAhead}
 use Rattle.service_purge.proofs.Runs.{run_unseen}
 use Rattle.service_purge.proofs.Earlier.{all_earlier, all_split}
 
--- ---- sweeps
+-- ---- purges
 
--- what is swept in part until a moment is so until each later one
+-- An airspace that is partly purged up to a time is also partly purged up to each later time.
 partly_later : (u v : ℕ) (a b : Airspace) → u ≤ v → IsPartlyPurged u a b → IsPartlyPurged v a b
 partly_later u v a b h part = record {
   entities = part.entities;
@@ -30,7 +30,7 @@ partly_later u v a b h part = record {
   same = sym (purges_join u v b h) ∙ (ap (purged v) part.same ∙ purges_join u v a h);
 }
 
--- a sweep, and then another
+-- Two partial purges in sequence are one partial purge.
 partly_then : (u v : ℕ) (a b c : Airspace) → IsPartlyPurged u a b → IsPartlyPurged v b c → IsPartlyPurged (max u v) a c
 partly_then u v a b c one two =
     (chunks_make.more (max u v) a b (partly_later u (max u v) a b (omega arith) one)).further c (partly_later v (max u v) b c (omega arith) two)
@@ -61,14 +61,14 @@ module _ (salt : List ℕ) (segment : Segment) (segments : List Segment) (batche
     abbrev left : Airspace
     left = airspace_after_batches salt a segment.batches
 
-    -- what a sweep left, and what is told and kept over that
+    -- The airspace that a purge left, and the replies and durable airspaces after it.
     told_left : AreDeliveredPurged salt a (segment ∷ segments) batches → (b : Airspace) × IsPartlyPurged segment.until left b × AreDeliveredPurged salt b segments batches
     told_left told = subst (λ x. IfStopped x (AllStopped segments batches) ((b : Airspace) × IsPartlyPurged segment.until left b × AreDeliveredPurged salt b segments batches)) first_goes told.1
 
     kept_left : (c : Airspace) → MayHavePersistedPurged salt a (segment ∷ segments) batches c → (b : Airspace) × IsPartlyPurged segment.until left b × MayHavePersistedPurged salt b segments batches c
     kept_left c kept = subst (λ x. IfStopped x (MayHavePersisted salt a segment.batches c) ((b : Airspace) × IsPartlyPurged segment.until left b × MayHavePersistedPurged salt b segments batches c)) first_goes kept
 
-    -- what is told of the segment, and of what follows
+    -- The replies in the segment, and in what follows.
     told_more : delivered_replies (all_delivered segment.batches) ≡ replies_of salt a (answered_of segment.batches) → delivered_replies (all_delivered_in segments batches) ≡ replies_of salt left (answered_in segments batches)
         → delivered_replies (all_delivered_in (segment ∷ segments) batches) ≡ replies_of salt a (answered_in (segment ∷ segments) batches)
     told_more = policy_then salt a (all_timed segment.batches) (all_delivered segment.batches) (all_timed_in segments batches) (all_delivered_in segments batches) (even_all segment.batches) first_goes
@@ -76,7 +76,7 @@ module _ (salt : List ℕ) (segment : Segment) (segments : List Segment) (batche
     left_more : airspace_after salt left (answered_in segments batches) ≡ airspace_after salt a (answered_in (segment ∷ segments) batches)
     left_more = airspace_then salt a (all_timed segment.batches) (all_delivered segment.batches) (all_timed_in segments batches) (all_delivered_in segments batches) (even_all segment.batches) first_goes
 
--- over an airspace of which some was let go
+-- The replies over a partly purged airspace are those over the whole one.
 told_since : (until : ℕ) (salt : List ℕ) (segments : List Segment) (batches : List Batch) (a b : Airspace) → IsAirspace a → IsPartlyPurged until a b → has_stopped (all_delivered_in segments batches) ≡ false → LookAheadSince until salt a segments batches
     → AreDeliveredPurged salt b segments batches → delivered_replies (all_delivered_in segments batches) ≡ replies_of salt a (answered_in segments batches)
 told_since until salt [] batches a b proper part goes look told = told.replies ∙ (run_unseen until salt (answered_of batches) a b proper part look).0
@@ -102,7 +102,7 @@ kept_since until last salt (segment ∷ segments) batches a b c within by proper
     (kept_since (max until segment.until) last salt segments batches (after a) purged.0 c (omega arith) by.1 (after_proper salt a (answered_of segment.batches) proper) (partly_then until segment.until (after a) (after b) purged.0 run.1 purged.1)
     (others_go salt segment segments batches goes) look.1 purged.2)
 
--- from the first segment on, before which there was no sweep
+-- Before the first segment there was no purge.
 told_unseen : (salt : List ℕ) (segments : List Segment) (batches : List Batch) (a : Airspace) → IsAirspace a → has_stopped (all_delivered_in segments batches) ≡ false → LookAheadOncePurged salt a segments batches → AreDeliveredPurged salt a segments batches
     → delivered_replies (all_delivered_in segments batches) ≡ replies_of salt a (answered_in segments batches)
 told_unseen salt [] batches a proper goes look told = told.replies
@@ -126,7 +126,7 @@ segments_unseen k salt a segments batches new proper runs goes look = record {
   kept = λ until b by held. kept_unseen until salt segments batches a b by proper goes look (runs.kept b held);
 }
 
--- ---- one moment
+-- ---- one time for all purges
 
 look_since : (until last : ℕ) (salt : List ℕ) (segments : List Segment) (batches : List Batch) (a : Airspace) → until ≤ last → PurgedBy last segments → has_stopped (all_delivered_in segments batches) ≡ false → AllLookAhead last salt (answered_in segments batches) a → LookAheadSince until salt a segments batches
 look_since until last salt [] batches a within by goes look = all_earlier until last salt (answered_of batches) a within look

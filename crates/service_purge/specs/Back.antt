@@ -1,4 +1,4 @@
--- What is told to who looks back, after a sweep.
+-- Replies to backward-looking calls after a purge.
 use Rattle.std.specs.Prelude.{◌≡◌, ℕ, ◌&&◌, not, Bool, true, false, List, map, filter, find, Option, Some, None}
 use Rattle.std.specs.FinMap.{entries}
 use Rattle.grid_core.specs.Extent.{Region}
@@ -17,31 +17,31 @@ use Rattle.policy_core.specs.Standing.{found_of}
 use Rattle.service_step.specs.declared.reply.Reply.TheVariants.{Denied}
 use Rattle.service_step.specs.Step.{step}
 
--- whether an operation asks for an entity that is there: a reading, an update or a deletion
+-- Returns true if an operation is about an existing entity: a read, an update or a deletion.
 abbrev pub asks_for_one : Operation → Bool
 asks_for_one (Read kind id) = true
 asks_for_one (Update id ovn put) = true
 asks_for_one (Delete kind id ovn) = true
 asks_for_one op = false
 
--- Whatever is looked for finds after a sweep what it found before, in the same order, but for what
--- went. What went is not found.
+-- Holds if each search finds after a purge what it found before, in the same order, without the
+-- purged items. Purged items are not found.
 pub record LooksBack (until : ℕ) (a : Airspace) : Type 0 where
-  -- entities that meet areas
+  -- The entities that meet areas.
   pub meeting : (kind : Kind) (areas : List Region) (except : Option ℕ)
       → meeting_in (purged until a).entities kind areas except
       ≡ filter (λ e. not (has_ended until e)) (meeting_in a.entities kind areas except)
-  -- a supplier's subscriptions near an area, and those that a change of a kind is told to
+  -- The subscriptions of a USS that meet an area, and those that a change of a kind notifies.
   pub own : (uss : List ℕ) (area : Region) → subscriptions_in (purged until a).subscriptions uss area
       ≡ filter (λ s. not (is_due_for_purge until a (s.id, s))) (subscriptions_in a.subscriptions uss area)
   pub told : (kind : Kind) (areas : List Region)
       → subscribers_in (purged until a).subscriptions kind areas
       ≡ filter (λ s. not (is_due_for_purge until a (s.id, s))) (subscribers_in a.subscriptions kind areas)
-  -- the intents that name a subscription
+  -- The intents that reference a subscription.
   pub naming : (id : ℕ) → dependents_in (purged until a).entities id
       ≡ map (λ e. e.1.id)
       (filter (λ e. is_naming id e && has_not_ended until e) (entries a.entities))
-  -- one that is asked for and went is denied by P7, where no early rule is broken
+  -- A call about a purged entity is denied by P7, if it breaks no stateless rule.
   pub asked : (salt : List ℕ) (now : ℕ) (c : Call) (e : Entity) → asks_for_one c.op ≡ true
       → found_of a c.op ≡ Some e → has_ended until e ≡ true
       → find (breaks a now c) early_rules ≡ None

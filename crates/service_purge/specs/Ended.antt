@@ -1,4 +1,4 @@
--- What has ended is what the policy refuses to put.
+-- Entities that have ended are those that the policy denies putting.
 use Rattle.std.specs.Prelude.{◌≡◌, ℕ, nat_le, List}
 use Rattle.entity_purge.specs.Purge.{have_ended}
 use Rattle.policy_core.specs.Policy.{breaks_ended}
@@ -6,7 +6,7 @@ use Rattle.policy_core.specs.declared.call.Put.{Put}
 use Rattle.policy_core.specs.declared.call.SubPut.{SubPut}
 use Rattle.policy_core.specs.declared.call.Operation.TheVariants.{Create, Update, CreateSub, UpdateSub}
 
--- What P13 ENDED refuses to put at a moment is what a sweep until that moment would take.
+-- States that P13 ENDED denies putting at a time exactly what a purge up to that time would delete.
 pub record EndedIsRefused : Type 0 where
   pub creation : (now id : ℕ) (put : Put)
       → breaks_ended now (Create id put) ≡ have_ended now put.volumes

@@ -1,4 +1,4 @@
--- What is known over all segments at once, between which some of what has ended is let go.
+-- What is known over all segments, with purges of ended items between them.
 use Rattle.std.specs.Prelude.{◌≡◌, ℕ, ◌≤◌, max, false, List, [], ◌∷◌, ◌++◌, Option, Some, None}
 use Rattle.std.specs.List.{AllByRecursion, flat_map}
 use Rattle.std.specs.FinMap.{get}
@@ -17,13 +17,13 @@ use Rattle.service_purge.specs.Ahead.{AllLookAhead}
 
 -- ---- stretches
 
--- rounds, and the airspace in which the first of them began
+-- Batches, and the airspace before the first of them.
 pub record Stretch : Type 0 where
   pub from : Airspace
   pub batches : List Batch
 
--- These are the stretches of segments and of the rounds after them, and what is left then. The
--- first begins in an airspace, each other in what the one before it left, swept in part.
+-- Holds if these are the stretches of the segments and of the batches after them, and `after` is
+-- the airspace left. Each stretch begins in the airspace that the one before left, partly purged.
 abbrev pub Follow : List ℕ → Airspace → List Segment → List Batch → List Stretch → Airspace → Type 0
 Follow salt a [] batches stretches after = (stretches ≡ record { from = a; batches = batches } ∷ [])
     × (after ≡ airspace_after_batches salt a batches)
@@ -33,45 +33,45 @@ Follow salt a (segment ∷ segments) batches (stretch ∷ stretches) after =
     × ((b : Airspace) × IsPartlyPurged segment.until (airspace_after_batches salt a segment.batches) b
     × Follow salt b segments batches stretches after)
 
--- Of the calls of all stretches, the last one answered `Done` that created or updated the entity of
--- a kind and an id.
+-- The last call in all stretches that was answered `Done` and created or updated the entity of a
+-- key.
 abbrev pub last_put : List ℕ → List Stretch → EntityKey → Option MadeCall
 last_put salt [] k = None
 last_put salt (stretch ∷ stretches) k = later_or (last_put salt stretches k)
     (last_writer salt k stretch.from (all_timed stretch.batches) (all_delivered stretch.batches))
 
--- of all their calls those answered `Done`, in order, each with the airspace before it
+-- The calls in all stretches that were answered `Done`, in order, each with the airspace before it.
 abbrev pub done_in : List ℕ → List Stretch → List MadeCall
 done_in salt stretches =
     flat_map (λ stretch. done_calls salt stretch.from (all_timed stretch.batches)
     (all_delivered stretch.batches)) stretches
 
--- What is known of an airspace that is left of segments and of the rounds after them.
+-- Holds if an airspace has these properties after segments and the batches after them.
 pub record KnownOver (salt : List ℕ) (from : Airspace) (segments : List Segment)
     (batches : List Batch) (a : Airspace) : Type 0 where
   pub stretches : List Stretch
   pub follow : Follow salt from segments batches stretches a
-  -- what is told in each stretch is the policy's, but for the calls that failed
+  -- The replies in each stretch are those of the policy, except for the calls that failed.
   pub told : AllByRecursion (λ stretch. AreTold salt stretch.from stretch.batches) stretches
   pub proper : IsAirspace a
-  -- Of any two entities one has the greater serial. Where they meet and it is an intent that is
-  -- planned or flown as planned, its last put knew the other, whichever stretch it was made in.
+  -- Serials differ. The last put of the later of two meeting entities knew the other, if the later
+  -- one is an intent that is planned or flown as planned. The put can be in any stretch.
   pub serials : SerialsDiffer a
   pub knew : KnewOthers (last_put salt stretches) a
-  -- Each subscription's index is the number of calls, in whichever stretch, after the one that last
-  -- created it, that notified it.
+  -- Each index is the number of calls, in any stretch, that notified the subscription after the
+  -- last call that created it.
   pub counted : (id : ℕ) (s : Sub) → get a.subscriptions id ≡ Some s
       → IsCounted id (done_in salt stretches) s.index
 
--- ---- as if nothing were let go
+-- ---- the same without purges
 
--- the calls of segments, and of the rounds after them
+-- The calls of segments, and of the batches after them.
 abbrev pub all_timed_in : List Segment → List Batch → List TimedCall
 all_timed_in [] batches = all_timed batches
 all_timed_in (segment ∷ segments) batches = all_timed segment.batches ++ all_timed_in segments batches
 
--- of rounds, and of segments and the rounds after them: the calls that were answered otherwise than
--- by `Fault`, up to the first `Stopped`
+-- The calls up to the first `Stopped` whose reply is not `Fault`: of batches, and of segments and
+-- the batches after them.
 abbrev pub answered_of : List Batch → List TimedCall
 answered_of batches = answered_calls (all_timed batches) (all_delivered batches)
 
@@ -79,12 +79,12 @@ abbrev pub answered_in : List Segment → List Batch → List TimedCall
 answered_in segments batches =
     answered_calls (all_timed_in segments batches) (all_delivered_in segments batches)
 
--- no sweep was until a later moment than this
+-- Holds if no purge was up to a later time.
 abbrev pub PurgedBy : ℕ → List Segment → Type 0
 PurgedBy until segments = AllByRecursion (λ segment. segment.until ≤ until) segments
 
--- Each call that is answered looks ahead of all sweeps before it, where it is made when nothing was
--- let go. Those before the first segment were until this moment, or until earlier ones.
+-- Holds if each answered call is forward-looking from all purges before it, in its airspace without
+-- purges. The purges before the first segment were up to `until` or earlier.
 abbrev pub LookAheadSince : ℕ → List ℕ → Airspace → List Segment → List Batch → Type 0
 LookAheadSince until salt a [] batches = AllLookAhead until salt (answered_of batches) a
 LookAheadSince until salt a (segment ∷ segments) batches =
@@ -92,14 +92,14 @@ LookAheadSince until salt a (segment ∷ segments) batches =
     × LookAheadSince (max until segment.until) salt (airspace_after_batches salt a segment.batches)
     segments batches
 
--- The same where there was no sweep before the first segment: nothing is asked of its calls.
+-- The same without a purge before the first segment, whose calls can be any.
 abbrev pub LookAheadOncePurged : List ℕ → Airspace → List Segment → List Batch → Type 0
 LookAheadOncePurged salt a [] batches = Unit {0}
 LookAheadOncePurged salt a (segment ∷ segments) batches = LookAheadSince segment.until salt
     (airspace_after_batches salt a segment.batches) segments batches
 
--- What is told over segments and rounds is what the policy tells of the same calls where nothing is
--- let go; and what is kept is what they leave then, swept in part.
+-- Holds if the replies over segments and batches are those of the policy to the same calls without
+-- purges. The durable airspace is the one that these calls leave without purges, partly purged.
 pub record AreUnseen {S : Type 0} (k : settles.Ghosts S) (salt : List ℕ) (a : Airspace)
     (segments : List Segment) (batches : List Batch) (new : Service S) : Type 0 where
   pub told : delivered_replies (all_delivered_in segments batches)
@@ -109,9 +109,9 @@ pub record AreUnseen {S : Type 0} (k : settles.Ghosts S) (salt : List ℕ) (a : 
 
 -- ---- laws
 
--- Over segments and rounds from the empty airspace, where nobody was told `Stopped`: the later of
--- two that meet knew the other, and each index is the number of calls that notified the
--- subscription, whatever went between.
+-- States that the later of two meeting entities knew the other, and each index is the number of
+-- calls that notified the subscription. It holds after segments and batches from the empty airspace
+-- if no reply was `Stopped`; the purges between do not matter.
 abbrev pub SegmentsAreAware : {S : Type 0} → settles.Ghosts S → Type 0
 SegmentsAreAware {S} k =
     (salt : List ℕ) (n : ℕ) (segments : List Segment) (batches : List Batch) (new : Service S)
@@ -119,8 +119,8 @@ SegmentsAreAware {S} k =
     → has_stopped (all_delivered_in segments batches) ≡ false → k.persists (space_of new) a
     → KnownOver salt (empty_at n) segments batches a
 
--- From any airspace, where nobody was told `Stopped` and each call looks ahead of the sweeps before
--- it: nobody can tell that something was let go.
+-- States that purges between batches are invisible, from any airspace. It assumes that no reply was
+-- `Stopped`, and that each call is forward-looking from the purges before it.
 abbrev pub SegmentsAreInvisible : {S : Type 0} → settles.Ghosts S → Type 0
 SegmentsAreInvisible {S} k =
     (salt : List ℕ) (a : Airspace) (segments : List Segment) (batches : List Batch) (new : Service S)
@@ -128,8 +128,8 @@ SegmentsAreInvisible {S} k =
     → has_stopped (all_delivered_in segments batches) ≡ false → LookAheadOncePurged salt a segments batches
     → AreUnseen k salt a segments batches new
 
--- It is enough that each call after the first sweep looks ahead of one moment that is not before
--- any sweep's.
+-- States that it suffices if each call after the first purge is forward-looking from one time that
+-- is not before the time of any purge.
 abbrev pub OneMomentIsEnough : Type 0
 OneMomentIsEnough =
     (until : ℕ) (salt : List ℕ) (a : Airspace) (segment : Segment) (segments : List Segment)

@@ -1,4 +1,4 @@
-//! Laws of calls before and after a sweep, each named by a function that does nothing.
+//! Laws of calls before and after a purge. Each is the contract of a function that does nothing.
 ghost use Rattle.service_purge.specs.Ahead.{RunCommutes, RunIsInvisible, PurgeCommutes, PurgeIsInvisible, PurgeStaysAlone, TheseLookAhead};
 ghost use Rattle.service_purge.specs.Back.{LookingBackFindsLess};
 ghost use Rattle.service_purge.specs.Ended.{EndedIsRefused};
@@ -7,64 +7,74 @@ ghost use Rattle.service_purge.specs.Segments.{OneMomentIsEnough, SegmentsAreAwa
 
 use space_core::group_commit::GroupCommit;
 
-/// What has ended by a moment is what the policy's rule P13 refuses to put at it.
+/// States that an entity has ended by a time exactly if rule P13 of the policy denies putting it
+/// then.
 pub fn ended_is_refused()
     ensures { EndedIsRefused }
 {}
 
-/// A sweep notifies nobody and changes no index, no OVN and no serial of what stays: the laws of a
-/// run that held before hold after it.
+/// States that a purge preserves the laws of a run.
+///
+/// It notifies nobody, and changes no index, no OVN and no serial of the retained items.
 pub fn purge_keeps_laws()
     ensures counted { PurgeKeepsCounts }
     ensures aware { PurgeKeepsAware }
     ensures numbered { PurgeKeepsNumbers }
 {}
 
-/// A call that looks ahead of a moment gets the same reply, to the letter, whether or not what had
-/// ended by that moment was let go; and it leaves airspaces that differ by a sweep alone.
+/// States that a forward-looking call gets the same reply, byte for byte, before and after a purge.
+///
+/// It leaves airspaces that differ only by the purge.
 pub fn purge_is_invisible()
     ensures reply { PurgeIsInvisible }
     ensures alone { PurgeStaysAlone }
 {}
 
-/// Who asks for, puts or deletes what begins later looks ahead, and who reads what has not ended,
-/// or asks of availabilities.
+/// States that calls of certain forms are forward-looking.
+///
+/// They query, put or delete what begins later, read what has not ended, or read or set an
+/// availability.
 pub fn these_look_ahead()
     ensures { TheseLookAhead }
 {}
 
-/// Over every list of calls each of which looks ahead, the replies are the same, whoever makes
-/// them: whether all of what had ended was let go, or a part of it, or nothing.
+/// States that any list of forward-looking calls gets the same replies after a purge, after a part
+/// of it, and without it.
 pub fn run_is_invisible()
     ensures { RunIsInvisible }
 {}
 
-/// Where a call also frees no subscription that has ended, it makes no difference whether the sweep
-/// is made before it or after it. So it is over a list of such calls.
+/// States that a purge before a call leaves the same as a purge after it, if the call is
+/// forward-looking and frees no ended subscription.
+///
+/// The same holds over a list of such calls.
 pub fn purge_commutes()
     ensures call { PurgeCommutes }
     ensures run { RunCommutes }
 {}
 
-/// Who looks back finds after a sweep what was found before, but for what went; and what went is
-/// not found.
+/// States that a backward-looking call finds after a purge what it found before, without the purged
+/// items.
 pub fn looking_back_finds_less()
     ensures { LookingBackFindsLess }
 {}
 
-/// Of what is kept after segments and rounds from the empty airspace, where nobody was told
-/// `Stopped`: the last put of the later of two entities that meet knew the other, whichever segment
-/// it was made in; and the index of each subscription is the number of calls told as `Done`, over
-/// all segments, after the one that last created it, that notified it. What went between changes
-/// neither.
+/// States the properties of the durable airspace after segments and batches from the empty
+/// airspace, if no reply was `Stopped`.
+///
+/// The last put of the later of two meeting entities knew the other, in whichever segment it was.
+/// The index of each subscription is the number of calls with the reply `Done` that notified it,
+/// over all segments, after the last call that created it. The purges between change neither.
 pub fn segments_are_aware<S: GroupCommit>()
     ensures { SegmentsAreAware S.GroupCommit.own }
 {}
 
-/// Where each call looks ahead of the sweeps before it, all that is told over all segments is what
-/// the policy tells where nothing is ever let go; and what is kept is what is left then, swept in
-/// part. Nothing is asked of the calls before the first sweep. It is enough that the others look
-/// ahead of one moment that is not before any sweep's.
+/// States that the replies over all segments are those of the policy without any purge, if each
+/// call is forward-looking from the purges before it.
+///
+/// The durable airspace is the one without purges, partly purged. Calls before the first purge can
+/// be any. It suffices if the others are forward-looking from one time that is not before the time
+/// of any purge.
 pub fn segments_are_invisible<S: GroupCommit>()
     ensures unseen { SegmentsAreInvisible S.GroupCommit.own }
     ensures enough { OneMomentIsEnough }

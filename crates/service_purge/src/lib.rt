@@ -1,4 +1,4 @@
-//! Who can tell that what had ended was let go.
+//! Laws about purges: which calls get the same reply before and after ended items are purged.
 #![tactic(auto)]
 
 pub mod laws;

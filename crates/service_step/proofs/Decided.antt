@@ -1,4 +1,4 @@
--- Each step is answered `Done` or `Denied`.
+-- Lemmas: each step replies `Done` or `Denied`.
 use Rattle.std.specs.Prelude.{◌≡◌, ℕ, Bool, true, false, List, [], ◌∷◌, Option, Some, None, refl, is_none}
 use Rattle.std.proofs.Common.{sym, ap, ◌∙◌}
 use Rattle.std.specs.FinMap.{get}
@@ -18,7 +18,7 @@ use Rattle.policy_core.specs.Standing.{found_of, sub_of}
 use Rattle.policy_core.proofs.Finds.{none_passes}
 use Rattle.service_step.specs.Step.{IsDoneOrDenied, StepsAnswer, step, step_by, effect, read_effect, update_effect, delete_effect, read_sub_effect, update_sub_effect, delete_sub_effect}
 
--- the rules that are broken wherever an effect says `Fault`, none of which is
+-- An operation breaks none of the rules that apply whenever its effect says `Fault`.
 record FindsAll (a : Airspace) (caller : Option Caller) (op : Operation) : Type 0 where
   route : breaks_route op ≡ false
   method : breaks_method op ≡ false

@@ -1,4 +1,4 @@
--- Each step leaves an airspace that may be kept.
+-- Lemmas: each step of a valid airspace leaves a valid airspace.
 use Rattle.std.specs.Prelude.{◌≡◌, ◌≤◌, ◌+◌, ℕ, refl, List, Option, Some, None}
 use Rattle.std.proofs.Common.{arith}
 use Rattle.std.specs.FinMap.{get}
@@ -28,7 +28,7 @@ delete_keeps : (a : Airspace) (uss : List ℕ) (k : EntityKey) (o : Option Entit
 delete_keeps a uss k None proper = proper
 delete_keeps a uss k (Some e) proper = proper_without_told a k _ proper
 
--- an index within the serial stays within the next one
+-- The index of each subscription is at most the next serial.
 pub told_within : (a : Airspace) (id : ℕ) (s : Sub) → IsAirspace a → get a.subscriptions id ≡ Some s → s.index ≤ a.serial + 1
 told_within a id s proper there = let told : s.index ≤ a.serial = proper.told id s there in omega (arith, told)
 

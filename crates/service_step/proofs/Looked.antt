@@ -1,4 +1,4 @@
--- One look after another.
+-- Lemmas about successive lookups in a space.
 use Rattle.std.specs.Prelude.{◌≡◌, ℕ, Bool, Result, Ok, Err, refl}
 use Rattle.std.proofs.Common.{◌∙◌, subst}
 use Rattle.entity_core.specs.Airspace.{Airspace}
@@ -13,7 +13,7 @@ unless_then NoMemory P Q f p = f p
 unless_then (Space Unchanged) P Q f p = f p
 unless_then (Space Broken) P Q f p = p
 
--- what a halt says since before the look that went before
+-- A report about the second of two lookups is also a report about both.
 told_since : (h : CallFault) (n n' n'' : ℕ) (b b' b'' : Bool) → n' ≡ n → b' ≡ b → ReportedBy h n' n'' b' b'' → ReportedBy h n n'' b b''
 told_since h n n' n'' b b' b'' en eb told = subst (λ (m : ℕ). ReportedBy h m n'' b b'') en (subst (λ (c : Bool). ReportedBy h n' n'' c b'') eb told)
 
@@ -44,7 +44,7 @@ module _ {S : Type 0} (g : Ghosts S) where
     told = told_since h (g.refusals old) (g.refusals mid) (g.refusals new) (g.is_broken old) (g.is_broken mid) (g.is_broken new) p.told.0 p.told.1 q.told;
   }
 
-  -- the same look, for another value
+  -- A successful lookup also holds for another value with a weaker predicate.
   pub looks_as : {X Z : Type 0} (old new : S) (x : X) (z : Z) (P : Airspace → X → Type 0) (R : Airspace → Z → Type 0)
       → LooksUp g old new (Ok x) P → ((a : Airspace) → P a x → R a z) → LooksUp g old new (Ok z) R
   looks_as old new x z P R p f = record {
@@ -57,7 +57,7 @@ module _ {S : Type 0} (g : Ghosts S) where
     told = p.told;
   }
 
-  -- want of memory after a look
+  -- A lookup followed by an allocation failure is a lookup that ran out of memory.
   pub looks_memory : {X Z : Type 0} (old new : S) (x : X) (P : Airspace → X → Type 0) (R : Airspace → Z → Type 0)
       → LooksUp g old new (Ok x) P → LooksUp g old new (Err NoMemory) R
   looks_memory old new x P R p = record {
@@ -70,7 +70,7 @@ module _ {S : Type 0} (g : Ghosts S) where
     told = p.told.1;
   }
 
-  -- no look at all
+  -- Doing nothing is a lookup that leaves the space unchanged.
   pub looks_none : {Z : Type 0} (old : S) (z : Z) (R : Airspace → Z → Type 0) → ((a : Airspace) → R a z) → LooksUp g old old (Ok z) R
   looks_none old z R f = record {
     fixed = refl;
@@ -82,20 +82,20 @@ module _ {S : Type 0} (g : Ghosts S) where
     told = (refl, refl);
   }
 
-  -- whatever the second look gives
+  -- Two lookups in sequence are one lookup, whatever the second one returns.
   pub looks_after : {X Y : Type 0} (old mid new : S) (x : X) (r : Result Y CallFault) (P : Airspace → X → Type 0) (Q R : Airspace → Y → Type 0)
       → LooksUp g old mid (Ok x) P → LooksUp g mid new r Q → ((a : Airspace) (y : Y) → P a x → Q a y → R a y)
       → LooksUp g old new r R
   looks_after old mid new x (Ok y) P Q R p q f = looks_then old mid new x y y P Q R p q (λ a h k. f a y h k)
   looks_after old mid new x (Err h) P Q R p q f = looks_then_err old mid new x h P Q R p q
 
-  -- the same look, whatever it gave
+  -- A lookup with a predicate is also a lookup with any weaker predicate.
   pub looks_map : {X : Type 0} (old new : S) (r : Result X CallFault) (P R : Airspace → X → Type 0)
       → LooksUp g old new r P → ((a : Airspace) (x : X) → P a x → R a x) → LooksUp g old new r R
   looks_map old new (Ok x) P R p f = looks_as old new x x P R p (λ a h. f a x h)
   looks_map old new (Err h) P R p f = record { fixed = p.fixed; sound = p.sound; whole = p.whole; stays = p.stays; no_other = p.no_other; found = λ _. tt; told = p.told }
 
-  -- want of memory before any look
+  -- An allocation failure before any lookup leaves the space unchanged.
   pub looks_refused : {Z : Type 0} (old : S) (R : Airspace → Z → Type 0) → LooksUp g old old (Err NoMemory) R
   looks_refused old R = record {
     fixed = refl;

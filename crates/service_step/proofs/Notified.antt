@@ -1,4 +1,4 @@
--- Those whom a change notifies, by what they are for and by their ids.
+-- Lemmas: the subscriptions that a change notifies, found by test and by id.
 use Rattle.std.specs.Prelude.{◌≡◌, ℕ, ◌<◌, ◌≤◌, nat_eq, ◌||◌, Bool, true, false, cond, T, List, [], ◌∷◌, map, filter, Option, Some, None, option_map, refl, IsSome}
 use Rattle.std.proofs.Common.{arith, sym, ap, ◌∙◌, subst}
 use Rattle.std.proofs.lemmas.Bool.{eq-eqb, eqb-true}
@@ -22,9 +22,9 @@ use Rattle.entity_core.proofs.Changes.{no_sub_below, one_id, told_once}
 use Rattle.space_core.proofs.Risings.{OwnId, each_sub, found_in_order}
 use Rattle.service_step.specs.Looks.{CanNotifyAll}
 
--- ---- ids against tests
+-- ---- ids and tests
 
--- the ids of the entries that pass a test
+-- The ids of the entries that pass a test.
 abbrev ids_where : (ℕ × Sub → Bool) → List (ℕ × Sub) → List ℕ
 ids_where test ss = map (λ s. s.id) (map (λ s. s.1) (filter test ss))
 
@@ -38,7 +38,7 @@ other_id q k h =
       | false ↦ λ t. refl
     ] refl
 
--- an id under which nothing is found is none of them
+-- An id without an entry is not among the ids.
 absent : (test : ℕ × Sub → Bool) (q : ℕ) (ss : List (ℕ × Sub)) → AllByRecursion OwnId ss → maps.find nat_cmp q ss ≡ None → is_among q (ids_where test ss) ≡ false
 absent test q [] own none = refl
 absent test q (s ∷ ss) own none =
@@ -51,7 +51,7 @@ absent test q (s ∷ ss) own none =
           ]
     ] refl none
 
--- an id under which something is found is one of them exactly where that passes
+-- An id with an entry is among the ids exactly if the entry passes the test.
 among : (test : ℕ × Sub → Bool) (q : ℕ) (x : Sub) (ss : List (ℕ × Sub)) → AllByRecursion OwnId ss → T (is_sorted nat_cmp ss) → maps.find nat_cmp q ss ≡ Some x → is_among q (ids_where test ss) ≡ test (q, x)
 among test q x [] own s h = cc
 among test q x (e ∷ ss) own s h =
@@ -77,12 +77,12 @@ same_told : (one two : ℕ × Sub → Bool) (q : ℕ) (o : Option Sub) → ((x :
 same_told one two q None h = refl
 same_told one two q (Some x) h = ap (λ (b : Bool). Some (cond b (notified_again x) x)) (h x refl)
 
--- the ids of those that were told are what they were
+-- Notifying subscriptions leaves their ids unchanged.
 pub told_ids : (ss : List Sub) → map (λ s. s.id) (map notified_again ss) ≡ map (λ s. s.id) ss
 told_ids [] = refl
 told_ids (s ∷ ss) = ap (λ (ids : List ℕ). s.id ∷ ids) (told_ids ss)
 
--- what holds of each value holds of those of the entries that pass a test
+-- A property of all values holds for the values of the entries that pass a test.
 kept_values : (P : Sub → Type 0) (test : ℕ × Sub → Bool) (ss : List (ℕ × Sub)) → AllByRecursion (λ e. P e.1) ss → AllByRecursion P (map (λ e. e.1) (filter test ss))
 kept_values P test [] all = tt
 kept_values P test (s ∷ ss) all =
@@ -96,7 +96,7 @@ module _ (a : Airspace) (proper : IsAirspace a) where
   own_ids : AllByRecursion OwnId (entries a.subscriptions)
   own_ids = each_sub OwnId (entries a.subscriptions) (entries_sorted a.subscriptions) (λ k x h. proper.own k x (get-entries a.subscriptions k ∙ h))
 
-  -- to tell those of the ids of those that are notified is to tell these
+  -- Notifying subscriptions by id and notifying them by test leave the same subscriptions.
   pub told_alike : (kind : Kind) (areas : List Region) → notified_where (is_one_of (map (λ s. s.id) (subscribers_in a.subscriptions kind areas))) a.subscriptions ≡ notified_where (is_for_near kind areas) a.subscriptions
   unfolding subscribers_in
   told_alike kind areas =
@@ -108,13 +108,13 @@ module _ (a : Airspace) (proper : IsAirspace a) where
       ∙ (same_told (is_one_of ids) test q (get m q) (λ x h. among test q x (entries m) own_ids (entries_sorted m) (sym (get-entries m q) ∙ h))
       ∙ sym (told_once m test q)))
 
-  -- what holds of each that is found holds of each that is notified
+  -- A property of every stored subscription holds for every notified one.
   notified_all : (P : Sub → Type 0) → ((id : ℕ) (s : Sub) → get a.subscriptions id ≡ Some s → P s) → (kind : Kind) (areas : List Region) → AllByRecursion P (subscribers_in a.subscriptions kind areas)
   unfolding subscribers_in
   notified_all P h kind areas =
       kept_values P (is_for_near kind areas) (entries a.subscriptions) (each_sub (λ e. P e.1) (entries a.subscriptions) (entries_sorted a.subscriptions) (λ k x is. h k x (get-entries a.subscriptions k ∙ is)))
 
-  -- they are there
+  -- Every notified subscription exists.
   pub notified_there : (kind : Kind) (areas : List Region) → AreThere a (map (λ s. s.id) (subscribers_in a.subscriptions kind areas))
   notified_there kind areas = record {
     rising = (found_in_order a proper).subscribers kind areas;
@@ -124,6 +124,6 @@ module _ (a : Airspace) (proper : IsAirspace a) where
         (notified_all (λ s. IsSome (get a.subscriptions s.id)) (λ id s h. subst (λ (k : ℕ). IsSome (get a.subscriptions k)) (sym (proper.own id s h)) (subst IsSome (sym h) refl)) kind areas));
   }
 
-  -- the index of each can rise
+  -- If the serial is below its maximum, every notified index can rise.
   pub notified_rise : a.serial < max_serial → (kind : Kind) (areas : List Region) → CanNotifyAll a kind areas
   notified_rise room kind areas = notified_all (λ s. s.index < max_serial) (λ id s h. let told : s.index ≤ a.serial = proper.told id s h in omega (arith, told, room)) kind areas

@@ -1,4 +1,4 @@
--- What was met, as it is seen, and as it is needed.
+-- Lemmas: entities that were met, their references, and which of them a put needs to know.
 use Rattle.std.specs.Prelude.{◌≡◌, ℕ, not, true, false, List, [], ◌∷◌, map, filter, cond, refl, Some, option_map}
 use Rattle.std.specs.List.{slice_get}
 use Rattle.std.proofs.Common.{ap, sym, ◌∙◌}
@@ -13,7 +13,7 @@ use Rattle.space_core.specs.declared.met.Met.{Met}
 use Rattle.space_core.specs.Met.{met_of}
 use Rattle.service_step.specs.Needed.{manager_has}
 
--- the reference of what was met
+-- The reference of a met entity as a USS sees it.
 abbrev pub seen_by : List ℕ → Met → Reference
 seen_by uss x = view_with uss x.entity x.availability
 
@@ -22,7 +22,7 @@ unfolding view_of
 seen_there uss a [] = refl
 seen_there uss a (e ∷ es) = ap (λ (rs : List Reference). view_of a uss e ∷ rs) (seen_there uss a es)
 
--- the entities of what was met and is not spared
+-- The met entities that are not spared.
 abbrev pub owed_of : List Met → List Entity
 owed_of xs = map (λ x. x.entity) (filter (λ x. not (spared x.entity x.availability)) xs)
 
@@ -35,7 +35,7 @@ owed_there a (e ∷ es) =
       | false ↦ ap (λ (ys : List Entity). e ∷ ys) rest
     ]
 
--- the availabilities that go with them
+-- The availabilities of the managers of the met entities that are not spared.
 abbrev pub present_of : List Met → List Availability
 present_of xs = map (λ x. x.availability) (filter (λ x. not (spared x.entity x.availability)) xs)
 
@@ -48,7 +48,7 @@ present_there a (e ∷ es) =
       | false ↦ ap (λ (ys : List Availability). manager_has a e ∷ ys) rest
     ]
 
--- the availability at a place is that of the manager of what stands there
+-- The availability at an index is that of the manager of the entity at that index.
 pub present_at : (a : Airspace) (es : List Entity) (vs : List Availability) (k : ℕ) (e : Entity) (v : Availability) → vs ≡ map (manager_has a) es → slice_get es k ≡ Some e → slice_get vs k ≡ Some v → v ≡ manager_has a e
 present_at a es vs k e v are is at =
     same_Some v (manager_has a e) (sym at ∙ (ap (λ (xs : List Availability). slice_get xs k) are ∙ (slice_get-map (manager_has a) es k ∙ ap (option_map (manager_has a)) is)))

@@ -1,4 +1,4 @@
--- Which effect follows where no rule is broken.
+-- Lemmas: the effect of a call that breaks no rule.
 use Rattle.std.specs.Prelude.{◌≡◌, ℕ, ◌+◌, ◌<◌, ◌&&◌, ◌||◌, Bool, true, false, List, [], ◌∷◌, ◌++◌, map, Option, Some, None, find, cond, refl, is_none, is_some, nat_le, IfSome, not}
 use Rattle.std.proofs.Common.{arith, inl, inr, sym, ap, ◌∙◌, subst}
 use Rattle.std.proofs.lemmas.Bool.{cases_lt, false≢true, le-leb}
@@ -61,24 +61,24 @@ below n most h = elim (cases_lt n most) [
   | inr ge ↦ absurd (false≢true (sym h ∙ le-leb most n ge))
 ]
 
--- what breaks no rule is at no limit
+-- A call that breaks no rule is within all limits.
 limits : (a : Airspace) (t : ℕ) (c : Call) → first_broken a t c ≡ None → ((is_change c.op && nat_le max_serial a.serial) ≡ false) × (is_spent c.op (found_of a c.op) ≡ false)
 unfolding first_broken
 limits a t c h =
     let last : find (breaks a t c) last_rules ≡ None = find_rest (breaks a t c) standing_rules last_rules (find_rest (breaks a t c) early_rules (standing_rules ++ last_rules) h) in
     neither (is_change c.op && nat_le max_serial a.serial) (is_spent c.op (found_of a c.op)) (no_limit (breaks a t c Key) (breaks a t c Limit) last)
 
--- a change that breaks no rule has room
+-- If a change breaks no rule, the serial is below its maximum.
 pub room_of : (a : Airspace) (t : ℕ) (c : Call) → first_broken a t c ≡ None → is_change c.op ≡ true → a.serial < max_serial
 room_of a t c h is = below a.serial max_serial (ap (λ (b : Bool). b && nat_le max_serial a.serial) (sym is) ∙ (limits a t c h).0)
 
--- what an update that breaks no rule has found has not the greatest version
+-- If an update breaks no rule, the version of the stored entity is below its maximum.
 pub unspent : (a : Airspace) (t : ℕ) (c : Call) (id : ℕ) (ovn : List ℕ) (put : Put) (e : Entity) → first_broken a t c ≡ None → c.op ≡ Update id ovn put → get a.entities (kind_of put.nature, id) ≡ Some e → e.version < max_version
 unspent a t c id ovn put e h op there =
     below e.version max_version (
     ap has_last_version (sym there) ∙ (ap (λ (o : Operation). is_spent o (found_of a o)) (sym op) ∙ (limits a t c h).1))
 
--- a call that breaks no early rule has an effect
+-- A call that breaks no stateless rule has an effect.
 pub well_formed : (a : Airspace) (t : ℕ) (caller : Option Caller) (op : Operation) → find (breaks a t (record { caller = caller; op = op })) early_rules ≡ None
     → ((kind : Kind) (area : Region) → op ≡ Query kind area → ⊥) → ((kind : Kind) (id : ℕ) → op ≡ Read kind id → ⊥) → ((id : ℕ) (put : Put) → op ≡ Create id put → ⊥)
     → ((id : ℕ) (ovn : List ℕ) (put : Put) → op ≡ Update id ovn put → ⊥) → ((kind : Kind) (id : ℕ) (ovn : List ℕ) → op ≡ Delete kind id ovn → ⊥)
@@ -100,7 +100,7 @@ well_formed a t caller (CreateSub id put) h l r p u d q s n = cc
 well_formed a t caller (UpdateSub id version put) h l r p u d q s n = cc
 well_formed a t caller (DeleteSub id version) h l r p u d q s n = cc
 
--- what is about subscriptions asks for one of these
+-- An operation about subscriptions queries, reads, creates, updates or deletes them.
 pub about_subs : (op : Operation) → is_about_sub op ≡ true → ((area : Region) → op ≡ QuerySub area → ⊥) → ((id : ℕ) → op ≡ ReadSub id → ⊥) → ((id : ℕ) (put : SubPut) → op ≡ CreateSub id put → ⊥)
     → ((id : ℕ) (version : List ℕ) (put : SubPut) → op ≡ UpdateSub id version put → ⊥) → ((id : ℕ) (version : List ℕ) → op ≡ DeleteSub id version → ⊥) → ⊥
 about_subs NoRoute h q r p u d = cc
@@ -119,7 +119,7 @@ about_subs (CreateSub id put) h q r p u d = p id put refl
 about_subs (UpdateSub id version put) h q r p u d = u id version put refl
 about_subs (DeleteSub id version) h q r p u d = d id version refl
 
--- and a caller
+-- A call that breaks no stateless rule has a caller.
 pub has_caller : (a : Airspace) (t : ℕ) (caller : Option Caller) (op : Operation) → caller ≡ None → find (breaks a t (record { caller = caller; op = op })) early_rules ≡ None → ⊥
 has_caller a t (Some x) op e h = cc
 has_caller a t None NoRoute e h = cc
@@ -138,7 +138,7 @@ has_caller a t None (CreateSub id put) e h = cc
 has_caller a t None (UpdateSub id version put) e h = cc
 has_caller a t None (DeleteSub id version) e h = cc
 
--- ---- what is named is there, and what is deleted is named by none
+-- ---- existence of the entity or subscription
 
 is_there : {X : Type 0} (o : Option X) (b : Bool) → (is_none o || b) ≡ false → is_some o ≡ true
 is_there None b h = cc
@@ -176,7 +176,7 @@ named_by_none : (a : Airspace) (t : ℕ) (c : Call) (id : ℕ) (version : List �
 named_by_none a t c id version h op =
     none_of (dependents_in a.entities id) (ap (λ (o : Operation). breaks_depended o (depended_of a o)) (sym op) ∙ undepended a t c h)
 
--- ---- the effects
+-- ---- effects on entities
 
 same_view : (a : Airspace) (uss : List ℕ) (old : List Extent) (e x : Entity) → view_of (stored_with a old e) uss x ≡ view_of a uss x
 unfolding view_of
@@ -186,7 +186,7 @@ same_seen : (a : Airspace) (uss : List ℕ) (s x : Sub) → stored_reply (with_s
 unfolding view_of
 same_seen a uss s x = refl
 
--- those whom a change of an entity notifies, by their ids
+-- The ids of the subscriptions that a change of an entity notifies.
 abbrev ids_for : Airspace → Kind → List Region → List ℕ
 ids_for a kind areas = map (λ s. s.id) (subscribers_in a.subscriptions kind areas)
 
@@ -217,7 +217,7 @@ module _ (q : Admitted) (is_admitted : IsAdmitted q) (g : own.OwnedFacts) (a : A
   found_is : (op : Operation) (e : Entity) → call.op ≡ op → g.found ≡ Some e → AreFacts call.op a g → found_of a op ≡ Some e
   found_is op e is found regards = ap (found_of a) (sym is) ∙ (sym (ap (λ (f : Facts). f.found) regards) ∙ found)
 
-  -- what is put, with those told whom that notifies
+  -- A prepared put has the effect of the call, with the notices.
   put_made : (answer : Reference → List Notify → Answer) (old : List Extent) (e : Entity) (made : Prepared) → IsAirspace a
       → effect salt a call.caller call.op ≡ (stored_with a old e, Done (answer (view_of (stored_with a old e) uss e) (notices_in a (kind_of e.nature) (touched old e.volumes))))
       → PutsEntity answer uss old e a made → a.serial < max_serial → (e.serial ≡ a.serial + 1) × HasNamed a (subscription_of e.nature) → Makes q a made.change made.notify made.answer
@@ -270,7 +270,7 @@ module _ (q : Admitted) (is_admitted : IsAdmitted q) (g : own.OwnedFacts) (a : A
       ∙ ap (λ (k : ℕ). (with_availability a named (availability, ovn_text salt k), Done (answers.Avail named availability (ovn_text salt k)))) (sym n))
       one ids two (record { room = room_of a q.moment call first (ap is_change op); due = tt; tells = refl })
 
-  -- ---- the effects on subscriptions
+  -- ---- effects on subscriptions
 
   sub_is : (op : Operation) (s : Sub) → call.op ≡ op → g.sub ≡ Some s → AreFacts call.op a g → sub_of a op ≡ Some s
   sub_is op s is found regards = ap (sub_of a) (sym is) ∙ (sym (ap (λ (f : Facts). f.sub) regards) ∙ found)

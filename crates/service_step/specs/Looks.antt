@@ -1,4 +1,4 @@
--- What the looks at a space tell and leave, before anything is changed.
+-- What lookups return and leave in a space, and what is prepared from them.
 use Rattle.std.specs.List.{AllByRecursion}
 use Rattle.grid_core.specs.Extent.{Extent, Region}
 use Rattle.entity_core.specs.Entity.{kind_of}
@@ -33,20 +33,22 @@ use Rattle.service_notify.specs.declared.notice.Notify.{Notify}
 use Rattle.service_step.specs.Admitted.{BreaksNone}
 use Rattle.service_step.specs.Step.{effect, seen_of, seen_sub}
 
--- P, but where the space broke
+-- Holds if P holds or the space is broken.
 abbrev pub UnlessBroke : CallFault → Type 0 → Type 0
 UnlessBroke NoMemory P = P
 UnlessBroke (Space Unchanged) P = P
 UnlessBroke (Space Broken) P = Unit {0}
 
--- what a halt says of the space: whether it has refused, and whether it is broken
+-- Holds if a call fault matches the two fault counts and the two broken flags of the space. They
+-- are those before the lookup and those after it.
 abbrev pub ReportedBy : CallFault → ℕ → ℕ → Bool → Bool → Type 0
 ReportedBy NoMemory refusals refusals' broken broken' = broken' ≡ broken
 ReportedBy (Space Unchanged) refusals refusals' broken broken' =
     ((refusals < refusals') ⊎ (refusals' ≡ max_count)) × (broken' ≡ broken)
 ReportedBy (Space Broken) refusals refusals' broken broken' = broken' ≡ true
 
--- A look leaves what the space holds; what it finds has P of each airspace that was held.
+-- Holds if a lookup leaves the content of the space, and its result has P in each airspace that the
+-- space held.
 pub record LooksUp {S T : Type 0} (g : Ghosts S) (old new : S) (result : Result T CallFault)
     (P : Airspace → T → Type 0) : Type 0 where
   pub fixed : g.fixed new ≡ g.fixed old
@@ -70,11 +72,11 @@ facts_in g = record {
   depended = g.depended;
 }
 
--- what was looked up is what the airspace has for the operation
+-- Holds if the facts are those of the airspace for the operation.
 abbrev pub AreFacts : Operation → Airspace → own.OwnedFacts → Type 0
 AreFacts op a g = Regards a op (facts_in g)
 
--- what is to be read, updated or deleted was found
+-- Holds if the entity or subscription to read, update or delete was found.
 abbrev pub IsReady : Operation → Option Entity → Option Sub → Type 0
 IsReady (Read kind id) found sub = is_some found ≡ true
 IsReady (Update id ovn put) found sub = is_some found ≡ true
@@ -88,54 +90,57 @@ abbrev pub changed_by : Option Change → List ℕ → Airspace → Airspace
 changed_by None told a = a
 changed_by (Some change) told a = changed change told a
 
--- A change and an answer are the effect of a call that breaks no rule, and the change can be made.
+-- Holds if the change and the answer are the effect of the call, and the change can be made.
 pub record Makes (admitted : Admitted) (a : Airspace) (change : Option Change) (told : List ℕ)
     (answer : Answer) : Type 0 where
   pub effect : effect admitted.salt.now a admitted.call.now.caller admitted.call.now.op
       ≡ (changed_by change told a, Done answer)
   pub fits : IfSome change (λ change. Fits change told a)
 
--- for each airspace that may be kept in which the call breaks no rule
+-- Holds if the prepared change and answer are the effect of the call in each valid airspace in
+-- which it breaks no rule and has these facts.
 abbrev pub Prepares : Admitted → own.OwnedFacts → Airspace → Prepared → Type 0
 Prepares admitted g a made =
     IsAirspace a → BreaksNone admitted a → AreFacts admitted.call.now.op a g
     → Makes admitted a made.change made.notify made.answer
 
--- nothing is changed, and the answer is that
+-- Holds if nothing is changed, and the answer is the given one.
 abbrev pub IsReading : Answer → Prepared → Type 0
 IsReading answer made = (made.change ≡ None) × (made.answer ≡ answer)
 
--- that is changed, nobody is notified, and the answer is that
+-- Holds if the change and the answer are the given ones, and nobody is notified.
 abbrev pub NotifiesNobody : Change → Answer → Prepared → Type 0
 NotifiesNobody change answer made =
     (made.change ≡ Some change) × (made.notify ≡ []) × (made.answer ≡ answer)
 
--- A change puts a subscription and notifies nobody, and its answer is what a supplier sees of it
--- and of what it is for.
+-- Holds if the change puts the subscription and notifies nobody. The answer has the subscription as
+-- the USS sees it, and the references of what it is for.
 abbrev pub PutsSub : Sub → Airspace → List ℕ → Prepared → Type 0
 PutsSub s a uss made = NotifiesNobody (changes.PutSub s)
     (SubStored (seen_sub a s) (seen_of kinds.Intent a uss s) (seen_of kinds.Constraint a uss s))
     made
 
--- the index of each that a change notifies can rise
+-- Holds if the index of each subscription that a change notifies can rise.
 abbrev pub CanNotifyAll : Airspace → Kind → List Region → Type 0
 CanNotifyAll a kind areas =
     AllByRecursion (λ s. s.index < max_serial) (subscribers_in a.subscriptions kind areas)
 
--- what is made notifies those that are for a kind and meet some area
+-- Holds if the subscriptions to notify are those that are for the kind and meet one of the areas.
 abbrev pub IsNotified : Airspace → Kind → List Region → Prepared → Type 0
 IsNotified a kind areas made =
     made.notify ≡ map (λ s. s.id) (subscribers_in a.subscriptions kind areas)
 
--- A change of a kind is this one; it notifies those that are for that and meet some area, and its
--- answer tells what they are told. It does where the index of each can rise.
+-- Holds if the change and the answer are the given ones. The answer has the notices of the
+-- subscriptions that are for the kind and meet one of the areas. Assumes that the index of each of
+-- them can rise.
 abbrev pub Announces : Kind → List Region → Change → (List Notify → Answer) → Airspace → Prepared
     → Type 0
 Announces kind areas change answer a made = CanNotifyAll a kind areas
     → IsNotified a kind areas made × (made.change ≡ Some change)
     × (made.answer ≡ answer (notices_in a kind areas))
 
--- it puts an entity, where these were its volumes before, and the answer has its reference
+-- Holds if the change puts the entity in the place of one with the old volumes, and the answer has
+-- its reference.
 abbrev pub PutsEntity : (Reference → List Notify → Answer) → List ℕ → List Extent → Entity
     → Airspace → Prepared → Type 0
 PutsEntity answer uss old e a made =

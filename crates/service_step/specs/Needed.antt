@@ -1,4 +1,4 @@
--- What a put needs to know, beside the availabilities of those who manage it.
+-- The entities that a put needs to know, with the availabilities of their managers.
 use Rattle.std.specs.Prelude.{◌≡◌, List, Some, length, map}
 use Rattle.entity_core.specs.Airspace.{Airspace, availability_of}
 use Rattle.entity_core.specs.declared.availability.Availability.{Availability}
@@ -8,24 +8,25 @@ use Rattle.policy_core.specs.Missing.{needed_with}
 use Rattle.service_step.specs.declared.needed.JudgedPut.{JudgedPut}
 use Rattle.service_step.specs.declared.needed.Needed.{Needed}
 
--- the availability that the manager of an entity has in an airspace
+-- The availability of the manager of an entity in an airspace.
 abbrev pub manager_has : Airspace → Entity → Availability
 manager_has a e = (availability_of a e.manager).0
 
--- each entity has an availability at its place
+-- Holds if there are as many availabilities as entities.
 abbrev pub IsPaired : Needed → Type 0
 IsPaired needed = length needed.availabilities.items ≡ length needed.entities.items
 
--- the availabilities are those of the managers in an airspace
+-- Holds if the availabilities are those of the managers in the airspace.
 abbrev pub ArePresent : Airspace → Needed → Type 0
 ArePresent a needed = needed.availabilities.items ≡ map (manager_has a) needed.entities.items
 
--- what a put that is judged needs to know of a kind
+-- The entities of a kind that the put needs to know.
 abbrev pub needed_by : Kind → Airspace → JudgedPut → List Entity
 needed_by kind a judged =
     needed_with kind a (Some judged.caller.now) judged.sub.now judged.id judged.put.now
 
--- it is that, with the availabilities
+-- Holds if `needed` has the entities that the put needs to know, with their managers'
+-- availabilities.
 abbrev pub IsNeededFor : Kind → JudgedPut → Airspace → Needed → Type 0
 IsNeededFor kind judged a needed =
     (needed.entities.items ≡ needed_by kind a judged) × ArePresent a needed

@@ -1,4 +1,4 @@
--- Which reply says that the service has stopped.
+-- Replies of a service that has stopped.
 use Rattle.std.specs.Prelude.{Bool, true, false}
 use Rattle.service_step.specs.declared.reply.Reply.{Reply}
 use Rattle.service_step.specs.declared.reply.Reply.TheVariants.{Stopped}

@@ -1,4 +1,4 @@
--- What the policy answers, and what it leaves.
+-- The reply of the policy to a call, and the airspace after it.
 use Rattle.std.specs.Prelude.{ℕ, ◌+◌, List, [], ◌∷◌, map, Option, Some, None, if◌then◌else◌}
 use Rattle.std.specs.FinMap.{get}
 use Rattle.grid_core.specs.Extent.{Extent, Region, region_of}
@@ -31,9 +31,9 @@ use Rattle.service_step.specs.declared.reply.Answer.TheVariants.{Created, Change
 use Rattle.service_step.specs.declared.reply.Reply.{Reply}
 use Rattle.service_step.specs.declared.reply.Reply.TheVariants.{Done, Denied, Fault, Stopped}
 
--- ---- what is put
+-- ---- entities and subscriptions that puts store
 
--- what is kept of a put
+-- The entity that a put stores.
 abbrev pub stored_as : List ℕ → ℕ → List ℕ → ℕ → ℕ → Put → Entity
 stored_as salt serial manager version id put = record {
   nature = put.nature;
@@ -46,15 +46,15 @@ stored_as salt serial manager version id put = record {
   url = put.url;
 }
 
--- the entity that a creation by a supplier keeps
+-- The entity that a creation by a USS stores.
 abbrev pub created : List ℕ → ℕ → List ℕ → ℕ → Put → Entity
 created salt serial uss id put = stored_as salt serial uss 1 id put
 
--- the entity that an update keeps in the place of another
+-- The entity that an update stores in the place of another.
 abbrev pub updated : List ℕ → ℕ → ℕ → Put → Entity → Entity
 updated salt serial id put e = stored_as salt serial e.manager (e.version + 1) id put
 
--- what is kept of a subscription's put
+-- The subscription that a put stores.
 abbrev pub sub_stored_as : List ℕ → ℕ → List ℕ → ℕ → ℕ → SubPut → Sub
 sub_stored_as salt serial manager index id put = record {
   id = id;
@@ -67,7 +67,7 @@ sub_stored_as salt serial manager index id put = record {
   interest = put.interest;
 }
 
--- ---- the effects: the airspace after them, and the reply. What is not there breaks a rule.
+-- ---- effects: the airspace after an operation, and the reply
 
 abbrev pub query_effect : Airspace → List ℕ → Kind → Region → Airspace × Reply
 query_effect a uss kind area =
@@ -77,8 +77,8 @@ abbrev pub read_effect : Airspace → List ℕ → Option Entity → Airspace ×
 read_effect a uss (Some e) = (a, Done (Found (view_of a uss e)))
 read_effect a uss None = (a, Fault)
 
--- The airspace with an entity in which those are told whom that notifies, its reference there, and
--- what they are told. The volumes are those that the entity had before.
+-- The airspace after an entity is put and its subscriptions are notified. `old` has the volumes
+-- that the entity had before.
 abbrev pub stored_with : Airspace → List Extent → Entity → Airspace
 stored_with a old e =
     with_notified (kind_of e.nature) (touched old e.volumes) (with_entity a e)
@@ -102,8 +102,8 @@ update_effect salt a uss id put (Some e) =
     put_effect a uss e.volumes (updated salt (a.serial + 1) id put e)
 update_effect salt a uss id put None = (a, Fault)
 
--- the airspace without an entity in which those are told whom that notifies, its reference as it
--- was, and what they are told
+-- The effect of a deletion: the airspace without the entity, after its subscriptions are notified.
+-- The reply has its last reference and the notices.
 abbrev pub delete_effect : Airspace → List ℕ → EntityKey → Option Entity → Airspace × Reply
 delete_effect a uss key (Some e) = (
   with_notified key.0 (touched e.volumes []) (without_entity a key),
@@ -111,11 +111,11 @@ delete_effect a uss key (Some e) = (
 )
 delete_effect a uss key None = (a, Fault)
 
--- a subscription, with the intents that name it
+-- The view of a subscription, with the intents that depend on it.
 abbrev pub seen_sub : Airspace → Sub → SubView
 seen_sub a s = sub_view_of s (dependents_in a.entities s.id)
 
--- the references of what meets the volume of a subscription, where it is for that kind
+-- The references of the entities that meet the volume of a subscription, if it is for their kind.
 abbrev pub seen_of : Kind → Airspace → List ℕ → Sub → List Reference
 seen_of kind a uss s =
     if wants s.interest kind
@@ -125,7 +125,7 @@ abbrev pub stored_reply : Airspace → List ℕ → Sub → Reply
 stored_reply a uss s =
     Done (SubStored (seen_sub a s) (seen_of kinds.Intent a uss s) (seen_of kinds.Constraint a uss s))
 
--- the airspace with a subscription, and what is seen of it and of what it is for there
+-- The effect of a subscription's put: the airspace with it, and the reply with what the USS sees.
 abbrev pub put_sub_effect : Airspace → List ℕ → Sub → Airspace × Reply
 put_sub_effect a uss s = (with_subscription a s, stored_reply (with_subscription a s) uss s)
 
@@ -139,7 +139,8 @@ abbrev pub read_sub_effect : Airspace → Option Sub → Airspace × Reply
 read_sub_effect a (Some s) = (a, Done (SubFound (seen_sub a s)))
 read_sub_effect a None = (a, Fault)
 
--- the airspace without a subscription, and what was seen of it
+-- The effect of a subscription's deletion: the airspace without it, and the reply with its last
+-- view.
 abbrev pub delete_sub_effect : Airspace → ℕ → Option Sub → Airspace × Reply
 delete_sub_effect a id (Some s) = (without_subscription a id, Done (SubFound (seen_sub a s)))
 delete_sub_effect a id None = (a, Fault)
@@ -170,19 +171,19 @@ effect_by salt a caller (CreateSub id put) =
 effect_by salt a caller (UpdateSub id version put) =
     update_sub_effect salt a caller.uss id put (get a.subscriptions id)
 effect_by salt a caller (DeleteSub id version) = delete_sub_effect a id (get a.subscriptions id)
--- these always break a rule
+-- These operations always break a rule.
 effect_by salt a caller NoRoute = (a, Fault)
 effect_by salt a caller NoMethod = (a, Fault)
 effect_by salt a caller (Malformed kind) = (a, Fault)
 
--- The effect of a call that breaks no rule; one without a caller breaks a rule.
+-- The effect of a call that breaks no rule. A call without a caller always breaks one.
 abbrev pub effect : List ℕ → Airspace → Option Caller → Operation → Airspace × Reply
 effect salt a (Some caller) op = effect_by salt a caller op
 effect salt a None op = (a, Fault)
 
--- ---- the step
+-- ---- steps
 
--- what is missing for a call that breaks this rule first
+-- The references that a call lacks, given the first rule that it breaks.
 abbrev pub missing_views : Airspace → Call → Rule → Missing
 missing_views a c Key = missing_for a c.caller c.op
 missing_views a c p = nothing_missing
@@ -191,26 +192,27 @@ abbrev pub step_by : List ℕ → Airspace → Call → Option Rule → Airspace
 step_by salt a c (Some p) = (a, Denied p (missing_views a c p))
 step_by salt a c None = effect salt a c.caller c.op
 
--- One call at a moment: where it breaks a rule, the airspace stays and the first such rule is told;
--- else it has its effect.
+-- The airspace and the reply after one call at a time. A call that breaks a rule leaves the
+-- airspace and is denied by the first such rule. Any other call has its effect.
 unfoldable pub step : List ℕ → Airspace → ℕ → Call → Airspace × Reply
 step salt a now c = step_by salt a c (first_broken a now c)
 
 -- ---- laws
 
--- Each step of an airspace that may be kept leaves one.
+-- States that each step of a valid airspace leaves a valid airspace.
 abbrev pub StepsPreserve : Type 0
 StepsPreserve = (salt : List ℕ) (a : Airspace) (now : ℕ) (c : Call) → IsAirspace a
     → IsAirspace (step salt a now c).0
 
--- a reply that is `Done` or `Denied`, and neither `Fault` nor `Stopped`
+-- Holds if the reply is `Done` or `Denied`.
 abbrev pub IsDoneOrDenied : Reply → Type 0
 IsDoneOrDenied (Done answer) = Unit {0}
 IsDoneOrDenied (Denied p m) = Unit {0}
 IsDoneOrDenied Fault = ⊥
 IsDoneOrDenied Stopped = ⊥
 
--- Each step is answered so: where an effect says `Fault`, the call breaks a rule.
+-- States that the policy replies `Done` or `Denied` to each call. If an effect says `Fault`, the
+-- call breaks a rule.
 abbrev pub StepsAnswer : Type 0
 StepsAnswer = (salt : List ℕ) (a : Airspace) (now : ℕ) (c : Call)
     → IsDoneOrDenied (step salt a now c).1

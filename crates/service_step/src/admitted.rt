@@ -1,11 +1,11 @@
-//! A call that is judged by what is kept.
+//! Calls that are evaluated against the airspace.
 
 use entity_core::salt::Salt;
 use policy_core::call::Call;
 use policy_core::scope::Caller;
 
-/// A call that breaks no early rule: its moment, its caller, and the salt of the versions that it
-/// makes.
+/// A call that breaks no stateless rule, with its time, its caller and the salt of new OVNs and
+/// versions.
 #[derive(Clone, Copy)]
 pub struct Admitted<'c> {
     pub salt: &'c Salt,

@@ -1,4 +1,4 @@
-//! The effects of the operations on availabilities.
+//! Effects of the operations on availabilities.
 ghost use Rattle.std.specs.Prelude.{IfOk, unwrap_or, []};
 ghost use Rattle.entity_core.specs.Ovn.{ovn_text};
 ghost use Rattle.service_step.specs.Looks.{IsReading, NotifiesNobody};
@@ -14,7 +14,7 @@ use entity_core::uss_id::UssId;
 use space_core::space::Change;
 use std::alloc::{AllocError, Global};
 
-/// The change of a setting and its answer.
+/// Prepares the change of an availability, and its answer.
 pub fn prepare_set_availability(
     alloc: Global,
     salt: &Salt,
@@ -36,7 +36,7 @@ pub fn prepare_set_availability(
     ))
 }
 
-/// What is told of a supplier.
+/// Prepares the answer with the availability of a USS.
 pub fn prepare_read_availability(
     alloc: Global,
     uss: &UssId,

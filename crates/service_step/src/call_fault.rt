@@ -1,9 +1,9 @@
-//! Why a call is given up.
+//! Reasons to abort a call.
 
 use space_core::space::SpaceFault;
 use std::alloc::{AllocError, AllocFailed};
 
-/// Why a call was given up.
+/// A reason to abort a call.
 #[derive(Debug, Drop)]
 pub enum CallFault {
     NoMemory,

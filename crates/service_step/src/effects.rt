@@ -1,4 +1,4 @@
-//! The effects of the operations, made before anything is changed.
+//! Effects of the operations, prepared before anything is changed.
 ghost use Rattle.std.specs.Prelude.{◌≡◌, true};
 ghost use Rattle.policy_core.specs.Call.{is_about_sub};
 ghost use Rattle.service_step.specs.Admitted.{IsAdmitted};
@@ -33,7 +33,7 @@ fn is_about_sub(op: &Operation) -> bool
     )
 }
 
-// What is made for a call about subscriptions.
+// Prepares an operation on subscriptions.
 fn prepare_sub<S: Space>(
     space: &mut S,
     alloc: Global,
@@ -75,8 +75,9 @@ fn prepare_sub<S: Space>(
     }
 }
 
-/// What is made for a call that breaks no rule. Nothing is changed yet, and all that the
-/// answer holds is made.
+/// Prepares the change and the answer of a call that breaks no rule.
+///
+/// Changes nothing yet. Allocates all that the answer holds.
 pub fn prepare<S: Space>(
     space: &mut S,
     alloc: Global,

@@ -1,4 +1,4 @@
-//! The effects of the operations on entities.
+//! Effects of the operations on entities.
 ghost use Rattle.std.specs.Prelude.{◌≡◌, ◌+◌, ◌<◌, IfOk, None, map, [], ◌∷◌};
 ghost use Rattle.entity_core.specs.Serial.{max_serial};
 ghost use Rattle.entity_core.specs.Entity.{max_version};
@@ -30,7 +30,7 @@ use space_core::space::{Change, Space};
 use std::alloc::{AllocError, Global};
 use std::slice::from_ref;
 
-/// The serial of a change, while there is room for one.
+/// Returns the serial of the next change. It is `serial + 1` if `serial` is below its maximum.
 pub fn next_serial(serial: u64) -> Serial
     ensures { serial < max_serial → result ≡ serial + 1 }
 {
@@ -40,7 +40,7 @@ pub fn next_serial(serial: u64) -> Serial
     }
 }
 
-/// The version after an update, while there is one.
+/// Returns the version after an update. It is `version + 1` if `version` is below its maximum.
 pub fn next_version(version: Version) -> Version
     ensures { version < max_version → result ≡ version + 1 }
 {
@@ -50,7 +50,7 @@ pub fn next_version(version: Version) -> Version
     }
 }
 
-// The entity that is kept of a put.
+// Returns the entity that a put stores.
 fn entity_of(
     alloc: Global,
     salt: &Salt,
@@ -75,7 +75,7 @@ fn entity_of(
     })
 }
 
-/// The references of the entities that meet an area.
+/// Prepares the answer with the references of the entities that meet an area.
 pub fn prepare_query<S: Space>(
     space: &mut S,
     alloc: Global,
@@ -92,7 +92,7 @@ pub fn prepare_query<S: Space>(
     Ok(Prepared::read_only(alloc, Answer::Listed(kind, shown)))
 }
 
-/// The reference of what is read.
+/// Prepares the answer with the reference of an entity.
 pub fn prepare_read<S: Space>(
     space: &mut S,
     alloc: Global,
@@ -106,7 +106,7 @@ pub fn prepare_read<S: Space>(
     Ok(Prepared::read_only(alloc, Answer::Found(shown)))
 }
 
-// Those who are notified of a change that touches some areas, with their new indexes.
+// Returns the subscriptions that a change of these areas notifies, with their new indexes.
 fn look_notified<S: Space>(space: &mut S, kind: Kind, areas: &[Area]) -> Result<Vec<Sub>, CallFault>
     ensures { LooksUp S.Space space.old space.new result (λ a found.
         CanNotifyAll a kind areas.now → found.items ≡ notified_in a kind areas.now) }
@@ -116,7 +116,7 @@ fn look_notified<S: Space>(space: &mut S, kind: Kind, areas: &[Area]) -> Result<
     Ok(subs)
 }
 
-// The ids of those, and what they are told.
+// Returns the ids of the subscriptions to notify, and their notices.
 fn notify_subscribers<S: Space>(
     space: &mut S,
     alloc: Global,
@@ -131,7 +131,7 @@ fn notify_subscribers<S: Space>(
     Ok((sub_ids(alloc, &subs)?, notices_of(alloc, &subs)?))
 }
 
-// The areas of old volumes and of new ones.
+// Returns the areas of the old volumes and of the new ones.
 fn touched(alloc: Global, old: &Volumes, new: &Volumes) -> Result<Vec<Area>, AllocError>
     ensures { IfOk result (λ areas. areas.items ≡ touched old.now new.now) }
 {
@@ -140,7 +140,7 @@ fn touched(alloc: Global, old: &Volumes, new: &Volumes) -> Result<Vec<Area>, All
     Ok(areas)
 }
 
-/// The entity that a creation puts, its reference, and whom it notifies of what.
+/// Prepares the entity of a creation, its reference, and the notices.
 pub fn prepare_create<S: Space>(
     space: &mut S,
     alloc: Global,
@@ -164,8 +164,8 @@ pub fn prepare_create<S: Space>(
     })
 }
 
-/// The entity that an update puts in the place of another of the supplier's, its reference, and
-/// whom it notifies of what.
+/// Prepares the entity that an update puts in the place of another one of the USS, its reference,
+/// and the notices.
 pub fn prepare_update<S: Space>(
     space: &mut S,
     alloc: Global,
@@ -193,7 +193,7 @@ pub fn prepare_update<S: Space>(
     })
 }
 
-/// The removal of an entity, its reference as it was, and whom it notifies of what.
+/// Prepares the removal of an entity, its last reference, and the notices.
 pub fn prepare_delete<S: Space>(
     space: &mut S,
     alloc: Global,

@@ -1,5 +1,5 @@
-//! The policy's step as a definition, and its parts: replies, what is looked up for a call, what a
-//! put needs to know, and what is made for a call before anything is changed.
+//! The step of the policy as a definition, and its parts: replies, lookups, what a put needs to
+//! know, and what is prepared for a call before anything is changed.
 #![tactic(auto)]
 
 pub mod admitted;

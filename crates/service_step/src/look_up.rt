@@ -1,4 +1,4 @@
-//! Looks at a space, before a call is judged and its answer made.
+//! Lookups in a space, before a call is evaluated and its answer prepared.
 ghost use Rattle.std.specs.Prelude.{◌≡◌, ◌≢◌, Err, IfOk, IsErrOf, true, List, map, unwrap_or, []};
 ghost use Rattle.std.specs.FinMap.{get};
 ghost use Rattle.entity_core.specs.Airspace.{Airspace, availability_of};
@@ -26,7 +26,7 @@ use space_core::met::Met;
 use space_core::space::{Space, SpaceFault};
 use std::alloc::{AllocError, Global};
 
-/// What was looked up for an operation.
+/// The facts that were looked up for an operation.
 #[derive(Debug, Drop)]
 pub struct OwnedFacts {
     pub found: Option<Entity>,
@@ -37,7 +37,7 @@ pub struct OwnedFacts {
 }
 
 impl OwnedFacts {
-    /// All of it, lent.
+    /// Returns the facts, borrowed.
     pub fn lent(&self) -> FactsRef<'_>
         ensures { lent_facts result ≡ facts_in self.now }
     {
@@ -160,8 +160,9 @@ fn look_depended<S: Space>(space: &mut S, op: &Operation) -> Result<bool, CallFa
     }
 }
 
-/// Looks up what the rules and the effect of an operation need. It takes no memory of its own. The
-/// serial comes first, since each operation asks for it: so a space that is broken is told at once.
+/// Looks up the facts that the rules and the effect of an operation need.
+///
+/// Allocates nothing itself. Reads the serial first, so that a broken space is reported at once.
 pub fn look_up<S: Space>(space: &mut S, op: &Operation) -> Result<OwnedFacts, CallFault>
     ensures looks { LooksUp S.Space space.old space.new result (AreFacts op.now) }
     ensures memory { result ≢ Err CallFault.NoMemory }
@@ -182,8 +183,8 @@ pub fn look_up<S: Space>(space: &mut S, op: &Operation) -> Result<OwnedFacts, Ca
     })
 }
 
-/// The entities of a kind, but the one of an id, that meet some area, by rising ids, each with its
-/// manager's availability.
+/// Returns the entities of a kind that meet one of the areas, ordered by id, each with its
+/// manager's availability. Leaves out the entity with the id `except`, if one is given.
 pub fn find_meeting<S: Space>(
     space: &mut S,
     kind: Kind,
@@ -196,7 +197,7 @@ pub fn find_meeting<S: Space>(
     Ok(space.meeting(kind, areas, except)?)
 }
 
-/// The subscriptions that are for a kind and meet some area, by rising ids.
+/// Returns the subscriptions that are for a kind and meet one of the areas, ordered by id.
 pub fn find_subscribers<S: Space>(
     space: &mut S,
     kind: Kind,
@@ -224,7 +225,7 @@ fn look_availability<S: Space>(space: &mut S, uss: &UssId) -> Result<Availabilit
     Ok(availability_in(space.availability(uss)?))
 }
 
-/// The reference of an entity as a supplier sees it now.
+/// Returns the reference of an entity as a USS sees it now.
 #[tactic(auto, unfolding(policy_core::specs::View::view_of))]
 pub fn reference<S: Space>(
     space: &mut S,
@@ -238,7 +239,7 @@ pub fn reference<S: Space>(
     Ok(view(uss, entity, availability)?)
 }
 
-/// The references of what was met, as a supplier sees it, in its order.
+/// Returns the references of met entities as a USS sees them, in the same order.
 pub fn references(alloc: Global, uss: &UssId, met: &[Met]) -> Result<References, AllocError>
     ensures { IfOk result (λ references. (a : Airspace) (es : List Entity)
         → met.now ≡ map (met_of a) es → references ≡ map (view_of a uss.now) es) }

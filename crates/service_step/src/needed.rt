@@ -1,4 +1,4 @@
-//! What a put needs to know, and what of it its key lacks.
+//! Entities that a put needs to know, and those that its key lacks.
 ghost use Rattle.std.specs.Prelude.{◌≡◌, ◌<◌, [], IfOk, List, Some, length, map};
 ghost use Rattle.std.specs.List.{All, filter_map, slice_get};
 ghost use Rattle.grid_core.specs.Extent.{region_of};
@@ -29,8 +29,8 @@ use space_core::met::Met;
 use space_core::space::Space;
 use std::alloc::{AllocError, Global};
 
-/// A put that is judged: its id, who makes it, and the subscription that it names, if that is
-/// there.
+/// A put that is evaluated: its id, its caller, and the subscription that it references, if that
+/// one exists.
 #[derive(Clone, Copy)]
 pub struct JudgedPut<'c> {
     pub id: EntityId,
@@ -39,8 +39,8 @@ pub struct JudgedPut<'c> {
     pub caller: &'c Caller,
 }
 
-/// Entities that a put needs to know, in their order, and the present availability of the manager
-/// of each, at its place.
+/// The entities that a put needs to know, in order, and the current availability of the manager of
+/// each, at the same index.
 #[derive(Debug, Drop)]
 pub struct Needed {
     pub entities: Vec<Entity>,
@@ -68,8 +68,8 @@ fn is_for_constraints(sub: &Option<Sub>) -> bool
     }
 }
 
-// Whether a put needs to know constraints: as the subscription says that it names, or as its caller
-// does where it names none.
+// Returns true if the put needs to know constraints. The referenced subscription decides; without a
+// reference, the caller's scopes decide.
 fn needs_constraints(caller: &Caller, put: &Put, sub: &Option<Sub>) -> bool
     ensures { result ≡ needs_constraints (Some caller.now) (subscription_of put.now.nature)
         sub.now }
@@ -80,7 +80,7 @@ fn needs_constraints(caller: &Caller, put: &Put, sub: &Option<Sub>) -> bool
     }
 }
 
-// Whether entities of a kind are needed.
+// Returns true if the put needs to know entities of the kind.
 fn put_needs(kind: Kind, caller: &Caller, put: &Put, sub: &Option<Sub>) -> bool
     ensures { result ≡ put_needs kind (Some caller.now) put.now sub.now }
 {
@@ -90,7 +90,7 @@ fn put_needs(kind: Kind, caller: &Caller, put: &Put, sub: &Option<Sub>) -> bool
     }
 }
 
-// The id that is left out of a kind.
+// Returns the id to leave out of the entities of a kind.
 fn excepted(kind: Kind, id: EntityId) -> Option<EntityId>
     ensures { result ≡ excepted kind id }
 {
@@ -100,7 +100,7 @@ fn excepted(kind: Kind, id: EntityId) -> Option<EntityId>
     }
 }
 
-// What was met and is not spared, in its order.
+// Returns the met entities that are not spared, in the same order.
 fn unspared(alloc: Global, met: Vec<Met>) -> Result<Needed, AllocError>
     ensures paired { IfOk result IsPaired }
     ensures needed { IfOk result (λ needed. (a : Airspace) (es : List Entity)
@@ -125,7 +125,9 @@ fn unspared(alloc: Global, met: Vec<Met>) -> Result<Needed, AllocError>
     })
 }
 
-/// What a put needs to know of a kind, by rising ids. The areas are its volumes'.
+/// Returns the entities of a kind that a put needs to know, ordered by id.
+///
+/// `areas` must be the areas of the put's volumes.
 pub fn needed_with<S: Space>(
     space: &mut S,
     alloc: Global,
@@ -144,7 +146,7 @@ pub fn needed_with<S: Space>(
     Ok(unspared(alloc, met)?)
 }
 
-// The references of the entities at some places, whose managers have these availabilities.
+// Returns the references of the entities at some indexes, given the availabilities of the managers.
 fn references_at(
     alloc: Global,
     uss: &UssId,
@@ -167,8 +169,9 @@ fn references_at(
     Ok(References::from_vec(items))
 }
 
-/// The references of what is needed and whose OVN is not in a key, in its order, as a supplier sees
-/// it in an airspace in which the managers have these availabilities.
+/// Returns the references of the needed entities whose OVN is not in a key, in the same order.
+///
+/// They are the references that the USS sees if the managers have these availabilities.
 pub fn missing_from(
     alloc: Global,
     uss: &UssId,

@@ -1,4 +1,4 @@
-//! What is made for a call before anything is changed.
+//! Changes and answers that are prepared before anything is changed.
 ghost use Rattle.std.specs.Prelude.{◌≡◌, Some, None, []};
 
 use crate::reply::Answer;
@@ -6,18 +6,18 @@ use policy_core::sub_view::EntityIds;
 use space_core::space::Change;
 use std::alloc::Global;
 
-/// The change of a call that breaks no rule, if it changes anything, the subscriptions that it
-/// notifies, and its answer.
+/// The change of a call that breaks no rule, if there is one, the subscriptions that it notifies,
+/// and its answer.
 #[derive(Debug, Drop)]
 pub struct Prepared {
     pub change: Option<Change>,
-    /// Their ids, rising; none but for a change of an entity.
+    /// The ids of the notified subscriptions, in ascending order. Empty unless an entity changes.
     pub notify: EntityIds,
     pub answer: Answer,
 }
 
 impl Prepared {
-    /// What changes nothing.
+    /// Creates a `Prepared` that changes nothing.
     pub fn read_only(alloc: Global, answer: Answer) -> Prepared
         ensures change { result.change ≡ None }
         ensures notify { result.notify ≡ [] }
@@ -30,7 +30,7 @@ impl Prepared {
         }
     }
 
-    /// A change that notifies nobody.
+    /// Creates a `Prepared` with a change that notifies nobody.
     pub fn without_notices(alloc: Global, change: Change, answer: Answer) -> Prepared
         ensures change { result.change ≡ Some change }
         ensures notify { result.notify ≡ [] }

@@ -1,4 +1,4 @@
-//! What is answered.
+//! Replies to calls.
 ghost use Rattle.std.specs.Prelude.{◌≡◌};
 
 use entity_core::availability::Availability;
@@ -13,23 +13,25 @@ use service_notify::notice::Notices;
 /// The answer to a call that broke no rule.
 #[derive(Debug, Drop)]
 pub enum Answer {
-    /// An entity is kept now: its reference, and what is told to those whom that notifies.
+    /// An entity was created: its reference, and the notices of the subscriptions that this
+    /// notifies.
     Created(Reference, Notices),
-    /// Updated or deleted: its reference after the update, or as it was before the deletion, and
-    /// what is told to those whom that notifies.
+    /// An entity was updated or deleted: its reference after the update or before the deletion, and
+    /// the notices.
     Changed(Reference, Notices),
     /// The reference of an entity.
     Found(Reference),
-    /// The references of the entities of a kind that meet an area, by rising ids.
+    /// The references of the entities of a kind that meet an area, ordered by id.
     Listed(Kind, References),
-    /// A supplier's availability, and its version: that of its last setting, or the empty text.
+    /// The availability of a USS, and the version of its last setting. The version is empty if it
+    /// was never set.
     Avail(UssId, Availability, Text),
-    /// A subscription is kept now; the references of the intents and of the constraints that it is
-    /// for and that meet its volume, each by rising ids.
+    /// A subscription was stored: its view, and the references of the intents and of the
+    /// constraints that it is for and that meet its volume. Both are ordered by id.
     SubStored(SubView, References, References),
-    /// A subscription, as it is or as it was before its deletion.
+    /// The view of a subscription, as it is now or as it was before its deletion.
     SubFound(SubView),
-    /// The caller's subscriptions that meet an area, by rising ids.
+    /// The caller's subscriptions that meet an area, ordered by id.
     SubListed(SubViews),
 }
 
@@ -38,19 +40,19 @@ pub enum Answer {
 pub enum Reply {
     /// The call broke no rule and had its effect.
     Done(Answer),
-    /// The call broke this rule first, and changed nothing. Something is missing of its key where
-    /// the rule is P14.
+    /// The call broke this rule first, and changed nothing. References are missing only if the rule
+    /// is P14.
     Denied(Rule, Missing),
-    /// The call failed, for want of memory or by the space, and changed nothing.
+    /// The call failed and changed nothing: memory ran out, or the space failed.
     Fault,
-    /// The service has stopped: it cannot be told what its space holds.
+    /// The service has stopped: the content of its space is unknown.
     Stopped,
 }
 
 impl Reply {
     ghost use Rattle.service_step.specs.Reply.{is_stopped};
 
-    /// Whether the service has stopped.
+    /// Returns true if the service has stopped.
     pub fn is_stopped(&self) -> bool
         ensures { result ≡ is_stopped self.now }
     {

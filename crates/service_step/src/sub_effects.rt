@@ -1,4 +1,4 @@
-//! The effects of the operations on subscriptions.
+//! Effects of the operations on subscriptions.
 ghost use Rattle.std.specs.Prelude.{◌≡◌, IfOk, None, map, [], ◌∷◌};
 ghost use Rattle.entity_core.specs.declared.nature.Kind.TheVariants as kinds;
 ghost use Rattle.entity_core.specs.Search.{dependents_in, meeting_in, subscriptions_in};
@@ -27,7 +27,7 @@ use space_core::space::{Change, Space};
 use std::alloc::{AllocError, Global};
 use std::slice::from_ref;
 
-// The subscription that is kept of a put.
+// Returns the subscription that a put stores.
 fn sub_of(
     alloc: Global,
     salt: &Salt,
@@ -58,7 +58,7 @@ fn look_dependents<S: Space>(space: &mut S, id: EntityId) -> Result<Vec<EntityId
     Ok(space.dependents(id)?)
 }
 
-// A subscription as it is seen now.
+// Returns the view of a subscription with its current dependents.
 fn seen_sub<S: Space>(space: &mut S, alloc: Global, sub: &Sub) -> Result<SubView, CallFault>
     ensures { LooksUp S.Space space.old space.new result (λ a view. view ≡ seen_sub a sub.now) }
 {
@@ -77,7 +77,7 @@ fn seen_subs<S: Space>(space: &mut S, alloc: Global, subs: &[Sub]) -> Result<Sub
     Ok(SubViews::from_vec(items))
 }
 
-// The references of what meets the volume of a subscription.
+// Returns the references of the entities of a kind that meet the volume of a subscription.
 fn near<S: Space>(
     space: &mut S,
     alloc: Global,
@@ -94,7 +94,7 @@ fn near<S: Space>(
     Ok(references(alloc, uss, &met)?)
 }
 
-// The references of what a subscription is for, of a kind.
+// Returns the references of the entities of a kind that a subscription is for.
 fn seen_of<S: Space>(
     space: &mut S,
     alloc: Global,
@@ -111,7 +111,7 @@ fn seen_of<S: Space>(
     near(space, alloc, kind, uss, sub)
 }
 
-// What is answered of a subscription that is put, and of what it is for.
+// Returns the answer to a subscription's put: its view, and the references of what it is for.
 fn store_sub<S: Space>(
     space: &mut S,
     alloc: Global,
@@ -135,7 +135,7 @@ fn look_own<S: Space>(space: &mut S, uss: &UssId, area: &Area) -> Result<Vec<Sub
     Ok(space.subscriptions_of(uss, area)?)
 }
 
-/// A supplier's subscriptions that meet an area.
+/// Prepares the answer with the subscriptions of a USS that meet an area.
 pub fn prepare_query_subs<S: Space>(
     space: &mut S,
     alloc: Global,
@@ -151,7 +151,7 @@ pub fn prepare_query_subs<S: Space>(
     Ok(Prepared::read_only(alloc, Answer::SubListed(shown)))
 }
 
-/// The subscription that is read.
+/// Prepares the answer with the view of a subscription.
 pub fn prepare_read_sub<S: Space>(
     space: &mut S,
     alloc: Global,
@@ -164,7 +164,7 @@ pub fn prepare_read_sub<S: Space>(
     Ok(Prepared::read_only(alloc, Answer::SubFound(shown)))
 }
 
-// The change that puts a subscription, and its answer.
+// Prepares the change that puts a subscription, and its answer.
 fn sub_put<S: Space>(
     space: &mut S,
     alloc: Global,
@@ -177,7 +177,7 @@ fn sub_put<S: Space>(
     Ok(Prepared::without_notices(alloc, Change::PutSub(sub), answer))
 }
 
-/// The subscription that a creation puts, and what is seen of it.
+/// Prepares the creation of a subscription, and its answer.
 pub fn prepare_create_sub<S: Space>(
     space: &mut S,
     alloc: Global,
@@ -194,8 +194,7 @@ pub fn prepare_create_sub<S: Space>(
     sub_put(space, alloc, uss, sub)
 }
 
-/// The subscription that an update puts in the place of another of the supplier's, and what is seen
-/// of it.
+/// Prepares the update of a subscription of the USS, and its answer.
 pub fn prepare_update_sub<S: Space>(
     space: &mut S,
     alloc: Global,
@@ -214,7 +213,7 @@ pub fn prepare_update_sub<S: Space>(
     sub_put(space, alloc, uss, sub)
 }
 
-/// The removal of a subscription, and what was seen of it.
+/// Prepares the removal of a subscription, and the answer with its last view.
 pub fn prepare_delete_sub<S: Space>(
     space: &mut S,
     alloc: Global,

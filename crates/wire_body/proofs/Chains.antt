@@ -1,4 +1,4 @@
--- Steps of a reading that has read something.
+-- Lemmas: the steps of a reading that succeeded.
 use Rattle.std.proofs.Common.{◌≡◌, ◌≢◌, ℕ, List, [], ◌∷◌, refl, sym, ◌∙◌, subst, cond, Bool, true, false, Option, Some, None, option_map, nat_eq, arith}
 use Rattle.std.proofs.lemmas.Bool.{false≢true}
 use Rattle.std.proofs.lemmas.Bool.Decides.{nat_tests}
@@ -8,7 +8,7 @@ use Rattle.serde_json.specs.Data.{Data, Items, no_items, item}
 use Rattle.serde_json.specs.Find.{as_array}
 use Rattle.wire_body.specs.Member.{without_fault, each, list_of}
 
--- the step before gave a value, and the one after takes it
+-- If two steps in sequence succeed, the first gives a value and the second accepts it.
 pub both_steps : {A B : Type 0} (o : Option A) (f : A → Option B) (y : B) → option_and_then f o ≡ Some y → (x : A) × (o ≡ Some x) × (f x ≡ Some y)
 both_steps None f y e = absurd (let h : ⊥ = cc in h)
 both_steps (Some x) f y e = (x, refl, e)
@@ -29,7 +29,7 @@ pub let_through : {A : Type 0} (b : Bool) (o : Option A) (y : A) → cond b o No
 let_through true o y e = (refl, e)
 let_through false o y e = absurd (let h : ⊥ = cc in h)
 
--- what is read unless it is one number is not that one
+-- A number that is read unless it is `z` is not `z`.
 pub unless_same : (z n m : ℕ) → cond (nat_eq n z) None (Some n) ≡ Some m → m ≢ z
 unless_same z n m e = λ same. by (nat_eq n z) refl e same
   where
@@ -40,7 +40,7 @@ unless_same z n m e = λ same. by (nat_eq n z) refl e same
         let here : nat_eq n z ≡ true = grind (arith, nat_tests) in
         false≢true (sym q ∙ here)
 
--- what holds of each value that is read holds of all in a list
+-- A property of each value that can be read holds for all values of a list.
 pub each_holds : {A : Type 0} (read : Data → Option A) (P : A → Type 0) → ((d : Data) (x : A) → read d ≡ Some x → P x) → (ds : Items) (xs : List A) → each read ds ≡ Some xs → AllByRecursion P xs
 each_holds read P holds no_items [] e = tt
 each_holds read P holds no_items (x ∷ xs) e = absurd (let h : ⊥ = cc in h)

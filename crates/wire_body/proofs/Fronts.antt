@@ -1,4 +1,4 @@
--- What has been read of a list, before what the rest of it says.
+-- Lemmas: the part of a list that has been read, before the rest.
 use Rattle.std.proofs.Common.{List, ◌++◌, Option, option_map}
 
 abbrev pub with_front : {A : Type 0} → List A → Option (List A) → Option (List A)

@@ -1,4 +1,4 @@
--- A list that is read keeps its length, so that its limit can be judged before it is read.
+-- Lemmas: reading a list keeps its length, so that its limit can be checked before it is read.
 use Rattle.std.proofs.Common.{◌≡◌, ◌<◌, ◌≤◌, ℕ, suc, true, false, List, [], ◌∷◌, length, refl, sym, ap, ◌∙◌, arith, Option, Some, None, option_map, option_and_then}
 use Rattle.std.proofs.lemmas.Bool.Decides.{nat_tests}
 use Rattle.std.specs.Prelude.{nat_le}
@@ -22,7 +22,7 @@ each_length read (v ∷ vs) xs e = by (read (view v)) (each read (items_view vs)
     by (Some x) None e ih = cc
     by (Some x) (Some ys) e ih = let n = ih ys refl in let same : x ∷ ys ≡ xs = cc in omega (arith, ap length same, n)
 
--- a key that is too long
+-- A key that is too long is not read.
 long_key : (read : Data → Option (List ℕ)) (vs : List Value) → 4096 < length vs → (each read (items_view vs) >>= few_ovns) ≡ None
 long_key read vs l = by (each read (items_view vs)) (each_length read vs)
   where
@@ -37,7 +37,7 @@ short_key read vs xs l e =
     let within : nat_le (length xs) 4096 ≡ true = grind (arith, nat_tests) in
     rw (e, within) refl
 
--- too many volumes
+-- Too many volumes are not read.
 many_volumes : (read : Data → Option Extent) (vs : List Value) → 32 < length vs → (each read (items_view vs) >>= few_volumes) ≡ None
 many_volumes read vs l = by (each read (items_view vs)) (each_length read vs)
   where
@@ -49,7 +49,7 @@ many_volumes read vs l = by (each read (items_view vs)) (each_length read vs)
         let least : nat_le 1 (length xs) ≡ true = grind (arith, nat_tests) in
         rw (over, least) refl
 
--- ---- as the readers find them
+-- ---- as the readers find lists
 
 pub no_key : (d : Data) (vs ws : List Value) → Some (items_view vs) ≡ as_array d → ws ≡ vs → 4096 < length ws → key_in d ≡ None
 unfolding key_in

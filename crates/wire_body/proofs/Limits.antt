@@ -1,4 +1,4 @@
--- What a body asks for is of its kind and within all limits.
+-- Lemmas: the operation of a body is of its kind and within all limits.
 use Rattle.std.proofs.Common.{arith, ◌≡◌, ◌≢◌, ◌≤◌, ℕ, List, [], length, codes, refl, ap, subst, Option, Some, None, ◌∙◌}
 use Rattle.std.specs.Prelude.{sum_by, ◌&&◌, nat_le, unwrap_or, option_and_then}
 use Rattle.std.specs.List.{AllByRecursion}
@@ -102,7 +102,7 @@ few_keys entity_kinds.Intent d vs is =
     subst HasFewVersions key.2 (few_there (member_of (codes "key") d) key.0 key.1)
 few_keys entity_kinds.Constraint d vs is = let e : [] ≡ vs = cc in subst HasFewVersions e none_few
 
--- the zero id names nothing
+-- An id that is read is not the zero id.
 not_zero : (id n : ℕ) → unless_zero id ≡ Some n → n ≢ zero_id
 not_zero id n is = unless_same zero_id id n is
 
@@ -179,7 +179,7 @@ right_sub_put d p is =
     let right : IsSubPutWithinLimits q = record { volume = volume_faultless found.0 volume.0 found.2; url = text_faultless url_fault text.0 url.0 text.2 } in
     subst IsSubPutWithinLimits same right
 
--- ---- words
+-- ---- path parameters
 
 new_id : (id : Option ℕ) (n : ℕ) → option_and_then unless_zero id ≡ Some n → n ≢ zero_id
 new_id id n is = let read = both_steps id unless_zero n is in not_zero read.0 n read.2

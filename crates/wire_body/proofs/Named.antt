@@ -1,4 +1,4 @@
--- A put is read of its own members alone.
+-- Lemmas: a put is read only from its own members.
 use Rattle.std.proofs.Common.{◌≡◌, ℕ, List, codes, refl, inl, inr}
 use Rattle.serde_json.specs.Data.{Data}
 use Rattle.entity_core.specs.declared.nature.Kind.{Kind}

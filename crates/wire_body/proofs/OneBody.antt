@@ -1,4 +1,4 @@
--- Words and a body ask for one operation of a kind at most.
+-- Lemmas: path parameters and a body give at most one operation of a kind.
 use Rattle.std.proofs.Common.{◌≡◌, ℕ, List, Option, Some, subst}
 use Rattle.serde_json.specs.Data.{Data}
 use Rattle.serde_json.specs.Read.{read}

@@ -1,4 +1,4 @@
--- The zero id, read and printed.
+-- Lemmas: the zero id, read and printed.
 use Rattle.std.proofs.Common.{◌≡◌, refl, Some}
 use Rattle.uuid.proofs.OnLiterals.{uuid_on_literals}
 use Rattle.entity_core.specs.EntityId.{printed, spelled}

@@ -9,7 +9,7 @@ name_of Unknown = codes "Unknown"
 name_of Normal = codes "Normal"
 name_of Down = codes "Down"
 
--- the availability of a name, with case
+-- The availability with this name. Case matters.
 unfoldable pub availability_named : List ℕ → Option Availability
 availability_named text =
     if bytes_eq text (name_of Unknown) then Some Unknown

@@ -1,4 +1,4 @@
--- What the words of a path and a body ask for.
+-- The operation that path parameters and a body give.
 use Rattle.std.specs.Prelude.{◌≡◌, ℕ, List, [], length, codes, ◌&&◌, nat_le, Bool, if◌then◌else◌, Option, Some, None, is_none, option_map, option_and_then, unwrap_or, IsUtf8}
 use Rattle.std.specs.Str.{bytes_eq}
 use Rattle.serde_json.specs.Data.{Data}
@@ -21,9 +21,9 @@ use Rattle.wire_body.specs.Put.{put_of}
 use Rattle.wire_body.specs.SubPut.{sub_put_of}
 use Rattle.wire_body.specs.Volume.{area_in}
 
--- ---- words
+-- ---- path parameters
 
--- the words of a path that its route leaves open
+-- The parameters of a path.
 pub record Words : Type 0 where
   pub first : List ℕ
   pub second : Option (List ℕ)
@@ -31,7 +31,7 @@ pub record Words : Type 0 where
 abbrev pub words_of : PathWords → Words
 words_of w = record { first = w.first.now; second = option_map (λ s. s.now) w.second }
 
--- the word of a path that has one
+-- The only parameter of a path, if there is no second one.
 abbrev pub unless_second : List ℕ → Option (List ℕ) → Option (List ℕ)
 unless_second first None = Some first
 unless_second first (Some second) = None
@@ -42,11 +42,11 @@ only_word words = unless_second words.first words.second
 abbrev pub is_query : Words → Bool
 is_query words = is_none words.second && bytes_eq words.first (codes "query")
 
--- the id that the only word of a path is
+-- The id that the only path parameter represents.
 unfoldable pub id_named : Words → Option ℕ
 id_named words = option_and_then spelled (only_word words)
 
--- the OVN that a path names
+-- The OVN in the second path parameter.
 unfoldable pub ovn_named : Words → Option (List ℕ)
 ovn_named words = option_and_then (λ s. without_fault (ovn_fault s) s) words.second
 
@@ -61,7 +61,7 @@ availability_in d = option_and_then availability_named (as_str d)
 unfoldable pub availability_of : Data → Option Availability
 availability_of d = required availability_in (codes "availability") d
 
--- a text of at most 128 bytes; an absent one is empty
+-- The text if it has at most 128 bytes. A missing text is empty.
 abbrev pub short_text : List ℕ → Option (List ℕ)
 short_text s = if nat_le (length s) 128 then Some s else None
 
@@ -73,7 +73,7 @@ old_version_of d = option_map (λ version. unwrap_or version []) (optional short
 
 -- ---- operations
 
--- the area of a query
+-- The area of a query.
 unfoldable pub area_asked : Words → Data → Option Region
 area_asked words d =
     if is_query words then required area_in (codes "area_of_interest") d else None
@@ -113,7 +113,7 @@ setting_of words d = do
   version ← old_version_of d
   Some (SetAvail uss version availability)
 
--- ---- operations of subscriptions
+-- ---- operations on subscriptions
 
 unfoldable pub sub_query_of : Words → Data → Option Operation
 sub_query_of words d = option_map QuerySub (area_asked words d)
@@ -121,7 +121,7 @@ sub_query_of words d = option_map QuerySub (area_asked words d)
 unfoldable pub sub_read_of : Words → Option Operation
 sub_read_of words = option_map ReadSub (id_named words)
 
--- the zero id is no subscription's
+-- No subscription has the zero id.
 unfoldable pub sub_create_of : Words → Data → Option Operation
 sub_create_of words d = do
   id ← option_and_then unless_zero (id_named words)
@@ -143,16 +143,16 @@ sub_delete_of words = do
 
 -- ---- bodies
 
--- the bytes are UTF-8, and JSON reads them as that value
+-- Holds if the bytes are UTF-8, and JSON with this value.
 abbrev pub IsJson : List ℕ → Data → Type 0
 IsJson bytes d = IsUtf8 bytes × (read bytes ≡ Some d)
 
--- the bytes are a value that is read as the operation
+-- Holds if the bytes are JSON whose value is read as the operation.
 abbrev pub Says : (Data → Option Operation) → List ℕ → Operation → Type 0
 Says form bytes op = (d : Data) × IsJson bytes d × (form d ≡ Some op)
 
--- Words and a body ask for this operation of a kind. They ask for at most one. The body of a
--- reading and of a deletion is not looked at.
+-- Holds if path parameters and a body give this operation of the kind. They give at most one. The
+-- body of a read or a deletion is ignored.
 abbrev pub IsBody : OpKind → Words → List ℕ → Operation → Type 0
 IsBody (kinds.Query kind) words bytes op = Says (query_of kind words) bytes op
 IsBody (kinds.Read kind) words bytes op = read_of kind words ≡ Some op

@@ -20,12 +20,12 @@ use Rattle.wire_body.specs.Naming.{no_subscription, zero_id}
 use Rattle.wire_body.specs.Put.{put_of}
 use Rattle.wire_body.specs.SubPut.{sub_put_of}
 
--- words and a body ask for one operation of a kind at most
+-- States that path parameters and a body give at most one operation of a kind.
 abbrev pub AsksForOne : Type 0
 AsksForOne = (kind : OpKind) (words : Words) (bytes : List ℕ) (op other : Operation)
     → IsBody kind words bytes op → IsBody kind words bytes other → other ≡ op
 
--- and it is of that kind
+-- States that the operation is of that kind.
 abbrev pub KeepsKind : Type 0
 KeepsKind = (kind : OpKind) (words : Words) (bytes : List ℕ) (op : Operation)
     → IsBody kind words bytes op → kind_of op ≡ Some kind
@@ -65,25 +65,25 @@ IsWithinLimits (UpdateSub id ovn put) = (id ≢ zero_id) × (ovn_fault ovn ≡ N
     × IsSubPutWithinLimits put
 IsWithinLimits (DeleteSub id ovn) = ovn_fault ovn ≡ None
 
--- what a body asks for is within all limits
+-- States that the operation of a body is within all limits.
 abbrev pub KeepsLimits : Type 0
 KeepsLimits = (kind : OpKind) (words : Words) (bytes : List ℕ) (op : Operation)
     → IsBody kind words bytes op → IsWithinLimits op
 
 -- ---- members
 
--- the members that the put of an entity has
+-- Holds if the put of an entity has a member with this name.
 abbrev pub IsNamed : Kind → List ℕ → Type 0
 IsNamed Intent name = (name ≡ codes "extents") ⊎ (name ≡ codes "uss_base_url")
     ⊎ (name ≡ codes "state") ⊎ (name ≡ codes "key") ⊎ (name ≡ codes "subscription_id")
 IsNamed Constraint name = (name ≡ codes "extents") ⊎ (name ≡ codes "uss_base_url")
 
--- no other member is looked at
+-- States that no other member affects the put.
 abbrev pub IgnoresOthers : Type 0
 IgnoresOthers = (kind : Kind) (d e : Data) → ((name : List ℕ) → IsNamed kind name
     → member_of name d ≡ member_of name e) → put_of kind d ≡ put_of kind e
 
--- the members that the put of a subscription has
+-- Holds if the put of a subscription has a member with this name.
 abbrev pub IsSubNamed : List ℕ → Type 0
 IsSubNamed name = (name ≡ codes "extents") ⊎ (name ≡ codes "uss_base_url")
     ⊎ (name ≡ codes "notify_for_operational_intents") ⊎ (name ≡ codes "notify_for_constraints")
@@ -94,7 +94,7 @@ IgnoresOthersOfSubs = (d e : Data) → ((name : List ℕ) → IsSubNamed name
 
 -- ---- the zero id
 
--- the text that stands for no subscription is read as the zero id, which is printed as that text
+-- Holds if the text for no subscription is read as the zero id, which is printed as that text.
 pub record IsZeroText : Type 0 where
   pub reads : spelled no_subscription ≡ Some zero_id
   pub prints : printed zero_id ≡ no_subscription

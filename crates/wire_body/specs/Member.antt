@@ -4,12 +4,12 @@ use Rattle.serde_json.specs.Data.{Data, null, boolean, number, string, array, ob
 use Rattle.serde_json.specs.Find.{get, as_array, as_number, as_str}
 use Rattle.serde_json.specs.Find as find
 
--- the next step of a reading takes what the one before it has read
+-- The next step of a reading, applied to what the step before has read.
 infixl 10 ◌>>=◌
 abbrev pub ◌>>=◌ : {A B : Type 0} → Option A → (A → Option B) → Option B
 o >>= f = option_and_then f o
 
--- the value, unless a fault was found in it
+-- The value, unless a fault was found in it.
 abbrev pub without_fault : {F A : Type 0} → Option F → A → Option A
 without_fault None x = Some x
 without_fault (Some fault) x = None
@@ -22,15 +22,15 @@ unless_null (string s) = Some (string s)
 unless_null (array ds) = Some (array ds)
 unless_null (object ms) = Some (object ms)
 
--- The member of a name. One that is null counts as absent, and only objects have members.
+-- The member with this name. A null member counts as absent, and only objects have members.
 abbrev pub member_of : List ℕ → Data → Option Data
 member_of name d = option_and_then unless_null (get name d)
 
--- what is read of a member, which must be there
+-- The value that is read from a required member.
 abbrev pub required : {A : Type 0} → (Data → Option A) → List ℕ → Data → Option A
 required read name d = option_and_then read (member_of name d)
 
--- what is read of a member that may be absent
+-- The value that is read from an optional member.
 abbrev pub if_there : {A : Type 0} → (Data → Option A) → Option Data → Option (Option A)
 if_there read None = Some None
 if_there read (Some d) = option_map Some (read d)
@@ -38,16 +38,16 @@ if_there read (Some d) = option_map Some (read d)
 abbrev pub optional : {A : Type 0} → (Data → Option A) → List ℕ → Data → Option (Option A)
 optional read name d = if_there read (member_of name d)
 
--- what is read of each item, where each can be read
+-- The values that are read from the items, if each can be read.
 abbrev pub each : {A : Type 0} → (Data → Option A) → Items → Option (List A)
 each read no_items = Some []
 each read (item d ds) = option_and_then (λ x. option_map (λ xs. x ∷ xs) (each read ds)) (read d)
 
--- a list of what is read. A null in it is an item like any other.
+-- The list that is read from an array. A null in it is an item like any other.
 abbrev pub list_of : {A : Type 0} → (Data → Option A) → Data → Option (List A)
 list_of read d = option_and_then (each read) (as_array d)
 
--- a whole number, with or without a sign
+-- A whole number, with or without a sign.
 abbrev pub signed_in : Data → Option ℤ
 signed_in d = option_and_then find.as_i64 (as_number d)
 

@@ -1,4 +1,4 @@
--- What an entity is to be, as JSON.
+-- The put of an entity, as JSON.
 use Rattle.std.specs.Prelude.{ℕ, List, [], length, codes, ◌&&◌, nat_le, Bool, sum_by, if◌then◌else◌, Option, Some, None, option_map, option_and_then, unwrap_or}
 use Rattle.serde_json.specs.Data.{Data}
 use Rattle.serde_json.specs.Find.{as_str}
@@ -16,13 +16,13 @@ use Rattle.wire_body.specs.Naming.{naming_of}
 use Rattle.wire_body.specs.State.{state_named}
 use Rattle.wire_body.specs.Volume.{volume_in}
 
--- a text without a fault
+-- A text without a fault.
 abbrev pub text_in : (List ℕ → Option IdFault) → Data → Option (List ℕ)
 text_in fault d = option_and_then (λ s. without_fault (fault s) s) (as_str d)
 
 -- ---- volumes
 
--- 1 to 32 volumes, and at most 2,048 cells in all of them
+-- Returns true if the volumes have at most 2,048 cells in total.
 abbrev pub are_few_cells : List Extent → Bool
 are_few_cells es = nat_le (sum_by (λ e. length e.cells) es) 2048
 
@@ -35,25 +35,26 @@ volumes_in d = list_of volume_in d >>= few_volumes
 
 -- ---- keys
 
--- at most 4,096 OVNs
+-- The OVNs if they are at most 4,096.
 abbrev pub few_ovns : List (List ℕ) → Option (List (List ℕ))
 few_ovns ovns = if nat_le (length ovns) 4096 then Some ovns else None
 
 unfoldable pub key_in : Data → Option (List (List ℕ))
 key_in d = list_of (text_in ovn_fault) d >>= few_ovns
 
--- The key of an intent's put. An absent one is empty. A constraint has none.
+-- The key in the put of an intent. An absent one is empty. A constraint has none.
 unfoldable pub key_of : Kind → Data → Option (List (List ℕ))
 key_of kinds.Intent d = option_map (λ key. unwrap_or key []) (optional key_in (codes "key") d)
 key_of kinds.Constraint d = Some []
 
 -- ---- puts
 
--- the name of a state
+-- The state with this name.
 abbrev pub state_in : Data → Option State
 state_in d = option_and_then state_named (as_str d)
 
--- An intent says its state and may name a subscription. A constraint has neither.
+-- The nature of an entity. An intent has a state and may reference a subscription. A constraint has
+-- neither.
 unfoldable pub nature_of : Kind → Data → Option Nature
 nature_of kinds.Intent d = do
   state ← required state_in (codes "state") d
@@ -67,7 +68,7 @@ volumes_of d = required volumes_in (codes "extents") d
 unfoldable pub url_of : Data → Option (List ℕ)
 url_of d = required (text_in url_fault) (codes "uss_base_url") d
 
--- what an entity of the kind is to be
+-- The put of an entity of the kind.
 unfoldable pub put_of : Kind → Data → Option Put
 put_of kind d = do
   nature ← nature_of kind d

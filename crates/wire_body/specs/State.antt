@@ -5,7 +5,7 @@ use Rattle.entity_core.specs.Entity.{state_name}
 use Rattle.entity_core.specs.declared.nature.State.{State}
 use Rattle.entity_core.specs.declared.nature.State.TheVariants.{Accepted, Activated, Nonconforming, Contingent}
 
--- the state of a name, with case
+-- The state with this name. Case matters.
 unfoldable pub state_named : List ℕ → Option State
 state_named text =
     if bytes_eq text (state_name Accepted) then Some Accepted

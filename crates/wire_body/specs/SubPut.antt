@@ -1,4 +1,4 @@
--- What a subscription is to be, as JSON.
+-- The put of a subscription, as JSON.
 use Rattle.std.specs.Prelude.{ℕ, List, Bool, true, false, codes, Option, Some, None, option_map, unwrap_or}
 use Rattle.serde_json.specs.Data.{Data}
 use Rattle.serde_json.specs.Find.{as_bool}
@@ -10,11 +10,11 @@ use Rattle.wire_body.specs.Member.{◌>>=◌, required, optional}
 use Rattle.wire_body.specs.Put.{url_of}
 use Rattle.wire_body.specs.Volume.{volume_in}
 
--- a truth value; an absent one is false
+-- A boolean. An absent one is false.
 unfoldable pub flag_of : List ℕ → Data → Option Bool
 flag_of name d = option_map (λ flag. unwrap_or flag false) (optional as_bool name d)
 
--- what a subscription is for: intents, constraints, or both
+-- What a subscription is for: intents, constraints, or both.
 abbrev pub interest_by : Bool → Bool → Option Interest
 interest_by true true = Some Both
 interest_by true false = Some Intents
@@ -27,7 +27,7 @@ interest_of d = do
   constraints ← flag_of (codes "notify_for_constraints") d
   interest_by intents constraints
 
--- the one volume
+-- The only volume.
 unfoldable pub volume_of : Data → Option Extent
 volume_of d = required volume_in (codes "extents") d
 

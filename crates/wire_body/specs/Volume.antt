@@ -1,4 +1,4 @@
--- Volumes and areas as JSON: cells, altitudes and times side by side.
+-- Volumes and areas as JSON: cells, altitudes and times as members of one object.
 use Rattle.std.specs.Prelude.{ℕ, List, ℤ, codes, Option, Some, option_and_then}
 use Rattle.serde_json.specs.Data.{Data}
 use Rattle.serde_json.specs.Find.{as_str}
@@ -7,7 +7,7 @@ use Rattle.grid_core.specs.Token.{cell_named}
 use Rattle.grid_core.specs.Extent.{Extent, Region, extent_of, region_of, region_with, region_fault}
 use Rattle.wire_body.specs.Member.{◌>>=◌, without_fault, required, optional, list_of, signed_in, unsigned_in}
 
--- a token
+-- The cell of a token.
 abbrev pub cell_in : Data → Option Cell
 cell_in d = option_and_then cell_named (as_str d)
 
@@ -28,7 +28,7 @@ times_of d = do
   end ← required unsigned_in (codes "time_end") d
   Some (start, end)
 
--- limits of cells and bounds are those of a volume
+-- A volume, within the limits of cells and bounds.
 unfoldable pub volume_in : Data → Option Extent
 volume_in d = do
   altitudes ← altitudes_of d
@@ -37,7 +37,7 @@ volume_in d = do
   without_fault (region_fault (region_of (extent_of cells altitudes times)))
       (extent_of cells altitudes times)
 
--- ---- areas, of which each bound may be absent
+-- ---- areas, whose bounds are optional
 
 unfoldable pub altitude_bounds_of : Data → Option (Option ℤ × Option ℤ)
 altitude_bounds_of d = do

@@ -1,10 +1,10 @@
-//! Availabilities by name.
+//! Names of availabilities.
 ghost use Rattle.std.specs.Prelude.{◌≡◌, MatchOption};
 ghost use Rattle.wire_body.specs.Availability.{name_of, availability_named};
 
 use entity_core::availability::Availability;
 
-/// The name of an availability.
+/// Returns the name of an availability.
 pub fn name_of(availability: Availability) -> &'static str
     ensures { result.now ≡ name_of availability }
 {
@@ -15,7 +15,7 @@ pub fn name_of(availability: Availability) -> &'static str
     }
 }
 
-/// The availability of that name, with case. No other text is a name.
+/// Returns the availability with this name. Case matters.
 #[tactic(auto, unfolding(crate::specs::Availability::availability_named))]
 pub fn availability_named(name: &str) -> Option<Availability>
     ensures value { result ≡ availability_named name.now }

@@ -1,4 +1,4 @@
-//! What the words of a path and a body ask for.
+//! The operation that path parameters and a body give.
 ghost use Rattle.std.specs.Prelude.{◌≡◌, IfOk, IfErr, option_and_then};
 ghost use Rattle.serde_json.specs.Data.{Data};
 ghost use Rattle.serde_json.specs.View.{view};
@@ -23,14 +23,14 @@ use serde_json::Value;
 use serde_json::error::Category;
 use std::alloc::Global;
 
-/// The words of a path that its route leaves open.
+/// The parameters of a path.
 #[derive(Clone, Copy, Debug)]
 pub struct PathWords<'a> {
     pub first: &'a str,
     pub second: Option<&'a str>,
 }
 
-/// The JSON value that the bytes are.
+/// Parses the bytes as a JSON value.
 fn json_of(alloc: Global, body: &[u8]) -> Result<Value, BodyFault>
     ensures ok { IfOk result (λ v. IsJson body.now (view v)) }
     ensures malformed { IfErr result (λ e. e ≡ BodyFault.Malformed
@@ -220,10 +220,9 @@ fn sub_delete_of(alloc: Global, words: &PathWords<'_>) -> Result<Operation, Body
     Ok(Operation::DeleteSub(id, ovn))
 }
 
-/// The operation of a kind that the words of a path and a body ask for (this project's profile).
+/// Reads the operation of a kind from path parameters and a body (this project's profile).
 ///
-/// `Malformed` comes only where they ask for none. The body of a reading and of a deletion is not
-/// looked at.
+/// Returns `Malformed` only if they give none. Ignores the body of a read or a deletion.
 pub fn read_body(
     alloc: Global,
     kind: OpKind,

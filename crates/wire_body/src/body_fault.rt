@@ -1,10 +1,10 @@
-//! Why a body was not read.
+//! Reasons not to read a body.
 
-/// Why a body was not read.
+/// A reason not to read a body.
 #[derive(Clone, Copy, Debug, PartialEq, Eq)]
 pub enum BodyFault {
-    /// The words and the body have not the form of the operation.
+    /// The path parameters and the body do not have the form of the operation.
     Malformed,
-    /// There was no room for what they say.
+    /// Memory ran out.
     Memory,
 }

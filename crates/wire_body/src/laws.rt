@@ -1,32 +1,32 @@
-//! Laws of bodies, each named by a function that does nothing.
+//! Laws of bodies. Each is the contract of a function that does nothing.
 ghost use Rattle.wire_body.specs.Laws.{AsksForOne, KeepsKind, KeepsLimits, IgnoresOthers, IgnoresOthersOfSubs, IsZeroText};
 
-/// Words and a body ask for one operation of a kind at most.
+/// States that path parameters and a body give at most one operation of a kind.
 pub fn asks_for_one()
     ensures { AsksForOne }
 {}
 
-/// What they ask for is of that kind.
+/// States that the operation is of that kind.
 pub fn keeps_kind()
     ensures { KeepsKind }
 {}
 
-/// What they ask for is within all limits.
+/// States that the operation is within all limits.
 pub fn keeps_limits()
     ensures { KeepsLimits }
 {}
 
-/// No member of a put but those of its kind is looked at.
+/// States that only the members of its kind affect the put of an entity.
 pub fn ignores_others()
     ensures { IgnoresOthers }
 {}
 
-/// Nor is any member of a subscription's put but its own.
+/// States that only its own members affect the put of a subscription.
 pub fn ignores_others_of_subs()
     ensures { IgnoresOthersOfSubs }
 {}
 
-/// The id that stands for no subscription is one id, read and printed.
+/// States that the id for no subscription is the same when read and when printed.
 pub fn zero_text()
     ensures { IsZeroText }
 {}

@@ -1,4 +1,4 @@
-//! Bodies of requests as JSON (RFC 8259), and the names that replies have, too.
+//! Request bodies as JSON (RFC 8259), and the names that responses use as well.
 #![tactic(auto)]
 
 pub mod availability;

@@ -5,7 +5,7 @@ ghost use Rattle.wire_body.specs.Member.{member_of, required, optional, signed_i
 
 use serde_json::Value;
 
-/// The member of a name. One that is null counts as absent.
+/// Returns the member with this name. A null member counts as absent.
 pub(crate) fn member<'a>(value: &'a Value, name: &str) -> Option<&'a Value>
     ensures { option_map (λ v. view v.now) result ≡ member_of name.now (view value.now) }
 {
@@ -16,7 +16,7 @@ pub(crate) fn member<'a>(value: &'a Value, name: &str) -> Option<&'a Value>
     }
 }
 
-/// The whole number that a member is, with or without a sign.
+/// Returns the whole number in a required member, with or without a sign.
 pub(crate) fn signed_at(value: &Value, name: &str) -> Option<i64>
     ensures { result ≡ required signed_in name.now (view value.now) }
 {
@@ -26,7 +26,7 @@ pub(crate) fn signed_at(value: &Value, name: &str) -> Option<i64>
     }
 }
 
-/// The whole number without a sign that a member is.
+/// Returns the whole number without a sign in a required member.
 pub(crate) fn unsigned_at(value: &Value, name: &str) -> Option<u64>
     ensures { result ≡ required unsigned_in name.now (view value.now) }
 {
@@ -36,7 +36,7 @@ pub(crate) fn unsigned_at(value: &Value, name: &str) -> Option<u64>
     }
 }
 
-/// The whole number that a member is, with or without a sign, if the member is there.
+/// Returns the whole number in an optional member, with or without a sign.
 pub(crate) fn signed_if_there(value: &Value, name: &str) -> Option<Option<i64>>
     ensures { result ≡ optional signed_in name.now (view value.now) }
 {
@@ -49,7 +49,7 @@ pub(crate) fn signed_if_there(value: &Value, name: &str) -> Option<Option<i64>>
     }
 }
 
-/// The whole number without a sign that a member is, if the member is there.
+/// Returns the whole number without a sign in an optional member.
 pub(crate) fn unsigned_if_there(value: &Value, name: &str) -> Option<Option<u64>>
     ensures { result ≡ optional unsigned_in name.now (view value.now) }
 {

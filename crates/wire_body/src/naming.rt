@@ -1,4 +1,4 @@
-//! Which subscription an intent names.
+//! The subscription that an intent references.
 ghost use Rattle.std.specs.Prelude.{◌≡◌};
 ghost use Rattle.serde_json.specs.View.{view};
 ghost use Rattle.wire_body.specs.Naming.{unless_zero, id_in, naming_of};
@@ -8,10 +8,10 @@ use crate::words::id_of;
 use entity_core::entity_id::EntityId;
 use serde_json::Value;
 
-/// The number of the id that stands for no subscription (this project's profile).
+/// The number of the id that represents no subscription (this project's profile).
 const ZERO: u128 = 0x4000_8000_0000_0000_0000;
 
-/// The id, unless it is the one that stands for no subscription.
+/// Returns the id, unless it is the one that represents no subscription.
 pub(crate) fn unless_zero(id: EntityId) -> Option<EntityId>
     ensures { result ≡ unless_zero id }
 {
@@ -27,7 +27,7 @@ fn id_in(value: &Value) -> Option<EntityId>
     }
 }
 
-/// What the put of an intent names.
+/// Returns the reference in the put of an intent.
 #[tactic(auto, unfolding(crate::specs::Naming::naming_of))]
 pub(crate) fn naming_of(value: &Value) -> Option<Option<EntityId>>
     ensures { result ≡ naming_of (view value.now) }

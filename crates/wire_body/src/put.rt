@@ -1,4 +1,4 @@
-//! What an entity is to be, from JSON.
+//! The put of an entity, from JSON.
 ghost use Rattle.std.specs.Prelude.{◌≡◌, codes};
 ghost use Rattle.serde_json.specs.View.{view, items_view};
 ghost use Rattle.entity_core.specs.IdTexts.{ovn_fault, url_fault};
@@ -36,7 +36,7 @@ fn each_volume(alloc: Global, items: &[Value]) -> Result<Vec<Volume>, BodyFault>
     Ok(volumes)
 }
 
-// Whether all volumes together have at most 2,048 cells.
+// Returns true if the volumes have at most 2,048 cells in total.
 fn are_few_cells(volumes: &[Volume]) -> bool
     ensures { result ≡ are_few_cells volumes.now }
 {
@@ -51,7 +51,7 @@ fn are_few_cells(volumes: &[Volume]) -> bool
     true
 }
 
-// The volumes, from 1 to 32 with at most 2,048 cells in all.
+// Returns the volumes if they are 1 to 32 with at most 2,048 cells in total.
 fn few_volumes(alloc: Global, volumes: Vec<Volume>) -> Result<Volumes, BodyFault>
     ensures { Gives result (few_volumes volumes.items) }
 {
@@ -73,7 +73,7 @@ fn volumes_in(alloc: Global, value: &Value) -> Result<Volumes, BodyFault>
         return Err(BodyFault::Malformed);
     };
     let items = items.as_slice();
-    // what is too long is not copied
+    // Do not copy a list that is too long.
     if items.len() > 32 {
         return Err(BodyFault::Malformed);
     }
@@ -126,7 +126,7 @@ fn key_in(alloc: Global, value: &Value) -> Result<Key, BodyFault>
         return Err(BodyFault::Malformed);
     };
     let items = items.as_slice();
-    // what is too long is not copied
+    // Do not copy a list that is too long.
     if items.len() > 4096 {
         return Err(BodyFault::Malformed);
     }
@@ -198,7 +198,7 @@ fn url_in(alloc: Global, value: &Value) -> Result<BaseUrl, BodyFault>
     }
 }
 
-/// The address of a supplier.
+/// Returns the base URL of a USS.
 #[tactic(auto, unfolding(crate::specs::Put::url_of))]
 pub(crate) fn url_of(alloc: Global, value: &Value) -> Result<BaseUrl, BodyFault>
     ensures { Gives result (url_of (view value.now)) }
@@ -209,7 +209,7 @@ pub(crate) fn url_of(alloc: Global, value: &Value) -> Result<BaseUrl, BodyFault>
     }
 }
 
-/// What an entity of the kind is to be.
+/// Returns the put of an entity of the kind.
 #[tactic(auto, unfolding(crate::specs::Put::put_of))]
 pub(crate) fn put_of(alloc: Global, kind: Kind, value: &Value) -> Result<Put, BodyFault>
     ensures { Gives result (put_of kind (view value.now)) }

@@ -1,4 +1,4 @@
-//! What the setting of an availability says.
+//! The setting of an availability, from JSON.
 ghost use Rattle.std.specs.Prelude.{◌≡◌, option_map};
 ghost use Rattle.serde_json.specs.View.{view};
 ghost use Rattle.wire_body.specs.Body.{short_text_in, availability_of, old_version_of};
@@ -12,7 +12,7 @@ use entity_core::text::Text;
 use serde_json::Value;
 use std::alloc::Global;
 
-/// The availability that is set.
+/// Returns the new availability.
 #[tactic(auto, unfolding(crate::specs::Body::availability_of))]
 pub(crate) fn availability_of(value: &Value) -> Option<Availability>
     ensures { result ≡ availability_of (view value.now) }
@@ -44,7 +44,7 @@ fn text_of(alloc: Global, text: &str) -> Result<Text, BodyFault>
     }
 }
 
-/// The version that is replaced. An absent one is empty.
+/// Returns the version that the setting replaces. An absent one is empty.
 #[tactic(auto, unfolding(crate::specs::Body::old_version_of))]
 pub(crate) fn old_version_of(alloc: Global, value: &Value) -> Result<Text, BodyFault>
     ensures { Gives result (old_version_of (view value.now)) }

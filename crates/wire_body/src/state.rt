@@ -1,10 +1,10 @@
-//! States of operational intents by name.
+//! Names of the states of operational intents.
 ghost use Rattle.std.specs.Prelude.{◌≡◌};
 ghost use Rattle.wire_body.specs.State.{state_named};
 
 use entity_core::nature::State;
 
-/// The state of that name, with case.
+/// Returns the state with this name. Case matters.
 #[tactic(auto, unfolding(crate::specs::State::state_named))]
 pub(crate) fn state_named(name: &str) -> Option<State>
     ensures { result ≡ state_named name.now }

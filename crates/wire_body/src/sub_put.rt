@@ -1,4 +1,4 @@
-//! What a subscription is to be, from JSON.
+//! The put of a subscription, from JSON.
 ghost use Rattle.std.specs.Prelude.{◌≡◌};
 ghost use Rattle.serde_json.specs.View.{view};
 ghost use Rattle.wire_body.specs.Given.{Gives};
@@ -14,7 +14,7 @@ use policy_core::call::SubPut;
 use serde_json::Value;
 use std::alloc::Global;
 
-// A truth value. An absent one is false.
+// Returns a boolean. An absent one is false.
 #[tactic(auto, unfolding(crate::specs::SubPut::flag_of))]
 fn flag_of(value: &Value, name: &str) -> Option<bool>
     ensures { result ≡ flag_of name.now (view value.now) }
@@ -50,7 +50,7 @@ fn volume_of(alloc: Global, value: &Value) -> Result<Volume, BodyFault>
     }
 }
 
-/// What a subscription is to be.
+/// Returns the put of a subscription.
 #[tactic(auto, unfolding(crate::specs::SubPut::sub_put_of))]
 pub(crate) fn sub_put_of(alloc: Global, value: &Value) -> Result<SubPut, BodyFault>
     ensures { Gives result (sub_put_of (view value.now)) }

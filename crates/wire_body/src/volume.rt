@@ -77,7 +77,7 @@ fn times_of(value: &Value) -> Option<(u64, u64)>
     Some((start, end))
 }
 
-/// A volume: its cells, and its four bounds.
+/// Returns a volume with its cells and its four bounds.
 #[tactic(auto, unfolding(crate::specs::Volume::volume_in))]
 pub(crate) fn volume_in(alloc: Global, value: &Value) -> Result<Volume, BodyFault>
     ensures { Gives result (volume_in (view value.now)) }
@@ -113,7 +113,7 @@ fn time_bounds_of(value: &Value) -> Option<(Option<u64>, Option<u64>)>
     Some((start, end))
 }
 
-/// An area: its cells, and those of the four bounds that are there.
+/// Returns an area with its cells and those of the four bounds that are present.
 #[tactic(auto, unfolding(crate::specs::Volume::area_in))]
 pub(crate) fn area_in(alloc: Global, value: &Value) -> Result<Area, BodyFault>
     ensures { Gives result (area_in (view value.now)) }

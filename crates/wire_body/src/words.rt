@@ -1,4 +1,4 @@
-//! The words of a path.
+//! The parameters of a path.
 ghost use Rattle.std.specs.Prelude.{◌≡◌, option_map};
 ghost use Rattle.wire_body.specs.Body.{words_of, only_word, is_query, id_named, ovn_named, supplier_named};
 ghost use Rattle.wire_body.specs.Given.{Gives};
@@ -21,7 +21,7 @@ fn only_word<'a>(words: &PathWords<'a>) -> Option<&'a str>
     }
 }
 
-/// Whether the words are those of a query.
+/// Returns true if the only parameter is `query`.
 pub(crate) fn is_query(words: &PathWords<'_>) -> bool
     ensures { result ≡ is_query (words_of words.now) }
 {
@@ -31,7 +31,7 @@ pub(crate) fn is_query(words: &PathWords<'_>) -> bool
     }
 }
 
-/// The id that a text spells.
+/// Returns the id that a text represents.
 pub(crate) fn id_of(text: &str) -> Option<EntityId>
     ensures { result ≡ spelled text.now }
 {
@@ -41,14 +41,14 @@ pub(crate) fn id_of(text: &str) -> Option<EntityId>
     }
 }
 
-/// The id that the first word is.
+/// Returns the id in the first parameter.
 pub(crate) fn first_id(words: &PathWords<'_>) -> Option<EntityId>
     ensures { result ≡ spelled (words_of words.now).first }
 {
     id_of(words.first)
 }
 
-/// The id that the only word is.
+/// Returns the id in the only parameter.
 #[tactic(auto, unfolding(crate::specs::Body::id_named))]
 pub(crate) fn id_named(words: &PathWords<'_>) -> Option<EntityId>
     ensures { result ≡ id_named (words_of words.now) }
@@ -59,7 +59,7 @@ pub(crate) fn id_named(words: &PathWords<'_>) -> Option<EntityId>
     }
 }
 
-/// The OVN that the second word is.
+/// Returns the OVN in the second parameter.
 #[tactic(auto, unfolding(crate::specs::Body::ovn_named))]
 pub(crate) fn ovn_named(alloc: Global, words: &PathWords<'_>) -> Result<Ovn, BodyFault>
     ensures { Gives result (ovn_named (words_of words.now)) }
@@ -75,7 +75,7 @@ pub(crate) fn ovn_named(alloc: Global, words: &PathWords<'_>) -> Result<Ovn, Bod
     }
 }
 
-/// The supplier that the only word names.
+/// Returns the USS in the only parameter.
 #[tactic(auto, unfolding(crate::specs::Body::supplier_named))]
 pub(crate) fn supplier_named(alloc: Global, words: &PathWords<'_>) -> Result<UssId, BodyFault>
     ensures { Gives result (supplier_named (words_of words.now)) }

@@ -1,4 +1,4 @@
--- Visible characters are text.
+-- Lemmas: visible characters are valid UTF-8.
 use Rattle.std.proofs.Common.{◌≡◌, ◌<◌, ℕ, List, [], ◌∷◌, true, false, arith, refl, Bool, suc, zero}
 use Rattle.std.specs.Prelude.{◌&&◌}
 use Rattle.std.specs.List.{list_all}

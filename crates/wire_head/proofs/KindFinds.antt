@@ -1,4 +1,4 @@
--- From what the bytes so far say to the kind of the rest.
+-- Lemmas: from what the bytes so far say to the kind of the rest.
 use Rattle.std.proofs.Common.{◌≡◌, ℕ, ◌+◌, ◌-◌, ◌<◌, ◌≤◌, List, [], ◌++◌, length, take, drop, true, false, refl, sym, ap, subst, ◌∙◌, inl, inr, arith, cond, ◌∷◌}
 use Rattle.std.specs.Prelude.{◌==◌, ◌||◌}
 use Rattle.std.proofs.lemmas.List.{append-nil, length-append, take_all}
@@ -16,7 +16,7 @@ use Rattle.wire_head.specs.Rest.{has_line, has_feed, window, feeds, skip_ends, I
 use Rattle.wire_head.proofs.KindLaws.{feeds-append}
 use Rattle.wire_head.proofs.TargetLaws.{whole_line, not_never}
 
--- no whole head, and it is still open
+-- No head is complete, and one may still come.
 no_whole : (x : List ℕ) (fields : List HeaderSpan) (rest : List ℕ) → window rest ≡ x → IsSoFar x fields More → HasNoWhole rest
 no_whole x fields rest e (inl line) h (r, reads, few) =
     let yes : has_line x ≡ true = whole_line x h r (rw e at reads) in let bad : true ≡ false = sym yes ∙ line in cc

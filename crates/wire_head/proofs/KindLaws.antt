@@ -1,4 +1,4 @@
--- A rest is of one kind.
+-- Lemmas: a rest is of one kind.
 use Rattle.std.proofs.Common.{◌≡◌, ℕ, ◌+◌, ◌≤◌, List, [], ◌∷◌, ◌++◌, length, true, false, refl, sym, ap, ◌∙◌, inl, inr, arith, cond}
 use Rattle.std.specs.Prelude.{◌==◌, ◌||◌}
 use Rattle.std.specs.List.{flat_map}
@@ -90,7 +90,7 @@ open_many bytes (inl e) l n = let z : true ≡ false = sym l ∙ e in cc
 open_many bytes (inr (a, b)) l (inl over) = b (many_lines bytes over)
 open_many bytes (inr (a, b)) l (inr (may, many)) = b many
 
--- where no head can come, too many lines are too many fields
+-- If no head can come, too many lines mean too many fields.
 many_fields : (bytes : List ℕ) → NeverHasRequest bytes → HasManyFields bytes → RequestExceeds 64 bytes
 many_fields bytes never (inl over) = over
 many_fields bytes never (inr (may, many)) = absurd (may never)

@@ -1,4 +1,4 @@
--- Bytes that end inside a request target have no whole line.
+-- Lemmas: bytes that end inside a request target have no complete line.
 use Rattle.std.proofs.Common.{◌≡◌, ℕ, ◌<◌, List, [], ◌∷◌, ◌++◌, length, Bool, true, false, refl, sym, subst, ◌∙◌, append_assoc, inl, inr, arith}
 use Rattle.std.specs.Prelude.{◌==◌, ◌||◌}
 use Rattle.std.proofs.lemmas.Bool.{eqb-true}
@@ -41,12 +41,12 @@ pub target_line : (bytes : List ℕ) → EndsInTarget bytes → has_line bytes �
 target_line bytes (blank, method, target, token, uri, e) =
     rw (e, append_assoc) (blank_line blank (method ++ 32 ∷ target) (word_line method target token.0 token.1 uri))
 
--- where a line has ended and a head may come, it is not too late for one
+-- If a line has ended and a head may come, the grammar is not broken yet.
 pub not_never : (bytes : List ℕ) → has_line bytes ≡ true → MayBecomeRequest bytes → NeverHasRequest bytes → ⊥
 not_never bytes line (inl (more, h, reads)) never = never more h [] reads
 not_never bytes line (inr ends) never = let no_line : has_line bytes ≡ false = target_line bytes ends in let bad : true ≡ false = sym line ∙ no_line in cc
 
--- ---- a whole head has a line
+-- ---- a complete head has a line
 
 feed_right : (a b : List ℕ) → has_feed b ≡ true → has_feed (a ++ b) ≡ true
 feed_right [] b e = e

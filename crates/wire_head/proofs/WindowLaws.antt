@@ -1,4 +1,4 @@
--- What is known of the bytes so far stays known of the window of the whole input.
+-- Lemmas: what is known of the bytes so far holds for the window of the whole input.
 use Rattle.std.proofs.Common.{◌≡◌, ℕ, ◌+◌, ◌-◌, ◌≤◌, true, false, List, [], ◌∷◌, ◌++◌, length, take, refl, ap, ◌∙◌, append_assoc, arith, cond}
 use Rattle.std.specs.Prelude.{◌||◌, ◌==◌}
 use Rattle.std.proofs.Math.Seq.{take-append-add}

@@ -1,4 +1,4 @@
--- The fields of a head, as the list of their names and values. Names have no case.
+-- The fields of a head, as a list of names and values. Names are compared without case.
 use Rattle.std.specs.Prelude.{◌≡◌, ◌≤◌, ℕ, Bool, List, [], ◌∷◌, length, map, filter}
 use Rattle.std.specs.Str.{bytes_eq}
 use Rattle.std.specs.Char.{to_ascii_lowercase}
@@ -6,19 +6,19 @@ use Rattle.httparse.specs.Spans.{span_bytes}
 use Rattle.wire_head.specs.declared.fields.Occurrence.{Occurrence}
 use Rattle.wire_head.specs.declared.fields.Occurrence.TheVariants.{Absent, One, Many}
 
--- the name and the value of each field
+-- The name and the value of each field.
 abbrev pub Fields : Type 0
 Fields = List (List ℕ × List ℕ)
 
--- two texts are one, whatever the case of their letters
+-- Returns true if two texts are equal without case.
 abbrev pub is_same_word : List ℕ → List ℕ → Bool
 is_same_word word text = bytes_eq (map to_ascii_lowercase text) (map to_ascii_lowercase word)
 
--- the values of the fields of that name, in order
+-- The values of the fields with this name, in order.
 abbrev pub values_of : List ℕ → Fields → List (List ℕ)
 values_of name fields = map (λ f. f.1) (filter (λ f. is_same_word name f.0) fields)
 
--- what a search for the only field of a name finds in a buffer
+-- Holds if this is the result of a search for the only field of a name in a buffer.
 abbrev pub IsOccurrence : List ℕ → List (List ℕ) → Occurrence → Type 0
 IsOccurrence buffer values Absent = values ≡ []
 IsOccurrence buffer values (One span) = (values ≡ span_bytes buffer span ∷ [])

@@ -1,4 +1,4 @@
--- What was found at the front of an input.
+-- The head found at the front of an input.
 use Rattle.std.specs.Prelude.{◌≡◌, ℕ, List, ◌++◌, length}
 use Rattle.httparse.specs.declared.spans.HeaderSpan.{HeaderSpan}
 use Rattle.httparse.specs.declared.spans.RequestSpans.{RequestSpans}
@@ -8,7 +8,7 @@ use Rattle.wire_head.specs.declared.rest.FinalHead.{FinalHead}
 use Rattle.wire_head.specs.declared.rest.FinalHead.TheVariants.{Nothing, Part, Head, Bad, Large}
 use Rattle.wire_head.specs.Rest.{IsKind, nothing, cut, whole, bad, large}
 
--- the spans cover the parts of the head
+-- Holds if the spans cover the parts of the head.
 pub record Covers (buffer : List ℕ) (headers : List HeaderSpan) (spans : RequestSpans)
     (h : RequestHead) : Type 0 where
   pub len : spans.len ≡ length (print_request h)
@@ -17,8 +17,8 @@ pub record Covers (buffer : List ℕ) (headers : List HeaderSpan) (spans : Reque
   pub version : spans.version ≡ h.minor
   pub fields : AreFieldsAt buffer headers spans.headers h.fields
 
--- What stands in the buffer, with these bytes ahead of it, is of the kind that was found. A whole
--- head stands there whatever follows.
+-- Holds if the buffer, with these bytes after it, is of the kind that was found. A complete head
+-- stands there whatever follows.
 abbrev pub Finds : List ℕ → List ℕ → List HeaderSpan → FinalHead → Type 0
 Finds ahead buffer fields Nothing = IsKind (buffer ++ ahead) nothing
 Finds ahead buffer fields Part = IsKind (buffer ++ ahead) cut

@@ -1,4 +1,4 @@
--- How many bytes the body of a request has, by the fields of its head.
+-- The length of a request body, by the fields of the head.
 use Rattle.std.specs.Prelude.{ℕ, ◌&&◌, Bool, List, [], ◌∷◌, length, codes, if◌then◌else◌, nat_lt, nat_le, Result, Ok, Err}
 use Rattle.std.specs.List.{list_all}
 use Rattle.std.specs.Char.{is_ascii_digit}
@@ -7,24 +7,24 @@ use Rattle.wire_head.specs.declared.rule.WireRule.{WireRule}
 use Rattle.wire_head.specs.declared.rule.WireRule.TheVariants.{Transfer, Length, BodySize}
 use Rattle.wire_head.specs.Fields.{Fields, values_of}
 
--- a number is one or more decimal digits
+-- Returns true if the text is one or more decimal digits.
 abbrev pub is_number : List ℕ → Bool
 is_number text = nat_lt 0 (length text) && list_all is_ascii_digit text
 
--- a number of at most 1,048,576, whatever its count of digits
+-- The number, if it is at most 1,048,576. It can have any number of digits.
 abbrev pub told_length : List ℕ → Result ℕ WireRule
 told_length text =
     if is_number text
     then (if nat_le (digits_value 10 text) 1048576 then Ok (digits_value 10 text) else Err BodySize)
     else Err Length
 
--- none where no field tells it, and no two fields may tell it
+-- The length that one field gives. It is zero without such a field; two fields are an error.
 abbrev pub told_by : List (List ℕ) → Result ℕ WireRule
 told_by [] = Ok 0
 told_by (text ∷ []) = told_length text
 told_by (a ∷ b ∷ more) = Err Length
 
--- the first rule that is broken: no transfer coding, one length, and not too large
+-- The first broken rule: no transfer coding, one length, and at most the maximum.
 abbrev pub refuse_coded : List (List ℕ) → Result ℕ WireRule → Result ℕ WireRule
 refuse_coded [] told = told
 refuse_coded (a ∷ more) told = Err Transfer

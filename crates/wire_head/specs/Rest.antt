@@ -1,4 +1,4 @@
--- What the rest of an input is: one of five kinds, by its first 8,192 bytes and its length.
+-- The kind of the rest of an input, by its first 8,192 bytes and its length.
 use Rattle.std.specs.Prelude.{◌≡◌, ℕ, ◌+◌, ◌<◌, ◌≤◌, ◌⊎◌, Bool, true, false, ◌||◌, ◌==◌, if◌then◌else◌, List, [], ◌∷◌, length, take, drop, count_by}
 use Rattle.std.specs.List.{list_any}
 use Rattle.httparse.specs.declared.spans.HeaderSpan.{HeaderSpan}
@@ -9,57 +9,56 @@ use Rattle.wire_head.specs.declared.rest.PartialHead.TheVariants.{More, Head, Ba
 use Rattle.wire_head.specs.declared.rest.FinalHead.{FinalHead}
 use Rattle.wire_head.specs.declared.rest.FinalHead.TheVariants as found
 
--- a line feed is there
+-- Returns true if the bytes have a line feed.
 abbrev pub has_feed : List ℕ → Bool
 has_feed bytes = list_any (λ b. b == 10) bytes
 
--- a request line has ended: a line feed follows some byte other than CR and LF
+-- Returns true if a request line has ended: a line feed follows a byte other than CR and LF.
 abbrev pub has_line : List ℕ → Bool
 has_line [] = false
 has_line (b ∷ bytes) = if (b == 13 || b == 10) then has_line bytes else has_feed bytes
 
--- the bytes in which a head has to end
+-- The bytes in which a head has to end.
 abbrev pub window : List ℕ → List ℕ
 window rest = take 8192 rest
 
--- a whole head of at most 64 fields stands at the front
+-- Holds if a complete head of at most 64 fields stands at the front.
 abbrev pub IsWhole : List ℕ → RequestHead → Type 0
 IsWhole rest h = (more : List ℕ) × ReadsRequest (window rest) h more × (length h.fields ≤ 64)
 
 abbrev pub HasNoWhole : List ℕ → Type 0
 HasNoWhole rest = (h : RequestHead) → IsWhole rest h → ⊥
 
--- the bytes after a head
+-- The bytes after a head.
 abbrev pub after : RequestHead → List ℕ → List ℕ
 after h rest = drop (length (print_request h)) rest
 
--- the bytes after the empty lines at the front
+-- The bytes after the leading empty lines.
 abbrev pub skip_ends : List ℕ → List ℕ
 skip_ends [] = []
 skip_ends (b ∷ bytes) = if (b == 13 || b == 10) then skip_ends bytes else b ∷ bytes
 
--- how many line feeds there are
+-- The number of line feeds.
 abbrev pub feeds : List ℕ → ℕ
 feeds bytes = count_by (λ b. b == 10) bytes
 
--- the request line has ended, and more than 64 lines after it
+-- Holds if the request line and more than 64 lines after it have ended.
 abbrev pub HasManyLines : List ℕ → Type 0
 HasManyLines bytes = 64 + 2 ≤ feeds (skip_ends bytes)
 
--- Where a head has more than 64 fields, that many lines have ended.
+-- States that a head with more than 64 fields has that many lines.
 abbrev pub FieldsEndLines : Type 0
 FieldsEndLines = (bytes : List ℕ) → RequestExceeds 64 bytes → HasManyLines bytes
 
--- the head that stands there has more fields than that, or one that can still come has: its lines
--- are too many
+-- Holds if the head has more than 64 fields, or can still come and has too many lines for 64.
 abbrev pub HasManyFields : List ℕ → Type 0
 HasManyFields bytes = RequestExceeds 64 bytes ⊎ ((NeverHasRequest bytes → ⊥) × HasManyLines bytes)
 
--- the bytes can still begin a head, or no request line has ended
+-- Holds if the bytes can still begin a head, or if no request line has ended.
 abbrev pub IsOpen : List ℕ → Type 0
 IsOpen bytes = (has_line bytes ≡ false) ⊎ ((NeverHasRequest bytes → ⊥) × (HasManyLines bytes → ⊥))
 
--- nothing, a part of a head, a whole head, no head of the grammar, or a head that is too large
+-- The kind of a rest: nothing, part of a head, a complete head, no valid head, or too large a head.
 pub data Kind : Type 0 where
   nothing cut bad large : Kind
   whole : RequestHead → Kind
@@ -74,7 +73,8 @@ IsKind rest large =
     × HasManyFields (window rest)))
 IsKind rest cut = HasNoWhole rest × (0 < length rest) × (length rest < 8192) × IsOpen (window rest)
 
--- two kinds of a rest are one, but where it breaks the grammar and also has too many fields
+-- Holds if two kinds of a rest are equal. Both `bad` and `large` are right if the rest breaks the
+-- grammar and also has too many fields.
 abbrev pub AreSame : List ℕ → Kind → Kind → Type 0
 AreSame rest bad large = RequestExceeds 64 (window rest)
 AreSame rest large bad = RequestExceeds 64 (window rest)
@@ -90,7 +90,7 @@ AreSame rest large nothing = ⊥
 AreSame rest large cut = ⊥
 AreSame rest large (whole h) = ⊥
 
--- what the bytes so far say, with room for 64 fields
+-- Holds if this is what the bytes so far say of a head, with room for 64 fields.
 abbrev pub IsSoFar : List ℕ → List HeaderSpan → PartialHead → Type 0
 IsSoFar w fields More = (has_line w ≡ false) ⊎ ((has_line w ≡ true) × HasNoRequest w
     × MayBecomeRequest w)
@@ -100,7 +100,7 @@ IsSoFar w fields (Head spans) =
 IsSoFar w fields Bad = (has_line w ≡ true) × NeverHasRequest w
 IsSoFar w fields Large = (has_line w ≡ true) × RequestExceeds 64 w × RequestOverflows 64 w
 
--- the bytes at the end of the input
+-- Holds if this is what the bytes at the end of the input are.
 abbrev pub EndsAs : List ℕ → FinalHead → Type 0
 EndsAs bytes found.Nothing = bytes ≡ []
 EndsAs bytes found.Part = (0 < length bytes) × (HasManyLines bytes → ⊥)

@@ -1,4 +1,4 @@
--- The rules of the wire: their numbers, names and statuses.
+-- The protocol rules: their numbers, names and statuses.
 use Rattle.std.specs.Prelude.{ℕ, List, codes}
 use Rattle.wire_head.specs.declared.rule.WireRule.{WireRule}
 use Rattle.wire_head.specs.declared.rule.WireRule.TheVariants.{Head, HeadSize, Transfer, Length, BodySize}

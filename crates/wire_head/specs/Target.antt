@@ -2,6 +2,6 @@
 use Rattle.std.specs.Prelude.{◌==◌, ℕ, List}
 use Rattle.std.specs.List.{before_first}
 
--- the path of a target: what stands before the first question mark
+-- The path of a target: the bytes before the first question mark.
 abbrev pub path_of : List ℕ → List ℕ
 path_of target = before_first (λ b. b == 63) target

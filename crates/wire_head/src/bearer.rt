@@ -1,4 +1,4 @@
-//! The token that a request bears (RFC 6750, section 2.1).
+//! The bearer token of a request (RFC 6750, section 2.1).
 ghost use Rattle.std.specs.Prelude.{◌≡◌, ◌≤◌, length, map, All, codes, MatchOption, None, Some};
 ghost use Rattle.std.specs.List.{list_all};
 ghost use Rattle.std.specs.Char.{is_ascii_graphic};
@@ -8,7 +8,7 @@ ghost use Rattle.wire_head.specs.Bearer.{skip_spaces, visible, spaced, borne, be
 use crate::fields::{Occurrence, is_same_word, only};
 use httparse::spans::HeaderSpan;
 
-// What follows the spaces at the front.
+// Returns the bytes after the leading spaces.
 fn skip_spaces(bytes: &[u8]) -> &[u8]
     ensures { result.now ≡ skip_spaces bytes.now }
 {
@@ -22,14 +22,14 @@ fn skip_spaces(bytes: &[u8]) -> &[u8]
     left
 }
 
-// Whether each byte is a visible character of ASCII.
+// Returns true if each byte is a visible ASCII character.
 fn are_visible(text: &[u8]) -> bool
     ensures { result ≡ list_all is_ascii_graphic text.now }
 {
     text.iter().all(|b| b.is_ascii_graphic())
 }
 
-// The text, if it can be a token.
+// Returns the text if it can be a token.
 fn visible(text: &[u8]) -> Option<&str>
     ensures { MatchOption result (visible text.now ≡ None)
         (λ token. visible text.now ≡ Some token.now) }
@@ -43,7 +43,7 @@ fn visible(text: &[u8]) -> Option<&str>
     Some(token)
 }
 
-// The token that follows one or more spaces.
+// Returns the token after one or more spaces.
 fn spaced(bytes: &[u8]) -> Option<&str>
     ensures { MatchOption result (spaced bytes.now ≡ None)
         (λ token. spaced bytes.now ≡ Some token.now) }
@@ -55,7 +55,7 @@ fn spaced(bytes: &[u8]) -> Option<&str>
     visible(skip_spaces(rest))
 }
 
-// The token that a field's value bears.
+// Returns the token in the value of a field Authorization.
 fn borne(value: &[u8]) -> Option<&str>
     ensures { MatchOption result (borne value.now ≡ None)
         (λ token. borne value.now ≡ Some token.now) }
@@ -66,7 +66,8 @@ fn borne(value: &[u8]) -> Option<&str>
     spaced(&value[6..])
 }
 
-/// The token that the fields bear: exactly one field Authorization, of the scheme `Bearer`.
+/// Returns the bearer token, if exactly one field Authorization is present and has the scheme
+/// `Bearer`.
 pub fn bearer_token<'b>(buffer: &'b [u8], fields: &[HeaderSpan]) -> Option<&'b str>
     requires { All (IsHeaderWithin (length buffer.now)) fields.now }
     ensures { MatchOption result (bearer_token (map (header_bytes buffer.now) fields.now) ≡ None)

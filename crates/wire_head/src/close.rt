@@ -1,4 +1,4 @@
-//! What closes a connection (RFC 9112, section 9.6).
+//! Closing a connection (RFC 9112, section 9.6).
 ghost use Rattle.std.specs.Prelude.{◌≡◌, ◌≤◌, length, map, reverse, codes, All};
 ghost use Rattle.std.specs.List.{list_any};
 ghost use Rattle.httparse.specs.Grammar.{skip_ows, trim_ows};
@@ -9,7 +9,7 @@ ghost use Rattle.wire_head.specs.Close.{is_close, tells_close, closes_by};
 use crate::fields::is_same_word;
 use httparse::spans::HeaderSpan;
 
-// What follows the spaces and tabs at the front.
+// Returns the bytes after the leading spaces and tabs.
 fn skip_front(bytes: &[u8]) -> &[u8]
     ensures { result.now ≡ skip_ows bytes.now }
 {
@@ -23,7 +23,7 @@ fn skip_front(bytes: &[u8]) -> &[u8]
     left
 }
 
-// What stands before the spaces and tabs at the end.
+// Returns the bytes before the trailing spaces and tabs.
 fn skip_back(bytes: &[u8]) -> &[u8]
     ensures { result.now ≡ reverse (skip_ows (reverse bytes.now)) }
 {
@@ -37,28 +37,28 @@ fn skip_back(bytes: &[u8]) -> &[u8]
     left
 }
 
-// The bytes without the spaces and tabs at their ends.
+// Returns the bytes without leading and trailing spaces and tabs.
 fn trimmed(bytes: &[u8]) -> &[u8]
     ensures { result.now ≡ trim_ows bytes.now }
 {
     skip_back(skip_front(bytes))
 }
 
-// Whether a word of a list is `close`.
+// Returns true if an option is `close`.
 fn is_close(word: &[u8]) -> bool
     ensures { result ≡ is_close word.now }
 {
     is_same_word(trimmed(word), b"close")
 }
 
-// Whether `close` is one of the words of a list with commas.
+// Returns true if `close` is one of the comma-separated options.
 fn tells_close(value: &[u8]) -> bool
     ensures { result ≡ tells_close value.now }
 {
     value.split(|b| *b == b',').any(|word| is_close(word))
 }
 
-// Whether one of the fields Connection tells that the connection closes.
+// Returns true if a field Connection has the option `close`.
 fn fields_close(buffer: &[u8], fields: &[HeaderSpan]) -> bool
     requires { All (IsHeaderWithin (length buffer.now)) fields.now }
     ensures { result ≡ list_any tells_close
@@ -73,7 +73,7 @@ fn fields_close(buffer: &[u8], fields: &[HeaderSpan]) -> bool
     fields_close(buffer, rest)
 }
 
-/// Whether the connection closes after a request of that minor version and with these fields.
+/// Returns true if the connection closes after a request with this minor version and these fields.
 pub fn closes_connection(buffer: &[u8], minor: u8, fields: &[HeaderSpan]) -> bool
     requires { All (IsHeaderWithin (length buffer.now)) fields.now }
     ensures { result ≡ closes_by minor (map (header_bytes buffer.now) fields.now) }

@@ -5,25 +5,25 @@ ghost use Rattle.wire_head.specs.Fields.{values_of, IsOccurrence, is_same_word};
 
 use httparse::spans::{HeaderSpan, Span};
 
-/// What a search for the only field of a name finds.
+/// The result of a search for the only field of a name.
 #[derive(Clone, Copy)]
 pub(crate) enum Occurrence {
-    /// No field of the name.
+    /// No field has the name.
     Absent,
-    /// The value of the one field of the name.
+    /// The value of the only field with the name.
     One(Span),
-    /// Two or more.
+    /// Two or more fields have the name.
     Many,
 }
 
-/// Whether two texts are one, whatever the case of their letters.
+/// Returns true if two texts are equal without case.
 pub(crate) fn is_same_word(text: &[u8], word: &[u8]) -> bool
     ensures { result ≡ is_same_word word.now text.now }
 {
     text.eq_ignore_ascii_case(word)
 }
 
-/// The only field of a name.
+/// Searches for the only field with a name.
 pub(crate) fn only(buffer: &[u8], fields: &[HeaderSpan], name: &[u8]) -> Occurrence
     requires { All (IsHeaderWithin (length buffer.now)) fields.now }
     ensures { IsOccurrence buffer.now

@@ -1,4 +1,4 @@
-//! The length of a request's body.
+//! The length of a request body.
 ghost use Rattle.std.specs.Prelude.{◌≡◌, ◌≤◌, length, map, true, min, All, IfOk};
 ghost use Rattle.std.specs.List.{list_all};
 ghost use Rattle.std.specs.Char.{is_ascii_digit};
@@ -10,10 +10,10 @@ use crate::fields::{Occurrence, only};
 use crate::rule::WireRule;
 use httparse::spans::HeaderSpan;
 
-// The most bytes of a body.
+// The maximum length of a body, in bytes.
 const BODY_LIMIT: usize = 1_048_576;
 
-// The number that the digits write, up to one more than the limit.
+// Returns the number that the digits represent, capped at one more than the limit.
 fn capped(digits: &[u8]) -> usize
     requires { list_all is_ascii_digit digits.now ≡ true }
     ensures { result ≡ min (digits_value 10 digits.now) 1048577 }
@@ -27,14 +27,14 @@ fn capped(digits: &[u8]) -> usize
     total
 }
 
-// Whether each byte is a digit.
+// Returns true if each byte is a digit.
 fn are_digits(text: &[u8]) -> bool
     ensures { result ≡ list_all is_ascii_digit text.now }
 {
     text.iter().all(|b| b.is_ascii_digit())
 }
 
-// The length that a field's value tells.
+// Returns the length that the value of a field gives.
 fn told_length(text: &[u8]) -> Result<usize, WireRule>
     ensures { result ≡ told_length text.now }
 {
@@ -49,7 +49,9 @@ fn told_length(text: &[u8]) -> Result<usize, WireRule>
     }
 }
 
-/// The length of the body that follows a head with these fields, or the first rule that they break.
+/// Returns the length of the body after a head with these fields.
+///
+/// Returns the first rule that the fields break otherwise.
 pub fn content_length(buffer: &[u8], fields: &[HeaderSpan]) -> Result<usize, WireRule>
     requires { All (IsHeaderWithin (length buffer.now)) fields.now }
     ensures { result ≡ content_length (map (header_bytes buffer.now) fields.now) }

@@ -1,5 +1,4 @@
-//! What bytes say of the head of an HTTP/1.x request: whether one stands there whole, and what its
-//! fields tell.
+//! Heads of HTTP/1.x requests: whether one is complete, and what its fields say.
 #![tactic(auto)]
 
 pub mod bearer;

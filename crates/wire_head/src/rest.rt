@@ -1,49 +1,49 @@
-//! What the bytes so far say of a head, and what an input begins with.
+//! What bytes say of a head, before and at the end of the input.
 ghost use Rattle.std.specs.Prelude.{◌≡◌, length};
 ghost use Rattle.wire_head.specs.Rest.{has_feed, has_line, skip_ends, feeds, IsSoFar, EndsAs};
 
 use httparse::spans::{HeaderSpan, RequestSpans, parse_request};
 use httparse::{Error, Status};
 
-/// The most fields of a head.
+/// The maximum number of fields in a head.
 pub const FIELD_LIMIT: usize = 64;
 
 /// What the bytes so far say of a head.
 #[derive(Clone, Copy)]
 pub enum PartialHead {
-    /// Nothing yet.
+    /// Nothing yet: more bytes are needed.
     More,
-    /// A whole head.
+    /// The head is complete.
     Head(RequestSpans),
-    /// No bytes that follow can make it one.
+    /// No bytes that follow can make a valid head.
     Bad,
-    /// More fields than a head may have.
+    /// The head has more fields than allowed.
     Large,
 }
 
 /// What an input begins with.
 #[derive(Clone, Copy)]
 pub enum FinalHead {
-    /// Nothing: the input has ended.
+    /// The input is empty.
     Nothing,
-    /// A part of a head, and then the end of the input.
+    /// The input ends within a head.
     Part,
-    /// A whole head.
+    /// The head is complete.
     Head(RequestSpans),
-    /// No head of the grammar.
+    /// The input begins with no valid head.
     Bad,
-    /// A head that is too large.
+    /// The head is too large.
     Large,
 }
 
-// Whether a line feed is there.
+// Returns true if the bytes have a line feed.
 fn feed_in(bytes: &[u8]) -> bool
     ensures { result ≡ has_feed bytes.now }
 {
     bytes.iter().any(|b| *b == b'\n')
 }
 
-// Whether a request line has ended.
+// Returns true if a request line has ended.
 fn line_in(bytes: &[u8]) -> bool
     ensures { result ≡ has_line bytes.now }
 {
@@ -58,7 +58,7 @@ fn line_in(bytes: &[u8]) -> bool
     false
 }
 
-// The bytes after the empty lines at the front.
+// Returns the bytes after the leading empty lines.
 fn skip_ends(bytes: &[u8]) -> &[u8]
     ensures { result.now ≡ skip_ends bytes.now }
 {
@@ -72,14 +72,16 @@ fn skip_ends(bytes: &[u8]) -> &[u8]
     left
 }
 
-// How many line feeds there are.
+// Returns the number of line feeds.
 fn feeds_in(bytes: &[u8]) -> usize
     ensures { result ≡ feeds bytes.now }
 {
     bytes.iter().filter(|b| **b == b'\n').count()
 }
 
-/// What the bytes so far say. Nothing is judged before a request line has ended.
+/// Parses a head from the bytes so far. Returns `More` until a request line has ended.
+///
+/// `fields` must have `FIELD_LIMIT` elements.
 pub fn head_so_far(bytes: &[u8], fields: &mut [HeaderSpan]) -> PartialHead
     requires { length fields.old ≡ FIELD_LIMIT }
     ensures { IsSoFar bytes.now fields.new result }
@@ -95,7 +97,7 @@ pub fn head_so_far(bytes: &[u8], fields: &mut [HeaderSpan]) -> PartialHead
     }
 }
 
-/// What the bytes are where the input ends after them, and no head is whole or out of reach.
+/// Classifies the bytes at the end of the input, after parsing has returned `More`.
 pub fn at_end(bytes: &[u8]) -> FinalHead
     ensures { EndsAs bytes.now result }
 {

@@ -1,17 +1,17 @@
-//! The rules of the wire.
+//! The protocol rules.
 
-/// A rule of the wire that a request's head can break, in the order of the rules.
+/// A protocol rule that the head of a request can break, in the order of evaluation.
 #[derive(Clone, Copy, Debug, PartialEq, Eq)]
 pub enum WireRule {
-    /// The bytes are no head of the grammar.
+    /// The head must follow the grammar.
     Head,
-    /// The head is over 8,192 bytes or 64 fields.
+    /// The head must have at most 8,192 bytes and 64 fields.
     HeadSize,
-    /// There is a field Transfer-Encoding, which is not taken.
+    /// The head must have no field Transfer-Encoding, which is not supported.
     Transfer,
-    /// The length of the body is told twice, or is no number.
+    /// The length of the body must be given at most once, and as a number.
     Length,
-    /// The body is over 1,048,576 bytes.
+    /// The body must have at most 1,048,576 bytes.
     BodySize,
 }
 
@@ -19,7 +19,7 @@ impl WireRule {
     ghost use Rattle.std.specs.Prelude.{◌≡◌};
     ghost use Rattle.wire_head.specs.Rule.{number_of, name_of, status_of};
 
-    /// Its number, from 1 to 5.
+    /// Returns the number of the rule, from 1 to 5.
     pub fn number(self) -> u8
         ensures { result ≡ number_of self }
     {
@@ -32,7 +32,7 @@ impl WireRule {
         }
     }
 
-    /// Its name, as an answer shows it.
+    /// Returns the name of the rule, as a response shows it.
     pub fn name(self) -> &'static str
         ensures { result.now ≡ name_of self }
     {
@@ -45,7 +45,7 @@ impl WireRule {
         }
     }
 
-    /// The status of its answer.
+    /// Returns the HTTP status of the response.
     pub fn status(self) -> u16
         ensures { result ≡ status_of self }
     {

@@ -2,7 +2,7 @@
 ghost use Rattle.std.specs.Prelude.{◌≡◌};
 ghost use Rattle.wire_head.specs.Target.{path_of};
 
-/// The path of a request target: what stands before the first `?`.
+/// Returns the path of a request target: the text before the first `?`.
 pub fn path_of(target: &str) -> &str
     ensures { result.now ≡ path_of target.now }
 {

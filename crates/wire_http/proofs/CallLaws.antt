@@ -1,4 +1,4 @@
--- From the parts of a request to the call that it makes.
+-- Lemmas: from the parts of a request to its call.
 use Rattle.std.proofs.Common.{◌≡◌, ℕ, ◌+◌, ◌-◌, List, take, drop, map, ap, subst, ◌∙◌, Option, arith}
 use Rattle.httparse.specs.declared.spans.HeaderSpan.{HeaderSpan}
 use Rattle.httparse.specs.declared.spans.RequestSpans.{RequestSpans}

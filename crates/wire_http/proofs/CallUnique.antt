@@ -1,4 +1,4 @@
--- A rest has at most one request next, and a request makes at most one call.
+-- Lemmas: a rest has at most one next request, and a request makes at most one call.
 use Rattle.std.proofs.Common.{◌≡◌, ℕ, List, length, take, sym, ap, subst, ◌∙◌, refl, Option, Some, None, Ok, inl, inr}
 use Rattle.httparse.specs.Grammar.{RequestHead}
 use Rattle.policy_core.specs.declared.call.Call.{Call}

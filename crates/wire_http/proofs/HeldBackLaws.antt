@@ -1,4 +1,4 @@
--- Of the bytes that are not sent yet: those that may be sent, and those that are held back.
+-- Lemmas: the unsent bytes, split into those that may be sent and the deferred ones.
 use Rattle.std.proofs.Common.{◌≡◌, ℕ, ◌+◌, ◌-◌, ◌≤◌, List, ◌++◌, length, take, drop, false, refl, sym, ap, subst, ◌∙◌, Option, Some, None, arith}
 use Rattle.std.specs.Option.{ForSome}
 use Rattle.std.specs.Prelude.{is_some, option_map}
@@ -12,7 +12,7 @@ use Rattle.wire_http.specs.DeferredResponse.{StandsWithin, before_last, last_alo
 use Rattle.wire_http.specs.Text.{response_text}
 use Rattle.wire_http.proofs.StepLaws.{unsent_more}
 
--- after so many bytes more, what is before the last answer is so many fewer
+-- Sending `count` bytes removes them from the front of the bytes before the last response.
 pub ready_sent : (sent count : ℕ) (answers : List ℕ) (last : Option DeferredResponse) → count ≤ length (before_last sent (drop sent answers) last)
     → before_last (sent + count) (drop (sent + count) answers) last ≡ drop count (before_last sent (drop sent answers) last)
 ready_sent sent count answers None fits = sym (drop-drop count sent answers)
@@ -23,13 +23,13 @@ ready_sent sent count answers (Some last) fits =
     ∙ sym (drop-take count (last.start - (sent + count)) (drop sent answers))
     ∙ ap (λ n. drop count (take n (drop sent answers))) (sym parts)
 
--- the bytes before the last answer, which is cut off
+-- The unsent bytes before the last response, which is cut off.
 pub cut_off : (sent start : ℕ) (answers : List ℕ) → sent ≤ start → drop sent (take start answers) ≡ take (start - sent) (drop sent answers)
 cut_off sent start answers fits =
     let parts : start ≡ sent + (start - sent) = omega (arith, fits) in
     ap (λ n. drop sent (take n answers)) parts ∙ drop-take sent (start - sent) answers
 
--- what was to be sent is before an answer that was put behind it
+-- The unsent bytes come before a response that is appended to them.
 pub ready_then : (sent start : ℕ) (p q t : List ℕ) → sent ≤ length p → start ≡ length p → q ≡ p ++ t → take (start - sent) (drop sent q) ≡ drop sent p
 ready_then sent start p q t fits s e =
     ap (λ n. take (n - sent) (drop sent q)) s
@@ -37,7 +37,7 @@ ready_then sent start p q t fits s e =
     ∙ ap (λ n. take n (drop sent p ++ t)) (sym (length-drop sent p))
     ∙ take-append_seam (drop sent p) t
 
--- the last answer is cut off, and another is put in its place or none
+-- The last response is cut off, and another one or none takes its place.
 pub cut_then : (sent start : ℕ) (answers cut q t : List ℕ) → sent ≤ start → start ≤ length answers → cut ≡ take start answers → q ≡ cut ++ t
     → drop sent q ≡ take (start - sent) (drop sent answers) ++ t
 cut_then sent start answers cut q t behind within d w =
@@ -58,7 +58,7 @@ module _ (sent : ℕ) (answers cut q : List ℕ) (back : Option DeferredResponse
       subst (λ (v : Option DeferredResponse). drop sent q ≡ before_last sent (drop sent answers) v) (sym is)
       (ap (λ v. drop sent v) (w ∙ d) ∙ cut_off sent last.start answers within.0)
 
--- ---- of a connection
+-- ---- connections
 
 both : (sent : ℕ) (output : List ℕ) (last : Option DeferredResponse) → before_last sent output last ++ last_alone sent output last ≡ output
 both sent output None = append-nil output
@@ -68,13 +68,13 @@ none_back : (sent : ℕ) (output : List ℕ) (last : Option DeferredResponse) �
 none_back sent output None e = refl
 none_back sent output (Some last) e = let no : ⊥ = cc in absurd no
 
--- where none is held back, all may be sent
+-- Without a deferred response, all unsent bytes may be sent.
 pub all_ready : (c : Connection) → holds_back c ≡ false → ready_of c ≡ output_of c
 all_ready c e = none_back c.sent (output_of c) c.held_back e
 
 pub ready_and_back : (c : Connection) → ready_of c ++ held_back_of c ≡ output_of c
 ready_and_back c = both c.sent (output_of c) c.held_back
 
--- the first of the bytes that may be sent are the first of all
+-- The first bytes that may be sent are the first unsent bytes.
 pub ready_first : (c : Connection) (n : ℕ) → n ≤ length (ready_of c) → take n (output_of c) ≡ take n (ready_of c)
 ready_first c n fits = ap (λ v. take n v) (sym (ready_and_back c)) ∙ take-append-le n (ready_of c) (held_back_of c) fits

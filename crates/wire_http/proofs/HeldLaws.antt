@@ -1,4 +1,4 @@
--- From what was found in the first of the held bytes to what all of them give.
+-- Lemmas: from what the first buffered bytes give to what all of them give.
 use Rattle.std.proofs.Common.{◌≡◌, ℕ, ◌+◌, ◌-◌, ◌<◌, ◌≤◌, List, [], ◌∷◌, ◌++◌, length, take, drop, map, Bool, true, false, Option, Result, refl, sym, ap, subst, ◌∙◌, append_assoc, Ok, Err, cond, inl, inr, arith}
 use Rattle.std.specs.Prelude.{IsUtf8, OnErr, OnOk, codes, min, nat_le}
 use Rattle.std.specs.Str.Parse.{digits_value}
@@ -33,14 +33,14 @@ use Rattle.wire_head.proofs.KindFinds.{kind_bad, kind_large, kind_full, kind_end
 use Rattle.wire_http.proofs.KnownBytes.{known_end, rest_at}
 use Rattle.wire_http.proofs.NextLaws.{refused, ended, taken, same_head, span_more}
 
--- a head stands there, whatever follows
+-- Holds if the buffer begins with this head, whatever follows.
 abbrev StandsIn : List ℕ → RequestHead → Type 0
 StandsIn buffer h = (later : List ℕ) → IsKind (buffer ++ later) (whole h)
 
 parts : (bytes front : List ℕ) → front ≡ window bytes → bytes ≡ front ++ drop 8192 bytes
 parts bytes front e = sym (ap (λ v. v ++ drop 8192 bytes) e ∙ take-append-drop 8192 bytes)
 
--- the first bytes, as many as there are up to 8,192
+-- The first bytes, up to 8,192.
 pub front_is : (bytes : List ℕ) (n : ℕ) → n ≡ min (length bytes) 8192 → take n bytes ≡ window bytes
 front_is bytes n e =
     elim (cases_lt (length bytes) 8192) [
@@ -54,7 +54,7 @@ front_short bytes front e = omega (arith, ap length e, length-take 8192 bytes)
 pub front_fits : (bytes front : List ℕ) → front ≡ window bytes → length front ≤ length bytes
 front_fits bytes front e = omega (arith, ap length e, length-take 8192 bytes)
 
--- what stops the front stops all
+-- If the first bytes stop the stream, all of them do.
 pub stops : (bytes front : List ℕ) (over : Bool) (fields : List HeaderSpan) (end : End) → front ≡ window bytes
     → ((ahead : List ℕ) → StopsAs (front ++ ahead) end) → IsHeld bytes over fields (Gives (Stop end))
 stops bytes front over fields end e h = λ later may.
@@ -83,7 +83,7 @@ held_cut bytes front over fields spans size e is short told h x c = λ later may
 same_size : (r : Result ℕ WireRule) (a b : ℕ) → r ≡ Ok a → r ≡ Ok b → a ≡ b
 same_size r a b p q = cc
 
--- a length that is told is at most that of the greatest body
+-- A valid length is at most the maximum length of a body.
 told_most_by : (a b : List (List ℕ)) (n : ℕ) → refuse_coded a (told_by b) ≡ Ok n → n ≤ 1048576
 told_most_by (a ∷ more) b n h = let no : ⊥ = cc in absurd no
 told_most_by [] [] n h = let e : 0 ≡ n = cc in omega (arith, e)
@@ -100,7 +100,7 @@ told_most_by [] (text ∷ []) n h =
 told_most : (fields : Fields) (n : ℕ) → content_length fields ≡ Ok n → n ≤ 1048576
 told_most fields n h = told_most_by (values_of (codes "transfer-encoding") fields) (values_of (codes "content-length") fields) n h
 
--- a head and its body are at most so many bytes
+-- A head and its body have at most the maximum number of buffered bytes.
 pub most_wanted : (bytes front : List ℕ) (fields : List HeaderSpan) (spans : RequestSpans) (size : ℕ) → front ≡ window bytes
     → IsRequestWithin front fields spans → content_length (map (header_bytes front) (take spans.headers fields)) ≡ Ok size
     → spans.len + size ≤ 1056768
@@ -155,7 +155,7 @@ held_fits bytes front fields spans size e within text fits =
       fits,
     )
 
--- ---- no whole head
+-- ---- no complete head
 
 no_request : (bytes front : List ℕ) (fields : List HeaderSpan) → front ≡ window bytes → IsSoFar front fields More → HasNoRequest bytes
 no_request bytes front fields e (inl line) h body r =
@@ -194,7 +194,7 @@ held_full bytes front over fields e full part =
 
 -- ---- the end of the input
 
--- how the stream stops by what the bytes are at the end
+-- Holds if this is how the stream ends, given what the bytes at the end are.
 abbrev pub Stops : FinalHead → End → Type 0
 Stops found.Nothing end = end ≡ ends.End
 Stops found.Part end = end ≡ ends.Cut
@@ -222,9 +222,9 @@ is_cut f e = subst (λ (v : FinalHead). Stops v ends.Cut) (sym e) refl
 pub is_large : (f : FinalHead) → f ≡ found.Large → Stops f (ends.Wire rules.HeadSize)
 is_large f e = subst (λ (v : FinalHead). Stops v (ends.Wire rules.HeadSize)) (sym e) refl
 
--- ---- bytes that come
+-- ---- bytes that arrive
 
--- none is held below so many, also as more come, or none for want of memory
+-- If no request is complete below a number of bytes, none is after more bytes arrive.
 below_more : (old new more : List ℕ) (count : ℕ) → new ≡ old ++ more → HasNoneBelow old count → HasNoneBelow new count
 below_more old new more count e none = λ later.
     subst (λ (v : List ℕ). length v < count → HasNoRequest v) (sym (append_assoc old more later) ∙ ap (λ v. v ++ later) (sym e)) (none (more ++ later))
@@ -239,20 +239,20 @@ pub room_put : {X E : Type 0} (old new more : List ℕ) (most : ℕ) (r : Result
 room_put old new more most (Ok x) put same fits room = omega (arith, ap length put, length-append old more, fits, room)
 room_put old new more most (Err e) put same fits room = omega (arith, ap length same, fits)
 
--- none is held where the bytes are fewer
+-- No request is complete if there are fewer bytes.
 pub none_here : (bytes : List ℕ) (count : ℕ) → HasNoneBelow bytes count → length bytes < count → HasNoRequest bytes
 none_here bytes count none fewer =
     subst (λ (v : List ℕ). HasNoRequest v) (append-nil bytes) (none [] (omega (arith, fewer, ap length (append-nil bytes))))
 
 -- ---- with a reader
 
--- what is held is so whatever the reader gives next
+-- What the buffered bytes give does not depend on what the reader gives next.
 pub held_known : (bytes ahead : List ℕ) (fields : List HeaderSpan) (r : BufferState) (n : Next) → r ≡ Gives n → IsHeld bytes false fields r → IsNext ahead bytes fields n
 held_known bytes ahead fields r n e h =
     let x : IsHeld bytes false fields (Gives n) = subst (λ (v : BufferState). IsHeld bytes false fields v) e h in
     x ahead (λ over. let no : ⊥ = cc in absurd no)
 
--- and where it has ended
+-- The same holds after the reader has ended.
 pub held_ended : (bytes : List ℕ) (remaining : Option (List ℕ)) (fields : List HeaderSpan) (n : Next) → IsAtEnd remaining → IsHeld bytes true fields (Gives n)
     → IsNext (known_bytes remaining) bytes fields n
 held_ended bytes remaining fields n over h = h (known_bytes remaining) (λ _. known_end remaining over)

@@ -1,4 +1,4 @@
--- How a connection stays served, one thing after the other.
+-- Lemmas: a connection stays served from step to step.
 use Rattle.std.proofs.Common.{◌≡◌, ℕ, suc, ◌-◌, ◌≤◌, List, [], ◌∷◌, ◌++◌, length, take, drop, false, refl, sym, ap, subst, ◌∙◌, append_assoc, arith}
 use Rattle.std.specs.Prelude.{◌==◌}
 use Rattle.std.specs.List.{concat}
@@ -66,7 +66,7 @@ module _ (callers : Callers) where
     goes_on = d ∙ s.goes_on;
   }
 
--- ---- an answer that is held back
+-- ---- a deferred response
 
 pub back_rests : (all : List RequestCall) (replies : List Reply) (asked : RequestCall) (sent : List ℕ) (c c' : Connection) → HoldsBackLast all replies asked sent c
     → slot_of c' ≡ slot_of c → ready_of c' ≡ ready_of c → HoldsBackLast all replies asked sent c'
@@ -98,7 +98,7 @@ served_replaced callers came all replies asked reply other sent c c' s h held ou
 none_came : (came : List ℕ) → [] ≡ came ++ [] → came ≡ []
 none_came came e = sym (e ∙ append-nil came)
 
--- a request that was asked at one clock, at a moment that is any
+-- A request made at one clock is also made at a clock with any time.
 any_moment : {M : Type 0} (Gives : M → ℕ → M → Type 0) (callers : Callers) (rest : List ℕ) (clock clock' : M) (a : RequestCall) (next : List ℕ)
     → AsksCall Gives callers rest clock a next clock' → AsksCall AnyMoment callers rest tt a next tt
 any_moment Gives callers rest clock clock' a next h = record { body = h.body; request = h.request; call = h.call; moment = tt; next_is = h.next_is }
@@ -153,7 +153,7 @@ module _ {S M : Type 0} (g : Ghosts S) (Gives : M → ℕ → M → Type 0) (cal
   served_step came all replies sent (steps.Answered n) c c' s h = served_answered came all replies sent n c c' s h
   served_step came all replies sent (steps.Ended end) c c' s h = λ later may. served_whole came all replies sent end c c' s h later may
 
--- one call more in the list of all
+-- Adds one more call to the list of all calls.
 pub one_more_call : {S : Type 0} (g : Ghosts S) (old new first : Service S) (cs : List TimedCall) (rs : List Reply) (c : TimedCall) (r : Reply)
     → Answered g first cs rs old → IsReplyTo g old new c.0 c.1 r → Answered g first (cs ++ c ∷ []) (rs ++ r ∷ []) new
 one_more_call g old new first cs rs c r h is_reply =

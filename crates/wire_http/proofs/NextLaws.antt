@@ -1,4 +1,4 @@
--- From what was found at the front of the rest to the next request.
+-- Lemmas: from what was found at the front of the rest to the next request.
 use Rattle.std.proofs.Common.{◌≡◌, ℕ, ◌+◌, ◌-◌, ◌<◌, ◌≤◌, List, [], ◌∷◌, ◌++◌, length, take, drop, map, All, refl, sym, ap, subst, ◌∙◌, Ok, Err, inr, true, false, cond, arith}
 use Rattle.std.specs.Prelude.{nat_le, codes}
 use Rattle.std.specs.Str.Parse.{digits_value}
@@ -23,12 +23,12 @@ use Rattle.wire_http.specs.Next.{IsNext, body_at}
 use Rattle.wire_head.proofs.KindLaws.{one_kind}
 use Rattle.wire_http.proofs.KnownBytes.{rest_at}
 
--- ---- a head, and its body
+-- ---- a head and its body
 
 pub same_head : (rest : List ℕ) (h k : RequestHead) → IsKind rest (whole h) → IsKind rest (whole k) → k ≡ h
 same_head rest h k x y = let e : whole k ≡ whole h = one_kind rest (whole h) (whole k) x y in cc
 
--- the fields of a head break none but the last three rules
+-- The fields of a head break only the last three rules.
 not_told : (a b : List (List ℕ)) (e : WireRule) → (rules.Transfer ≡ e → ⊥) → (rules.Length ≡ e → ⊥) → (rules.BodySize ≡ e → ⊥)
     → refuse_coded a (told_by b) ≡ Err e → ⊥
 not_told (a ∷ more) b e transfer length size h = transfer cc
@@ -56,12 +56,12 @@ breaks_told rest rules.Transfer r = r
 breaks_told rest rules.Length r = r
 breaks_told rest rules.BodySize r = r
 
--- the length that the spans tell is the length that the head tells
+-- The length from the spans is the length from the head.
 told_by_head : (buffer : List ℕ) (fields : List HeaderSpan) (spans : RequestSpans) (h : RequestHead) → Covers buffer fields spans h
     → content_length (map (header_bytes buffer) (take spans.headers fields)) ≡ content_length (fields_of h)
 told_by_head buffer fields spans h c = ap content_length c.fields
 
--- a head stands there, whatever follows
+-- Holds if the buffer begins with this head, whatever follows.
 abbrev StandsIn : List ℕ → RequestHead → Type 0
 StandsIn buffer h = (later : List ℕ) → IsKind (buffer ++ later) (whole h)
 

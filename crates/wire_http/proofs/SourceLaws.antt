@@ -1,4 +1,4 @@
--- One reading after another.
+-- Lemmas: successive reads.
 use Rattle.std.proofs.Common.{List, ℕ, Option, Result, Ok, Err, arith}
 use Rattle.std.proofs.lemmas.Grind.{common_steps}
 use Rattle.wire_http.specs.declared.fault.StreamFault.{StreamFault}

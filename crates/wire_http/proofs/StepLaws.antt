@@ -1,4 +1,4 @@
--- From what was found, asked and answered to what one step of a connection does.
+-- Lemmas: from what was found, called and replied to what one step of a connection does.
 use Rattle.std.proofs.Common.{◌≡◌, ℕ, zero, suc, ◌<◌, ◌≤◌, List, [], ◌++◌, length, drop, Bool, refl, sym, ap, subst, ◌∙◌, Option, Some, arith}
 use Rattle.std.proofs.lemmas.List.{append-nil, drop-append-le}
 use Rattle.httparse.specs.declared.spans.HeaderSpan.{HeaderSpan}
@@ -29,21 +29,21 @@ use Rattle.wire_http.specs.Reply.{Replies, RepliesPart}
 use Rattle.wire_http.specs.Stop.{StopsAs}
 use Rattle.wire_http.specs.Wire.{RequestCall, Finishes}
 
--- nothing came
+-- No bytes arrived.
 pub came_none : (x : List ℕ) → BufferGrew (Some []) (Some []) x x
 came_none x = ([], sym (append-nil x), refl)
 
--- what is held is so with nothing ahead
+-- What the buffered bytes give holds without bytes after them.
 pub held_next : (bytes : List ℕ) (over : Bool) (fields : List HeaderSpan) (n : Next) → IsHeld bytes over fields (Gives n) → IsNext [] bytes fields n
 held_next bytes over fields n h = h [] (λ _. refl)
 
--- it stops the stream, whatever may still come
+-- The buffered bytes stop the stream, whatever may still arrive.
 pub held_stops : (bytes : List ℕ) (over : Bool) (fields : List HeaderSpan) (r : BufferState) (n : Next) (end : End) → r ≡ Gives n → n ≡ Stop end
     → IsHeld bytes over fields r → (later : List ℕ) → MayCome over later → StopsAs (bytes ++ later) end
 held_stops bytes over fields r n end e f h later may =
     let x : IsHeld bytes over fields (Gives (Stop end)) = subst (λ (v : Next). IsHeld bytes over fields (Gives v)) f (subst (λ (v : BufferState). IsHeld bytes over fields v) e h) in x later may
 
--- what was found there is held so
+-- The buffered bytes begin with the request that was found.
 pub held_request : (bytes : List ℕ) (over : Bool) (fields : List HeaderSpan) (r : BufferState) (n : Next) (spans : RequestSpans) (size : ℕ) → r ≡ Gives n → n ≡ Request spans size
     → IsHeld bytes over fields r → IsHeld bytes over fields (Gives (Request spans size))
 held_request bytes over fields r n spans size e f h = subst (λ (v : Next). IsHeld bytes over fields (Gives v)) f (subst (λ (v : BufferState). IsHeld bytes over fields v) e h)
@@ -56,7 +56,7 @@ pub finishes : (n : ℕ) (rest : List ℕ) (end : End) → 0 < n → StopsAs res
 finishes zero rest end some h = absurd (omega (arith, some))
 finishes (suc n) rest end some h = h
 
--- what was put behind the pending bytes stands behind those that are not sent
+-- Appended bytes come after the unsent ones.
 pub unsent_more : (sent : ℕ) (p q t : List ℕ) → sent ≤ length p → q ≡ p ++ t → drop sent q ≡ drop sent p ++ t
 unsent_more sent p q t fits e = ap (λ v. drop sent v) e ∙ drop-append-le sent p t fits
 
@@ -70,12 +70,12 @@ module _ {S : Type 0} (g : Ghosts S) (old new : Service S) (moment : ℕ) (call 
 abbrev slot : Option Endpoint → Bool → Slot
 slot endpoint closing = record { endpoint = endpoint; closing = closing }
 
--- what is held back answers a request at that place
+-- The deferred response answers the request at that endpoint.
 pub slot_is : (asked : RequestCall) (endpoint : Option Endpoint) (closing : Bool) → asked.endpoint ≡ endpoint → asked.closing ≡ closing
     → Some (slot endpoint closing) ≡ Some (slot_for asked)
 slot_is asked endpoint closing e f = ap (λ v. Some (slot v closing)) (sym e) ∙ ap (λ v. Some (slot asked.endpoint v)) (sym f)
 
--- what is noted is of that request and its reply
+-- The recorded information is about that request and its reply.
 pub noted_is : (asked : RequestCall) (reply made : Reply) (endpoint : Option Endpoint) (kind : Option OpKind) (method : List ℕ) (call : Call) (outcome : Outcome)
     → asked.endpoint ≡ endpoint → asked.call ≡ call → reply ≡ made → kind ≡ kind_asked endpoint method → method ≡ asked.head.method → outcome ≡ outcome_of made
     → Some (noted_as kind call outcome) ≡ Some (noted_for asked reply)
@@ -85,7 +85,7 @@ noted_is asked reply made endpoint kind method call outcome p c r k m o =
     ∙ ap (λ v. Some (noted_as (kind_asked asked.endpoint asked.head.method) v outcome)) (sym c)
     ∙ ap (λ v. Some (noted_as (kind_asked asked.endpoint asked.head.method) asked.call v)) (o ∙ ap outcome_of (sym r))
 
--- a clock that failed did so once
+-- A clock that failed did so once.
 pub clock_failed : (fault : StreamFault) (failures failures' : ℕ) → GaveUpAsking fault failures failures'
     → fault ≡ faults.Clock → failures' ≡ one_more failures
 clock_failed faults.Clock failures failures' gave e = gave

@@ -1,4 +1,4 @@
--- A rest stops a stream in one way, and not where a request stands.
+-- Lemmas: a rest stops a stream in only one way, and not if it begins with a request.
 use Rattle.std.proofs.Common.{◌≡◌, ℕ, zero, suc, ◌<◌, ◌≤◌, List, length, take, refl, sym, ap, subst, ◌∙◌, Result, Ok, Err, inl, inr, arith}
 use Rattle.std.proofs.lemmas.List.{length-take}
 use Rattle.httparse.specs.Grammar.{RequestHead}
@@ -13,12 +13,12 @@ use Rattle.wire_http.specs.Stop.{StopsAs, HasRefused, AreSameEnds}
 use Rattle.wire_http.specs.Wire.{IsRequest, Finishes}
 use Rattle.wire_head.proofs.KindLaws.{one_kind}
 
--- the end that the length of a body tells, where so many bytes follow the head
+-- Holds if this is the end for the length of a body, given the number of bytes after the head.
 abbrev IsTold : ℕ → Result ℕ WireRule → End → Type 0
 IsTold there (Ok size) end = (end ≡ ends.Cut) × (there < size)
 IsTold there (Err rule) end = end ≡ ends.Wire rule
 
--- the end that the kind of a rest tells
+-- Holds if this is the end for the kind of the rest.
 abbrev IsEndAt : List ℕ → Kind → End → Type 0
 IsEndAt rest nothing end = end ≡ ends.End
 IsEndAt rest cut end = end ≡ ends.Cut
@@ -77,7 +77,7 @@ pub one_finish : (n : ℕ) (rest : List ℕ) (end other : End) → Finishes n re
 one_finish zero rest end other x y = inl (y ∙ sym x)
 one_finish (suc n) rest end other x y = one_stop rest end other x y
 
--- ---- a request is no stop
+-- ---- a request does not stop the stream
 
 short_body : (rest : List ℕ) (h : RequestHead) (body : List ℕ) → take (length body) (after h rest) ≡ body → length body ≤ length (after h rest)
 short_body rest h body e = let n = ap length e in omega (arith, n, length-take (length body) (after h rest))

@@ -1,4 +1,4 @@
--- From the turns of a stream to what was served of it.
+-- Lemmas: from the turns of a stream to what was served of it.
 use Rattle.std.proofs.Common.{◌≡◌, ℕ, zero, suc, ◌+◌, ◌-◌, ◌<◌, ◌≤◌, List, [], ◌∷◌, ◌++◌, length, take, map, refl, sym, ap, subst, ◌∙◌, append_assoc, Option, inl, inr, arith}
 use Rattle.std.specs.Prelude.{◌==◌}
 use Rattle.std.specs.List.{concat}
@@ -27,7 +27,7 @@ use Rattle.wire_http.proofs.KnownBytes.{Appends_more, Appends_nil, Consumes_more
 length_more : {X Y : Type 0} (xs : List X) (ys : List Y) (x : X) (y : Y) → length xs ≡ length ys → length (xs ++ x ∷ []) ≡ length (ys ++ y ∷ [])
 length_more xs ys x y h = omega (arith, h, length-append xs (x ∷ []), length-append ys (y ∷ []))
 
--- ---- the texts
+-- ---- response texts
 
 pub answers_more : (all : List RequestCall) (replies : List Reply) (a : RequestCall) (r : Reply) → length replies ≡ length all
     → answers (all ++ a ∷ []) (replies ++ r ∷ []) ≡ answers all replies ++ response_text a.endpoint a.closing r ∷ []
@@ -65,7 +65,7 @@ none_follows : (n : ℕ) (left : List ℕ) → MayFollow n left []
 none_follows zero left = refl
 none_follows (suc n) left = inl refl
 
--- ---- the requests
+-- ---- requests
 
 module _ {M : Type 0} (Gives : M → ℕ → M → Type 0) (callers : Callers) where
   pub leads_more : (bound : ℕ) (rest : List ℕ) (clock : M) (all : List RequestCall) (n k : ℕ) (left : List ℕ) (later : M) (a : RequestCall) (next : List ℕ) (mid : M)
@@ -80,9 +80,9 @@ module _ {M : Type 0} (Gives : M → ℕ → M → Type 0) (callers : Callers) w
       (x, y, p, q, leads_more (left_after bound b.head) x y all n k left later a next mid h e asks closing)
 
 module _ {S M : Type 0} (sp : Ghosts S) (Gives : M → ℕ → M → Type 0) (callers : Callers) where
-  -- ---- the calls
+  -- ---- calls
 
-  -- one request more that was asked
+  -- Adds one more request with its reply.
   asked_next : (old mid new : Service S) (all : List RequestCall) (rs : List Reply) (a : RequestCall) (r : Reply)
       → AskedInOrder sp old (map timed all) rs mid → IsReplyTo sp mid new a.moment a.call r
       → AskedInOrder sp old (map timed (all ++ a ∷ [])) (rs ++ r ∷ []) new
@@ -93,9 +93,10 @@ module _ {S M : Type 0} (sp : Ghosts S) (Gives : M → ℕ → M → Type 0) (ca
   count_of : (old now : Service S) (all : List RequestCall) (rs : List Reply) → AskedInOrder sp old (map timed all) rs now → length rs ≡ length all
   count_of old now all rs h = (answered sp old (map timed all) rs now h).one_each ∙ length-map all timed
 
-  -- ---- the turns
+  -- ---- turns
 
-  -- so far these bytes came, and these requests were asked and answered, whatever follows; so many may come
+  -- Holds if these bytes have arrived so far, these requests were answered, and `count` more may
+  -- follow. It holds whatever arrives next.
   pub record GoesOn (bound : ℕ) (old now : Service S) (clock later : M) (before text a u : Option (List ℕ)) (buffer : List ℕ) (n count : ℕ) : Type 0 where
     pub all : List RequestCall
     pub replies : List Reply
@@ -144,7 +145,7 @@ module _ {S M : Type 0} (sp : Ghosts S) (Gives : M → ℕ → M → Type 0) (ca
             (Appends_more w0 w1 w2 _ _ g.written wrote);
       }
 
-  -- what was served of the input of a reader that has given these bytes
+  -- Holds if this was served of the input of a reader that has given these bytes.
   abbrev pub ServesOf : ℕ → Option (List ℕ) → Service S → Service S → M → M → Option (List ℕ) → Option (List ℕ) → Served → Type 0
   ServesOf bound a old new clock clock' before text served =
       (input : List ℕ) × IsInput a input × Serves sp Gives callers bound input old new clock clock' before text served
@@ -191,7 +192,7 @@ module _ {S M : Type 0} (sp : Ghosts S) (Gives : M → ℕ → M → Type 0) (ca
         },
       )
 
-  -- ---- a fault
+  -- ---- faults
 
   module _ (bound : ℕ) (input : List ℕ) (old now new : Service S) (clock later mid : M) (w0 w1 w2 : Option (List ℕ)) (n k : ℕ) (left : List ℕ) (fault : StreamFault)
       (all : List RequestCall) (replies : List Reply) (leads : Leads Gives callers bound input clock all n left later)
@@ -263,7 +264,7 @@ module _ {S M : Type 0} (sp : Ghosts S) (Gives : M → ℕ → M → Type 0) (ca
       written = Appends_more w0 w1 w2 _ _ written p.written;
     }
 
-  -- what was served before a fault, of the input of a reader
+  -- Holds if this was served of the input of a reader before a fault.
   abbrev pub ServesPartOf : ℕ → Option (List ℕ) → Service S → Service S → M → M → Option (List ℕ) → Option (List ℕ) → StreamFault → Type 0
   ServesPartOf bound a old new clock clock' before text fault =
       (input : List ℕ) × IsInput a input × ServesPart sp Gives callers bound input old new clock clock' before text fault

@@ -1,4 +1,4 @@
--- The bytes of a stream spell one list of calls, and one end.
+-- Lemmas: the bytes of a stream represent one list of calls, and one end.
 use Rattle.std.proofs.Common.{◌≡◌, ℕ, zero, suc, List, [], ◌∷◌, length, drop, refl, sym, ap, subst, ◌∙◌}
 use Rattle.std.specs.Prelude.{◌==◌}
 use Rattle.token_conf.specs.TokenFile.{Callers}
@@ -11,7 +11,7 @@ use Rattle.wire_http.specs.Wire.{RequestCall, AsksCall, Finishes, Leads, left_af
 use Rattle.wire_http.proofs.CallUnique.{one_request, one_call}
 use Rattle.wire_http.proofs.StopLaws.{one_finish, no_stop}
 
--- the parts of what was asked are the same
+-- Holds if two requests with their calls are equal in all parts.
 pub record AreSame {M : Type 0} (a b : RequestCall) (next after : List ℕ) (later following : M) : Type 0 where
   pub head : b.head ≡ a.head
   pub endpoint : b.endpoint ≡ a.endpoint
@@ -20,7 +20,7 @@ pub record AreSame {M : Type 0} (a b : RequestCall) (next after : List ℕ) (lat
   pub next_is : after ≡ next
   pub clock : following ≡ later
 
--- two streams are one
+-- Holds if two streams are equal.
 pub record AreOne {M : Type 0} (all others : List RequestCall) (left last : List ℕ) (later following : M) (end other : End) : Type 0 where
   pub asked : others ≡ all
   pub left_is : last ≡ left

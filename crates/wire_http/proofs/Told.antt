@@ -1,4 +1,4 @@
--- What a turn of a stream tells of its devices.
+-- Lemmas: what a turn of a stream reports of its devices.
 use Rattle.std.proofs.Common.{◌≡◌, ℕ, Ok, Err, inl, inr, refl}
 use Rattle.wire_http.specs.declared.counted.Counted.{Counted}
 use Rattle.wire_http.specs.declared.fault.StreamFault.{StreamFault}
@@ -8,7 +8,7 @@ use Rattle.wire_http.specs.Counted.{failures_of, has_failed}
 use Rattle.wire_http.specs.Fault.{GaveUpAnswering, ReportsFailure}
 
 module _ {R W T : Type 0} (old new : Source R) (writer writer' : Counted W) (clock clock' : ℕ) (reads : failures_of new.reader.now ≡ failures_of old.reader.now) (ticks : clock' ≡ clock) where
-  -- nothing failed
+  -- Nothing failed.
   pub tells_good : (x : T) → failures_of writer' ≡ failures_of writer → ReportsFailure old new writer writer' clock clock' (Ok x)
   tells_good x writes = record {
     read = λ e. absurd (let is = e in cc);
@@ -20,7 +20,7 @@ module _ {R W T : Type 0} (old new : Source R) (writer writer' : Counted W) (clo
     good_clock = inr ticks;
   }
 
-  -- answering gave up
+  -- Responding was aborted.
   pub tells_answering : (fault : StreamFault) → GaveUpAnswering (failures_of writer) (failures_of writer') (has_failed writer') fault → ReportsFailure {T = T} old new writer writer' clock clock' (Err fault)
   tells_answering faults.Write failed = record {
     read = λ e. absurd (let is = e in cc);

@@ -1,4 +1,4 @@
--- From what was read, asked and answered to what one turn of a stream gives.
+-- Lemmas: from what was read, called and replied to what one turn of a stream gives.
 use Rattle.std.proofs.Common.{◌≡◌, ℕ, ◌+◌, ◌-◌, ◌<◌, ◌≤◌, ◌⊎◌, true, false, List, [], ◌∷◌, ◌++◌, length, take, drop, map, Bool, refl, sym, ap, subst, ◌∙◌, Option, Ok, Err, inl, inr, arith, cond}
 use Rattle.std.specs.Prelude.{◌==◌}
 use Rattle.std.specs.List.{concat}
@@ -40,11 +40,11 @@ use Rattle.wire_http.specs.Wire.{RequestCall, AsksCall, ClockAfter, IsRequest, l
 use Rattle.wire_http.proofs.KnownBytes.{Appends_nil, input_known, input_more, rest_at}
 use Rattle.wire_http.proofs.NextLaws.{body_size}
 
--- what is found stands where it was read
+-- The bytes begin with what was read from them.
 known_next : (ahead buffer : List ℕ) (fields : List HeaderSpan) (n m : Next) → n ≡ m → IsNext ahead buffer fields n → IsNext ahead buffer fields m
 known_next ahead buffer fields n m e h = subst (λ (v : Next). IsNext ahead buffer fields v) e h
 
--- the bytes that are unread after a request
+-- The unread bytes after a request.
 unread_next : (b : List ℕ) (buffer rest left : List ℕ) (h : RequestHead) (len size : ℕ) → rest ≡ buffer ++ b → len ≡ length (print_request h)
     → len + size ≤ length buffer → left ≡ drop (len + size) buffer
     → left ++ b ≡ drop (length (body_at buffer len size)) (after h rest)
@@ -57,7 +57,7 @@ unread_next b buffer rest left h len size e l fits d =
     ∙ ap (λ n. drop n (after h rest)) (sym (body_size buffer len size fits))
 
 module _ {M : Type 0} (Gives : M → ℕ → M → Type 0) (callers : Callers) where
-  -- no moment was asked for
+  -- The clock was not read.
   clock_read : {R : Type 0} (a b : Source R) (fault : StreamFault) (left : List ℕ) (clock : M) → GaveUpReading a b fault → ClockAfter Gives callers fault left clock clock
   clock_read a b faults.Read left clock g = refl
   clock_read a b faults.Write left clock g = absurd g
@@ -65,7 +65,7 @@ module _ {M : Type 0} (Gives : M → ℕ → M → Type 0) (callers : Callers) w
   clock_read a b faults.Memory left clock g = inl refl
   clock_read a b faults.Turns left clock g = refl
 
-  -- a moment was asked for, and perhaps taken
+  -- The clock was read, and a time was possibly taken.
   clock_asked : (fault : StreamFault) (f f' : ℕ) (left : List ℕ) (h : RequestHead) (body : List ℕ) (clock clock' : M)
       → IsRequest left h body → GaveUpAsking fault f f' → (fault ≡ faults.Memory → (moment : ℕ) × Gives clock moment clock')
       → ClockAfter Gives callers fault left clock clock'
@@ -75,7 +75,7 @@ module _ {M : Type 0} (Gives : M → ℕ → M → Type 0) (callers : Callers) w
   clock_asked faults.Memory f f' left h body clock clock' x g t = let took = t refl in inr (h, body, took.0, x, took.1)
   clock_asked faults.Turns f f' left h body clock clock' x g t = absurd g
 
--- what gives up reading, asking and answering
+-- A fault of reading is a fault before the call.
 of_reading : {R : Type 0} (a b : Source R) (fault : StreamFault) → GaveUpReading a b fault → IsOfAsking fault
 of_reading a b faults.Read g = tt
 of_reading a b faults.Write g = g
@@ -113,7 +113,7 @@ module _ {S M : Type 0} (sp : Ghosts S) (Gives : M → ℕ → M → Type 0) (ca
     }),
   )
 
-  -- where the end has no text, none was given up
+  -- If an end has no text, writing it was not aborted.
   in_rule : (rest : List ℕ) (end : End) (s : Service S) (clock : M) (w v : Option (List ℕ)) (fault : StreamFault) (size : ℕ)
       → IsOfAnswering fault → StopsAs rest end → size < length (concat (end_texts end)) → Appends w v (take size (concat (end_texts end)))
       → StopsInRule sp Gives callers k s s clock clock w v rest fault
@@ -175,12 +175,12 @@ module _ {S M : Type 0} (sp : Ghosts S) (Gives : M → ℕ → M → Type 0) (ca
 
   -- ---- one request
 
-  -- the call that the head makes
+  -- Holds if the head makes this call.
   abbrev Makes : List ℕ → List HeaderSpan → RequestSpans → ℕ → Option Endpoint → Call → Type 0
   Makes bytes fields spans size endpoint call =
       (h : RequestHead) → Covers bytes fields spans h → IsCallOf callers h (body_at bytes spans.len size) endpoint call
 
-  -- how many may follow
+  -- Holds if this is the number of requests that may follow.
   abbrev Leaves : List ℕ → List HeaderSpan → RequestSpans → ℕ → Type 0
   Leaves bytes fields spans n = n ≡ cond (closes_by spans.version (map (header_bytes bytes) (take spans.headers fields))) 0 k
 
@@ -212,7 +212,7 @@ module _ {S M : Type 0} (sp : Ghosts S) (Gives : M → ℕ → M → Type 0) (ca
     next_is = after_it;
   }
 
-  -- the request that was answered is at that place
+  -- The answered request is at the front of the buffer.
   pub turn_answered_at : (a b : Option (List ℕ)) (front buffer bytes left : List ℕ) (fields : List HeaderSpan) (m : Next) (spans : RequestSpans) (size : ℕ) (endpoint : Option Endpoint) (moment : ℕ) (call : Call) (n : ℕ)
       (old new : Service S) (clock clock' : M) (before text : Option (List ℕ))
       → m ≡ Request spans size → bytes ≡ buffer → BufferGrew a b front buffer → IsNext (known_bytes b) buffer fields m
@@ -280,7 +280,7 @@ module _ {S M : Type 0} (sp : Ghosts S) (Gives : M → ℕ → M → Type 0) (ca
         })),
       )
 
--- ---- what stands after a request
+-- ---- bytes after a request
 
 pub fits_at : (buffer : List ℕ) (fields : List HeaderSpan) (n : Next) (spans : RequestSpans) (size : ℕ) → n ≡ Request spans size → NextFits buffer fields n
     → spans.len + size ≤ length buffer
@@ -293,7 +293,7 @@ fewer_left false n count some e = omega (arith, e, some)
 pub go_on_at : (count : ℕ) (t : Turn) (n : ℕ) → t ≡ Answered n → MayGoOn count t → n < count
 go_on_at count t n e h = subst (λ (v : Turn). MayGoOn count v) e h
 
--- an answer is no fault
+-- A result is not a fault.
 pub ok_told : {T E : Type 0} (x : T) (e : E) (A : Type 0) → (Ok x ≡ Err e) ⊎ A → A
 ok_told x e A (inl p) = cc
 ok_told x e A (inr a) = a

@@ -1,4 +1,4 @@
--- How many connections stay served, a turn of one after a turn of another.
+-- Lemmas: many connections stay served, with their turns interleaved.
 use Rattle.std.proofs.Common.{◌≡◌, ℕ, List, [], ◌∷◌, ◌++◌, map, true, false, refl, sym, ap, subst, ◌∙◌, cond, inl, inr}
 use Rattle.std.specs.Prelude.{nat_eq}
 use Rattle.std.proofs.lemmas.Bool.{eqb-true, eq-eqb}
@@ -37,7 +37,7 @@ told_more who log x = ap (λ v. map (λ call. call.told) v) (made_append who log
 own : (who : ℕ) (asked : RequestCall) (reply : Reply) → made_for who (record { connection = who; asked = asked; reply = reply; told = reply } ∷ []) ≡ record { connection = who; asked = asked; reply = reply; told = reply } ∷ []
 own who asked reply = ap (λ v. cond v (record { connection = who; asked = asked; reply = reply; told = reply } ∷ []) []) (eq-eqb who who refl)
 
--- the calls for one connection, where that is the last of them; and for another
+-- The last call for a connection is added to its own calls, and not to those of another connection.
 at_last : (log after : List MadeCall) (x : MadeCall) → made_for x.connection after ≡ [] → made_for x.connection (log ++ x ∷ after) ≡ made_for x.connection log ++ x ∷ []
 at_last log after x none =
     made_append x.connection log (x ∷ after)
@@ -50,7 +50,7 @@ past other log after x e =
     ∙ ap (λ v. made_for other log ++ cond v (x ∷ made_for other after) (made_for other after)) e
 
 module _ {S : Type 0} (g : Ghosts S) (callers : Callers) (first : Service S) where
-  -- one connection is another, and no call was made
+  -- One connection changes without a call.
   pub put : (now : Service S) (log : List MadeCall) (came sent came' sent' : ℕ → List ℕ) (conns : ℕ → Connection) (who : ℕ) (c' : Connection)
       → AreServed g callers first now log came sent conns
       → ((other : ℕ) → nat_eq other who ≡ false → came' other ≡ came other)
@@ -67,7 +67,7 @@ module _ {S : Type 0} (g : Ghosts S) (callers : Callers) (first : Service S) whe
         ] refl;
   }
 
-  -- one connection is another, and a call was made for it
+  -- One connection changes with a call.
   pub put_call : (old new : Service S) (log : List MadeCall) (came sent : ℕ → List ℕ) (conns : ℕ → Connection) (who : ℕ) (asked : RequestCall) (reply : Reply) (c' : Connection)
       → AreServed g callers first old log came sent conns
       → IsReplyTo g old new asked.moment asked.call reply
@@ -95,7 +95,7 @@ module _ {S : Type 0} (g : Ghosts S) (callers : Callers) (first : Service S) whe
         };
       }
 
-  -- no call was made, and the connection is done or as it was
+  -- No call was made, and the connection is done or unchanged.
   put_none : (old new : Service S) (log : List MadeCall) (came sent : ℕ → List ℕ) (conns : ℕ → Connection) (who : ℕ) (c' : Connection)
       → AreServed g callers first old log came sent conns → new ≡ old
       → (is_done c' ≡ false → IsServed callers (came who) (asked_for who log) (told_for who log) (sent who) c')
@@ -108,7 +108,7 @@ module _ {S : Type 0} (g : Ghosts S) (callers : Callers) (first : Service S) whe
     served = rw (append-nil log, same) (put old log came sent came sent conns who c' s (λ other e. refl) (λ other e. refl) served);
   }
 
-  -- a call is told otherwise, the last one for its connection, whose answer was held back
+  -- The reply to the last call of a connection changes, while its response was deferred.
   pub put_retold : (now : Service S) (log after : List MadeCall) (call : MadeCall) (other : Reply) (came sent : ℕ → List ℕ) (conns : ℕ → Connection) (c' : Connection)
       → AreServed g callers first now (log ++ call ∷ after) came sent conns
       → made_for call.connection after ≡ []
@@ -144,7 +144,7 @@ module _ {S : Type 0} (g : Ghosts S) (callers : Callers) (first : Service S) whe
             ] refl;
       }
 
-  -- one connection is done
+  -- One connection is done.
   pub put_done : (now : Service S) (log : List MadeCall) (came sent : ℕ → List ℕ) (conns : ℕ → Connection) (who : ℕ) (c' : Connection)
       → AreServed g callers first now log came sent conns → is_done c' ≡ true → AreServed g callers first now log came sent (set_at conns who c')
   put_done now log came sent conns who c' s done =
@@ -170,7 +170,7 @@ module _ {S : Type 0} (g : Ghosts S) (callers : Callers) (first : Service S) whe
     given_up fault (some, (ahead, input, inr (inr h)), output, held, done, slot) =
         put_none old new log came sent conns who c' s h.same (λ d. let no : true ≡ false = sym done ∙ d in let none : ⊥ = cc in absurd none)
 
--- what came and what was sent of one connection alone
+-- The received and sent bytes of one connection change.
 pub set_own : {X : Type 0} (values : ℕ → X) (who : ℕ) (value : X) → set_at values who value who ≡ value
 set_own values who value = ap (λ v. cond v value (values who)) (eq-eqb who who refl)
 

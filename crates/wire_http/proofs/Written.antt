@@ -1,4 +1,4 @@
--- What a writer is given.
+-- Lemmas: the bytes given to a writer.
 use Rattle.std.proofs.Common.{◌≡◌, ℕ, ◌<◌, Bool, List, [], length, Option, Some, None, sym, subst, append-nil, arith}
 use Rattle.std.specs.Io.KnownBytes.{Appends}
 use Rattle.std.specs.List.{concat}
@@ -7,12 +7,12 @@ use Rattle.wire_http.specs.declared.end.End.{End}
 use Rattle.wire_http.specs.declared.end.End.TheVariants as ends
 use Rattle.wire_http.specs.Text.{end_texts, front_of, message, rule_text, status_line}
 
--- nothing at all
+-- Nothing was written.
 pub Appends-none : (a : Option (List ℕ)) → Appends a a []
 Appends-none None = tt
 Appends-none (Some xs) = sym (append-nil xs)
 
--- ---- texts that are not empty
+-- ---- texts are not empty
 
 pub some_message : (status : ℕ) (field : List ℕ) (closing : Bool) (body : List ℕ) → 0 < length (message status field closing body)
 unfolding front_of status_line

@@ -1,4 +1,4 @@
--- What a request asks of the service.
+-- The call that a request makes.
 use Rattle.std.specs.Prelude.{◌≡◌, ◌⊎◌, ℕ, List, map, Option, Some, None, option_and_then}
 use Rattle.std.specs.FinMap.{get}
 use Rattle.httparse.specs.Grammar.{RequestHead}
@@ -17,33 +17,35 @@ use Rattle.wire_head.specs.Fields.{Fields}
 use Rattle.wire_head.specs.Bearer.{bearer_token}
 use Rattle.wire_head.specs.Target.{path_of}
 
--- the names and the values of a head's fields
+-- The names and the values of the fields of a head.
 abbrev pub fields_of : RequestHead → Fields
 fields_of h = map name_and_value h.fields
 
--- the caller of the token that the fields bear
+-- The caller with the bearer token in the fields.
 abbrev pub caller_of : Callers → Fields → Option Caller
 caller_of callers fields = option_and_then (get callers) (bearer_token fields)
 
--- the operation of the kind, or malformed exactly where the words and the body ask for none
+-- Holds if this is the operation of the kind. It is `Malformed` exactly if path parameters and body
+-- give none.
 abbrev pub IsReadAs : OpKind → Words → List ℕ → Operation → Type 0
 IsReadAs kind words body op =
     IsBody kind words body op
     ⊎ (((other : Operation) → IsBody kind words body other → ⊥) × (op ≡ Malformed kind))
 
--- the operation of a method's kind; without a kind the method is not one of the place
+-- Holds if this is the operation of a method. Without a kind, the endpoint does not allow the
+-- method.
 abbrev pub IsAskedAs : Option OpKind → Words → List ℕ → Operation → Type 0
 IsAskedAs None words body op = op ≡ NoMethod
 IsAskedAs (Some kind) words body op = IsReadAs kind words body op
 
--- the place that a path leads to, if there is one, and the operation that path, method and body ask
--- for
+-- Holds if the path leads to this endpoint, or to none, and path, method and body give this
+-- operation.
 abbrev pub IsAsked : List ℕ → List ℕ → List ℕ → Option Endpoint → Operation → Type 0
 IsAsked path method body None op = HasNoRoute path × (op ≡ NoRoute)
 IsAsked path method body (Some endpoint) op = (words : Words) × IsRoute path endpoint words
     × IsAskedAs (kind_at endpoint method) words body op
 
--- the call that a request makes, at the place of its path
+-- Holds if a request makes this call, at the endpoint of its path.
 pub record IsCallOf (callers : Callers) (h : RequestHead) (body : List ℕ) (endpoint : Option Endpoint)
     (call : Call) : Type 0 where
   pub caller : call.caller ≡ caller_of callers (fields_of h)

@@ -1,4 +1,4 @@
--- What one connection holds, and what a step of it does.
+-- The state of one connection, and the effect of a step.
 use Rattle.std.specs.Prelude.{◌≡◌, ◌<◌, ◌≤◌, ◌-◌, ℕ, Bool, true, false, List, [], ◌++◌, length, drop, Option, Some, is_some, option_map}
 use Rattle.std.specs.List.{concat}
 use Rattle.space_core.specs.declared.space.Space.{Ghosts}
@@ -17,53 +17,53 @@ use Rattle.wire_http.specs.Text.{end_texts}
 use Rattle.wire_http.specs.Turn.{IsTurn, IsTurnPart}
 use Rattle.wire_http.specs.Wire.{RequestCall, Finishes}
 
--- the bytes that came and belong to no earlier request
+-- The received bytes after the last request.
 abbrev pub held_of : Connection → List ℕ
 held_of c = c.held.items
 
--- how many requests may still be answered
+-- The number of requests that may still be answered.
 abbrev pub left_of : Connection → ℕ
 left_of c = c.left
 
--- whether nothing more comes
+-- Returns true if no more input arrives.
 abbrev pub has_ended : Connection → Bool
 has_ended c = c.ended
 
--- whether no request more is answered
+-- Returns true if no more requests are answered.
 abbrev pub is_done : Connection → Bool
 is_done c = c.done
 
--- the bytes of answers that are not sent yet
+-- The unsent bytes of responses.
 abbrev pub output_of : Connection → List ℕ
 output_of c = drop c.sent c.answers.items
 
--- what the last answer was to, if there was one
+-- The recorded information about the last response, if there was one.
 abbrev pub noted_of : Connection → Option RequestInfo
 noted_of c = c.noted
 
--- whether the last answer is held back, and what it answers
+-- Returns true if the last response is deferred.
 abbrev pub holds_back : Connection → Bool
 holds_back c = is_some c.held_back
 
 abbrev pub slot_of : Connection → Option Slot
 slot_of c = option_map slot_at c.held_back
 
--- of the bytes that are not sent yet: those that may be sent, and those that are held back
+-- The unsent bytes that may be sent, and the deferred ones.
 abbrev pub ready_of : Connection → List ℕ
 ready_of c = before_last c.sent (output_of c) c.held_back
 
 abbrev pub held_back_of : Connection → List ℕ
 held_back_of c = last_alone c.sent (output_of c) c.held_back
 
--- what is held back answers that request
+-- The slot of the response to a request.
 abbrev pub slot_for : RequestCall → Slot
 slot_for asked = record { endpoint = asked.endpoint; closing = asked.closing }
 
--- there is room for these bytes
+-- Holds if the connection has room for these bytes.
 abbrev pub HasRoom : Connection → List ℕ → Type 0
 HasRoom c bytes = length bytes ≤ max_buffered - length (held_of c)
 
--- nothing that a connection holds has changed
+-- Holds if a step left the connection unchanged.
 pub record IsSame (c c' : Connection) : Type 0 where
   pub held : held_of c' ≡ held_of c
   pub output : output_of c' ≡ output_of c
@@ -75,9 +75,9 @@ pub record IsSame (c c' : Connection) : Type 0 where
 
 module _ {S M : Type 0} (g : Ghosts S) (Gives : M → ℕ → M → Type 0) (callers : Callers)
     (old new : Service S) (clock clock' : M) (c c' : Connection) where
-  -- Nothing was done: a request may still come, none is held whole, and there is room for more. Or
-  -- one more was answered, as one turn of a stream whose reader has nothing more to give, and its
-  -- answer is held back. Or the stream ended, whatever may still come.
+  -- Holds if the step did one of three things. It did nothing: more input may arrive, no request is
+  -- complete, and there is room. Or it answered one more request, as a turn of a stream without
+  -- more input does, and its response is deferred. Or the stream ended, whatever may still arrive.
   abbrev pub IsStep : Step → Type 0
   IsStep steps.NeedsInput =
       (new ≡ old) × (clock' ≡ clock) × IsSame c c' × (0 < left_of c) × (has_ended c ≡ false)
@@ -96,18 +96,18 @@ module _ {S M : Type 0} (g : Ghosts S) (Gives : M → ℕ → M → Type 0) (cal
       × (held_of c' ≡ held_of c) × (left_of c' ≡ left_of c) × (is_done c' ≡ true)
       × (slot_of c' ≡ slot_of c)
 
-  -- What is noted is of that request and its reply, or of the rule of the wire that ended the
-  -- stream.
+  -- Holds if the recorded information is about that request and its reply, or about the protocol
+  -- rule that ended the stream.
   abbrev pub IsNotedAs : (step : Step) → IsStep step → Type 0
   IsNotedAs steps.NeedsInput is = noted_of c' ≡ noted_of c
   IsNotedAs (steps.Answered n) is = noted_of c' ≡ Some (noted_for is.1.0 is.1.1)
   IsNotedAs (steps.Ended end) is = noted_of c' ≡ noted_after end (noted_of c)
 
-  -- a step, and what is noted of it
+  -- Holds for a step with its recorded information.
   abbrev pub IsNotedStep : Step → Type 0
   IsNotedStep step = (is : IsStep step) × IsNotedAs step is
 
-  -- A fault came: a turn was given up, no byte of its text is to be sent, and no request more is
+  -- Holds if a turn was aborted by a fault: no byte of its text is sent, and no more requests are
   -- answered.
   abbrev pub IsStepPart : StreamFault → Type 0
   IsStepPart fault =

@@ -1,4 +1,4 @@
--- Why a stream was given up.
+-- Reasons to abort a stream.
 use Rattle.std.specs.Prelude.{◌≡◌, ◌⊎◌, ℕ, Bool, List, Result, Err, codes}
 use Rattle.wire_http.specs.declared.fault.StreamFault.{StreamFault}
 use Rattle.wire_http.specs.declared.fault.StreamFault.TheVariants.{Read, Write, Clock, Memory, Turns}
@@ -21,7 +21,7 @@ name_of Clock = codes "Clock"
 name_of Memory = codes "Memory"
 name_of Turns = codes "Turns"
 
--- an answer was not written: a write failed, or memory was refused
+-- Holds if the fault can abort a response: a write failed, or memory ran out.
 abbrev pub IsOfAnswering : StreamFault → Type 0
 IsOfAnswering Write = Unit {0}
 IsOfAnswering Memory = Unit {0}
@@ -29,7 +29,8 @@ IsOfAnswering Read = ⊥
 IsOfAnswering Clock = ⊥
 IsOfAnswering Turns = ⊥
 
--- a request was not asked: none came whole, the clock gave no moment, or memory was refused
+-- Holds if the fault can prevent a call: no request was complete, the clock failed, or memory ran
+-- out.
 abbrev pub IsOfAsking : StreamFault → Type 0
 IsOfAsking Read = Unit {0}
 IsOfAsking Clock = Unit {0}
@@ -37,7 +38,8 @@ IsOfAsking Memory = Unit {0}
 IsOfAsking Turns = Unit {0}
 IsOfAsking Write = ⊥
 
--- why reading gave up: the last read failed, or none did and no turn is left or memory was refused
+-- Holds if this is why reading was aborted: the last read failed, or none did and no turn is left
+-- or memory ran out.
 abbrev pub GaveUpReading : {R : Type 0} → Source R → Source R → StreamFault → Type 0
 GaveUpReading old new Read =
     FailsLast (failures_of old.reader.now) (failures_of new.reader.now) (has_failed new.reader.now)
@@ -47,7 +49,8 @@ GaveUpReading old new Memory = failures_of new.reader.now ≡ failures_of old.re
 GaveUpReading old new Write = ⊥
 GaveUpReading old new Clock = ⊥
 
--- why asking gave up: the clock failed once, or it did not and memory was refused
+-- Holds if this is why the call was not made: the clock failed once, or it did not and memory ran
+-- out.
 abbrev pub GaveUpAsking : StreamFault → ℕ → ℕ → Type 0
 GaveUpAsking Clock failures failures' = failures' ≡ one_more failures
 GaveUpAsking Memory failures failures' = failures' ≡ failures
@@ -55,7 +58,8 @@ GaveUpAsking Read failures failures' = ⊥
 GaveUpAsking Write failures failures' = ⊥
 GaveUpAsking Turns failures failures' = ⊥
 
--- why answering gave up: the last write failed, or none did and memory was refused
+-- Holds if this is why a response was aborted: the last write failed, or none did and memory ran
+-- out.
 abbrev pub GaveUpAnswering : ℕ → ℕ → Bool → StreamFault → Type 0
 GaveUpAnswering failures failures' failed Write = FailsLast failures failures' failed
 GaveUpAnswering failures failures' failed Memory = failures' ≡ failures
@@ -63,8 +67,8 @@ GaveUpAnswering failures failures' failed Read = ⊥
 GaveUpAnswering failures failures' failed Clock = ⊥
 GaveUpAnswering failures failures' failed Turns = ⊥
 
--- What is told to have failed did so once, and a reader or a writer was not called after it; no
--- other count of failures has risen; and where no turn is told to be left, none is.
+-- Holds if the reported device failed once, and a reader or a writer was not called after it. No
+-- other count of failures rose. If the fault says that no turn is left, none is left.
 pub record ReportsFailure {R W T : Type 0} (old new : Source R) (writer writer' : Counted W)
     (clock clock' : ℕ) (result : Result T StreamFault) : Type 0 where
   pub read : result ≡ Err Read → FailsLast (failures_of old.reader.now)

@@ -2,17 +2,17 @@
 use Rattle.std.specs.Prelude.{◌≡◌, ℕ, List, [], ◌++◌, Option, Some, None}
 use Rattle.std.specs.Io.KnownBytes.{Consumes}
 
--- the bytes that are known: none of a reader whose bytes nobody knows
+-- The known bytes: none if the bytes of a reader are unknown.
 abbrev pub known_bytes : Option (List ℕ) → List ℕ
 known_bytes None = []
 known_bytes (Some bytes) = bytes
 
--- These are the bytes of a reader. Where nobody knows them, they may be any.
+-- Holds if these are the bytes of a reader. If they are unknown, they can be any.
 abbrev pub IsInput : Option (List ℕ) → List ℕ → Type 0
 IsInput None input = Unit {0}
 IsInput (Some bytes) input = input ≡ bytes
 
--- the buffer grew by bytes that the reader gave
+-- Holds if the buffer grew by bytes that the reader gave.
 abbrev pub BufferGrew : Option (List ℕ) → Option (List ℕ) → List ℕ → List ℕ → Type 0
 BufferGrew remaining remaining' buffer buffer' =
     (more : List ℕ) × (buffer' ≡ buffer ++ more) × Consumes remaining remaining' more

@@ -1,4 +1,4 @@
--- Laws of what a stream spells, and of what is served of many connections.
+-- Laws of the calls that a stream represents, and of serving many connections.
 use Rattle.std.specs.Prelude.{◌≡◌, ◌≤◌, ℕ, List, [], ◌∷◌, ◌++◌, length, take, drop, false, true}
 use Rattle.space_core.specs.declared.space.Space.{Ghosts}
 use Rattle.service_calls.specs.declared.service.Service.{Service}
@@ -21,12 +21,12 @@ use Rattle.wire_http.specs.Wire.{RequestCall, Finishes, Leads}
 
 -- ---- one stream
 
--- at each state a clock gives one moment, and leads to one state
+-- Holds if in each state a clock gives only one time, and has only one next state.
 abbrev pub OneMoment : {M : Type 0} → (M → ℕ → M → Type 0) → Type 0
 OneMoment {M} Gives = (c : M) (m n : ℕ) (d e : M) → Gives c m d → Gives c n e → (n ≡ m) × (e ≡ d)
 
--- By such a clock the bytes of a stream spell one list of calls, and one end, but for the two that
--- are both right.
+-- States that with such a clock the bytes of a stream represent one list of calls, and one end. The
+-- exception is a rest with two valid ends.
 abbrev pub OneStream : {M : Type 0} → (M → ℕ → M → Type 0) → Type 0
 OneStream {M} Gives = OneMoment Gives
     → (callers : Callers) (bound : ℕ) (rest : List ℕ) (clock : M)
@@ -37,19 +37,19 @@ OneStream {M} Gives = OneMoment Gives
 
 -- ---- one connection among many
 
--- A new connection is served: nothing came, and nothing was asked.
+-- States that a new connection is served: nothing was received, and no call was made.
 abbrev pub ServedAtFirst : Type 0
 ServedAtFirst = (callers : Callers) (c : Connection) → held_of c ≡ [] → output_of c ≡ []
     → left_of c ≡ most_requests → is_done c ≡ false → IsServed callers [] [] [] [] c
 
--- It stays so where nothing came or went, and nothing was asked.
+-- States that it stays served without input, output and calls.
 abbrev pub ServedAsItRests : Type 0
 ServedAsItRests = (callers : Callers) (came : List ℕ) (all : List RequestCall) (replies : List Reply)
     (sent : List ℕ) (c next : Connection) → IsServed callers came all replies sent c
     → held_of next ≡ held_of c → output_of next ≡ output_of c → left_of next ≡ left_of c
     → is_done next ≡ is_done c → IsServed callers came all replies sent next
 
--- It stays so as bytes come.
+-- States that it stays served when bytes arrive.
 abbrev pub ServedAsBytesCome : Type 0
 ServedAsBytesCome = (callers : Callers) (came more : List ℕ) (all : List RequestCall)
     (replies : List Reply) (sent : List ℕ) (c next : Connection)
@@ -58,7 +58,7 @@ ServedAsBytesCome = (callers : Callers) (came more : List ℕ) (all : List Reque
     → left_of next ≡ left_of c → is_done next ≡ is_done c
     → IsServed callers (came ++ more) all replies sent next
 
--- It stays so as bytes are sent.
+-- States that it stays served when bytes are sent.
 abbrev pub ServedAsBytesGo : Type 0
 ServedAsBytesGo = (callers : Callers) (came : List ℕ) (all : List RequestCall) (replies : List Reply)
     (sent : List ℕ) (n : ℕ) (c next : Connection) → IsServed callers came all replies sent c
@@ -66,21 +66,22 @@ ServedAsBytesGo = (callers : Callers) (came : List ℕ) (all : List RequestCall)
     → left_of next ≡ left_of c → is_done next ≡ is_done c
     → IsServed callers came all replies (sent ++ take n (output_of c)) next
 
--- An answer stays held back where nothing was sent.
+-- States that a response stays deferred if nothing is sent.
 abbrev pub HeldBackAsItRests : Type 0
 HeldBackAsItRests = (all : List RequestCall) (replies : List Reply) (asked : RequestCall) (sent : List ℕ)
     (c next : Connection) → HoldsBackLast all replies asked sent c
     → slot_of next ≡ slot_of c → ready_of next ≡ ready_of c
     → HoldsBackLast all replies asked sent next
 
--- It stays so as the bytes before it are sent.
+-- States that it stays deferred when the bytes before it are sent.
 abbrev pub HeldBackAsBytesGo : Type 0
 HeldBackAsBytesGo = (all : List RequestCall) (replies : List Reply) (asked : RequestCall) (sent : List ℕ)
     (n : ℕ) (c next : Connection) → HoldsBackLast all replies asked sent c
     → n ≤ length (ready_of c) → slot_of next ≡ slot_of c → ready_of next ≡ drop n (ready_of c)
     → HoldsBackLast all replies asked (sent ++ take n (output_of c)) next
 
--- Where it is replaced, the connection is served so with the other reply to its last request.
+-- States that after a deferred response is replaced, the connection is served with the other reply
+-- to its last request.
 abbrev pub ServedAsReplaced : Type 0
 ServedAsReplaced = (callers : Callers) (came : List ℕ) (all : List RequestCall) (replies : List Reply)
     (asked : RequestCall) (reply other : Reply) (sent : List ℕ) (c next : Connection)
@@ -90,7 +91,8 @@ ServedAsReplaced = (callers : Callers) (came : List ℕ) (all : List RequestCall
     → left_of next ≡ left_of c → is_done next ≡ is_done c
     → IsServed callers came (all ++ asked ∷ []) (replies ++ other ∷ []) sent next
 
--- It stays so as a request is answered, whatever was asked on other connections before.
+-- States that it stays served when a request is answered, whatever calls other connections made
+-- before.
 abbrev pub ServedAsAnswered : {S M : Type 0} → Ghosts S → (M → ℕ → M → Type 0) → Type 0
 ServedAsAnswered {S} {M} g Gives =
     (callers : Callers) (old new : Service S) (clock later : M) (came : List ℕ)
@@ -99,7 +101,8 @@ ServedAsAnswered {S} {M} g Gives =
     → IsStep g Gives callers old new clock later c next (steps.Answered n)
     → IsNextCall g Gives callers old new clock later came all replies sent next
 
--- Where it ends, it was served as a stream of all that came and of what may still come.
+-- States that after its end, it was served as a stream of all received bytes and of any that may
+-- still arrive.
 abbrev pub ServedWhole : {S M : Type 0} → Ghosts S → (M → ℕ → M → Type 0) → Type 0
 ServedWhole {S} {M} g Gives =
     (callers : Callers) (old new : Service S) (clock later : M) (came : List ℕ)
@@ -109,7 +112,7 @@ ServedWhole {S} {M} g Gives =
     → (more : List ℕ) → MayCome (has_ended c) more
     → IsServedWhole callers (came ++ more) all replies end (sent ++ output_of next)
 
--- So it is served at each step, whichever it is.
+-- States that it is served at each step.
 abbrev pub ServedAtEachStep : {S M : Type 0} → Ghosts S → (M → ℕ → M → Type 0) → Type 0
 ServedAtEachStep {S} {M} g Gives =
     (callers : Callers) (old new : Service S) (clock later : M) (came : List ℕ)
@@ -118,16 +121,18 @@ ServedAtEachStep {S} {M} g Gives =
     → IsStep g Gives callers old new clock later c next step
     → IsServedAfter g Gives callers old new clock later came all replies sent c next step
 
--- ---- all of them
+-- ---- many connections
 
--- The calls of all connections, in the order in which they were made, are answered as one list.
+-- States that the calls of all connections, in the order in which they were made, have the replies
+-- of one list.
 abbrev pub OneList : {S : Type 0} → Ghosts S → Type 0
 OneList {S} g =
     (first old new : Service S) (cs : List TimedCall) (rs : List Reply) (c : TimedCall) (r : Reply)
     → Answered g first cs rs old → IsReplyTo g old new c.0 c.1 r
     → Answered g first (cs ++ c ∷ []) (rs ++ r ∷ []) new
 
--- The calls of one connection's turn are the next of the one list, and all are served so on.
+-- States that the calls of one connection's turn are the next of the one list, and all connections
+-- stay served.
 abbrev pub TurnOfEach : {S M : Type 0} → Ghosts S → (M → ℕ → M → Type 0) → Type 0
 TurnOfEach {S} {M} g Gives =
     (callers : Callers) (first old new : Service S) (clock later : M)
@@ -138,7 +143,7 @@ TurnOfEach {S} {M} g Gives =
     → IsStep g Gives callers old new clock later (connections who) next step
     → AreServedAfter g callers first new log came sent connections who next
 
--- The same of a turn that was given up: its call, if it was made, is the next of the list.
+-- States the same of an aborted turn: its call, if it was made, is the next of the list.
 abbrev pub TurnGivenUp : {S M : Type 0} → Ghosts S → (M → ℕ → M → Type 0) → Type 0
 TurnGivenUp {S} {M} g Gives =
     (callers : Callers) (first old new : Service S) (clock later : M)
@@ -149,7 +154,7 @@ TurnGivenUp {S} {M} g Gives =
     → IsStepPart g Gives callers old new clock later (connections who) next fault
     → AreServedAfter g callers first new log came sent connections who next
 
--- As bytes come to one of them and go from it, all are served so on.
+-- States that all connections stay served when bytes of one of them arrive or are sent.
 abbrev pub EachOnItsOwn : {S : Type 0} → Ghosts S → Type 0
 EachOnItsOwn {S} g =
     (callers : Callers) (first now : Service S) (log : List MadeCall)
@@ -160,8 +165,8 @@ EachOnItsOwn {S} g =
     → AreServed g callers first now log (set_at came who came_there)
     (set_at sent who sent_there) (set_at connections who next)
 
--- As the answer that one of them holds back is replaced, all are served so on: of its last call the
--- other reply is told.
+-- States that all connections stay served when the deferred response of one of them is replaced.
+-- The other reply is delivered for its last call.
 abbrev pub ToldOtherwise : {S : Type 0} → Ghosts S → Type 0
 ToldOtherwise {S} g =
     (callers : Callers) (first now : Service S) (log after : List MadeCall)
@@ -181,7 +186,7 @@ ToldOtherwise {S} g =
     → AreServed g callers first now (log ++ retold call other ∷ after) came sent
     (set_at connections call.connection next)
 
--- As one of them is given up, the others are served so on.
+-- States that the other connections stay served when one of them is aborted.
 abbrev pub OthersGoOn : {S : Type 0} → Ghosts S → Type 0
 OthersGoOn {S} g =
     (callers : Callers) (first now : Service S) (log : List MadeCall)

@@ -1,4 +1,4 @@
--- What was served of one connection among many, whatever was asked on the others in between.
+-- What was served of one connection among many, whatever calls the others made in between.
 use Rattle.std.specs.Prelude.{◌≡◌, ℕ, false, List, [], ◌∷◌, ◌++◌, length, Some}
 use Rattle.std.specs.List.{concat}
 use Rattle.space_core.specs.declared.space.Space.{Ghosts}
@@ -16,17 +16,17 @@ use Rattle.wire_http.specs.BufferState.{MayCome}
 use Rattle.wire_http.specs.Text.{end_texts}
 use Rattle.wire_http.specs.Wire.{RequestCall, Finishes, Leads, answers}
 
--- the moments are those of a clock that the other connections ask, too
+-- Holds for any time: other connections read the same clock.
 abbrev pub AnyMoment : Unit {0} → ℕ → Unit {0} → Type 0
 AnyMoment clock moment clock' = Unit {0}
 
--- Of what came, whatever follows, these requests are the first, and they lead to so many that may
--- still come and to that rest.
+-- Holds if the received bytes begin with these requests, whatever follows. `n` more requests may
+-- come, and `rest` is left.
 abbrev pub Spells : Callers → List ℕ → List RequestCall → ℕ → List ℕ → Type 0
 Spells callers came all n rest = Leads AnyMoment callers most_requests came tt all n rest tt
 
--- These bytes have come, these requests of them were asked and answered so, and the answers are
--- what was sent and what is to be sent.
+-- Holds if these bytes were received, these requests of them got these replies, and the responses
+-- are what was sent and what is still unsent.
 pub record IsServed (callers : Callers) (came : List ℕ) (all : List RequestCall) (replies : List Reply)
     (sent : List ℕ) (c : Connection) : Type 0 where
   pub one_each : length replies ≡ length all
@@ -35,15 +35,15 @@ pub record IsServed (callers : Callers) (came : List ℕ) (all : List RequestCal
   pub texts : sent ++ output_of c ≡ concat (answers all replies)
   pub goes_on : is_done c ≡ false
 
--- The answer to that request is held back, and it is the last: what was sent and what may be sent
--- are the answers to the requests before it.
+-- Holds if the response to that request is deferred and the last one. The bytes that were sent or
+-- may be sent are the responses to the requests before it.
 pub record HoldsBackLast (all : List RequestCall) (replies : List Reply) (asked : RequestCall) (sent : List ℕ)
     (c : Connection) : Type 0 where
   pub slot : slot_of c ≡ Some (slot_for asked)
   pub before : sent ++ ready_of c ≡ concat (answers all replies)
 
--- The whole of an input was served so: its requests were asked and answered, and then it ended, as
--- a stream of that input is served alone.
+-- Holds if the whole input was served: its requests were answered, and then it ended, as a stream
+-- of that input on its own.
 pub record IsServedWhole (callers : Callers) (input : List ℕ) (all : List RequestCall)
     (replies : List Reply) (end : End) (text : List ℕ) : Type 0 where
   pub n : ℕ
@@ -52,8 +52,8 @@ pub record IsServedWhole (callers : Callers) (input : List ℕ) (all : List Requ
   pub finishes : Finishes n rest end
   pub text_is : text ≡ concat (answers all replies ++ end_texts end)
 
--- the next call: at the clock's next moment, its request is the next of the connection, and it is
--- answered there, where its answer is held back
+-- Holds if this is the next call: its request is the next of the connection, at the next time of
+-- the clock. Its response is deferred.
 pub record IsNextCall {S M : Type 0} (g : Ghosts S) (Gives : M → ℕ → M → Type 0)
     (callers : Callers) (old new : Service S) (clock clock' : M) (came : List ℕ) (all : List RequestCall)
     (replies : List Reply) (sent : List ℕ) (c : Connection) : Type 0 where
@@ -64,8 +64,8 @@ pub record IsNextCall {S M : Type 0} (g : Ghosts S) (Gives : M → ℕ → M →
   pub served : IsServed callers came (all ++ asked ∷ []) (replies ++ reply ∷ []) sent c
   pub held_back : HoldsBackLast all replies asked sent c
 
--- how a connection is served after a step: as before it, with its next call, or whole, whatever may
--- still come
+-- Holds if this is how a connection is served after a step: as before, with its next call, or
+-- whole, whatever may still arrive.
 abbrev pub IsServedAfter : {S M : Type 0} → Ghosts S → (M → ℕ → M → Type 0) → Callers → Service S
     → Service S → M → M → List ℕ → List RequestCall → List Reply → List ℕ → Connection → Connection → Step
     → Type 0

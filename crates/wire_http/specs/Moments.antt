@@ -1,7 +1,7 @@
--- What sources of moments hold.
+-- The parts of clocks.
 use Rattle.std.specs.Prelude.{ℕ}
 use Rattle.wire_http.specs.declared.moments.FixedClock.{FixedClock}
 
--- where a clock stands
+-- The time of a fixed clock.
 abbrev pub moment_of : FixedClock → ℕ
 moment_of clock = clock.moment

@@ -9,12 +9,12 @@ use Rattle.wire_head.specs.FinalHead.{Covers}
 use Rattle.wire_http.specs.Stop.{StopsAs}
 use Rattle.wire_http.specs.Wire.{IsRequest}
 
--- the body stands after the head
+-- The body after the head.
 abbrev pub body_at : List ℕ → ℕ → ℕ → List ℕ
 body_at buffer start size = take size (drop start buffer)
 
--- This request stands in the buffer, whatever follows, and the spans cover its parts; or what
--- stands there, with these bytes ahead of it, stops the stream so.
+-- Holds if the buffer begins with this request, whatever follows, and the spans cover its parts.
+-- Otherwise the buffer, with these bytes after it, must stop the stream in this way.
 abbrev pub IsNext : List ℕ → List ℕ → List HeaderSpan → Next → Type 0
 IsNext ahead buffer fields (Request spans size) =
     (h : RequestHead)
@@ -22,7 +22,7 @@ IsNext ahead buffer fields (Request spans size) =
     × Covers buffer fields spans h
 IsNext ahead buffer fields (Stop end) = StopsAs (buffer ++ ahead) end
 
--- the request lies in the buffer
+-- Holds if the request is within the buffer.
 abbrev pub NextFits : List ℕ → List HeaderSpan → Next → Type 0
 NextFits buffer fields (Request spans size) =
     IsRequestWithin buffer fields spans

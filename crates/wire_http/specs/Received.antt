@@ -1,4 +1,4 @@
--- A request as it was received, and the call that it makes.
+-- A received request, and the call that it makes.
 use Rattle.std.specs.Prelude.{◌≡◌, ◌≤◌, ◌+◌, length, Option, IsUtf8}
 use Rattle.httparse.specs.Grammar.{RequestHead}
 use Rattle.httparse.specs.Spans.{IsRequestWithin, span_bytes}
@@ -12,19 +12,19 @@ use Rattle.wire_http.specs.Next.{body_at}
 use Rattle.wire_http.specs.Asked.{IsCallOf}
 use Rattle.wire_http.specs.RequestInfo.{kind_asked}
 
--- the request lies in the bytes, and its target is text
+-- Holds if the request is within the bytes, and its target is UTF-8.
 abbrev pub IsReceived : Received → Type 0
 IsReceived r =
     IsRequestWithin r.buffer.now r.fields.now r.spans
     × IsUtf8 (span_bytes r.buffer.now r.spans.path)
     × (r.spans.len + r.size ≤ length r.buffer.now)
 
--- the head that the spans cover makes that call, at that place
+-- Holds if the head under the spans makes that call, at that endpoint.
 abbrev pub IsMadeBy : Callers → Received → Option Endpoint → Call → Type 0
 IsMadeBy callers r endpoint call =
     (h : RequestHead) → Covers r.buffer.now r.fields.now r.spans h
     → IsCallOf callers h (body_at r.buffer.now r.spans.len r.size) endpoint call
 
--- that is what its method asks at the place
+-- Holds if this is the kind of operation of the method at the endpoint.
 abbrev pub IsKindIn : Received → Option Endpoint → Option OpKind → Type 0
 IsKindIn r endpoint kind = kind ≡ kind_asked endpoint (span_bytes r.buffer.now r.spans.method)

@@ -1,4 +1,4 @@
--- What is known of the reply to one call.
+-- The reply to one call.
 use Rattle.std.specs.Prelude.{ℕ, ◌<◌, Bool, List, Option, length, take}
 use Rattle.std.specs.Io.KnownBytes.{Appends}
 use Rattle.policy_core.specs.declared.call.Call.{Call}
@@ -9,14 +9,14 @@ use Rattle.service_calls.specs.Run.{IsReplyTo}
 use Rattle.wire_route.specs.declared.endpoint.Endpoint.{Endpoint}
 use Rattle.wire_http.specs.Text.{response_text}
 
--- a reply was made, and its text was written
+-- Holds if the service replied, and the text of the response was written.
 pub record Replies {S : Type 0} (g : Ghosts S) (old new : Service S) (moment : ℕ) (call : Call)
     (endpoint : Option Endpoint) (closing : Bool) (before text : Option (List ℕ)) : Type 0 where
   pub reply : Reply
   pub is_reply : IsReplyTo g old new moment call reply
   pub written : Appends before text (response_text endpoint closing reply)
 
--- a reply was made, and the first bytes of its text were written, but not all
+-- Holds if the service replied, and a proper prefix of the text of the response was written.
 pub record RepliesPart {S : Type 0} (g : Ghosts S) (old new : Service S) (moment : ℕ) (call : Call)
     (endpoint : Option Endpoint) (closing : Bool) (before text : Option (List ℕ)) : Type 0 where
   pub reply : Reply

@@ -1,4 +1,4 @@
--- What an answer was to.
+-- The information about a response.
 use Rattle.std.specs.Prelude.{ℕ, List, Option, Some, None, option_and_then, option_map}
 use Rattle.policy_core.specs.declared.call.Call.{Call}
 use Rattle.policy_core.specs.declared.call.OpKind.{OpKind}
@@ -22,7 +22,7 @@ outcome_of (replies.Denied rule missing) = outcomes.Denied rule
 outcome_of replies.Fault = outcomes.Fault
 outcome_of replies.Stopped = outcomes.Stopped
 
--- the entity or the subscription that an operation names
+-- The id of the entity or subscription in an operation.
 abbrev pub entity_of : Operation → Option ℕ
 entity_of (Read kind id) = Some id
 entity_of (Create id put) = Some id
@@ -37,7 +37,7 @@ entity_of op = None
 abbrev pub supplier_of : Call → Option (List ℕ)
 supplier_of call = option_map (λ caller. caller.uss) call.caller
 
--- what a method asks at a place, if there is one and it takes the method
+-- The kind of operation of a method at an endpoint, if there is one and it allows the method.
 abbrev pub kind_asked : Option Endpoint → List ℕ → Option OpKind
 kind_asked endpoint method = option_and_then (λ there. kind_at there method) endpoint
 
@@ -49,13 +49,13 @@ noted_as kind call outcome = record {
   outcome = outcome;
 }
 
--- a request that was answered so
+-- The information about a request with this reply.
 abbrev pub noted_for : RequestCall → Reply → RequestInfo
 noted_for asked reply =
     noted_as (kind_asked asked.endpoint asked.head.method) asked.call (outcome_of reply)
 
--- After the end of a stream: the rule of the wire that a request broke, and else what was noted
--- before.
+-- The information after the end of a stream: the protocol rule that a request broke, otherwise what
+-- was recorded before.
 abbrev pub noted_after : End → Option RequestInfo → Option RequestInfo
 noted_after (ends.Wire rule) noted = Some (record {
   operation = None;
@@ -67,7 +67,7 @@ noted_after ends.End noted = noted
 noted_after ends.Cut noted = noted
 noted_after ends.Close noted = noted
 
--- the same request, of which that reply is told
+-- The same request, with that reply delivered.
 abbrev pub told_as : Reply → Option RequestInfo → Option RequestInfo
 told_as reply None = None
 told_as reply (Some noted) = Some (record {
@@ -77,7 +77,7 @@ told_as reply (Some noted) = Some (record {
   outcome = outcome_of reply;
 })
 
--- the same where an answer was held back, and else what was noted before
+-- The same if a response was deferred, otherwise what was recorded before.
 abbrev pub noted_instead : Option Slot → Reply → Option RequestInfo → Option RequestInfo
 noted_instead None reply noted = noted
 noted_instead (Some slot) reply noted = told_as reply noted

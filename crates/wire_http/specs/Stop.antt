@@ -1,4 +1,4 @@
--- How a stream stops where its rest is no request that can be answered.
+-- How a stream stops if its rest is not a request that can be answered.
 use Rattle.std.specs.Prelude.{◌≡◌, ◌<◌, ◌⊎◌, ℕ, List, [], length, Ok, Err}
 use Rattle.httparse.specs.Grammar.{RequestHead}
 use Rattle.httparse.specs.Spans.{RequestExceeds}
@@ -10,12 +10,12 @@ use Rattle.wire_head.specs.Rest.{IsKind, cut, bad, large, whole, after, window}
 use Rattle.wire_head.specs.Length.{content_length}
 use Rattle.wire_http.specs.Asked.{fields_of}
 
--- a whole head stands there, and this is the first rule that its fields break
+-- Holds if the rest begins with a complete head whose fields break this rule first.
 abbrev pub HasRefused : List ℕ → WireRule → Type 0
 HasRefused rest rule = (h : RequestHead) × IsKind rest (whole h)
     × (content_length (fields_of h) ≡ Err rule)
 
--- the rest breaks that rule of the wire
+-- Holds if the rest breaks this protocol rule.
 abbrev pub Breaks : List ℕ → WireRule → Type 0
 Breaks rest rules.Head = IsKind rest bad
 Breaks rest rules.HeadSize = IsKind rest large
@@ -23,21 +23,21 @@ Breaks rest rules.Transfer = HasRefused rest rules.Transfer
 Breaks rest rules.Length = HasRefused rest rules.Length
 Breaks rest rules.BodySize = HasRefused rest rules.BodySize
 
--- the rest ends in a head, or in the body that its head tells
+-- Holds if the rest ends within a head, or within the body after it.
 abbrev pub IsCut : List ℕ → Type 0
 IsCut rest =
     IsKind rest cut
     ⊎ ((h : RequestHead) × (size : ℕ) × IsKind rest (whole h) × (content_length (fields_of h) ≡ Ok size)
     × (length (after h rest) < size))
 
--- how the stream ends there
+-- Holds if the stream stops in this way at the rest.
 abbrev pub StopsAs : List ℕ → End → Type 0
 StopsAs rest ends.End = rest ≡ []
 StopsAs rest ends.Cut = IsCut rest
 StopsAs rest (ends.Wire rule) = Breaks rest rule
 StopsAs rest ends.Close = ⊥
 
--- the rule of a head that is none of the grammar, or of one that is too large
+-- Holds if the end is by the rule about the grammar or by that about the size of a head.
 abbrev pub IsOfHead : End → Type 0
 IsOfHead (ends.Wire rules.Head) = Unit {0}
 IsOfHead (ends.Wire rules.HeadSize) = Unit {0}
@@ -48,8 +48,8 @@ IsOfHead ends.End = ⊥
 IsOfHead ends.Cut = ⊥
 IsOfHead ends.Close = ⊥
 
--- two ends at a rest are one, but where it breaks the grammar and also has too many fields: there
--- both rules are right
+-- Holds if two ends at a rest are equal. If the rest breaks the grammar and also has too many
+-- fields, either of the two rules is right.
 abbrev pub AreSameEnds : List ℕ → End → End → Type 0
 AreSameEnds rest end other = (other ≡ end) ⊎ (RequestExceeds 64 (window rest) × IsOfHead end
     × IsOfHead other)

@@ -1,4 +1,4 @@
--- The text of an answer (RFC 9112, section 2.1; this project's profile).
+-- The text of a response (RFC 9112, section 2.1; this project's profile).
 use Rattle.std.specs.Prelude.{◌==◌, ℕ, Bool, true, List, [], ◌∷◌, ◌++◌, length, codes, if◌then◌else◌, Option, Some, None}
 use Rattle.std.specs.Fmt.{decimal}
 use Rattle.policy_core.specs.declared.rule.Rule.{Rule}
@@ -13,11 +13,11 @@ use Rattle.wire_http.specs.declared.end.End.TheVariants as ends
 use Rattle.wire_head.specs.declared.rule.WireRule.{WireRule}
 use Rattle.wire_head.specs.Rule as rule
 
--- a line with its end
+-- A line with CR and LF.
 abbrev pub line : List ℕ → List ℕ
 line text = text ++ codes "\r\n"
 
--- the reason phrase of a status
+-- The reason phrase of a status.
 unfoldable pub reason_of : ℕ → List ℕ
 reason_of status =
     if status == 200 then codes "OK"
@@ -34,13 +34,12 @@ reason_of status =
     else (if status == 501 then codes "Not Implemented"
     else (if status == 503 then codes "Service Unavailable" else []))))))))))))
 
--- the methods that the place takes
+-- The methods that the endpoint allows.
 abbrev pub methods_text : Option Endpoint → List ℕ
 methods_text (Some endpoint) = allow_of endpoint
 methods_text None = []
 
--- the field that a denial adds: the methods for one that the place does not take, the scheme for a
--- missing token
+-- The field that a denial adds: the allowed methods for P2, the scheme for a missing token.
 abbrev pub rule_field : Option Endpoint → Rule → List ℕ
 rule_field endpoint Method = line (codes "Allow: " ++ methods_text endpoint)
 rule_field endpoint Token = line (codes "WWW-Authenticate: Bearer")
@@ -56,11 +55,11 @@ status_line status = line (codes "HTTP/1.1 " ++ decimal status ++ codes " " ++ r
 unfoldable pub length_line : ℕ → List ℕ
 length_line size = line (codes "Content-Length: " ++ decimal size)
 
--- the field of an answer after which the connection closes
+-- The field of a response after which the connection closes.
 unfoldable pub close_field : Bool → List ℕ
 close_field closing = if closing then line (codes "Connection: close") else []
 
--- a status line, fields, and an empty line
+-- The status line, the fields and an empty line.
 unfoldable pub front_of : ℕ → List ℕ → Bool → ℕ → List ℕ
 front_of status field closing size =
     status_line status
@@ -70,24 +69,24 @@ front_of status field closing size =
     ++ close_field closing
     ++ line []
 
--- and then the body
+-- The complete message, with the body.
 abbrev pub message : ℕ → List ℕ → Bool → List ℕ → List ℕ
 message status field closing body = front_of status field closing (length body) ++ body
 
--- the answer to a request whose path leads to that place
+-- The text of the response to a request at that endpoint.
 abbrev pub response_text : Option Endpoint → Bool → Reply → List ℕ
 response_text endpoint closing reply =
     message (status_of reply) (reply_field endpoint reply) closing (reply_text reply)
 
--- the body that tells a rule of the wire: its number and its name
+-- The body for a broken protocol rule: its number and its name.
 unfoldable pub rule_body : WireRule → List ℕ
 rule_body r = codes "{\"message\":\"H" ++ decimal (rule.number_of r) ++ codes " " ++ rule.name_of r ++ codes "\"}"
 
--- the answer where a rule of the wire is broken
+-- The text of the response if a protocol rule is broken.
 abbrev pub rule_text : WireRule → List ℕ
 rule_text r = message (rule.status_of r) [] true (rule_body r)
 
--- the texts that follow the answers: that of the rule where one ended the stream
+-- The texts after the responses: that of the protocol rule that ended the stream, if one did.
 abbrev pub end_texts : End → List (List ℕ)
 end_texts (ends.Wire r) = rule_text r ∷ []
 end_texts ends.End = []

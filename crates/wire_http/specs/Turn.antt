@@ -1,4 +1,4 @@
--- What one turn of a stream gives: one request more, or the end.
+-- What one turn of a stream gives: one more request, or the end.
 use Rattle.std.specs.Prelude.{◌≡◌, ◌<◌, ◌==◌, ◌⊎◌, ℕ, List, [], ◌++◌, length, take, Option}
 use Rattle.std.specs.List.{concat}
 use Rattle.std.specs.Io.KnownBytes.{Appends, Consumes}
@@ -17,21 +17,22 @@ use Rattle.wire_http.specs.Stop.{Breaks, StopsAs}
 use Rattle.wire_http.specs.Text.{response_text, end_texts, rule_text}
 use Rattle.wire_http.specs.Wire.{RequestCall, AsksCall, ClockAfter, left_after}
 
--- after an answer fewer requests may follow
+-- Holds if fewer requests may follow after a response.
 abbrev pub MayGoOn : ℕ → Turn → Type 0
 MayGoOn count (Answered n) = n < count
 MayGoOn count (Ended end) = Unit {0}
 
 module _ {S M : Type 0} (g : Ghosts S) (Gives : M → ℕ → M → Type 0) (callers : Callers)
     (bound : ℕ) (old new : Service S) (clock clock' : M) (before text : Option (List ℕ)) where
-  -- the service was asked a call, and this is the reply; after it so many requests may come
+  -- Holds if the service replied to the call, and `n` requests may follow.
   pub record Took (asked : RequestCall) (reply : Reply) (n : ℕ) : Type 0 where
     pub n_is : n ≡ left_after bound asked.head
     pub closing : asked.closing ≡ (n == 0)
     pub is_reply : IsReplyTo g old new asked.moment asked.call reply
 
-  -- A request was answered, whatever follows it; or the stream ended. The reader had and has these
-  -- bytes, and the buffer those that belong to no earlier request.
+  -- Holds if a request was answered, whatever follows it, or the stream ended. The arguments are
+  -- the bytes left in the reader before and after, and those in the buffer that belong to no
+  -- earlier request.
   abbrev pub IsTurn : Option (List ℕ) → Option (List ℕ) → List ℕ → List ℕ → Turn → Type 0
   IsTurn remaining remaining' buffer buffer' (Answered n) =
       (asked : RequestCall) × (reply : Reply) × (came : List ℕ)
@@ -43,14 +44,14 @@ module _ {S M : Type 0} (g : Ghosts S) (Gives : M → ℕ → M → Type 0) (cal
       (ahead : List ℕ) × IsInput remaining ahead × StopsAs (buffer ++ ahead) end
       × (new ≡ old) × (clock' ≡ clock) × Appends before text (concat (end_texts end))
 
-  -- the turn was given up before a request of the rest was asked
+  -- Holds if the turn was aborted before the call of a request.
   pub record StopsUnasked (rest : List ℕ) (fault : StreamFault) : Type 0 where
     pub fault_is : IsOfAsking fault
     pub same : new ≡ old
     pub clock_is : ClockAfter Gives callers fault rest clock clock'
     pub written : Appends before text []
 
-  -- it was given up in the answer to a request of the rest
+  -- Holds if the turn was aborted within the response to a request.
   pub record StopsInAnswer (rest : List ℕ) (fault : StreamFault) : Type 0 where
     pub fault_is : IsOfAnswering fault
     pub asked : RequestCall
@@ -63,7 +64,7 @@ module _ {S M : Type 0} (g : Ghosts S) (Gives : M → ℕ → M → Type 0) (cal
     pub short : size < length (response_text asked.endpoint asked.closing reply)
     pub written : Appends before text (take size (response_text asked.endpoint asked.closing reply))
 
-  -- it was given up in the text of the rule that the rest breaks
+  -- Holds if the turn was aborted within the text of the rule that the rest breaks.
   pub record StopsInRule (rest : List ℕ) (fault : StreamFault) : Type 0 where
     pub fault_is : IsOfAnswering fault
     pub rule : WireRule
@@ -74,7 +75,7 @@ module _ {S M : Type 0} (g : Ghosts S) (Gives : M → ℕ → M → Type 0) (cal
     pub short : size < length (rule_text rule)
     pub written : Appends before text (take size (rule_text rule))
 
-  -- the turn was given up
+  -- Holds if the turn was aborted.
   abbrev pub IsTurnPart : Option (List ℕ) → List ℕ → StreamFault → Type 0
   IsTurnPart remaining buffer fault =
       (ahead : List ℕ) × IsInput remaining ahead

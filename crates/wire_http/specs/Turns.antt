@@ -1,4 +1,4 @@
--- Many connections on one service: whose turn each call was.
+-- Many connections on one service, and which connection made each call.
 use Rattle.std.specs.Prelude.{◌≡◌, ◌==◌, if◌then◌else◌, ℕ, false, List, [], ◌∷◌, ◌++◌, All, map}
 use Rattle.space_core.specs.declared.space.Space.{Ghosts}
 use Rattle.service_calls.specs.declared.service.Service.{Service}
@@ -10,15 +10,15 @@ use Rattle.wire_http.specs.Connection.{is_done}
 use Rattle.wire_http.specs.Many.{HoldsBackLast, IsServed}
 use Rattle.wire_http.specs.Wire.{RequestCall, timed}
 
--- A call that was made: for which connection, what was asked, the reply, and what the caller is
--- told: that reply, unless the answer was replaced.
+-- A call with its connection, its request, its reply, and the delivered reply. The two replies
+-- differ only if the response was replaced.
 pub record MadeCall : Type 0 where
   pub connection : ℕ
   pub asked : RequestCall
   pub reply : Reply
   pub told : Reply
 
--- the same call, of which that is told
+-- The same call, with another delivered reply.
 abbrev pub retold : MadeCall → Reply → MadeCall
 retold call told = record {
   connection = call.connection;
@@ -27,7 +27,7 @@ retold call told = record {
   told = told;
 }
 
--- those that were made for one connection, in order
+-- The calls of one connection, in order.
 abbrev pub made_for : ℕ → List MadeCall → List MadeCall
 made_for who [] = []
 made_for who (call ∷ log) =
@@ -39,13 +39,13 @@ asked_for who log = map (λ call. call.asked) (made_for who log)
 abbrev pub told_for : ℕ → List MadeCall → List Reply
 told_for who log = map (λ call. call.told) (made_for who log)
 
--- the same of each connection but one
+-- The same values, except for one connection.
 abbrev pub set_at : {X : Type 0} → (ℕ → X) → ℕ → X → ℕ → X
 set_at values who value other = if other == who then value else values other
 
--- The calls of all connections, in the order in which they were made, are one list, and answered as
--- one. Each connection that is not done was served by its own, whatever was asked on the others in
--- between, with what is told of each. One that nobody has opened yet is as a new one.
+-- Holds if the calls of all connections, in the order in which they were made, have the replies of
+-- one list. Each connection that is not done was served on its own, with the delivered replies. A
+-- connection that was not opened yet is as a new one.
 pub record AreServed {S : Type 0} (g : Ghosts S) (callers : Callers) (first now : Service S)
     (log : List MadeCall) (came sent : ℕ → List ℕ) (connections : ℕ → Connection) : Type 0 where
   pub one_list : Answered g first (map (λ call. timed call.asked) log)
@@ -54,8 +54,8 @@ pub record AreServed {S : Type 0} (g : Ghosts S) (callers : Callers) (first now 
       → IsServed callers (came who) (asked_for who log) (told_for who log) (sent who)
       (connections who)
 
--- So it is after calls for that connection, at most one. It is told as it was answered, and its
--- answer is held back.
+-- Holds after at most one further call of a connection. Its reply is delivered as it was made, and
+-- its response is deferred.
 pub record AreServedAfter {S : Type 0} (g : Ghosts S) (callers : Callers) (first now : Service S)
     (log : List MadeCall) (came sent : ℕ → List ℕ) (connections : ℕ → Connection) (who : ℕ)
     (next : Connection) : Type 0 where

@@ -1,4 +1,4 @@
--- Which calls the bytes of a stream spell, and what is written for them.
+-- The calls that the bytes of a stream represent, and what is written for them.
 use Rattle.std.specs.Prelude.{◌≡◌, ◌<◌, ◌≤◌, ◌-◌, ◌⊎◌, ◌==◌, ℕ, zero, suc, Bool, if◌then◌else◌, List, [], ◌∷◌, ◌++◌, length, take, drop, map, Option, Ok}
 use Rattle.std.specs.List.{concat}
 use Rattle.std.specs.Io.KnownBytes.{Appends}
@@ -24,22 +24,23 @@ use Rattle.wire_http.specs.Text.{response_text, rule_text, end_texts}
 use Rattle.wire_head.specs.Close.{closes_by}
 use Rattle.wire_http.specs.Stop.{Breaks, StopsAs}
 
--- the rest begins with a whole request: a head, and then as many bytes of a body as its fields tell
+-- Holds if the rest begins with a complete request: a head, and a body of the length that its
+-- fields give.
 pub record IsRequest (rest : List ℕ) (h : RequestHead) (body : List ℕ) : Type 0 where
   pub head : IsKind rest (whole h)
   pub told : content_length (fields_of h) ≡ Ok (length body)
   pub follows : take (length body) (after h rest) ≡ body
 
--- the connection closes after a request with that head
+-- Returns true if the connection closes after a request with that head.
 abbrev pub closes : RequestHead → Bool
 closes h = closes_by h.minor (fields_of h)
 
--- how many requests may follow one with that head, where n could: none where it closes
+-- The number of requests that may follow one with that head: `n`, or zero if the connection closes.
 abbrev pub left_after : ℕ → RequestHead → ℕ
 left_after n h = if closes h then 0 else n
 
--- a request that was asked: its head, the place of its path, its moment and its call, and whether
--- the connection closes after it
+-- A request with its call: its head, the endpoint of its path, its time, the call, and whether the
+-- connection closes after it.
 pub record RequestCall : Type 0 where
   pub head : RequestHead
   pub endpoint : Option Endpoint
@@ -51,8 +52,8 @@ abbrev pub timed : RequestCall → TimedCall
 timed asked = (asked.moment, asked.call)
 
 module _ {M : Type 0} (Gives : M → ℕ → M → Type 0) (callers : Callers) where
-  -- The rest begins with a request that asks this call, at the next moment of the clock. After it
-  -- stands next.
+  -- Holds if the rest begins with a request that makes this call, at the next time of the clock.
+  -- `next` is what follows it.
   pub record AsksCall (rest : List ℕ) (clock : M) (asked : RequestCall) (next : List ℕ) (clock' : M)
       : Type 0 where
     pub body : List ℕ
@@ -61,8 +62,8 @@ module _ {M : Type 0} (Gives : M → ℕ → M → Type 0) (callers : Callers) w
     pub moment : Gives clock asked.moment clock'
     pub next_is : next ≡ drop (length body) (after asked.head rest)
 
-  -- Of at most so many requests of the rest these are the first, one after the other. They lead to
-  -- where so many may still come, to that rest and that clock.
+  -- Holds if these are the first of at most `bound` requests of the rest. After them `n` may still
+  -- come, `left` is left of the input, and the clock is `later`.
   abbrev pub Leads : ℕ → List ℕ → M → List RequestCall → ℕ → List ℕ → M → Type 0
   Leads bound rest clock [] n left later = (n ≡ bound) × (left ≡ rest) × (later ≡ clock)
   Leads zero rest clock (asked ∷ more) n left later = ⊥
@@ -71,9 +72,9 @@ module _ {M : Type 0} (Gives : M → ℕ → M → Type 0) (callers : Callers) w
       × (asked.closing ≡ (left_after bound asked.head == 0))
       × Leads (left_after bound asked.head) next mid more n left later
 
-  -- Where the clock stands after a fault before the next request was asked: it gave no moment but
-  -- those of the requests that were asked, or for want of memory one more. That one, and a fault of
-  -- the clock, come only for a request that had come whole; of a clock that failed no more is said.
+  -- Holds if the clock can be in this state after a fault before the next call. It gave only the
+  -- times of the requests that made calls, or one more if memory ran out. This one, or a fault of
+  -- the clock, requires a complete request. Nothing is said of a clock after it failed.
   abbrev pub ClockAfter : StreamFault → List ℕ → M → M → Type 0
   ClockAfter faults.Memory left later clock' =
       (clock' ≡ later) ⊎ ((h : RequestHead) × (body : List ℕ) × (moment : ℕ)
@@ -84,33 +85,35 @@ module _ {M : Type 0} (Gives : M → ℕ → M → Type 0) (callers : Callers) w
   ClockAfter faults.Write left later clock' = clock' ≡ later
   ClockAfter faults.Turns left later clock' = clock' ≡ later
 
--- how the stream ends where so many requests may still come: where none may, the connection closes
+-- Holds if the stream ends in this way while `n` requests may still come. If none may, the
+-- connection closes.
 abbrev pub Finishes : ℕ → List ℕ → End → Type 0
 Finishes zero left end = end ≡ ends.Close
 Finishes (suc n) left end = StopsAs left end
 
--- the texts of the answers, one after the other
+-- The texts of the responses, in order.
 abbrev pub answers : List RequestCall → List Reply → List (List ℕ)
 answers [] replies = []
 answers (asked ∷ more) [] = []
 answers (asked ∷ more) (reply ∷ replies) = response_text asked.endpoint asked.closing reply
     ∷ answers more replies
 
--- what may follow the answers before a fault: nothing, or the text of the rule that the rest breaks
+-- Holds if these texts can follow the responses before a fault: none, or that of the rule that the
+-- rest breaks.
 abbrev pub MayFollow : ℕ → List ℕ → List (List ℕ) → Type 0
 MayFollow zero left texts = texts ≡ []
 MayFollow (suc n) left texts = (texts ≡ []) ⊎ ((rule : WireRule) × Breaks left rule
     × (texts ≡ rule_text rule ∷ []))
 
--- the first bytes of the texts: all but the last are whole, and that one is not
+-- Holds if the bytes are a prefix of the texts, in which only the last text is incomplete.
 pub record IsFront (texts : List (List ℕ)) (bytes : List ℕ) : Type 0 where
   pub size : ℕ
   pub bytes_are : bytes ≡ take size (concat texts)
   pub others_whole : length (concat (take (length texts - 1) texts)) ≤ size
   pub last_short : size < length (concat texts)
 
--- The stream was given up before its next request was asked: one may still come, and the answers
--- are whole.
+-- Holds if the stream was aborted before its next call: a request may still come, and the responses
+-- are complete.
 pub record GivesUpAsking
     {M : Type 0} (Gives : M → ℕ → M → Type 0) (callers : Callers)
     (fault : StreamFault) (n : ℕ) (left : List ℕ) (later clock' : M) (texts : List (List ℕ))
@@ -120,8 +123,8 @@ pub record GivesUpAsking
   pub clock_is : ClockAfter Gives callers fault left later clock'
   pub whole : bytes ≡ concat texts
 
--- It was given up in the last answer, or in the text of the rule that the rest breaks. No moment
--- was taken since then.
+-- Holds if the stream was aborted within the last response, or within the text of the rule that the
+-- rest breaks. The clock was not read since then.
 pub record GivesUpAnswering
     {M : Type 0} (fault : StreamFault) (n : ℕ) (left : List ℕ) (later clock' : M)
     (texts : List (List ℕ)) (bytes : List ℕ) : Type 0 where
@@ -131,8 +134,8 @@ pub record GivesUpAnswering
   pub follows : MayFollow n left tail
   pub front : IsFront (texts ++ tail) bytes
 
--- What was served of an input: the calls of its requests were answered, and the answers were
--- written, and then the text of the rule of the wire where one ended the stream.
+-- Holds if this was served of an input. The calls of its requests were answered, and the responses
+-- were written, then the text of the protocol rule that ended the stream, if one did.
 pub record Serves
     {S M : Type 0} (g : Ghosts S) (Gives : M → ℕ → M → Type 0) (callers : Callers)
     (bound : ℕ) (input : List ℕ)
@@ -148,8 +151,8 @@ pub record Serves
   pub count : served.count ≡ length all
   pub written : Appends before text (concat (answers all replies ++ end_texts served.end))
 
--- What was served before a fault: the first requests, whose answers were written, but for a part of
--- the last text where the fault came in it.
+-- Holds if this was served before a fault: the first requests, with their responses written. The
+-- last text may be incomplete.
 pub record ServesPart
     {S M : Type 0} (g : Ghosts S) (Gives : M → ℕ → M → Type 0) (callers : Callers)
     (bound : ℕ) (input : List ℕ)

@@ -1,4 +1,4 @@
-//! What the bytes that are held of a stream give next, with no reading.
+//! What the buffered bytes of a stream give next, without reading.
 ghost use Rattle.std.specs.Prelude.{◌≡◌, ◌++◌, ℕ, List, length, IsUtf8};
 ghost use Rattle.httparse.specs.Grammar.{RequestHead};
 ghost use Rattle.httparse.specs.Spans.{IsRequestWithin, span_bytes};
@@ -13,19 +13,19 @@ use wire_head::length::content_length;
 use wire_head::rest::{FIELD_LIMIT, FinalHead, PartialHead, at_end, head_so_far};
 use wire_head::rule::WireRule;
 
-/// The most bytes of a head, the empty lines before it among them.
+/// The maximum size of a head in bytes, with the empty lines before it.
 pub(crate) const HEAD_LIMIT: usize = 8192;
 
-/// What the held bytes give next.
+/// What the buffered bytes give next.
 #[derive(Clone, Copy)]
 pub(crate) enum BufferState {
-    /// A whole request, or an end.
+    /// A complete request, or an end.
     Gives(Next),
-    /// Nothing yet: no whole request stands there while they are fewer than so many.
+    /// Nothing yet: no request is complete with fewer bytes than this.
     Wants(usize),
 }
 
-// The body that follows a head, which lies in the first bytes.
+// Returns the body after a head that is in the first bytes.
 fn held_body(
     bytes: &[u8],
     front: &[u8],
@@ -56,7 +56,7 @@ fn held_body(
     }
 }
 
-/// What the held bytes give next. `ended` says whether the input ends after them.
+/// Returns what the buffered bytes give next. `ended` says whether the input ends after them.
 pub(crate) fn next_held(bytes: &[u8], ended: bool, fields: &mut [HeaderSpan]) -> BufferState
     requires room { length fields.old ≡ FIELD_LIMIT }
     ensures held { IsHeld bytes.now ended fields.new result }

@@ -25,7 +25,7 @@ use wire_head::target::path_of;
 use wire_route::endpoint::Endpoint;
 use wire_route::routes::{Route, Routes};
 
-// The operation of a kind, or malformed where the words and the body ask for none.
+// Returns the operation of the kind, or `Malformed` if path parameters and body give none.
 fn read_as(
     alloc: Global,
     kind: OpKind,
@@ -41,8 +41,8 @@ fn read_as(
     }
 }
 
-// What a path, a method and a body ask for: the place of the path, the kind that the place has of
-// the method, and the operation.
+// What a path, a method and a body give: the endpoint of the path, the kind of operation of the
+// method there, and the operation.
 #[derive(Drop)]
 struct RoutedOperation {
     endpoint: Option<Endpoint>,
@@ -50,7 +50,7 @@ struct RoutedOperation {
     op: Operation,
 }
 
-// What path, method and body ask for.
+// Returns what path, method and body give.
 fn seek(
     alloc: Global,
     routes: &Routes,
@@ -83,7 +83,7 @@ fn seek(
     })
 }
 
-// The caller of the token that the fields bear.
+// Returns the caller with the bearer token in the fields.
 fn caller_of(
     tokens: &TokenTable,
     buffer: &[u8],
@@ -106,8 +106,8 @@ fn caller_of(
     }))
 }
 
-/// A whole request as it was received: the bytes, where the parts of its head are in them, and the
-/// size of the body that follows the head.
+/// A complete request as it was received: the bytes, where the parts of its head are in them, and
+/// the size of the body after the head.
 #[derive(Clone, Copy)]
 pub(crate) struct Received<'b> {
     pub(crate) buffer: &'b [u8],
@@ -116,8 +116,8 @@ pub(crate) struct Received<'b> {
     pub(crate) size: usize,
 }
 
-/// The call that a request makes, with the place of its path, the kind that the place has of its
-/// method, and its moment.
+/// The call that a request makes, with the endpoint of its path, the kind of operation of its
+/// method there, and its time.
 #[derive(Drop)]
 pub(crate) struct RoutedCall {
     pub(crate) endpoint: Option<Endpoint>,
@@ -126,7 +126,7 @@ pub(crate) struct RoutedCall {
     pub(crate) call: Call,
 }
 
-// The call that a request makes at a moment.
+// Returns the call that a request makes at a time.
 fn call_of(
     alloc: Global,
     routes: &Routes,
@@ -167,7 +167,8 @@ fn call_of(
     })
 }
 
-/// How many requests may follow this one, where so many could: none where the connection closes.
+/// Returns the number of requests that may follow this one: `count`, or zero if the connection
+/// closes.
 pub(crate) fn left_after(received: Received<'_>, count: u32) -> u32
     requires { IsReceived received }
     ensures { result ≡ (if closes_by received.entry.spans.version
@@ -188,7 +189,7 @@ pub(crate) fn left_after(received: Received<'_>, count: u32) -> u32
     }
 }
 
-/// The call that a request makes, at the next moment.
+/// Returns the call that a request makes, at the next time of the clock.
 pub(crate) fn ask<M: Moments>(
     alloc: Global,
     routes: &Routes,

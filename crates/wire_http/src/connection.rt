@@ -1,4 +1,4 @@
-//! One connection as steps over bytes. It makes no system call: its caller moves the bytes.
+//! One connection, as steps over bytes. It makes no system call: the caller moves the bytes.
 ghost use Rattle.std.specs.Prelude.{◌≡◌, ◌<◌, ◌≤◌, ◌+◌, ◌-◌, length, drop, take, Some};
 ghost use Rattle.std.specs.Prelude.{◌++◌, IfOk, OnOk, OnErr, vec_len, vec_capacity};
 ghost use Rattle.std.specs.List.{concat};
@@ -29,24 +29,24 @@ use token_conf::token_table::TokenTable;
 use wire_route::endpoint::Endpoint;
 use wire_route::routes::Routes;
 
-// The most bytes that are held: those of a head and of a body.
+// The maximum number of buffered bytes: those of a head and a body.
 const MOST_HELD: usize = 1_056_768;
 
-// The most bytes of memory that an empty buffer keeps.
+// The maximum memory of an empty buffer, in bytes.
 const MOST_KEPT: usize = 65_536;
 
-/// What one step of a connection did.
+/// The effect of one step of a connection.
 #[derive(Clone, Copy, Debug, PartialEq, Eq)]
 pub enum Step {
-    /// Nothing: no whole request is held, and more may come.
+    /// Nothing was done: no request is complete, and more input may arrive.
     NeedsInput,
-    /// A request was answered, and at most so many may follow it.
+    /// A request was answered. The number is that of the requests that may follow.
     Answered(u32),
-    /// No request more is answered: the stream ended so.
+    /// The stream ended in this way, and no more requests are answered.
     Ended(End),
 }
 
-// Gives back the memory of a large buffer that holds little. An empty one keeps at most 64 KB.
+// Releases the memory of a large buffer that holds little. An empty one keeps at most 64 KB.
 fn give_back(buffer: &mut Vec<u8>)
     ensures same { buffer.new.items ≡ buffer.old.items }
     ensures light { IsLight (vec_len buffer.new) (vec_capacity buffer.new) }
@@ -56,7 +56,7 @@ fn give_back(buffer: &mut Vec<u8>)
     }
 }
 
-// Puts bytes behind those of a buffer, or, for want of memory, none.
+// Appends bytes to a buffer. If memory runs out, appends none.
 fn put_behind(buffer: &mut Vec<u8>, bytes: &[u8]) -> Result<(), AllocError>
     ensures whole { OnOk result (buffer.new.items ≡ buffer.old.items ++ bytes.now) }
     ensures same { OnErr result (buffer.new.items ≡ buffer.old.items) }
@@ -69,7 +69,7 @@ fn put_behind(buffer: &mut Vec<u8>, bytes: &[u8]) -> Result<(), AllocError>
     done
 }
 
-// Puts the answer to a reply behind what is to be sent, or, for want of memory, nothing.
+// Appends the response to a reply to the output. If memory runs out, appends nothing.
 fn answer_behind(
     alloc: Global,
     output: &mut Vec<u8>,
@@ -92,7 +92,7 @@ fn answer_behind(
     }
 }
 
-// The reply to a call, asked for once, and its text put behind what is to be sent: what it tells.
+// Makes a call once, appends the text of the response to the output, and returns its outcome.
 fn reply_behind<S: Space + Drop>(
     alloc: Global,
     service: &mut Service<S>,
@@ -120,7 +120,7 @@ fn reply_behind<S: Space + Drop>(
     }
 }
 
-// Puts behind it what follows the answers where a stream ends: the text of a rule of the wire.
+// Appends the text after the responses at the end of a stream: that of a protocol rule.
 fn end_behind(alloc: Global, output: &mut Vec<u8>, end: End) -> Result<(), AllocError>
     requires light { IsLight (vec_len output.old) (vec_capacity output.old) }
     ensures whole { OnOk result (output.new.items ≡ output.old.items ++ concat (end_texts end)) }
@@ -140,8 +140,8 @@ fn end_behind(alloc: Global, output: &mut Vec<u8>, end: End) -> Result<(), Alloc
     }
 }
 
-// The answer that is held back, the last of all: where its text begins, the place of its request,
-// and whether the connection closes after it.
+// The deferred response, the last of all: where its text begins, the endpoint of its request, and
+// whether the connection closes after it.
 #[derive(Clone, Copy)]
 struct DeferredResponse {
     start: usize,
@@ -149,15 +149,15 @@ struct DeferredResponse {
     closing: bool,
 }
 
-/// The bytes that one connection holds: those that came and belong to no earlier request, and
-/// those of answers that are not sent yet.
+/// The state of one connection: the received bytes that belong to no earlier request, and the
+/// unsent bytes of responses.
 ///
-/// The answer to the last request is held back, and no byte of it is to be sent, until the caller
-/// lets it go or has it replaced.
+/// The response to the last request is deferred: none of its bytes is sent until the caller
+/// releases or replaces it.
 #[derive(Drop)]
 pub struct Connection {
     held: Vec<u8>,
-    // No whole request is held while the bytes are fewer than so many.
+    // No request is complete while fewer bytes are buffered.
     wanted: usize,
     ended: bool,
     left: u32,
@@ -187,7 +187,7 @@ impl Connection {
     ghost use Rattle.wire_http.specs.Count.{one_more};
     ghost use Rattle.wire_http.specs.RequestInfo.{noted_instead};
 
-    /// A connection from which nothing has come. It takes no memory.
+    /// Creates a connection from which nothing was received. Allocates nothing.
     pub fn new(alloc: Global) -> Connection
         ensures held { held_of result ≡ [] }
         ensures output { output_of result ≡ [] }
@@ -210,15 +210,15 @@ impl Connection {
         }
     }
 
-    /// How many bytes more it takes in: none where a head and a body of the greatest sizes are
-    /// held.
+    /// Returns the number of bytes that can still be received. It is zero if a head and a body of
+    /// the maximum sizes are buffered.
     pub fn remaining_capacity(&self) -> usize
         ensures { result ≡ max_buffered - length (held_of self.now) }
     {
         MOST_HELD - self.held.len()
     }
 
-    /// How many bytes are held.
+    /// Returns the number of buffered bytes.
     pub fn buffered_len(&self) -> usize
         ensures held { result ≡ length (held_of self.now) }
         ensures most { result ≤ max_buffered }
@@ -226,29 +226,32 @@ impl Connection {
         self.held.len()
     }
 
-    /// Whether bytes are held.
+    /// Returns true if bytes are buffered.
     pub fn has_buffered(&self) -> bool
         ensures { IsTrue result ↔ (0 < length (held_of self.now)) }
     {
         !self.held.is_empty()
     }
 
-    /// What its last answer was to, and how that ended: nothing before the first. The text of a
-    /// rule of the wire is an answer, too.
+    /// Returns the information about the last response, and its outcome.
+    ///
+    /// Returns `None` before the first response. The text of a protocol rule is a response as well.
     pub fn last_request(&self) -> Option<&RequestInfo>
         ensures { option_map (λ noted. noted.now) result ≡ noted_of self.now }
     {
         self.noted.as_ref()
     }
 
-    /// Whether no request more is answered.
+    /// Returns true if no more requests are answered.
     pub fn is_done(&self) -> bool
         ensures { result ≡ is_done self.now }
     {
         self.done
     }
 
-    /// Takes in the bytes that came, or, for want of memory, none.
+    /// Appends received bytes to the buffer. If memory runs out, appends none.
+    ///
+    /// `bytes` must fit into `remaining_capacity`.
     pub fn receive(&mut self, bytes: &[u8]) -> Result<(), AllocError>
         requires room { HasRoom self.old bytes.now }
         ensures held { OnOk result (held_of self.new ≡ held_of self.old ++ bytes.now) }
@@ -267,7 +270,7 @@ impl Connection {
         }
     }
 
-    /// Says that nothing more comes.
+    /// Marks the end of the input: no more bytes arrive.
     pub fn end_of_input(&mut self)
         ensures held { held_of self.new ≡ held_of self.old }
         ensures output { output_of self.new ≡ output_of self.old }
@@ -281,7 +284,7 @@ impl Connection {
         self.ended = true;
     }
 
-    /// The bytes to send next: those of answers that are not held back.
+    /// Returns the bytes to send next: those of responses that are not deferred.
     pub fn output(&self) -> &[u8]
         ensures { result.now ≡ ready_of self.now }
     {
@@ -291,14 +294,14 @@ impl Connection {
         }
     }
 
-    /// Whether bytes are to be sent.
+    /// Returns true if there are bytes to send.
     pub fn wants_write(&self) -> bool
         ensures { IsTrue result ↔ (0 < length (ready_of self.now)) }
     {
         !self.output().is_empty()
     }
 
-    /// Says that so many of them were sent.
+    /// Removes the first `count` bytes of the output, which were sent.
     pub fn mark_sent(&mut self, count: usize)
         requires { count ≤ length (ready_of self.old) }
         ensures held { held_of self.new ≡ held_of self.old }
@@ -319,14 +322,14 @@ impl Connection {
         }
     }
 
-    /// Whether an answer is held back.
+    /// Returns true if a response is deferred.
     pub fn has_deferred(&self) -> bool
         ensures { result ≡ holds_back self.now }
     {
         self.held_back.is_some()
     }
 
-    /// The answer that is held back; no bytes where none is.
+    /// Returns the deferred response, or no bytes if none is deferred.
     pub fn deferred(&self) -> &[u8]
         ensures { result.now ≡ held_back_of self.now }
     {
@@ -336,7 +339,7 @@ impl Connection {
         }
     }
 
-    /// Lets the answer that is held back go.
+    /// Releases the deferred response for sending.
     pub fn release_deferred(&mut self)
         ensures held { held_of self.new ≡ held_of self.old }
         ensures output { output_of self.new ≡ output_of self.old }
@@ -350,9 +353,9 @@ impl Connection {
         self.held_back = None;
     }
 
-    /// Puts the answer to this reply in the place of the one that is held back, and lets it go.
+    /// Replaces the deferred response by the response to this reply, and releases it.
     ///
-    /// For want of memory no byte of either is to be sent, and no request more is answered.
+    /// If memory runs out, no byte of either is sent, and no more requests are answered.
     pub fn replace_deferred(&mut self, alloc: Global, reply: &Reply) -> Result<(), AllocError>
         ensures held { held_of self.new ≡ held_of self.old }
         ensures output { OnOk result
@@ -383,7 +386,7 @@ impl Connection {
         }
     }
 
-    // Answers the request that stands first in what is held.
+    // Answers the first buffered request.
     fn answer_first<S: Space + Drop, M: Moments>(
         &mut self,
         alloc: Global,
@@ -447,11 +450,12 @@ impl Connection {
         Ok(Step::Answered(left))
     }
 
-    /// Answers the next request, if it is held whole, and holds its answer back; or ends the
-    /// stream: what `serve_stream` does next of the same bytes, with no reading and no writing.
+    /// Answers the next request, if it is complete, and defers its response; or ends the stream.
     ///
-    /// After a fault no request more is answered, and nothing was put behind the output. At most
-    /// one call was made whose answer is lost, and it stands as it was done.
+    /// This is what `serve_stream` does next with the same bytes, without reading and writing.
+    ///
+    /// After a fault no more requests are answered, and nothing was appended to the output. At most
+    /// one call was made whose response is lost; its effect stands.
     pub fn advance<S: Space + Drop, M: Moments>(
         &mut self,
         alloc: Global,
@@ -477,7 +481,7 @@ impl Connection {
             self.done = true;
             return Ok(Step::Ended(End::Close));
         }
-        // What was read once of these bytes tells that too few are held.
+        // An earlier parse of these bytes determined that too few are buffered.
         if !self.ended && self.held.len() < self.wanted {
             return Ok(Step::NeedsInput);
         }

@@ -2,10 +2,10 @@
 use std::io;
 use std::io::{Read, Write};
 
-/// A device, with how often it was called, how often it failed, and whether its last call did.
+/// A device with its number of calls, its number of failures, and whether its last call failed.
 ///
-/// A failure is any error, an interrupted call too, and a write that takes no byte. Both counts
-/// stay at their greatest value. No call here takes memory.
+/// A failure is any error, also of an interrupted call, and a write that takes no byte. Both counts
+/// stop at their maximum. No call here allocates.
 #[derive(Drop)]
 pub struct Counted<T> {
     inner: T,
@@ -18,7 +18,7 @@ impl<T> Counted<T> {
     ghost use Rattle.std.specs.Prelude.{◌≡◌, false};
     ghost use Rattle.wire_http.specs.Counted.{inner_of, calls_of, failures_of, has_failed};
 
-    /// A device that was never called.
+    /// Creates a counted device without any calls.
     pub fn new(inner: T) -> Counted<T>
         ensures inner { inner_of result ≡ inner }
         ensures calls { calls_of result ≡ 0 }
@@ -33,21 +33,21 @@ impl<T> Counted<T> {
         }
     }
 
-    /// How often it was called.
+    /// Returns the number of calls.
     pub fn calls(&self) -> u64
         ensures { result ≡ calls_of self.now }
     {
         self.calls
     }
 
-    /// How often it failed.
+    /// Returns the number of failures.
     pub fn failures(&self) -> u64
         ensures { result ≡ failures_of self.now }
     {
         self.failures
     }
 
-    /// The device.
+    /// Returns the device.
     pub fn into_inner(self) -> T
         ensures { result ≡ inner_of self }
     {

@@ -1,4 +1,4 @@
-//! How a stream ended.
+//! The end of a stream.
 
 use wire_head::rule::WireRule;
 
@@ -7,18 +7,18 @@ use wire_head::rule::WireRule;
 pub enum End {
     /// The input ended after the last request.
     End,
-    /// What is left of the input is no whole request, and gets no answer.
+    /// The input ended within a request, which gets no response.
     Cut,
-    /// A request was answered, and its connection closes.
+    /// A request was answered, and the connection closes.
     Close,
-    /// A request broke a rule of the wire.
+    /// A request broke a protocol rule.
     Wire(WireRule),
 }
 
 /// What was served of a stream.
 #[derive(Clone, Copy, Debug, PartialEq, Eq)]
 pub struct Served {
-    /// How many requests the service answered.
+    /// The number of requests that the service answered.
     pub count: u32,
     /// How the stream ended.
     pub end: End,

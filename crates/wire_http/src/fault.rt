@@ -1,17 +1,17 @@
-//! Why a stream was given up.
+//! Reasons to abort a stream.
 
-/// Why a stream was given up: what failed.
+/// The failure that aborted a stream.
 #[derive(Clone, Copy, Debug, PartialEq, Eq)]
 pub enum StreamFault {
-    /// A read.
+    /// A read failed.
     Read,
-    /// A write.
+    /// A write failed.
     Write,
-    /// The clock.
+    /// The clock failed.
     Clock,
-    /// A growth of memory was refused.
+    /// Memory ran out.
     Memory,
-    /// The reads that one stream may take, 1,000,000, are used up.
+    /// The stream has used all its reads (1,000,000).
     Turns,
 }
 
@@ -19,7 +19,7 @@ impl StreamFault {
     ghost use Rattle.std.specs.Prelude.{◌≡◌};
     ghost use Rattle.wire_http.specs.Fault.{number_of, name_of};
 
-    /// Its number, from 1 to 5.
+    /// Returns the number of the fault, from 1 to 5.
     pub fn number(self) -> u8
         ensures { result ≡ number_of self }
     {
@@ -32,7 +32,7 @@ impl StreamFault {
         }
     }
 
-    /// Its name, as it is spelled here.
+    /// Returns the name of the fault, which is that of the variant.
     pub fn name(self) -> &'static str
         ensures { result.now ≡ name_of self }
     {

@@ -1,4 +1,4 @@
-//! A stream of HTTP/1.x requests over a reader and a writer, answered by a service.
+//! Serving HTTP/1.x requests of a stream or a connection by a service.
 #![tactic(auto)]
 
 mod buffered;

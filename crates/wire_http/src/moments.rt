@@ -1,13 +1,13 @@
-//! Where the moments of requests come from.
+//! Clocks: where the times of requests come from.
 
-/// No moment could be told.
+/// The clock gave no time.
 #[derive(Clone, Copy, Debug, PartialEq, Eq)]
 pub struct ClockFault;
 
-/// A source of moments, in seconds since the start of 1970.
+/// A clock that gives times in Unix seconds.
 ///
-/// `gives old moment new`: it gives that moment and is then `new`. `failures` counts the calls that
-/// gave none, and stays at the greatest number of 64 bits.
+/// `gives old moment new`: the clock `old` gives that time and is then `new`. `failures` counts the
+/// calls that gave none, and stops at the maximum of 64 bits.
 pub trait Moments {
     ghost use Rattle.std.specs.Prelude.{◌≡◌, ℕ, OnOk, OnErr, IfOk};
     ghost use Rattle.wire_http.specs.Count.{one_more};
@@ -16,14 +16,14 @@ pub trait Moments {
 
     ghost failures: { Self → ℕ };
 
-    /// The next moment.
+    /// Returns the next time.
     fn next(&mut self) -> Result<u64, ClockFault>
         ensures moment { IfOk result (λ moment. gives self.old moment self.new) }
         ensures ok { OnOk result (failures self.new ≡ failures self.old) }
         ensures err { OnErr result (failures self.new ≡ one_more (failures self.old)) };
 }
 
-/// A clock that stands still: each moment is the same. It never fails.
+/// A clock that gives the same time for each call. It never fails.
 #[derive(Clone, Copy, Debug, PartialEq, Eq)]
 pub struct FixedClock {
     moment: u64,
@@ -33,7 +33,7 @@ impl FixedClock {
     ghost use Rattle.std.specs.Prelude.{◌≡◌};
     ghost use Rattle.wire_http.specs.Moments.{moment_of};
 
-    /// A clock that stands at that moment.
+    /// Creates a clock that always gives this time.
     pub fn new(moment: u64) -> FixedClock
         ensures { moment_of result ≡ moment }
     {

@@ -16,13 +16,13 @@ use wire_head::rest::FIELD_LIMIT;
 /// What the unread input gives next.
 #[derive(Clone, Copy)]
 pub(crate) enum Next {
-    /// A whole request: where the parts of its head are, and how many bytes its body has.
+    /// A complete request: where the parts of its head are, and how many bytes its body has.
     Request(RequestSpans, usize),
-    /// No whole request, or one that breaks a rule of the wire: the stream ends so.
+    /// No complete request, or one that breaks a protocol rule: the stream ends in this way.
     Stop(End),
 }
 
-// What the bytes give where the input ends after them.
+// Returns what the bytes give if the input ends after them.
 fn last_held(bytes: &[u8], fields: &mut [HeaderSpan]) -> Next
     requires room { length fields.old ≡ FIELD_LIMIT }
     ensures held { IsHeld bytes.now true fields.new (BufferState.Gives result) }
@@ -41,7 +41,7 @@ pub(crate) fn next_request<R: Read>(
 ) -> Result<Next, StreamFault>
     requires room { length fields.old ≡ FIELD_LIMIT }
     ensures reads { ReadsSource R.remaining source.old source.new result }
-    // Whatever the pieces were in which the input came.
+    // The result does not depend on the chunks in which the input arrived.
     ensures next { IfOk result (IsNext (known_bytes (ahead_of R.remaining source.new))
         (bytes_of source.new) fields.new) }
     ensures within { IfOk result (NextFits (bytes_of source.new) fields.new) }

@@ -1,4 +1,4 @@
-//! What an answer was to, as it is counted and logged.
+//! Information about a response, for metrics and logs.
 ghost use Rattle.std.specs.Prelude.{◌≡◌, Some};
 ghost use Rattle.wire_http.specs.RequestInfo.{entity_of, noted_after, noted_as, outcome_of, told_as};
 
@@ -12,37 +12,37 @@ use policy_core::scope::Caller;
 use service_step::reply::Reply;
 use wire_head::rule::WireRule;
 
-/// How an answer tells that a request ended.
+/// The outcome of a request, as its response says.
 #[derive(Clone, Copy, Debug, PartialEq, Eq)]
 pub enum Outcome {
     /// The call broke no rule and had its effect.
     Done,
-    /// It broke this rule first.
+    /// The call broke this rule first.
     Denied(Rule),
-    /// It failed, for want of memory or by the space.
+    /// The call failed: memory ran out, or the space failed.
     Fault,
     /// The service has stopped.
     Stopped,
-    /// The request broke this rule of the wire, and no call was made.
+    /// The request broke this protocol rule, and no call was made.
     Wire(WireRule),
 }
 
-/// What an answer was to. No part of a token, of an OVN or of a body is in it.
+/// Information about a response. It contains no part of a token, of an OVN or of a body.
 #[derive(Debug, Drop)]
 pub struct RequestInfo {
-    /// The kind of operation that path and method ask for: none without a route, without a method,
-    /// and where no call was made.
+    /// The kind of operation of path and method. It is `None` without a route, if the endpoint does
+    /// not allow the method, and if no call was made.
     pub operation: Option<OpKind>,
-    /// The supplier that asked, where a token says so.
+    /// The USS that made the call, if a token identifies it.
     pub supplier: Option<UssId>,
-    /// The id of the entity or the subscription that is asked for, where words and body have the
-    /// form of one that names it.
+    /// The id of the entity or subscription in the operation, if path parameters and body have the
+    /// form of one with an id.
     pub entity: Option<EntityId>,
-    /// How it ended.
+    /// The outcome of the request.
     pub outcome: Outcome,
 }
 
-/// What a reply tells.
+/// Returns the outcome of a reply.
 pub(crate) fn outcome_of(reply: &Reply) -> Outcome
     ensures { result ≡ outcome_of reply.now }
 {
@@ -54,7 +54,7 @@ pub(crate) fn outcome_of(reply: &Reply) -> Outcome
     }
 }
 
-// The entity or the subscription that an operation names.
+// Returns the id of the entity or subscription in an operation.
 fn entity_of(op: &Operation) -> Option<EntityId>
     ensures { result ≡ entity_of op.now }
 {
@@ -71,7 +71,7 @@ fn entity_of(op: &Operation) -> Option<EntityId>
     }
 }
 
-/// What the answer to a call was to.
+/// Returns the information about a call with this outcome.
 pub(crate) fn noted_as(pending: RoutedCall, outcome: Outcome) -> RequestInfo
     ensures { result ≡ noted_as pending.kind pending.call outcome }
 {
@@ -93,7 +93,7 @@ pub(crate) fn noted_as(pending: RoutedCall, outcome: Outcome) -> RequestInfo
     }
 }
 
-/// Notes how a stream ended, where that is told.
+/// Records how a stream ended, if a response says so.
 pub(crate) fn note_end(noted: &mut Option<RequestInfo>, end: End)
     ensures { noted.new ≡ noted_after end noted.old }
 {
@@ -107,7 +107,7 @@ pub(crate) fn note_end(noted: &mut Option<RequestInfo>, end: End)
     }
 }
 
-/// Notes that this reply is told in the place of another.
+/// Records that this reply is delivered instead of another.
 pub(crate) fn note_instead(noted: &mut Option<RequestInfo>, reply: &Reply)
     ensures { noted.new ≡ told_as reply.now noted.old }
 {

@@ -1,4 +1,4 @@
-//! The service over a stream.
+//! Serving a stream by a service.
 ghost use Rattle.std.specs.Prelude.{◌≡◌, ◌<◌, ◌≤◌, ◌+◌, ◌-◌, ◌⊎◌, ℕ, List, true};
 ghost use Rattle.std.specs.Prelude.{length, take, Err, OnErr, OnOk, IfErr, IfOk};
 ghost use Rattle.std.specs.List.{concat};
@@ -32,13 +32,13 @@ use std::io::{Read, Write};
 use token_conf::token_table::TokenTable;
 use wire_route::routes::Routes;
 
-// The most reads of a stream.
+// The maximum number of reads of a stream.
 const TURNS: u32 = 1_000_000;
 
-/// The most requests of a stream.
+/// The maximum number of requests of a stream.
 pub(crate) const REQUESTS: u32 = 100;
 
-// The reply to a call, asked for once, and its text written.
+// Makes a call once, and writes the text of the response.
 fn answer<S: Space + Drop, W: Write>(
     alloc: Global,
     service: &mut Service<S>,
@@ -68,7 +68,7 @@ fn answer<S: Space + Drop, W: Write>(
     }
 }
 
-// Writes what follows the answers where a stream ends: the text of a rule of the wire.
+// Writes the text after the responses at the end of a stream: that of a protocol rule.
 fn end_with<W: Write>(alloc: Global, writer: &mut Counted<W>, end: End) -> Result<(), StreamFault>
     ensures whole { OnOk result (Appends (W.contents (inner_of writer.old))
         (W.contents (inner_of writer.new)) (concat (end_texts end))) }
@@ -95,13 +95,13 @@ fn end_with<W: Write>(alloc: Global, writer: &mut Counted<W>, end: End) -> Resul
 // What one turn of a stream gives.
 #[derive(Clone, Copy)]
 enum Turn {
-    // A request was answered, and at most so many may follow it.
+    // A request was answered. The number is that of the requests that may follow.
     Answered(u32),
-    // The stream ended so.
+    // The stream ended in this way.
     Ended(End),
 }
 
-// Serves the next request of a stream that may have so many, or ends it.
+// Serves the next request of a stream that may have `count` more, or ends the stream.
 fn serve_one<S: Space + Drop, M: Moments, R: Read, W: Write>(
     alloc: Global,
     routes: &Routes,
@@ -150,16 +150,18 @@ fn serve_one<S: Space + Drop, M: Moments, R: Read, W: Write>(
     Ok(Turn::Answered(left))
 }
 
-/// Serves the requests of a stream: reads them from the reader, asks the service each of them once,
-/// at the next moment, and writes the answers. The routes are the same for every stream.
+/// Serves the requests of a stream.
 ///
-/// A stream has at most 100 requests. Its connection closes after the last of them, and after one
-/// of version 1.0 or with the word `close` in a field Connection. A request that breaks a rule of
-/// the wire is told so, and ends the stream.
+/// Reads each request, calls the service once at the next time of the clock, and writes the
+/// response. The routes are the same for every stream.
 ///
-/// After a fault the first bytes of the answers were written. At most one call was made whose
-/// answer was not wholly written, and it stands as it was done. Nothing more is to be written on
-/// that stream; the service may be used for the next.
+/// A stream has at most 100 requests. The connection closes after the last of them, after one of
+/// version 1.0, and after one with the option `close` in a field Connection. A request that breaks
+/// a protocol rule gets a response that says so, and ends the stream.
+///
+/// After a fault a prefix of the responses was written. At most one call was made whose response
+/// was not written completely; its effect stands. Write nothing more on that stream. The service
+/// can be used for the next one.
 pub fn serve_stream<S: Space + Drop, M: Moments, R: Read, W: Write>(
     alloc: Global,
     routes: &Routes,
@@ -169,9 +171,9 @@ pub fn serve_stream<S: Space + Drop, M: Moments, R: Read, W: Write>(
     reader: &mut Counted<R>,
     writer: &mut Counted<W>,
 ) -> Result<Served, StreamFault>
-    // What the input spells was asked and answered, whatever the pieces were in which it came.
-    // Where nobody knows a reader's bytes, as those of a file or a socket, there is an input of
-    // which this holds.
+    // The calls that the input represents were made and answered, whatever the chunks in which it
+    // arrived. If the bytes of a reader are unknown, as for a file or a socket, there is an input
+    // for which this holds.
     ensures serves { IfOk result (ServesStream S.Space M.gives tokens.now
         (R.remaining (inner_of reader.old))
         (service.old, moments.old, W.contents (inner_of writer.old))
@@ -181,14 +183,14 @@ pub fn serve_stream<S: Space + Drop, M: Moments, R: Read, W: Write>(
         (service.old, moments.old, W.contents (inner_of writer.old))
         (service.new, moments.new, W.contents (inner_of writer.new))) }
 
-    // What is told to have failed did so once, and a reader or a writer was not called after it.
+    // The reported device failed once, and a reader or a writer was not called after it.
     ensures read { result ≡ Err StreamFault.Read
         → FailsLast (failures_of reader.old) (failures_of reader.new) (has_failed reader.new) }
     ensures write { result ≡ Err StreamFault.Write
         → FailsLast (failures_of writer.old) (failures_of writer.new) (has_failed writer.new) }
     ensures clock { result ≡ Err StreamFault.Clock
         → M.failures moments.new ≡ one_more (M.failures moments.old) }
-    // And no other count of failures has risen: what failed is told.
+    // No other count of failures rose: every failure is reported.
     ensures told_reader { (result ≡ Err StreamFault.Read)
         ⊎ (failures_of reader.new ≡ failures_of reader.old) }
     ensures told_writer { (result ≡ Err StreamFault.Write)
@@ -204,7 +206,7 @@ pub fn serve_stream<S: Space + Drop, M: Moments, R: Read, W: Write>(
     ensures rises_reader { calls_of reader.old ≤ calls_of reader.new }
     ensures rises_writer { calls_of writer.old ≤ calls_of writer.new }
 
-    // What stays, whatever came.
+    // The invariants of the service hold for any input.
     ensures stays { Stays S.Space service.old service.new }
 {
     let mut buffer = Vec::new(alloc);

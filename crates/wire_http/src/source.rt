@@ -8,24 +8,25 @@ use crate::counted::Counted;
 use crate::fault::StreamFault;
 use std::io::Read;
 
-// The most bytes that one read asks for: those of a whole head, and more of a body.
+// The maximum number of bytes of one read: enough for a complete head, and for part of a body.
 const CHUNK: usize = 16_384;
 
 /// The input of a stream.
 #[derive(Drop)]
 pub(crate) struct Source<'s, R> {
-    /// What gives it.
+    /// The reader of the input.
     pub(crate) reader: &'s mut Counted<R>,
-    /// How many reads it may still take.
+    /// The number of reads that are left.
     pub(crate) turns: u32,
-    /// The bytes that were read and belong to no earlier request. It is borrowed, since the proof
-    /// does not learn what becomes of the reader in a struct that owns memory.
+    /// The bytes that were read and belong to no earlier request. They are borrowed, since the
+    /// proof cannot follow the reader in a struct that owns memory.
     pub(crate) buffer: &'s mut Vec<u8>,
 }
 
 impl<R: Read> Source<'_, R> {
-    // Reads at most `room` bytes more to the end of the buffer, by way of the piece, in one turn.
-    // `false` is the end of the input.
+    // Reads at most `room` bytes in one turn, by way of the chunk, and appends them to the buffer.
+    //
+    // Returns `false` at the end of the input.
     fn read_more(&mut self, chunk: &mut [u8; CHUNK], room: usize) -> Result<bool, StreamFault>
         requires { 0 < room }
         ensures reads { ReadsSource R.remaining self.old self.new result }
@@ -50,8 +51,10 @@ impl<R: Read> Source<'_, R> {
         }
     }
 
-    /// Reads until the buffer holds `count` bytes, and at most as many as a head may have where
-    /// they are fewer. `false`: the input ended before.
+    /// Reads until the buffer holds `count` bytes. Fills it to at most the larger of `count` and the
+    /// maximum size of a head.
+    ///
+    /// Returns `false` if the input ended before.
     pub(crate) fn fill(&mut self, count: usize) -> Result<bool, StreamFault>
         ensures reads { ReadsSource R.remaining self.old self.new result }
         ensures short { OnOk result (length (bytes_of self.new)
@@ -73,7 +76,7 @@ impl<R: Read> Source<'_, R> {
     }
 }
 
-/// Takes the first bytes off the buffer. It takes no memory.
+/// Removes the first `count` bytes of the buffer. Allocates nothing.
 pub(crate) fn shift(buffer: &mut Vec<u8>, count: usize)
     requires { count ≤ length buffer.old.items }
     ensures { buffer.new.items ≡ drop count buffer.old.items }

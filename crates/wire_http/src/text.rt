@@ -1,4 +1,4 @@
-//! The text of an answer (RFC 9112, section 2.1; this project's profile).
+//! The text of a response (RFC 9112, section 2.1; this project's profile).
 ghost use Rattle.std.specs.Prelude.{◌≡◌, IfOk};
 ghost use Rattle.std.specs.String.{string_bytes};
 ghost use Rattle.wire_http.specs.Text.{response_text, reason_of, rule_field};
@@ -12,7 +12,7 @@ use wire_head::rule::WireRule;
 use wire_reply::answer::{reply_text, status};
 use wire_route::endpoint::Endpoint;
 
-// The reason phrase of a status.
+// Returns the reason phrase of a status.
 #[tactic(auto, unfolding(crate::specs::Text::reason_of))]
 fn reason_of(status: u16) -> &'static str
     ensures { result.now ≡ reason_of status }
@@ -35,7 +35,7 @@ fn reason_of(status: u16) -> &'static str
     }
 }
 
-// The line of the field that tells which methods the place takes.
+// Returns the line of the field Allow with the methods of the endpoint.
 fn allow_field(alloc: Global, endpoint: Option<Endpoint>) -> Result<String, AllocError>
     ensures { IfOk result (λ field. string_bytes field ≡ rule_field endpoint Rule.Method) }
 {
@@ -49,7 +49,7 @@ fn allow_field(alloc: Global, endpoint: Option<Endpoint>) -> Result<String, Allo
     Ok(field)
 }
 
-// The line of the field that a denial adds.
+// Returns the line of the field that a denial adds.
 fn rule_field(alloc: Global, endpoint: Option<Endpoint>, rule: Rule) -> Result<String, AllocError>
     ensures { IfOk result (λ field. string_bytes field ≡ rule_field endpoint rule) }
 {
@@ -60,7 +60,7 @@ fn rule_field(alloc: Global, endpoint: Option<Endpoint>, rule: Rule) -> Result<S
     }
 }
 
-// The line of the field that a reply adds.
+// Returns the line of the field that a reply adds.
 fn reply_field(
     alloc: Global,
     endpoint: Option<Endpoint>,
@@ -74,7 +74,7 @@ fn reply_field(
     }
 }
 
-// The status line.
+// Returns the status line.
 #[tactic(auto, unfolding(crate::specs::Text::status_line))]
 fn status_line(alloc: Global, status: u16) -> Result<String, AllocError>
     ensures { IfOk result (λ text. string_bytes text ≡ status_line status) }
@@ -85,7 +85,7 @@ fn status_line(alloc: Global, status: u16) -> Result<String, AllocError>
     Ok(text)
 }
 
-// The line that tells the length of the body.
+// Returns the line with the length of the body.
 #[tactic(auto, unfolding(crate::specs::Text::length_line))]
 fn length_line(alloc: Global, length: usize) -> Result<String, AllocError>
     ensures { IfOk result (λ text. string_bytes text ≡ length_line length) }
@@ -93,7 +93,7 @@ fn length_line(alloc: Global, length: usize) -> Result<String, AllocError>
     format!(in alloc; "Content-Length: {length}\r\n")
 }
 
-// The line of the field that tells that the connection closes.
+// Returns the line of the field that says that the connection closes.
 #[tactic(auto, unfolding(crate::specs::Text::close_field))]
 fn close_field(closing: bool) -> &'static str
     ensures { result.now ≡ close_field closing }
@@ -101,7 +101,7 @@ fn close_field(closing: bool) -> &'static str
     if closing { "Connection: close\r\n" } else { "" }
 }
 
-// What stands before the body.
+// Returns the text before the body.
 #[tactic(auto, unfolding(crate::specs::Text::front_of))]
 fn front_of(
     alloc: Global,
@@ -121,7 +121,7 @@ fn front_of(
     Ok(front)
 }
 
-/// The answer to a request at a place.
+/// Returns the text of the response to a request at an endpoint.
 pub(crate) fn response_text(
     alloc: Global,
     endpoint: Option<Endpoint>,
@@ -138,7 +138,7 @@ pub(crate) fn response_text(
     Ok(text)
 }
 
-// The body that tells a rule of the wire.
+// Returns the body for a broken protocol rule.
 #[tactic(auto, unfolding(crate::specs::Text::rule_body))]
 fn rule_body(alloc: Global, rule: WireRule) -> Result<String, AllocError>
     ensures { IfOk result (λ body. string_bytes body ≡ rule_body rule) }
@@ -150,7 +150,7 @@ fn rule_body(alloc: Global, rule: WireRule) -> Result<String, AllocError>
     Ok(body)
 }
 
-/// The answer where a rule of the wire is broken.
+/// Returns the text of the response if a protocol rule is broken.
 pub(crate) fn rule_text(alloc: Global, rule: WireRule) -> Result<Vec<u8>, AllocError>
     ensures { IfOk result (λ text. text.items ≡ rule_text rule) }
 {

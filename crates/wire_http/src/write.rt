@@ -1,4 +1,4 @@
-//! Writing, with what was written where a write fails.
+//! Writes, and what was written before a write failed.
 ghost use Rattle.std.specs.Prelude.{◌≡◌, ◌<◌, ◌≤◌, ℕ, length, take, OnOk, OnErr};
 ghost use Rattle.std.specs.Io.KnownBytes.{Appends};
 ghost use Rattle.wire_http.specs.Count.{FailsLast};
@@ -7,12 +7,13 @@ ghost use Rattle.wire_http.specs.Counted.{inner_of, calls_of, failures_of, has_f
 use crate::counted::Counted;
 use std::io::Write;
 
-/// A write failed.
+/// A failed write.
 #[derive(Clone, Copy, Debug, PartialEq, Eq)]
 pub(crate) struct Unwritten;
 
-/// Writes all of the bytes, or the first of them where a write fails. A write that takes no byte is
-/// a failure. After a failed write there is no other.
+/// Writes all of the bytes, or a prefix of them if a write fails.
+///
+/// A write that takes no byte is a failure. Nothing is written after a failed write.
 pub(crate) fn write_whole<W: Write>(writer: &mut Counted<W>, bytes: &[u8]) -> Result<(), Unwritten>
     ensures whole { OnOk result (Appends (W.contents (inner_of writer.old))
         (W.contents (inner_of writer.new)) bytes.now) }

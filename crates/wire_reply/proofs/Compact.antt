@@ -1,4 +1,4 @@
--- The compact text of a value, by the texts of its members and items.
+-- Lemmas: the compact text of a value, from the texts of its members and items.
 use Rattle.std.proofs.Common.{◌≡◌, ℕ, List, [], ◌∷◌, ◌++◌, refl, ap, ◌∙◌, append_assoc, map, codes, false}
 use Rattle.json.specs.Print.{quoted}
 use Rattle.serde_json.specs.Data.{Items, Members, array, object, member, no_members, item, no_items}

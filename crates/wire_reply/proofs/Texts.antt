@@ -1,4 +1,4 @@
--- The texts of answers.
+-- Lemmas: the texts of responses.
 use Rattle.std.proofs.Common.{◌≡◌, ℕ, List, [], ◌∷◌, refl, ap, ap₂, ◌∙◌, map, codes, Bool, true, false, Option, Some, None}
 use Rattle.std.specs.Fmt.{decimal}
 use Rattle.json.specs.Print.{quoted}
@@ -68,9 +68,9 @@ no_float_references : (rs : List Reference) → has_float (references_data rs) �
 no_float_references [] = refl
 no_float_references (r ∷ rs) = rw (no_float_reference r) (no_float_references rs)
 
--- ---- answers
+-- ---- responses
 
--- an object of one member, whose value has that text
+-- The compact text of an object with one member, from the text of its value.
 one_member : (name text : List ℕ) (d : Data) → compact_text d ≡ text → compact_text (object (member name d no_members)) ≡ object_text ((name, text) ∷ [])
 one_member name text d same = compact_text-object (member name d no_members) ∙ ap (λ t. object_text ((name, t) ∷ [])) same
 
@@ -80,7 +80,7 @@ compact_found r = one_member (reference_name (kind_of r.nature)) (reference_text
 no_float_found : (r : Reference) → has_float (found_data r) ≡ false
 no_float_found r = rw (no_float_reference r) refl
 
--- who is told
+-- The text of a notified subscription.
 compact_state : (s : ℕ × ℕ) → compact_text (state_data s) ≡ state_text s
 unfolding members_in
 compact_state s = compact_text-object (members_in (state_data s))
@@ -164,7 +164,7 @@ compact_flag : (b : Bool) → compact_text (boolean b) ≡ flag_text b
 compact_flag true = refl
 compact_flag false = refl
 
--- the text of a subscription by the texts of its dependents and of its two truth values
+-- The text of a subscription, from the texts of its dependents and of its two booleans.
 abbrev sub_text_by : SubView → List ℕ → List ℕ → List ℕ → List ℕ
 sub_text_by s dependents constraints intents =
     object_text

@@ -1,4 +1,4 @@
--- The bodies of answers, letter by letter, and their statuses.
+-- The bodies of responses, byte for byte, and their statuses.
 use Rattle.std.specs.Prelude.{ℕ, List, [], ◌∷◌, ◌++◌, codes}
 use Rattle.std.specs.Fmt.{decimal}
 use Rattle.json.specs.Print.{quoted}
@@ -23,7 +23,7 @@ use Rattle.wire_reply.specs.Reference.{reference_name, references_name, referenc
 use Rattle.wire_reply.specs.Subscribers.{subscribers_text}
 use Rattle.wire_reply.specs.SubView.{sub_text, subs_text}
 
--- an availability and its version
+-- An availability and its version.
 abbrev pub availability_text : List ℕ → Availability → List ℕ → List ℕ
 availability_text uss a version =
     object_text
@@ -35,20 +35,20 @@ availability_text uss a version =
     ∷ (codes "version", quoted version)
     ∷ [])
 
--- the reference of an entity
+-- The reference of an entity.
 abbrev pub found_text : Reference → List ℕ
 found_text r = object_text ((reference_name (kind_of r.nature), reference_text r) ∷ [])
 
--- the reference of an entity that was put or deleted, and who is told of it
+-- The reference of an entity that was put or deleted, and the notices.
 abbrev pub changed_text : Reference → List Notify → List ℕ
 changed_text r ns = object_text ((reference_name (kind_of r.nature), reference_text r)
     ∷ (codes "subscribers", subscribers_text ns) ∷ [])
 
--- the references of a query for entities of a kind
+-- The references that a query for entities of a kind finds.
 abbrev pub listed_text : Kind → List Reference → List ℕ
 listed_text kind rs = object_text ((references_name kind, references_text rs) ∷ [])
 
--- a subscription that was put, with the references of what it is for and meets
+-- A subscription that was put, with the references of what it is for and meets.
 abbrev pub sub_stored_text : SubView → List Reference → List Reference → List ℕ
 sub_stored_text s intents constraints =
     object_text
@@ -63,7 +63,7 @@ sub_found_text s = object_text ((codes "subscription", sub_text s) ∷ [])
 abbrev pub sub_listed_text : List SubView → List ℕ
 sub_listed_text ss = object_text ((codes "subscriptions", subs_text ss) ∷ [])
 
--- the body of the answer to a call that broke no rule
+-- The body of the response to a call that broke no rule.
 abbrev pub answer_text : Answer → List ℕ
 answer_text (Created r ns) = changed_text r ns
 answer_text (Changed r ns) = changed_text r ns
@@ -74,15 +74,15 @@ answer_text (SubStored s intents constraints) = sub_stored_text s intents constr
 answer_text (SubFound s) = sub_found_text s
 answer_text (SubListed ss) = sub_listed_text ss
 
--- a message
+-- A message.
 abbrev pub message_text : List ℕ → List ℕ
 message_text words = object_text ((codes "message", quoted words) ∷ [])
 
--- what is said of a denial: the number and the name of the rule
+-- The message of a denial: the number and the name of the rule.
 abbrev pub rule_words : Rule → List ℕ
 rule_words p = codes "P" ++ (decimal (rules.number_of p) ++ (codes " " ++ rules.name_of p))
 
--- a message, and the references that a key lacks
+-- A message, and the references that a key lacks.
 abbrev pub missing_text : List ℕ → Missing → List ℕ
 missing_text words m =
     object_text
@@ -91,19 +91,19 @@ missing_text words m =
     ∷ (codes "missing_operational_intents", references_text m.intents)
     ∷ [])
 
--- a denial. Only that of a key says what is missing
+-- The body of a denial. Only P14 lists missing references.
 abbrev pub denied_text : Rule → Missing → List ℕ
 denied_text Key m = missing_text (rule_words Key) m
 denied_text p m = message_text (rule_words p)
 
--- the body of the answer to a call
+-- The body of the response to a call.
 abbrev pub reply_text : Reply → List ℕ
 reply_text (Done answer) = answer_text answer
 reply_text (Denied p m) = denied_text p m
 reply_text Fault = message_text (codes "fault")
 reply_text Stopped = message_text (codes "stopped")
 
--- the status where no rule was broken
+-- The status of the response to a call that broke no rule.
 abbrev pub answer_status : Answer → ℕ
 answer_status (Created r ns) = 201
 answer_status (Changed r ns) = 200
@@ -114,7 +114,7 @@ answer_status (SubStored s intents constraints) = 200
 answer_status (SubFound s) = 200
 answer_status (SubListed ss) = 200
 
--- the status of the answer to a call
+-- The status of the response to a call.
 abbrev pub status_of : Reply → ℕ
 status_of (Done answer) = answer_status answer
 status_of (Denied p m) = rules.status_of p

@@ -1,5 +1,5 @@
--- The JSON values that answers are built as, for private clauses. Their texts are those of `Answer`
--- and `Reference`.
+-- The JSON values from which responses are built, for private clauses. Their texts are those of
+-- `Answer` and `Reference`.
 use Rattle.std.specs.Prelude.{ℕ, List, false, Option, Some, None, map, codes}
 use Rattle.serde_json.specs.Data.{Data, Members, boolean, string, number, unsigned, array, object, member, no_members, put}
 use Rattle.serde_json.specs.View.{items_of}
@@ -26,12 +26,12 @@ use Rattle.wire_body.specs.Availability as availabilities
 use Rattle.wire_body.specs.Naming.{naming_text}
 use Rattle.wire_reply.specs.Reference.{reference_name, references_name}
 
--- the members, with the OVN where the reader is shown it
+-- The members, with the OVN if the caller may see it.
 abbrev pub with_ovn : Option (List ℕ) → Members → Members
 with_ovn None ms = ms
 with_ovn (Some ovn) ms = put (codes "ovn") (string ovn) ms
 
--- the members, with what references of one kind alone have
+-- The members, with those that only references of one kind have.
 abbrev pub with_nature : Nature → Members → Members
 with_nature (Intent state named) ms = put (codes "subscription_id") (string (naming_text named)) (put (codes "state") (string (state_name state)) ms)
 with_nature Constraint ms = ms
@@ -55,7 +55,7 @@ availability_data uss a version =
 abbrev pub found_data : Reference → Data
 found_data r = object (member (reference_name (kind_of r.nature)) (reference_data r) no_members)
 
--- a subscription that is told, and its index
+-- A notified subscription and its index.
 abbrev pub state_data : ℕ × ℕ → Data
 state_data s = object (member (codes "notification_index") (number (unsigned s.1)) (member (codes "subscription_id") (string (printed s.0)) no_members))
 
@@ -74,7 +74,7 @@ changed_data r ns = object (put (codes "subscribers") (subscribers_data ns) (mem
 abbrev pub listed_data : Kind → List Reference → Data
 listed_data kind rs = object (member (references_name kind) (references_data rs) no_members)
 
--- ids of entities
+-- The id of an entity.
 abbrev pub id_data : ℕ → Data
 id_data id = string (printed id)
 

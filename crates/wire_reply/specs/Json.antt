@@ -1,14 +1,14 @@
--- Objects and arrays as compact JSON, of the texts that they hold.
+-- Objects and arrays as compact JSON, from the texts of their parts.
 use Rattle.std.specs.Prelude.{ℕ, List, [], ◌∷◌, ◌++◌, map, codes}
 use Rattle.json.specs.Print.{quoted}
 
--- the texts, with a comma between one and the next
+-- The texts, separated by commas.
 abbrev pub joined : List (List ℕ) → List ℕ
 joined [] = []
 joined (t ∷ []) = t
 joined (t ∷ u ∷ ts) = t ++ (codes "," ++ joined (u ∷ ts))
 
--- a name and the text of its value
+-- A name and the text of its value.
 abbrev pub member_text : List ℕ × List ℕ → List ℕ
 member_text m = quoted m.0 ++ (codes ":" ++ m.1)
 

@@ -13,28 +13,28 @@ use Rattle.wire_reply.specs.Json.{object_text, array_text}
 use Rattle.wire_body.specs.Naming.{naming_text}
 use Rattle.wire_body.specs.Availability as availabilities
 
--- the name under which an answer has the reference of one entity
+-- The member name for the reference of one entity.
 abbrev pub reference_name : Kind → List ℕ
 reference_name kinds.Intent = codes "operational_intent_reference"
 reference_name kinds.Constraint = codes "constraint_reference"
 
--- and that under which it has those of a query
+-- The member name for the references of a query.
 abbrev pub references_name : Kind → List ℕ
 references_name kinds.Intent = codes "operational_intent_references"
 references_name kinds.Constraint = codes "constraint_references"
 
--- the OVN, where the reader is shown it
+-- The OVN, if the caller may see it.
 abbrev pub ovn_members : Option (List ℕ) → List (List ℕ × List ℕ)
 ovn_members None = []
 ovn_members (Some ovn) = (codes "ovn", quoted ovn) ∷ []
 
--- what references of one kind alone have
+-- The members that only references of one kind have.
 abbrev pub nature_members : Nature → List (List ℕ × List ℕ)
 nature_members (Intent state named) = (codes "state", quoted (state_name state))
     ∷ (codes "subscription_id", quoted (naming_text named)) ∷ []
 nature_members Constraint = []
 
--- the members of a reference, in byte order of their names
+-- The members of a reference, in byte order of their names.
 abbrev pub reference_members : Reference → List (List ℕ × List ℕ)
 reference_members r =
     (codes "id", quoted (printed r.id))

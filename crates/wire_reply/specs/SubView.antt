@@ -15,7 +15,7 @@ flag_text false = codes "false"
 abbrev pub id_text : ℕ → List ℕ
 id_text id = quoted (printed id)
 
--- the members of a subscription, in byte order of their names; none is implicit
+-- The members of a subscription, in byte order of their names. A subscription is never implicit.
 abbrev pub sub_members : SubView → List (List ℕ × List ℕ)
 sub_members s =
     (codes "dependent_operational_intents", array_text (map id_text s.dependents))

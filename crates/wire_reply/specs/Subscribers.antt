@@ -1,4 +1,4 @@
--- Who is told of a change, as JSON.
+-- The subscribers to notify of a change, as JSON.
 use Rattle.std.specs.Prelude.{ℕ, List, [], ◌∷◌, map, codes}
 use Rattle.std.specs.Fmt.{decimal}
 use Rattle.json.specs.Print.{quoted}
@@ -6,12 +6,12 @@ use Rattle.service_notify.specs.declared.notice.Notify.{Notify}
 use Rattle.wire_reply.specs.Json.{object_text, array_text}
 use Rattle.wire_reply.specs.SubView.{id_text}
 
--- the id of a subscription, and its index
+-- The id of a subscription, and its index.
 abbrev pub state_text : ℕ × ℕ → List ℕ
 state_text s = object_text ((codes "notification_index", decimal s.1)
     ∷ (codes "subscription_id", id_text s.0) ∷ [])
 
--- the subscriptions at an address
+-- The subscriptions at one address.
 abbrev pub notify_text : Notify → List ℕ
 notify_text n = object_text ((codes "subscriptions", array_text (map state_text n.states))
     ∷ (codes "uss_base_url", quoted n.url) ∷ [])

@@ -1,4 +1,4 @@
-//! The bodies of answers.
+//! The bodies of responses.
 ghost use Rattle.std.specs.Prelude.{◌≡◌, IfOk, string_bytes};
 ghost use Rattle.serde_json.specs.View.{view};
 ghost use Rattle.wire_reply.specs.Answer.{rule_words, reply_text, answer_status, status_of};
@@ -18,7 +18,7 @@ use service_step::reply::{Answer, Reply};
 use std::alloc::{AllocError, Global};
 use wire_body::availability::name_of;
 
-/// An availability as JSON.
+/// Builds the JSON of an availability.
 fn availability_json(
     alloc: Global,
     uss: &str,
@@ -31,7 +31,7 @@ fn availability_json(
     json!(in alloc; {"status": {"availability": word, "uss": uss}, "version": version})
 }
 
-/// The reference of an entity.
+/// Builds the JSON of the reference of an entity.
 fn found_json(alloc: Global, reference: &Reference) -> Result<Value, AllocError>
     ensures { IfOk result (λ v. view v ≡ found_data reference.now) }
 {
@@ -40,7 +40,7 @@ fn found_json(alloc: Global, reference: &Reference) -> Result<Value, AllocError>
     json!(in alloc; {name: value})
 }
 
-/// The reference of an entity that was put or deleted, and who is told of it.
+/// Builds the JSON of the reference of an entity that was put or deleted, with the notices.
 fn changed_json(
     alloc: Global,
     reference: &Reference,
@@ -54,7 +54,7 @@ fn changed_json(
     json!(in alloc; {name: value, "subscribers": subscribers})
 }
 
-/// The references of a query for entities of a kind.
+/// Builds the JSON of the references that a query for entities finds.
 fn listed_json(alloc: Global, kind: Kind, references: &References) -> Result<Value, AllocError>
     ensures { IfOk result (λ v. view v ≡ listed_data kind references.now) }
 {
@@ -63,7 +63,7 @@ fn listed_json(alloc: Global, kind: Kind, references: &References) -> Result<Val
     json!(in alloc; {name: values})
 }
 
-/// A subscription that was put, with the references of what it is for and meets.
+/// Builds the JSON of a subscription that was put, with the references of what it is for and meets.
 fn sub_stored_json(
     alloc: Global,
     sub: &SubView,
@@ -82,7 +82,7 @@ fn sub_stored_json(
     })
 }
 
-/// A subscription.
+/// Builds the JSON of a subscription.
 fn sub_found_json(alloc: Global, sub: &SubView) -> Result<Value, AllocError>
     ensures { IfOk result (λ v. view v ≡ sub_found_data sub.now) }
 {
@@ -90,7 +90,7 @@ fn sub_found_json(alloc: Global, sub: &SubView) -> Result<Value, AllocError>
     json!(in alloc; {"subscription": sub})
 }
 
-/// The subscriptions of a query.
+/// Builds the JSON of the subscriptions that a query finds.
 fn sub_listed_json(alloc: Global, subs: &SubViews) -> Result<Value, AllocError>
     ensures { IfOk result (λ v. view v ≡ sub_listed_data subs.now) }
 {
@@ -117,14 +117,14 @@ fn answer_json(alloc: Global, answer: &Answer) -> Result<Value, AllocError>
     }
 }
 
-/// A message as JSON.
+/// Builds the JSON of a message.
 fn message_json(alloc: Global, words: &str) -> Result<Value, AllocError>
     ensures { IfOk result (λ v. view v ≡ message_data words.now) }
 {
     json!(in alloc; {"message": words})
 }
 
-/// A message, and the references that a key lacks.
+/// Builds the JSON of a message with the references that a key lacks.
 fn missing_json(alloc: Global, words: &str, missing: &Missing) -> Result<Value, AllocError>
     ensures { IfOk result (λ v. view v ≡ missing_data words.now missing.now) }
 {
@@ -137,7 +137,7 @@ fn missing_json(alloc: Global, words: &str, missing: &Missing) -> Result<Value, 
     })
 }
 
-/// The message of a denial: the rule's number and name.
+/// Returns the message of a denial: the number and the name of the rule.
 fn rule_words(alloc: Global, rule: Rule) -> Result<String, AllocError>
     ensures { IfOk result (λ s. string_bytes s ≡ rule_words rule) }
 {
@@ -174,8 +174,10 @@ fn body_text(alloc: Global, reply: &Reply) -> Result<String, AllocError>
     value.to_string(alloc)
 }
 
-/// The body of the answer that a reply gets: compact JSON, the members of each object in the order
-/// of their names (this project's profile).
+/// Returns the body of the response for a reply.
+///
+/// It is compact JSON, with the members of each object in the order of their names (this project's
+/// profile).
 pub fn reply_text(alloc: Global, reply: &Reply) -> Result<Vec<u8>, AllocError>
     ensures { IfOk result (λ text. text.items ≡ reply_text reply.now) }
 {
@@ -197,7 +199,7 @@ fn answer_status(answer: &Answer) -> u16
     }
 }
 
-/// The HTTP status of the answer (RFC 9110). It takes no memory.
+/// Returns the HTTP status of the response (RFC 9110). Allocates nothing.
 pub fn status(reply: &Reply) -> u16
     ensures { result ≡ status_of reply.now }
 {

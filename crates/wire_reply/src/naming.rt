@@ -1,4 +1,4 @@
-//! Which subscription an intent names, as JSON.
+//! The subscription that an intent references, as JSON.
 ghost use Rattle.std.specs.Prelude.{◌≡◌, codes, OnOk};
 ghost use Rattle.serde_json.specs.Data.{string, put};
 ghost use Rattle.serde_json.specs.View.{members_view};
@@ -9,10 +9,10 @@ use entity_core::entity_id::EntityId;
 use serde_json::{Map, Value};
 use std::alloc::{AllocError, Global};
 
-/// The id that stands for no subscription (this project's profile).
+/// The id that represents no subscription (this project's profile).
 const NO_SUBSCRIPTION: &str = "00000000-0000-4000-8000-000000000000";
 
-/// What an intent names, as a member of its reference.
+/// Adds the reference of an intent to a subscription, as a member.
 pub(crate) fn put_naming(
     members: &mut Map<String, Value>,
     alloc: Global,

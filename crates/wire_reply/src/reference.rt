@@ -13,7 +13,7 @@ use serde_json::{Map, Value, put};
 use std::alloc::{AllocError, Global};
 use wire_body::availability;
 
-/// The name under which an answer has the reference of one entity of the kind.
+/// Returns the member name for the reference of one entity of the kind.
 pub(crate) fn reference_name(kind: Kind) -> &'static str
     ensures { result.now ≡ reference_name kind }
 {
@@ -23,7 +23,7 @@ pub(crate) fn reference_name(kind: Kind) -> &'static str
     }
 }
 
-/// The name under which an answer has references of the kind.
+/// Returns the member name for references of the kind.
 pub(crate) fn references_name(kind: Kind) -> &'static str
     ensures { result.now ≡ references_name kind }
 {
@@ -33,7 +33,7 @@ pub(crate) fn references_name(kind: Kind) -> &'static str
     }
 }
 
-/// A text, as a member of a name.
+/// Adds a text as a member.
 pub(crate) fn put_text(
     members: &mut Map<String, Value>,
     alloc: Global,
@@ -47,7 +47,7 @@ pub(crate) fn put_text(
     put(members, alloc, name, text)
 }
 
-/// A number, as a member of a name.
+/// Adds a number as a member.
 pub(crate) fn put_number(
     members: &mut Map<String, Value>,
     alloc: Global,
@@ -60,7 +60,7 @@ pub(crate) fn put_number(
     put(members, alloc, name, Value::from(value))
 }
 
-// The OVN, where the reader is shown it.
+// Adds the OVN, if the caller may see it.
 fn put_ovn(
     members: &mut Map<String, Value>,
     alloc: Global,
@@ -75,7 +75,7 @@ fn put_ovn(
     }
 }
 
-// What references of one kind alone have.
+// Adds the members that only references of one kind have.
 fn put_nature(
     members: &mut Map<String, Value>,
     alloc: Global,
@@ -93,7 +93,7 @@ fn put_nature(
     }
 }
 
-/// A reference as JSON.
+/// Builds the JSON of a reference.
 pub(crate) fn reference_json(alloc: Global, reference: &Reference) -> Result<Value, AllocError>
     ensures { IfOk result (λ v. view v ≡ reference_data reference.now) }
 {
@@ -113,7 +113,7 @@ pub(crate) fn reference_json(alloc: Global, reference: &Reference) -> Result<Val
     Ok(Value::from(members))
 }
 
-/// References as JSON, in their order.
+/// Builds the JSON of references, in the same order.
 pub(crate) fn references_json(alloc: Global, references: &References) -> Result<Value, AllocError>
     ensures { IfOk result (λ v. view v ≡ references_data references.now) }
 {

@@ -30,7 +30,7 @@ fn id_json(alloc: Global, id: EntityId) -> Result<Value, AllocError>
     Value::try_from_str(alloc, text.as_str())
 }
 
-// Ids as JSON, in their order.
+// Builds the JSON of ids, in the same order.
 fn ids_json(alloc: Global, ids: &EntityIds) -> Result<Value, AllocError>
     ensures { IfOk result (λ v. view v ≡ ids_data ids.now) }
 {
@@ -41,7 +41,7 @@ fn ids_json(alloc: Global, ids: &EntityIds) -> Result<Value, AllocError>
     Ok(Value::from(values))
 }
 
-/// A subscription as JSON. None is implicit.
+/// Builds the JSON of a subscription. It is never implicit.
 pub(crate) fn sub_json(alloc: Global, sub: &SubView) -> Result<Value, AllocError>
     ensures { IfOk result (λ v. view v ≡ sub_data sub.now) }
 {
@@ -78,7 +78,7 @@ pub(crate) fn sub_json(alloc: Global, sub: &SubView) -> Result<Value, AllocError
     Ok(Value::from(members))
 }
 
-/// Subscriptions as JSON, in their order.
+/// Builds the JSON of subscriptions, in the same order.
 pub(crate) fn subs_json(alloc: Global, subs: &SubViews) -> Result<Value, AllocError>
     ensures { IfOk result (λ v. view v ≡ subs_data subs.now) }
 {

@@ -1,4 +1,4 @@
-//! Who is told of a change, as JSON.
+//! The subscribers to notify of a change, as JSON.
 ghost use Rattle.std.specs.Prelude.{◌≡◌, IfOk};
 ghost use Rattle.serde_json.specs.View.{view};
 ghost use Rattle.wire_reply.specs.Built.{state_data, states_data, notify_data, subscribers_data};
@@ -17,7 +17,7 @@ fn state_json(alloc: Global, state: (EntityId, u64)) -> Result<Value, AllocError
     json!(in alloc; {"notification_index": index, "subscription_id": id})
 }
 
-// Subscriptions as JSON, in their order.
+// Builds the JSON of notified subscriptions, in the same order.
 fn states_json(alloc: Global, states: &SubIndexes) -> Result<Value, AllocError>
     ensures { IfOk result (λ v. view v ≡ states_data states.now) }
 {
@@ -36,7 +36,7 @@ fn notify_json(alloc: Global, notify: &Notify) -> Result<Value, AllocError>
     json!(in alloc; {"subscriptions": states, "uss_base_url": url})
 }
 
-/// All that are told as JSON, in their order.
+/// Builds the JSON of all notices, in the same order.
 pub(crate) fn subscribers_json(alloc: Global, notices: &Notices) -> Result<Value, AllocError>
     ensures { IfOk result (λ v. view v ≡ subscribers_data notices.now) }
 {

@@ -1,4 +1,4 @@
--- From a path to its place: every path of a place is found there, and it has one place and one list of words.
+-- Lemmas: every path of an endpoint is found, and it has one endpoint and one list of parameters.
 use Rattle.std.proofs.Common.{◌≡◌, ℕ, suc, ◌<◌, ◌+◌, List, [], ◌∷◌, ◌++◌, length, Bool, true, false, cond, Option, Some, None, option_map, refl, sym, ap, subst, ◌∙◌, arith, ◌==◌, MatchOption, Bor}
 use Rattle.std.proofs.Common.{take, drop}
 use Rattle.std.proofs.lemmas.Bool.{and_parts, or_parts, eqb-true, false≢true}
@@ -35,7 +35,7 @@ slash_between : (a b : List ℕ) → has_slash (a ++ 47 ∷ b) ≡ true
 slash_between [] b = refl
 slash_between (x ∷ a) b = elim (x == 47) as (λ c. (c || has_slash (a ++ 47 ∷ b)) ≡ true) [ true ↦ refl | false ↦ slash_between a b ]
 
--- no slash is in a text that has none before its first
+-- A text without a slash before its end has no slash.
 pub lacks : (s : List ℕ) → position_or_len (λ b. b == 47) s ≡ length s → has_slash s ≡ false
 lacks [] e = refl
 lacks (x ∷ s) e = by (x == 47) refl e (lacks s)
@@ -45,7 +45,7 @@ lacks (x ∷ s) e = by (x == 47) refl e (lacks s)
     by true q e2 ih = absurd (omega (arith, e2))
     by false q e2 ih = ih (omega (arith, e2))
 
--- a text stands round its first slash
+-- A text with a slash is split by its first slash.
 pub around_slash : (s : List ℕ) → position_or_len (λ b. b == 47) s < length s
     → (s ≡ before_first (λ b. b == 47) s ++ 47 ∷ after_first (λ b. b == 47) s) × (has_slash (before_first (λ b. b == 47) s) ≡ false)
 around_slash [] l = absurd (omega arith)
@@ -67,7 +67,7 @@ around_slash (x ∷ s) l = by (x == 47) refl l (around_slash s)
 tail_lacks : (x : ℕ) (a : List ℕ) → has_slash (x ∷ a) ≡ false → has_slash a ≡ false
 tail_lacks x a p = (or_parts (x == 47) (has_slash a) p).1
 
--- a text with a slash has one way to stand round the first
+-- The split of a text by its first slash is unique.
 pub one_split : (a b c d : List ℕ) → has_slash a ≡ false → has_slash c ≡ false → a ++ 47 ∷ b ≡ c ++ 47 ∷ d → (a ≡ c) × (b ≡ d)
 one_split [] b [] d p q e = (refl, cc)
 one_split [] b (y ∷ c) d p q e =
@@ -80,9 +80,9 @@ one_split (x ∷ a) b (y ∷ c) d p q e =
     let rest = one_split a b c d (tail_lacks x a p) (tail_lacks y c q) tail in
     ((let same : a ≡ c = rest.0 in cc), rest.1)
 
--- ---- words
+-- ---- path segments
 
--- what a part is
+-- A segment is not empty and has no slash.
 some_bytes : (w : List ℕ) → is_part w ≡ true → 0 < length w
 some_bytes [] e = absurd (false≢true e)
 some_bytes (b ∷ w) e = omega arith
@@ -155,7 +155,8 @@ subscriptions_steps : steps subscriptions places ≡ leaf SubscriptionQuery Subs
 unfolding places matchit_on_literals table with_route
 subscriptions_steps = refl
 
--- a front, and the places of its query, of an id and of an id with a part after it
+-- Holds if a prefix leads to the endpoint of a query, that of an id, and that of an id with a
+-- segment after it.
 record LeadsTo (front : List ℕ) (query id at : Endpoint) : Type 0 where
   plain : is_plain front places ≡ true
   rest_is : steps front places ≡ leaf query at id
@@ -166,7 +167,7 @@ references_lead kind = record { plain = references_plain kind; rest_is = referen
 subscriptions_lead : LeadsTo subscriptions SubscriptionQuery Subscription SubscriptionAtVersion
 subscriptions_lead = record { plain = subscriptions_plain; rest_is = subscriptions_steps }
 
--- what stands after such a front
+-- The endpoint of a path with such a prefix follows from what is after the prefix.
 named_after : (front : List ℕ) (query id at : Endpoint) → LeadsTo front query id at → (rest : List ℕ) → named_place (front ++ rest) ≡ seek.seek 0 (leaf query at id) rest
 named_after front query id at leads rest =
     named_is (front ++ rest) ∙ pass front places rest leads.plain ∙ ap (λ (rows : RowsOf Endpoint). seek.seek 0 rows rest) leads.rest_is
@@ -204,7 +205,7 @@ supplier_found (b ∷ w) e =
     named_is (front_of Availability ++ b ∷ w) ∙ pass (front_of Availability) places (b ∷ w) availability_plain
     ∙ ap (λ (rows : RowsOf Endpoint). seek.seek 0 rows (b ∷ w)) availability_steps ∙ last_part Availability b w (no_slash (b ∷ w) (part_lacks (b ∷ w) e))
 
--- the router finds every path of a place
+-- The router finds every path of an endpoint.
 at_rest : (endpoint : Endpoint) (rest : List ℕ) (words : Words) → AreWordsOf endpoint rest words → named_place (front_of endpoint ++ rest) ≡ Some endpoint
 at_rest (Query kind) rest words x = query_found (references_of kind) (Query kind) (Entity kind) (EntityAtOvn kind) (references_lead kind) rest x.0
 at_rest (Entity kind) rest words x = id_found (references_of kind) (Query kind) (Entity kind) (EntityAtOvn kind) (references_lead kind) rest x.0
@@ -217,7 +218,7 @@ at_rest SubscriptionAtVersion rest words x = two_found subscriptions Subscriptio
 pub found : (path : List ℕ) (endpoint : Endpoint) (words : Words) → IsRoute path endpoint words → named_place path ≡ Some endpoint
 found path endpoint words (rest, e, x) = ap named_place e ∙ at_rest endpoint rest words x
 
--- a path leads to one place, and has one list of words there
+-- A path leads to one endpoint, and has one list of parameters there.
 one_rest : (endpoint : Endpoint) (path a b : List ℕ) → path ≡ front_of endpoint ++ a → path ≡ front_of endpoint ++ b → b ≡ a
 one_rest endpoint path a b x y = append-cancel (front_of endpoint) b a (sym y ∙ x)
 
@@ -232,7 +233,7 @@ one_route path p q v w x y =
 
 -- ---- what the code finds
 
--- what is left where a front was taken off
+-- The text after a prefix that was stripped.
 pub stripped : (front path rest : List ℕ) (n : ℕ) → FindsTextPrefix front path (Some n) → rest ≡ drop n path → path ≡ front ++ rest
 stripped front path rest n (len, split, cut) e = split ∙ ap (λ v. front ++ v) (sym e)
 
@@ -263,7 +264,7 @@ not_part rest id ovn words e p n a =
 pub nowhere : (path : List ℕ) → named_place path ≡ None → HasNoRoute path
 nowhere path e endpoint words x = let bad : Some endpoint ≡ None = sym (found path endpoint words x) ∙ e in cc
 
--- a path that is led to a place without being one of its paths has no route
+-- If the router finds an endpoint, but the path is not one of its paths, the path has no route.
 pub not_there : (path : List ℕ) (endpoint : Endpoint) → named_place path ≡ Some endpoint → ((words : Words) → IsRoute path endpoint words → ⊥) → HasNoRoute path
 not_there path endpoint e none other words x =
     let same : Some other ≡ Some endpoint = sym (found path other words x) ∙ e in
@@ -280,7 +281,7 @@ wrong_words path rest endpoint e split none =
 
 -- ---- samples
 
--- neither an OVN nor a version may stand after `query`
+-- Neither an OVN nor a version may follow `query`.
 named_past : named_place (codes "/dss/v1/operational_intent_references/query/x") ≡ Some (EntityAtOvn Intent)
 unfolding matchit_on_literals table with_route
 named_past = refl
@@ -298,11 +299,11 @@ past_query = wrong_words (codes "/dss/v1/operational_intent_references/query/x")
 pub past_subscription_query : HasNoRoute (codes "/dss/v1/subscriptions/query/x")
 past_subscription_query = wrong_words (codes "/dss/v1/subscriptions/query/x") (codes "query/x") SubscriptionAtVersion named_past_subscriptions refl no_words_past
 
--- two words
+-- The two parameters of a path.
 pub both : (id ovn : List ℕ) → may_be_id id ≡ true → is_part ovn ≡ true → AreTwoWords (id ++ 47 ∷ ovn) (two_words id ovn)
 both id ovn e f = record { id = id; ovn = ovn; splits = refl; names = e; part = f; words_are = refl }
 
--- a path goes nowhere after a text with which no route begins
+-- A path with a text with which no route begins has no route.
 lost : (text rest : List ℕ) → is_plain text places ≡ true → steps text places ≡ [] → HasNoRoute (text ++ rest)
 lost text rest plain none =
     nowhere (text ++ rest)
@@ -329,7 +330,7 @@ ends_at =
 pub no_slash_there : HasNoRoute (codes "/dss/v1/operational_intent_references")
 no_slash_there = nowhere (codes "/dss/v1/operational_intent_references") ends_at
 
--- or after the front of references
+-- The same holds after the prefix of references.
 gap : (rest : List ℕ) → seek.seek 0 (leaf (Query Intent) (EntityAtOvn Intent) (Entity Intent)) rest ≡ None → HasNoRoute (references_of Intent ++ rest)
 gap rest e = nowhere (references_of Intent ++ rest) (named_after (references_of Intent) (Query Intent) (Entity Intent) (EntityAtOvn Intent) (references_lead Intent) rest ∙ e)
 
@@ -345,7 +346,7 @@ pub three_words : HasNoRoute (codes "/dss/v1/operational_intent_references/a1/o1
 unfolding matchit_on_literals
 three_words = gap (codes "a1/o1/x") refl
 
--- or of subscriptions
+-- The same holds after the prefix of subscriptions.
 subscription_gap : (rest : List ℕ) → seek.seek 0 (leaf SubscriptionQuery SubscriptionAtVersion Subscription) rest ≡ None → HasNoRoute (subscriptions ++ rest)
 subscription_gap rest e = nowhere (subscriptions ++ rest) (named_after subscriptions SubscriptionQuery Subscription SubscriptionAtVersion subscriptions_lead rest ∙ e)
 
@@ -361,7 +362,7 @@ pub three_subscription_words : HasNoRoute (codes "/dss/v1/subscriptions/d1/o1/x"
 unfolding matchit_on_literals
 three_subscription_words = subscription_gap (codes "d1/o1/x") refl
 
--- or of suppliers
+-- The same holds after the prefix of USSs.
 supplier_gap : (rest : List ℕ) → seek.seek 0 ((256 ∷ [], Availability) ∷ []) rest ≡ None → HasNoRoute (front_of Availability ++ rest)
 supplier_gap rest e =
     nowhere (front_of Availability ++ rest)

@@ -1,4 +1,4 @@
--- Walks over the rows of a router, where the routes are literal text and whole parts.
+-- Lemmas: walks over the rows of a router whose routes are literal text and whole segments.
 use Rattle.std.proofs.Common.{◌≡◌, ℕ, zero, suc, ◌-◌, ◌<◌, List, [], ◌∷◌, ◌++◌, length, Bool, true, false, cond, Option, Some, None, refl, sym, ap, ◌∙◌, arith, ◌==◌, ◌&&◌, ltb}
 use Rattle.std.proofs.Common.{◌⊎◌, inl, inr, nat_eq, nat_lt, arith, length-append}
 use Rattle.std.proofs.lemmas.Bool.{and_parts, eqb-true, false≢true}
@@ -28,7 +28,7 @@ module _ {K : Type 0} where
   seek-empty (suc k) (b ∷ p) = seek-empty k p
   seek-empty zero (b ∷ p) = simp (seek-empty 0 p, param_step-empty (b ∷ p), seek-empty (((param_step {K = K} [] (b ∷ p)).0) - 1) p)
 
-  -- what is skipped
+  -- ---- skipped bytes
   pub skip : (a : List ℕ) (rs : RowsOf K) (p : List ℕ) → seek (length a) rs (a ++ p) ≡ seek 0 rs p
   unfolding seek
   skip [] rs p = refl
@@ -49,7 +49,7 @@ module _ {K : Type 0} where
   empty [] e = refl
   empty (r ∷ rs) e = absurd (false≢true e)
 
-  -- at none of the bytes does a parameter or a catch-all stand beside the text
+  -- Returns true if no parameter and no catch-all competes with the text at any of its bytes.
   abbrev pub is_plain : List ℕ → RowsOf K → Bool
   is_plain [] rs = true
   is_plain (b ∷ p) rs = is_none (step param_token rs) && (is_none (step catch_all_token rs) && is_plain p (step b rs))
@@ -70,12 +70,13 @@ module _ {K : Type 0} where
       let second = and_parts _ _ first.1 in
       one_byte b rs (p ++ path) (empty (step param_token rs) first.0) (empty (step catch_all_token rs) second.0) ∙ pass p (step b rs) path second.1
 
-  -- a walk goes on by the text and by a parameter; where both lead to one route, it is that
+  -- A walk continues by the text and by a parameter. If both lead to one route, the result is that
+  -- route.
   joined : (a b c : Option K) (k : K) → (a ≡ None) ⊎ (a ≡ Some k) → b ≡ Some k → or_else a (or_else b c) ≡ Some k
   joined a b c k (inl x) y = rw (x, y) refl
   joined a b c k (inr x) y = rw x refl
 
-  -- literal text leads no other text anywhere
+  -- Literal text matches no other text.
   pub only_text : (t : List ℕ) (k : K) (p : List ℕ) → list_all (λ x. nat_lt x 256) t ≡ true → (p ≡ t → ⊥) → seek 0 ((t, k) ∷ []) p ≡ None
   unfolding seek
   only_text [] k [] e n = absurd (n refl)
@@ -147,14 +148,14 @@ a_cut b w =
     let t : ltb 1 (length (b ∷ w ++ 47 ∷ [])) ≡ true = grind (arith, nat_tests) in
     rw (t, is_end (b ∷ w)) refl
 
--- ---- whole parts
+-- ---- whole segments
 
 module _ {K : Type 0} where
-  -- after a parameter: one part more, or the end of the path
+  -- The rows after a parameter: one more segment, or the end of the path.
   abbrev after_id : K → K → RowsOf K
   after_id v s = (47 ∷ 256 ∷ [], v) ∷ ([], s) ∷ []
 
-  -- what may follow the front of a path to references
+  -- The rows after the prefix of paths to references.
   abbrev pub leaf : K → K → K → RowsOf K
   leaf q v s = (codes "query", q) ∷ (256 ∷ 47 ∷ 256 ∷ [], v) ∷ (256 ∷ [], s) ∷ []
 
@@ -162,7 +163,7 @@ module _ {K : Type 0} where
   longest_is seg v s true e = rw e refl
   longest_is seg v s false e = rw e refl
 
-  -- a parameter takes a part that ends the path
+  -- A parameter takes a segment that ends the path.
   takes_all : (v s : K) (b : ℕ) (w : List ℕ) → has_slash (b ∷ w) ≡ false → param_step (after_id v s) (b ∷ w) ≡ (suc (length w), after_id v s)
   unfolding param_step
   takes_all v s b w e =
@@ -170,7 +171,7 @@ module _ {K : Type 0} where
       let longest = longest_is (b ∷ w) v s false (no_cut (b ∷ w) e) in
       rw (seg, longest, e) refl
 
-  -- and one before a slash
+  -- A parameter takes a segment before a slash.
   takes_one : (v s : K) (b : ℕ) (w o : List ℕ) → has_slash (b ∷ w) ≡ false
       → param_step (after_id v s) (b ∷ w ++ 47 ∷ o) ≡ (suc (length w), (47 ∷ 256 ∷ [], v) ∷ [])
   unfolding param_step
@@ -180,11 +181,11 @@ module _ {K : Type 0} where
       let n : length (b ∷ w ++ 47 ∷ []) - 1 ≡ suc (length w) = omega (arith, length-append w (47 ∷ [])) in
       rw (seg, longest, n) refl
 
-  -- a byte that is no slash, where a slash or the end is wanted
+  -- A byte other than a slash does not match after a parameter.
   after_id_none : (v s : K) (c : ℕ) (w : List ℕ) → (47 == c) ≡ false → seek 0 (after_id v s) (c ∷ w) ≡ None
   after_id_none v s c w e = one_byte c (after_id v s) w refl refl ∙ (let none : step c (after_id v s) ≡ [] = rw e refl in rw none (seek-empty 0 w))
 
-  -- a parameter takes so many bytes, and the walk after it finds the route
+  -- If a parameter takes `n` bytes, the walk after it finds the route.
   walk : (rs after : RowsOf K) (b n : ℕ) (p : List ℕ) (k : K) → param_step (step param_token rs) (b ∷ p) ≡ (suc n, after)
       → seek n after p ≡ Some k → (seek 0 (step b rs) p ≡ None) ⊎ (seek 0 (step b rs) p ≡ Some k) → seek 0 rs (b ∷ p) ≡ Some k
   unfolding seek
@@ -194,7 +195,7 @@ module _ {K : Type 0} where
       ap (λ z. seek (z.0 - 1) z.1 p) e ∙ ap (λ i. seek i after p) m ∙ right in
       joined (seek 0 (step b rs) p) _ _ k left there
 
-  -- the last part
+  -- A parameter takes the last segment.
   takes_last : (k : K) (c : ℕ) (o : List ℕ) → has_slash (c ∷ o) ≡ false → param_step (([], k) ∷ []) (c ∷ o) ≡ (suc (length o), ([], k) ∷ [])
   unfolding param_step
   takes_last k c o e = rw e refl
@@ -212,7 +213,7 @@ module _ {K : Type 0} where
       by true = ended k o
       by false = inl (seek-empty 0 o)
 
-  -- a part that is not `query`, at the end
+  -- A segment other than `query` ends the path.
   after_id_end : (v s : K) (b : ℕ) (w : List ℕ) → has_slash (b ∷ w) ≡ false
       → (seek 0 (after_id v s) w ≡ None) ⊎ (seek 0 (after_id v s) w ≡ Some s)
   unfolding seek
@@ -232,7 +233,7 @@ module _ {K : Type 0} where
       by false x true y = after_id_end v s b w e
       by false x false y = inl (seek-empty 0 w)
 
-  -- such a part, a slash, and one part more
+  -- Such a segment is followed by a slash and one more segment.
   after_id_slash : (v s : K) (b : ℕ) (w : List ℕ) (c : ℕ) (o : List ℕ) → has_slash (b ∷ w) ≡ false → has_slash (c ∷ o) ≡ false
       → (seek 0 (after_id v s) (w ++ 47 ∷ c ∷ o) ≡ None) ⊎ (seek 0 (after_id v s) (w ++ 47 ∷ c ∷ o) ≡ Some v)
   after_id_slash v s b [] c o e f = inr (one_byte 47 (after_id v s) (c ∷ o) refl refl ∙ last_part v c o f)

@@ -1,4 +1,4 @@
--- The rows of the routes.
+-- Lemmas: the rows of the routes.
 use Rattle.std.proofs.Common.{[], refl}
 use Rattle.matchit.proofs.OnLiterals.{matchit_on_literals}
 use Rattle.entity_core.specs.declared.nature.Kind.TheVariants.{Intent, Constraint}

@@ -1,4 +1,4 @@
--- The places that paths lead to, and the methods that each of them takes.
+-- The endpoints of the service, and the methods that each of them allows.
 use Rattle.std.specs.Prelude.{ℕ, List, [], ◌∷◌, ◌++◌, codes, if◌then◌else◌, Option, Some, None}
 use Rattle.std.specs.Str.{bytes_eq}
 use Rattle.entity_core.specs.declared.nature.Kind.{Kind}
@@ -8,16 +8,16 @@ use Rattle.policy_core.specs.declared.call.OpKind.TheVariants as kinds
 use Rattle.wire_route.specs.declared.endpoint.Endpoint.{Endpoint}
 use Rattle.wire_route.specs.declared.endpoint.Endpoint.TheVariants.{Query, Entity, EntityAtOvn, Availability, SubscriptionQuery, Subscription, SubscriptionAtVersion}
 
--- what stands before the words of the paths to references of a kind
+-- The prefix of the paths to references of a kind.
 abbrev pub references_of : Kind → List ℕ
 references_of Intent = codes "/dss/v1/operational_intent_references/"
 references_of Constraint = codes "/dss/v1/constraint_references/"
 
--- before those of the paths to subscriptions
+-- The prefix of the paths to subscriptions.
 abbrev pub subscriptions : List ℕ
 subscriptions = codes "/dss/v1/subscriptions/"
 
--- and before those of a place's paths
+-- The prefix of the paths of an endpoint.
 abbrev pub front_of : Endpoint → List ℕ
 front_of (Query kind) = references_of kind
 front_of (Entity kind) = references_of kind
@@ -27,7 +27,7 @@ front_of SubscriptionQuery = subscriptions
 front_of Subscription = subscriptions
 front_of SubscriptionAtVersion = subscriptions
 
--- the route of a place, its words in braces
+-- The route of an endpoint, with its parameters in braces.
 abbrev pub route_of : Endpoint → List ℕ
 route_of (Query kind) = references_of kind ++ codes "query"
 route_of (Entity kind) = references_of kind ++ codes "{entityid}"
@@ -37,11 +37,11 @@ route_of SubscriptionQuery = subscriptions ++ codes "query"
 route_of Subscription = subscriptions ++ codes "{subscriptionid}"
 route_of SubscriptionAtVersion = subscriptions ++ codes "{subscriptionid}/{version}"
 
--- methods by name, with what each asks
+-- Methods by name, each with its kind of operation.
 abbrev pub Methods : Type 0
 Methods = List (List ℕ × OpKind)
 
--- the methods that a place takes
+-- The methods that an endpoint allows.
 abbrev pub methods_of : Endpoint → Methods
 methods_of (Query kind) = (codes "POST", kinds.Query kind) ∷ []
 methods_of (Entity kind) = (codes "GET", kinds.Read kind) ∷ (codes "PUT", kinds.Create kind) ∷ []
@@ -53,7 +53,7 @@ methods_of Subscription = (codes "GET", kinds.ReadSub) ∷ (codes "PUT", kinds.C
 methods_of SubscriptionAtVersion = (codes "PUT", kinds.UpdateSub)
     ∷ (codes "DELETE", kinds.DeleteSub) ∷ []
 
--- what the method of a name asks; names have case
+-- The kind of operation of a method. Names are compared with case.
 abbrev pub kind_among : Methods → List ℕ → Option OpKind
 kind_among [] method = None
 kind_among ((name, kind) ∷ more) method =
@@ -62,12 +62,12 @@ kind_among ((name, kind) ∷ more) method =
 abbrev pub kind_at : Endpoint → List ℕ → Option OpKind
 kind_at endpoint method = kind_among (methods_of endpoint) method
 
--- the names of methods in their order, with commas
+-- The names of methods in order, separated by commas.
 abbrev pub names_of : Methods → List ℕ
 names_of [] = []
 names_of ((name, kind) ∷ []) = name
 names_of ((name, kind) ∷ next ∷ more) = name ++ codes ", " ++ names_of (next ∷ more)
 
--- the text that tells which methods a place takes
+-- The value of the field Allow at an endpoint.
 abbrev pub allow_of : Endpoint → List ℕ
 allow_of endpoint = names_of (methods_of endpoint)

@@ -1,5 +1,5 @@
--- Which paths lead to a place, and the words that they have there. Paths are compared byte by byte,
--- and nothing in them is decoded.
+-- The paths of each endpoint, and their parameters. Paths are compared byte by byte, and nothing in
+-- them is decoded.
 use Rattle.std.specs.Prelude.{◌≡◌, ◌==◌, ◌&&◌, ◌++◌, ℕ, Bool, true, not, nat_lt, List, length, codes, Some, None}
 use Rattle.std.specs.Str.{bytes_eq}
 use Rattle.std.specs.List.{list_any}
@@ -11,11 +11,11 @@ use Rattle.wire_route.specs.Endpoint.{front_of}
 abbrev pub has_slash : List ℕ → Bool
 has_slash text = list_any (λ b. b == 47) text
 
--- a part of a path: not empty, and without a slash
+-- Returns true if the text is a path segment: not empty, and without a slash.
 abbrev pub is_part : List ℕ → Bool
 is_part text = nat_lt 0 (length text) && not (has_slash text)
 
--- a part that may stand for an id: any but `query`
+-- Returns true if the segment may be an id: any segment but `query`.
 abbrev pub may_be_id : List ℕ → Bool
 may_be_id text = is_part text && not (bytes_eq text (codes "query"))
 
@@ -25,7 +25,7 @@ one_word first = record { first = first; second = None }
 abbrev pub two_words : List ℕ → List ℕ → Words
 two_words first second = record { first = first; second = Some second }
 
--- a part that may be an id, a slash, and a part
+-- Holds if the rest is a segment that may be an id, a slash, and another segment.
 pub record AreTwoWords (rest : List ℕ) (words : Words) : Type 0 where
   pub id : List ℕ
   pub ovn : List ℕ
@@ -34,7 +34,7 @@ pub record AreTwoWords (rest : List ℕ) (words : Words) : Type 0 where
   pub part : is_part ovn ≡ true
   pub words_are : words ≡ two_words id ovn
 
--- what may follow the front of a place's path, and the words that it is
+-- Holds if the rest may follow the prefix of the endpoint, and these are its parameters.
 abbrev pub AreWordsOf : Endpoint → List ℕ → Words → Type 0
 AreWordsOf (Query kind) rest words = (rest ≡ codes "query") × (words ≡ one_word rest)
 AreWordsOf (Entity kind) rest words = (may_be_id rest ≡ true) × (words ≡ one_word rest)
@@ -44,11 +44,11 @@ AreWordsOf SubscriptionQuery rest words = (rest ≡ codes "query") × (words ≡
 AreWordsOf Subscription rest words = (may_be_id rest ≡ true) × (words ≡ one_word rest)
 AreWordsOf SubscriptionAtVersion rest words = AreTwoWords rest words
 
--- the path leads to the place, and has these words there
+-- Holds if the path leads to the endpoint, with these parameters.
 abbrev pub IsRoute : List ℕ → Endpoint → Words → Type 0
 IsRoute path endpoint words = (rest : List ℕ) × (path ≡ front_of endpoint ++ rest)
     × AreWordsOf endpoint rest words
 
--- the path leads nowhere
+-- Holds if the path leads to no endpoint.
 abbrev pub HasNoRoute : List ℕ → Type 0
 HasNoRoute path = (endpoint : Endpoint) (words : Words) → IsRoute path endpoint words → ⊥

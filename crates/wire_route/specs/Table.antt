@@ -1,5 +1,5 @@
--- The routes as the rows of a router: a step of the proofs. What a path leads to is said without
--- it.
+-- The routes as the rows of a router, as a step of the proofs. The definition of routes does not
+-- depend on it.
 use Rattle.std.specs.Prelude.{◌≡◌, ℕ, List, [], Result, Ok, Err, Option, None, option_map}
 use Rattle.matchit.specs.Rows.{RowsOf}
 use Rattle.matchit.specs.Router.{RouteOf, route_from, nearest}
@@ -19,7 +19,7 @@ abbrev on_read : Result Scan InsertError → Endpoint → Rows → Rows
 on_read (Ok s) endpoint rows = placed (s.pattern, route_from s endpoint) rows
 on_read (Err e) endpoint rows = rows
 
--- the rows with the route of a place
+-- The rows with the route of an endpoint added.
 unfoldable pub with_route : Endpoint → Rows → Rows
 with_route endpoint rows = on_read (parse_route (route_of endpoint)) endpoint rows
 
@@ -27,11 +27,11 @@ abbrev fits_read : Result Scan InsertError → Rows → Type 0
 fits_read (Ok s) rows = nearest s.pattern rows ≡ None
 fits_read (Err e) rows = ⊥
 
--- the route of the place can be read, and no row is in its way
+-- Holds if the route of the endpoint can be parsed and conflicts with no row.
 unfoldable pub Fits : Endpoint → Rows → Type 0
 Fits endpoint rows = fits_read (parse_route (route_of endpoint)) rows
 
--- the routes
+-- The rows of all routes.
 unfoldable pub table : Rows
 table =
     with_route SubscriptionAtVersion
@@ -44,6 +44,6 @@ table =
     (with_route (EntityAtOvn Intent)
     (with_route (Entity Intent) (with_route (Query Intent) [])))))))))
 
--- the place to which the router leads a path
+-- The endpoint to which the router leads a path.
 abbrev pub named_place : List ℕ → Option Endpoint
 named_place path = option_map (λ r. r.value) (first table path)

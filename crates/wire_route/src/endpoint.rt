@@ -1,31 +1,31 @@
-//! The places that paths lead to.
+//! The endpoints of the service.
 ghost use Rattle.std.specs.Prelude.{◌≡◌, ◌∷◌, [], codes};
 ghost use Rattle.wire_route.specs.Endpoint.{front_of, route_of, kind_among, kind_at, allow_of};
 
 use entity_core::nature::Kind;
 use policy_core::call::OpKind;
 
-/// A place that paths lead to.
+/// An endpoint of the service.
 #[derive(Clone, Copy, Debug, PartialEq, Eq)]
 pub enum Endpoint {
     /// The query for entities of a kind.
     Query(Kind),
     /// An entity of a kind.
     Entity(Kind),
-    /// An entity of a kind as it is by an OVN.
+    /// An entity of a kind, with an OVN in the path.
     EntityAtOvn(Kind),
-    /// The availability of a supplier.
+    /// The availability of a USS.
     Availability,
     /// The query for subscriptions.
     SubscriptionQuery,
     /// A subscription.
     Subscription,
-    /// A subscription as it is by a version.
+    /// A subscription, with a version in the path.
     SubscriptionAtVersion,
 }
 
 impl Endpoint {
-    /// What stands before the words of the place's paths.
+    /// Returns the prefix of the paths of the endpoint.
     pub(crate) fn path_prefix(self) -> &'static str
         ensures { result.now ≡ front_of self }
     {
@@ -43,7 +43,7 @@ impl Endpoint {
         }
     }
 
-    /// The route of the place, its words in braces.
+    /// Returns the route of the endpoint, with its parameters in braces.
     pub(crate) fn route_pattern(self) -> &'static str
         ensures { result.now ≡ route_of self }
     {
@@ -65,8 +65,10 @@ impl Endpoint {
         }
     }
 
-    /// What a method asks at the place, or nothing where the place does not take it. Methods have
-    /// case (RFC 9110, section 9.1).
+    /// Returns the kind of operation of a method at the endpoint.
+    ///
+    /// Returns `None` if the endpoint does not allow the method. Methods are compared with case
+    /// (RFC 9110, section 9.1).
     pub fn kind(self, method: &[u8]) -> Option<OpKind>
         ensures { result ≡ kind_at self method.now }
     {
@@ -89,8 +91,8 @@ impl Endpoint {
         }
     }
 
-    /// The methods that the place takes, with commas: the value of the field Allow (RFC 9110,
-    /// section 10.2.1).
+    /// Returns the methods that the endpoint allows, separated by commas: the value of the field
+    /// Allow (RFC 9110, section 10.2.1).
     pub fn allow(self) -> &'static str
         ensures { result.now ≡ allow_of self }
     {
@@ -106,7 +108,7 @@ impl Endpoint {
     }
 }
 
-// What POST asks where no other method is taken.
+// Returns the kind of operation at an endpoint that only allows POST.
 fn by_post(method: &[u8], post: OpKind) -> Option<OpKind>
     ensures { result ≡ kind_among ((codes "POST", post) ∷ []) method.now }
 {
@@ -117,7 +119,7 @@ fn by_post(method: &[u8], post: OpKind) -> Option<OpKind>
     }
 }
 
-// What GET and PUT ask where these are taken.
+// Returns the kind of operation at an endpoint that allows GET and PUT.
 fn by_get_or_put(method: &[u8], get: OpKind, put: OpKind) -> Option<OpKind>
     ensures { result ≡ kind_among ((codes "GET", get) ∷ (codes "PUT", put) ∷ []) method.now }
 {
@@ -130,7 +132,7 @@ fn by_get_or_put(method: &[u8], get: OpKind, put: OpKind) -> Option<OpKind>
     }
 }
 
-// What PUT and DELETE ask where these are taken.
+// Returns the kind of operation at an endpoint that allows PUT and DELETE.
 fn by_put_or_delete(method: &[u8], put: OpKind, delete: OpKind) -> Option<OpKind>
     ensures { result ≡ kind_among ((codes "PUT", put) ∷ (codes "DELETE", delete) ∷ []) method.now }
 {

@@ -1,4 +1,4 @@
-//! Laws of routes, each named by a function that does nothing.
+//! Laws of routes. Each is the contract of a function that does nothing.
 ghost use Rattle.std.specs.Prelude.{◌≡◌, ℕ, List, codes};
 ghost use Rattle.entity_core.specs.declared.nature.Kind.TheVariants.{Intent, Constraint};
 ghost use Rattle.wire_body.specs.Body.{Words};
@@ -7,14 +7,14 @@ ghost use Rattle.wire_route.specs.declared.endpoint.Endpoint.TheVariants.{Query,
 ghost use Rattle.wire_route.specs.Endpoint.{allow_of};
 ghost use Rattle.wire_route.specs.Route.{one_word, two_words, IsRoute, HasNoRoute};
 
-/// A path leads to one place at most, and has one list of words there.
+/// States that a path leads to at most one endpoint, with one list of parameters.
 pub fn one_route()
     ensures { (path : List ℕ) (p q : Endpoint) (v w : Words)
         → IsRoute path p v → IsRoute path q w → (q ≡ p) × (w ≡ v) }
 {}
 
-/// What some paths lead to: `quer` and `queryx` may be ids, and `query` may stand where an OVN or a
-/// version stands.
+/// States where some paths lead: `quer` and `queryx` may be ids, and `query` may be an OVN or a
+/// version.
 pub fn sample_paths()
     ensures intents { IsRoute (codes "/dss/v1/operational_intent_references/query")
         (Query Intent) (one_word (codes "query")) }
@@ -46,7 +46,7 @@ pub fn sample_paths()
         SubscriptionAtVersion (two_words (codes "d1") (codes "query")) }
 {}
 
-/// Some paths that lead nowhere.
+/// States that some paths lead to no endpoint.
 pub fn sample_gaps()
     ensures past_query { HasNoRoute (codes "/dss/v1/operational_intent_references/query/x") }
     ensures no_ovn { HasNoRoute (codes "/dss/v1/operational_intent_references/a1/") }
@@ -64,7 +64,7 @@ pub fn sample_gaps()
     ensures no_front { HasNoRoute (codes "dss/v1/uss_availability/a") }
 {}
 
-/// The methods that places take, as the field Allow tells them.
+/// States which methods some endpoints allow, as in the field Allow.
 pub fn allowed()
     ensures query { allow_of (Query Intent) ≡ codes "POST" }
     ensures entity { allow_of (Entity Constraint) ≡ codes "GET, PUT" }

@@ -1,4 +1,5 @@
-//! The routes of the service: which paths lead where, and what each method asks there.
+//! The routes of the service: which endpoint a path leads to, and the operation of each method
+//! there.
 #![tactic(auto)]
 
 pub mod endpoint;

@@ -1,4 +1,4 @@
-//! The routes of the service, and the way from a path to its place.
+//! The routes of the service, and the lookup of the endpoint of a path.
 ghost use Rattle.std.specs.Prelude.{◌≡◌, ◌++◌, List, ℕ, false, codes, IfOk, OnOk, MatchOption, option_map, if◌then◌else◌, Some, None};
 ghost use Rattle.wire_body.specs.Body.{Words, words_of};
 ghost use Rattle.wire_route.specs.Route.{has_slash, is_part, may_be_id, one_word, AreTwoWords, AreWordsOf, IsRoute, HasNoRoute};
@@ -12,7 +12,7 @@ use std::alloc::{AllocError, Global};
 use std::marker::Model;
 use wire_body::body::PathWords;
 
-/// The routes of the service, ready to look paths up.
+/// The routes of the service, prepared for lookups.
 #[derive(Drop)]
 pub struct Routes {
     router: Router<Endpoint>,
@@ -29,15 +29,14 @@ impl Model for Routes {
     ghost invariant = { λ r. r.router ≡ table };
 }
 
-/// A place, and the words that a path has there.
+/// An endpoint, and the parameters of a path there.
 #[derive(Clone, Copy, Debug)]
 pub struct Route<'p> {
     pub endpoint: Endpoint,
     pub words: PathWords<'p>,
 }
 
-// The route of a place more, which no other is in the way of: it is refused for want of memory
-// alone.
+// Adds the route of an endpoint. It conflicts with no other, so that only an allocation can fail.
 #[tactic(auto, unfolding(crate::specs::Table::with_route, crate::specs::Table::Fits))]
 fn put(router: &mut Router<Endpoint>, endpoint: Endpoint) -> Result<(), AllocError>
     requires { Fits endpoint router.old }
@@ -68,7 +67,7 @@ fn may_be_id(text: &str) -> bool
     is_part(text) && text != "query"
 }
 
-// The one word of a path, where it may stand there.
+// Returns the only parameter of a path, if `is_right` is true.
 fn one_word(word: &str, is_right: bool) -> Option<PathWords<'_>>
     ensures { option_map words_of result ≡ (if is_right then Some (one_word word.now) else None) }
 {
@@ -82,7 +81,7 @@ fn one_word(word: &str, is_right: bool) -> Option<PathWords<'_>>
     }
 }
 
-// What stands round the first slash.
+// Splits a text at its first slash.
 fn halves(rest: &str) -> Option<(&str, &str)>
     ensures { MatchOption result (has_slash rest.now ≡ false)
         (λ half. (rest.now ≡ half.0.now ++ (codes "/" ++ half.1.now))
@@ -91,7 +90,7 @@ fn halves(rest: &str) -> Option<(&str, &str)>
     rest.split_once('/')
 }
 
-// A word that may be an id, and one more part.
+// Returns the two parameters: a segment that may be an id, and another segment.
 fn two_words(rest: &str) -> Option<PathWords<'_>>
     ensures { MatchOption result ((words : Words) → AreTwoWords rest.now words → ⊥)
         (λ words. AreTwoWords rest.now (words_of words)) }
@@ -111,7 +110,7 @@ fn two_words(rest: &str) -> Option<PathWords<'_>>
     })
 }
 
-// The words that follow the front of a place's path.
+// Returns the parameters after the prefix of the endpoint's paths.
 fn words_at(endpoint: Endpoint, rest: &str) -> Option<PathWords<'_>>
     ensures { MatchOption result ((words : Words) → AreWordsOf endpoint rest.now words → ⊥)
         (λ words. AreWordsOf endpoint rest.now (words_of words)) }
@@ -128,7 +127,7 @@ fn words_at(endpoint: Endpoint, rest: &str) -> Option<PathWords<'_>>
 }
 
 impl Routes {
-    /// The routes. Only want of memory is a fault.
+    /// Creates the routes. Fails only if memory runs out.
     pub fn new(alloc: Global) -> Result<Routes, AllocError> {
         let mut router = Router::new(alloc);
         put(&mut router, Endpoint::Query(Kind::Intent))?;
@@ -144,7 +143,7 @@ impl Routes {
         Ok(Routes { router })
     }
 
-    // The place to which the router leads a path.
+    // Returns the endpoint to which the router leads a path.
     fn place_at(&self, path: &str) -> Option<Endpoint>
         ensures { result ≡ named_place path.now }
     {
@@ -154,8 +153,9 @@ impl Routes {
         }
     }
 
-    /// What a path leads to, and its words there. Paths are compared byte by byte, and nothing in
-    /// them is decoded (this project's profile).
+    /// Finds the endpoint of a path, and the parameters there.
+    ///
+    /// Compares paths byte by byte and decodes nothing in them (this project's profile).
     pub fn find<'p>(&self, path: &'p str) -> Option<Route<'p>>
         ensures { MatchOption result (HasNoRoute path.now)
             (λ route. IsRoute path.now route.endpoint (words_of route.words)) }
