@@ -113,7 +113,7 @@ proper_empty n = record {
   told = λ id s h. let e : None ≡ Some s = sym (get-empty nat_cmp id) ∙ h in cc;
 }
 
--- -- notifications
+-- ---- notifications
 
 told_find : (test : ℕ × Sub → Bool) (id : ℕ) (ss : List (ℕ × Sub)) → find nat_cmp id (map (notified_if test) ss) ≡ option_map (λ s. (notified_if test (id, s)).1) (find nat_cmp id ss)
 told_find test id [] = refl

@@ -91,7 +91,7 @@ without_subscription a id = record a {
   serial = a.serial + 1;
 }
 
--- -- notifications
+-- ---- notifications
 
 -- A subscription after one more notification. Its version and serial stay.
 abbrev pub notified_again : Sub → Sub

@@ -65,7 +65,7 @@ is_for_near kind areas s = wants s.1.interest kind && meets_some s.1.volume area
 unfoldable pub subscribers_in : Subscriptions → Kind → List Region → List Sub
 subscribers_in m kind areas = map (λ s. s.1) (filter (is_for_near kind areas) (entries m))
 
--- -- order of the results
+-- ---- order of the results
 
 -- Holds if every search of the airspace returns its results by ascending id, and so each only once.
 pub record FoundInOrder (a : Airspace) : Type 0 where

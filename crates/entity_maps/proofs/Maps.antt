@@ -43,7 +43,7 @@ module _ {A K X : Type 0} (R : K → K → Ordering) (pair : A → K × X) where
   Rise_rest [] ys s = s
   Rise_rest (x ∷ xs) ys s = Rise_rest xs ys (second (below_all R (key x) (keyed pair (xs ++ ys))) _ s)
 
-  -- -- by index
+  -- ---- by index
 
   pub below_from : (k : K) (xs : List A) (i : ℕ) → i ≤ length xs → ((j : ℕ) (d : A) → j < i → R (key (get_or xs j d)) k ≡ Less) → AllBelow R pair k (take i xs)
   below_from k xs zero h p = tt
@@ -104,7 +104,7 @@ module _ {A K X : Type 0} (R : K → K → Ordering) (pair : A → K × X) where
         ap (λ (es : List (K × X)). pair x ∷ es) (put_over same v w xs ys a.1 e)
         ∙ ap (λ (r : Ordering). by_order r (pair v ∷ pair x ∷ keyed pair (xs ++ w ∷ ys)) ((key x, val v) ∷ keyed pair (xs ++ w ∷ ys)) (pair x ∷ put R (key v) (val v) (keyed pair (xs ++ w ∷ ys)))) (sym (above x (key v) a.0))
 
-    -- -- lookups
+    -- ---- lookups
 
     pub find_past : (k : K) (xs ys : List A) → AllBelow R pair k xs → find R k (keyed pair (xs ++ ys)) ≡ find R k (keyed pair ys)
     find_past k [] ys a = refl

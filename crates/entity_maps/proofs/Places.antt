@@ -33,7 +33,7 @@ module _ {A K X : Type 0} (R : K → K → Ordering) (pair : A → K × X) where
   read_hit xs k i h d is = is ∙ get_or_from_slice_get xs i h.element d h.at
 
   module _ (o : IsTotalOrder R) where
-    -- -- the result of a search
+    -- ---- the result of a search
 
     hit_from : (xs : List A) (k : K) (i : ℕ) → Rise R pair xs → i < length xs → ((d : A) → R (key (get_or xs i d)) k ≡ Equal) → Hit R pair xs k i
     hit_from [] k i s h p = absurd (omega arith)
@@ -71,7 +71,7 @@ module _ {A K X : Type 0} (R : K → K → Ordering) (pair : A → K × X) where
     place_gap xs k (Ok i) s b p = tt
     place_gap xs k (Err i) s b p = gap_from xs k i b (p (searchable_from_sorted o (λ (e : A). key e) xs k (sorted_by xs s)))
 
-    -- -- lookups
+    -- ---- lookups
 
     pub found_hit : (xs : List A) (k : K) (i : ℕ) (h : Hit R pair xs k i) → Some (val h.element) ≡ find R k (keyed pair xs)
     found_hit xs k i h = sym (ap (λ (x : List A). find R k (keyed pair x)) h.split

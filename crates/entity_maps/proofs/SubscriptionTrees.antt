@@ -79,7 +79,7 @@ own_near uss area ss = filter (λ s. is_own_near uss area (pair_of s)) ss
 abbrev pub for_near : Kind → List Region → List Sub → List Sub
 for_near kind areas ss = filter (λ s. is_for_near kind areas (pair_of s)) ss
 
--- -- one subscription is replaced
+-- ---- one subscription is replaced
 
 -- The subscription found under an id has that id.
 pub own_id : (id : ℕ) (es : Entries) (s : Sub) → AreKeyed es → lookup (is_at (nat_cmp id)) es ≡ Some s → s.id ≡ id

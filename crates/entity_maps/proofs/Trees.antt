@@ -115,7 +115,7 @@ module _ {K N A : Type 0} (S : N → N → Ordering) (number : K → N) (key : A
     found_whole es h = ap values_of (h ∙ all_entries m.entries) ∙ e
 
   module _ (total : IsTotalOrder order) where
-    -- -- a lookup in a tree agrees with a lookup in the map of its list
+    -- ---- a lookup in a tree agrees with a lookup in the map of its list
 
     found_in : (es : Entries) (k : K) → Keyed es → lookup (test k) es ≡ maps.find order k (keyed pair (values_of es))
     found_in [] k a = refl
@@ -141,7 +141,7 @@ module _ {K N A : Type 0} (S : N → N → Ordering) (number : K → N) (key : A
           ∙ (ap (λ t. cond t None (get (map_of order pair old) k)) ((eq_by_cmp_equiv total).symm gone k)
           ∙ sym (get-remove total (map_of order pair old) gone k)))))
 
--- -- loops: the results so far and the remaining elements
+-- ---- loops: the results so far and the remaining elements
 
 no_more : {A : Type 0} (xs : List A) → xs ++ [] ≡ xs
 no_more [] = refl

@@ -58,7 +58,7 @@ ended_later u v es h e = le_true (span_of es).1 v (let k = le_holds (span_of es)
 pub sub_ended_later : (u v : ℕ) (s : Sub) → u ≤ v → sub_has_ended u s ≡ true → sub_has_ended v s ≡ true
 sub_ended_later u v s h e = le_true s.volume.time.1 v (let k = le_holds s.volume.time.1 u e in omega (arith, h, k))
 
--- -- lookups
+-- ---- lookups
 
 pub found_staying : (until : ℕ) (m : Entities) (k : EntityKey) → get (retained until m) k ≡ if_kept (λ e. not (has_ended until e)) (get m k)
 found_staying until m k = get_kept key_total key_exact (has_not_ended until) m k
@@ -92,7 +92,7 @@ purge_keeps until a proper = record {
   told = λ id s h. proper.told id s (sub_was until a id s h).0;
 }
 
--- -- references to a subscription
+-- ---- references to a subscription
 
 pub who_names : (m : Entities) (id : ℕ) → is_named_in m id ≡ true → (k : EntityKey) × (e : Entity) × (get m k ≡ Some e) × (is_naming id (k, e) ≡ true)
 who_names m id h = some_got key_total key_exact (is_naming id) m h
@@ -122,7 +122,7 @@ purge_keeps_names until a stand k e id h names =
     ap is_some (found_subs until m a.subscriptions id)
     ∙ kept_there (λ s. not (is_due_by until m (id, s))) (get a.subscriptions id) (stand k e id (entity_was until a k e h).0 names) (λ s there. ap not (named_stays until m id s named))
 
--- -- consecutive purges
+-- ---- consecutive purges
 
 stays_since : (u v : ℕ) (k : EntityKey) (e : Entity) → u ≤ v → has_not_ended v (k, e) ≡ true → has_not_ended u (k, e) ≡ true
 stays_since u v k e h t =
@@ -165,7 +165,7 @@ purges_join u v a h =
     ap (λ (m : Entities). retained_subs v m (retained_subs u (retained u a.entities) a.subscriptions)) same ∙ subs_join u v a.entities a.subscriptions h in
     λ i. record a { entities = same i; subscriptions = subs i }
 
--- -- when two airspaces are equal after a purge
+-- ---- when two airspaces are equal after a purge
 
 pub once_purged : (until : ℕ) (x y : Airspace) → retained until x.entities ≡ retained until y.entities
     → retained_subs until (retained until y.entities) x.subscriptions ≡ retained_subs until (retained until y.entities) y.subscriptions

@@ -30,7 +30,7 @@ sub_has_ended until s = nat_le s.volume.time.1 until
 abbrev pub HaveEnded : ℕ → List Extent → Type 0
 HaveEnded until volumes = AllByRecursion (λ v. v.time.1 ≤ until) volumes
 
--- -- purge
+-- ---- purge
 
 -- The entries of a map that pass a test.
 unfoldable pub kept_where : {K X : Type 0} {R : K → K → Ordering} → (K × X → Bool) → FinMap R X

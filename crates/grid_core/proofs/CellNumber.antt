@@ -48,7 +48,7 @@ IsCell-cell_of n v =
     let len : length (digits (30 - t / 2) p) ≡ 30 - t / 2 = length-digits (30 - t / 2) p in
     record { face = omega (arith, top, low); levels = omega (arith, len); digits = small_digits (30 - t / 2) p }
 
--- -- the number of a cell is valid
+-- ---- the number of a cell is valid
 
 -- The lowest 1 bit of an odd number times 2 ^ j is bit j.
 pub lowest : (n p j : ℕ) → j < 64 → n < 2 ^ 64 → n ≡ (2 * p + 1) * 2 ^ j → trailing_zeros w64 n ≡ j

@@ -109,7 +109,7 @@ child_number c v d n w room small is lowest =
     ∙ (ap (λ (x : ℕ). (2 * x + 1) * 2 ^ (2 * b.left)) walk ∙ ap (λ (x : ℕ). (2 * (4 * path c.face c.digits + d) + 1) * x) (sym (four b.left))) in
     child_sum (path c.face c.digits) d q w n (number_of (child_of c d)) scale own below
 
--- -- containment by parents
+-- ---- containment by parents
 take_front : (xs ys : List ℕ) → take (length xs) (xs ++ ys) ≡ xs
 take_front [] ys = refl
 take_front (x ∷ xs) ys = ap (λ zs. x ∷ zs) (take_front xs ys)

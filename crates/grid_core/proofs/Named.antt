@@ -86,7 +86,7 @@ naming text c v token =
 pub names_cell_lem : NamesCell
 names_cell_lem text c = (named text c, λ h. naming text c h.0 h.1)
 
--- -- the result of parsing
+-- ---- the result of parsing
 
 pub named_when_read : (text : List ℕ) (c : Cell) → Parses text (Ok c) → cell_named text ≡ Some c
 named_when_read text c h = naming text c h.0 h.1

@@ -15,7 +15,7 @@ use Rattle.grid_core.specs.declared.sorted_area.Interval.{Interval}
 use Rattle.grid_core.proofs.IndexLaws.{ordered, touch_by_interval_lem}
 use Rattle.grid_core.proofs.Meets.{any_from, any_to, both, first, second, nat_order, one_test, touch_from, touch_to}
 
--- -- intervals that are apart are sorted
+-- ---- intervals that are apart are sorted
 
 pub lows_rise : (is : List Interval) → All IsOrdered is → AreApart is → IsNonDecreasingBy (λ (i : Interval). i.lo) is
 lows_rise is o apart i j d le lt = elim (cases_lt i j) [
@@ -35,7 +35,7 @@ highs_rise is o apart i j d le lt = elim (cases_lt i j) [
   | inr ge ↦ let e : i ≡ j = omega arith in subst (λ (k : ℕ). (get_or is i d).hi ≤ (get_or is k d).hi) e (omega arith)
 ]
 
--- -- the first interval that does not end before another begins
+-- ---- the first interval that does not end before another begins
 
 -- No interval before it overlaps.
 before : (own i : Interval) → i.hi < own.lo → overlap own i ≡ false
@@ -72,7 +72,7 @@ found_at own is place i o apart point lt at = by_test (nat_le i.lo own.hi) refl
 pub found_none : (own : Interval) (is : List Interval) (place : ℕ) → Point own is place → length is ≤ place → false ≡ list_any (overlap own) is
 found_none own is place point le = sym (list_any_none (overlap own) is (λ k d lt. before own (get_or is k d) (point.0 k d (omega arith) (omega arith))))
 
--- -- an interval overlaps one of an area's intervals exactly if the cell touches one of its cells
+-- ---- an interval overlaps one of an area's intervals exactly if the cell touches one of its cells
 
 both_in : (n : ℕ) (i : Interval) → i.lo ≤ n → n ≤ i.hi → lies_in n i ≡ true
 both_in n i a b = both (nat_le i.lo n) (nat_le n i.hi) (nat_order.to i.lo n a) (nat_order.to n i.hi b)

@@ -103,7 +103,7 @@ any_meet es rs = list_any (λ e. list_any (λ r. meets (region_of e) r) rs) es
 abbrev pub AnyMeet : List Extent → List Region → Type 0
 AnyMeet es rs = Any (λ e. Any (λ r. Meet (region_of e) r) rs) es
 
--- -- limits and covered cells
+-- ---- limits and covered cells
 
 -- True if a bound is absent or within the limits.
 abbrev pub is_within : {K : Type 0} → (K → K → Bool) → K → K → Option K → Bool

@@ -3,7 +3,7 @@ use Rattle.std.specs.Prelude.{◌≡◌, ◌↔◌, ℕ, ◌≤◌, ◌<◌, ◌
 use Rattle.grid_core.specs.Cell.{Cell, IsCell, Touch, lo_of, hi_of, parent_of}
 use Rattle.grid_core.specs.Extent.{Extent, Region, Meet, meets, AnyMeet, any_meet}
 
--- -- the tests of whether regions meet agree with the relations
+-- ---- the tests of whether regions meet agree with the relations
 
 abbrev pub MeetsIsMeet : Type 0
 MeetsIsMeet = (a b : Region) → IsTrue (meets a b) ↔ Meet a b
@@ -11,7 +11,7 @@ MeetsIsMeet = (a b : Region) → IsTrue (meets a b) ↔ Meet a b
 abbrev pub AnyMeetIsRelation : Type 0
 AnyMeetIsRelation = (es : List Extent) (rs : List Region) → IsTrue (any_meet es rs) ↔ AnyMeet es rs
 
--- -- the intervals of cells, for an index on them
+-- ---- the intervals of cells, for an index on them
 
 -- Holds if a number lies in the intervals of both cells.
 abbrev pub ShareNumber : Cell → Cell → Type 0

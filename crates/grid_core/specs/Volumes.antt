@@ -26,13 +26,13 @@ abbrev pub span_of : List Extent → ℕ × ℕ
 span_of [] = (0, 0)
 span_of (e ∷ es) = fold (λ span v. wider span v.time) e.time es
 
--- -- covered cells
+-- ---- covered cells
 
 -- The number of level-13 cells that the volumes count for, summed over volumes and cells.
 abbrev pub covered_sum : List Extent → ℕ
 covered_sum es = sum_by (λ e. covered_by e.cells) es
 
--- -- areas that volumes meet
+-- ---- areas that volumes meet
 
 -- True if a volume meets some area.
 abbrev pub meets_some : Extent → List Region → Bool

@@ -57,7 +57,7 @@ none_asks a t (CreateSub id put) = (Token, refl, omega arith)
 none_asks a t (UpdateSub id version put) = (Token, refl, omega arith)
 none_asks a t (DeleteSub id version) = (Token, refl, omega arith)
 
--- -- a put whose key misses nothing
+-- ---- a put whose key misses nothing
 
 both_true : (a b : Bool) → a && b ≡ true → (a ≡ true) × (b ≡ true)
 both_true true b h = (refl, h)
@@ -181,7 +181,7 @@ puts_know a t (Some caller) (CreateSub n p) id put y is h = cc
 puts_know a t (Some caller) (UpdateSub n version p) id put y is h = cc
 puts_know a t (Some caller) (DeleteSub n version) id put y is h = cc
 
--- -- entities that are needed but not in the key
+-- ---- entities that are needed but not in the key
 
 some_told : (v : Entity → Reference) (xs : List Entity) (y : Entity) → Contains xs y → is_none_of (map v xs) ≡ false
 some_told v [] y h = absurd (no_member y h)
@@ -212,7 +212,7 @@ put_misses kinds.Constraint a caller id put y h k =
     let c = told_missing_from put.key es y h k in
     (nor (is_none_of (missing_put a caller id put).intents) (is_none_of (missing_put a caller id put).constraints) (some_told v (missing_from put.key es) y c), mapped v (missing_from put.key es) y c)
 
--- -- the call is denied
+-- ---- the call is denied
 
 -- Holds for a rule that denies a call without listing what is missing.
 abbrev Before : Rule → Type 0

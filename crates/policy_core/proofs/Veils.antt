@@ -27,7 +27,7 @@ use Rattle.policy_core.proofs.Finds.{or_else, find-append}
 pub one_uss : (m : List ℕ) (caller : Caller) → is_uss m (Some caller) ≡ true → caller.uss ≡ m
 one_uss m caller h = one_text caller.uss m (sym h)
 
--- -- lookups
+-- ---- lookups
 
 find-veiled : (m : List ℕ) (k : EntityKey) (es : List (EntityKey × Entity)) → option_map (redacted m) (maps.find key_cmp k es) ≡ maps.find key_cmp k (map (redacted_entry m) es)
 find-veiled m k [] = refl

@@ -26,7 +26,7 @@ use Rattle.policy_core.specs.Rule.{number_of}
 use Rattle.policy_core.specs.Standing.{sub_of}
 use Rattle.policy_core.specs.View.{view_of}
 
--- -- what the key of a put has
+-- ---- what the key of a put has
 
 -- The id and the put of a creation or an update.
 abbrev pub put_of : Operation → Option (ℕ × Put)
@@ -51,7 +51,7 @@ PutsKnow = (a : Airspace) (now : ℕ) (c : Call) (id : ℕ) (put : Put) (y : Ent
     → any_meet y.volumes (map region_of put.volumes) ≡ true → call_needs a c y.nature ≡ true
     → is_spared a y ≡ false → Contains put.key y.ovn
 
--- -- what is listed to a put
+-- ---- what is listed to a put
 
 abbrev pub listed : Kind → Missing → List Reference
 listed kinds.Intent m = m.intents

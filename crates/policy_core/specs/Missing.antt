@@ -27,7 +27,7 @@ use Rattle.policy_core.specs.Scope.{has_scope}
 use Rattle.policy_core.specs.Standing.{sub_under}
 use Rattle.policy_core.specs.View.{view_of}
 
--- -- what is needed
+-- ---- what is needed
 
 -- True if a put of this nature needs a key: an `Accepted` or `Activated` intent.
 abbrev pub needs_key : Nature → Bool
@@ -107,7 +107,7 @@ needed kind a caller (Create id put) = needed_put kind a caller id put
 needed kind a caller (Update id ovn put) = needed_put kind a caller id put
 needed kind a caller op = []
 
--- -- what is missing
+-- ---- what is missing
 
 -- The key of an operation.
 abbrev pub key_shown : Operation → List (List ℕ)

@@ -264,7 +264,7 @@ is_spent op found = false
 abbrev pub breaks_limit : Operation → Option Entity → ℕ → Bool
 breaks_limit op found serial = (is_change op && nat_le max_serial serial) || is_spent op found
 
--- -- the rules
+-- ---- the rules
 
 -- True if a call at a time breaks a rule, given the whole airspace.
 abbrev pub breaks : Airspace → ℕ → Call → Rule → Bool

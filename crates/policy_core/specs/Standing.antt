@@ -66,7 +66,7 @@ facts_of a op = record {
 abbrev pub Regards : Airspace → Operation → Facts → Type 0
 Regards a op facts = facts ≡ facts_of a op
 
--- -- borrowed facts
+-- ---- borrowed facts
 
 abbrev pub lent_entity : Option (Bor Entity) → Option Entity
 lent_entity found = option_map (λ e. e.now) found

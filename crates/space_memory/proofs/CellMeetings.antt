@@ -30,7 +30,7 @@ spans_more old new w bits c a = record {
 pub both : {X : Type 0} (P Q : X → Type 0) (xs : List X) → All P xs → Any Q xs → (x : X) × P x × Q x
 both P Q xs a n = (n.1, subst P n.3 (a n.0 n.1 n.2), n.4)
 
--- -- the entries of a map
+-- ---- the entries of a map
 
 -- A bit that is set under a key is in an entry of the map.
 bit_there : (o : Option ℕ) (b : ℕ) → bit_at (unwrap_or o 0) b ≡ 1 → (n : ℕ) × (o ≡ Some n) × (bit_at n b ≡ 1)
@@ -71,7 +71,7 @@ nothing_there marks near = λ q has low high b h. absurd (omega arith)
 pub gathers_more : (marks : BTreeSet Mark) (old new : BTreeMap Part ℕ) → Widens old new → (e : Span × ℕ) → Gathers marks e.0 e.1 old → Gathers marks e.0 e.1 new
 gathers_more marks old new w e g = λ q has low high b h. w (part_of q) b (g q has low high b h)
 
--- -- a cell of a holder that touches a cell of an area
+-- ---- a cell of a holder that touches a cell of an area
 
 found_cell : (marks : BTreeSet Mark) (spans : BTreeMap Span ℕ) (near : BTreeMap Part ℕ) → GathersAll marks spans near → (e : Holder) (i : ℕ) (c d : Cell) (b : ℕ) → i < 32 → IsMarked marks e i c → HasSpansOf spans (2 ^ b) d → Touch c d → HasBit near (e.1, i) b
 found_cell marks spans near g e i c d b small m a t =

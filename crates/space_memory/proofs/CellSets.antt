@@ -48,7 +48,7 @@ removed_keeps e old mid new k tag id h u = λ q other there.
     ] refl in
     u.0 q ∙ (ap (λ b. cond b false (contains mark_cmp mid q)) apart ∙ h q other there)
 
--- -- a loop over the keys of a set: each key was visited or remains
+-- ---- a loop over the keys of a set: each key was visited or remains
 
 abbrev pub Left : {K : Type 0} → (K → K → Ordering) → List K → List K → (K → Type 0) → Type 0
 Left {K} cmp all rest P = (q : K) → list_any (λ k. is_eq (cmp q k)) all ≡ true → (list_any (λ k. is_eq (cmp q k)) rest ≡ true) ⊎ P q
@@ -90,7 +90,7 @@ any_kept cmp exact p q (k ∷ ks) t h =
       ]
     ] refl h
 
--- -- a loop over a list: all elements before an index are done
+-- ---- a loop over a list: all elements before an index are done
 
 pub more_done : {X : Type 0} (P P' : X → Type 0) (xs : List X) (i : ℕ) (x : X) → i < length xs → x ≡ get_or xs i x → ((y : X) → P y → P' y) → P' x → All P (take i xs) → All P' (take (i + 1) xs)
 more_done P P' xs i x l is f p h = All-more P' xs i x l (All-weaker P P' f (take i xs) h) (subst P' is p)
@@ -107,7 +107,7 @@ each_more P P' xs n x l is f p h i d lt = elim (cases_lt i n) [
       subst (λ (k : ℕ). P' k (get_or xs k d)) same (subst (P' n) (is ∙ get_or_default xs n x d l) p)
 ]
 
--- -- a loop over an iterator: some elements remain and all others are done
+-- ---- a loop over an iterator: some elements remain and all others are done
 
 pub record Seen {X : Type 0} (P : X → Type 0) (all left : List X) : Type 0 where
   pub seen : List X
@@ -135,7 +135,7 @@ seen_more {X} P P' all left rest x is f p h = record {
 pub seen_all : {X : Type 0} (P : X → Type 0) (all left : List X) → left ≡ [] → Seen P all left → All P all
 seen_all {X} P all left none h = subst (All P) (sym (and_none h.seen) ∙ (ap (λ (l : List X). h.seen ++ l) (sym none) ∙ h.split)) h.done
 
--- -- keys in a range
+-- ---- keys in a range
 
 then_le : (a b : Ordering) → is_le a ≡ true → is_le b ≡ true → is_le (ordering_then a b) ≡ true
 then_le Less b h g = refl

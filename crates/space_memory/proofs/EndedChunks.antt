@@ -32,7 +32,7 @@ use Rattle.entity_purge.proofs.Chunks.{chunks_make}
 use Rattle.space_memory.specs.Proper.{own_id}
 use Rattle.space_memory.specs.Purged.{AreFirst, IsChunkIfAny, ended_in, free_in, is_free}
 
--- -- the first elements of a list
+-- ---- the first elements of a list
 
 pub after_last : {X : Type 0} (xs : List X) (x : X) (ys : List X) → (xs ++ (x ∷ [])) ++ ys ≡ xs ++ (x ∷ ys)
 after_last [] x ys = refl
@@ -55,7 +55,7 @@ go_first : (until : ℕ) (xs ys : List PurgeItem) (a : Airspace) → AreDueForPu
 go_first until [] ys a go = tt
 go_first until (x ∷ xs) ys a go = (go.0, go_first until xs ys (without_item a x) go.1)
 
--- -- lookups in a sorted list
+-- ---- lookups in a sorted list
 
 module _ {K X : Type 0} (R : K → K → Ordering) (o : IsTotalOrder R) where
   apart_later : (k q : K) (x : X) (es : List (K × X)) → T (below_all R k es) → maps.find R q es ≡ Some x → eq_by_cmp R q k ≡ false
@@ -167,7 +167,7 @@ held_by : (ended named : Bool) → ended && not named ≡ false → ended ≡ tr
 held_by true named h t = turned_false named h
 held_by false named h t = cc
 
--- -- chunks
+-- ---- chunks
 
 module _ (until most : ℕ) (es : List Entity) (ss : List Sub) (settings : List AvailabilityEntry) (serial : ℕ) where
   found_entity : (k : EntityKey) → get (entity_map es) k ≡ maps.find key_cmp k (keyed pair_of es)
@@ -241,7 +241,7 @@ free_full until most m before after s left rest all ss is free split same room p
     subst (λ (gs : List PurgeItem). AreFirst most gs (free_in until m ss)) (sym pushed)
     (first_full most before g (free_in until m rest) (free_in until m ss) (ap (λ (gs : List PurgeItem). before ++ gs) (sym now ∙ ap (free_in until m) (sym is)) ∙ (split ∙ ap (free_in until m) same)) room)
 
--- -- whether anything was found
+-- ---- whether anything was found
 
 pub some_entity : (gs : List PurgeItem) (n : ℕ) (empty : Bool) → n ≡ length gs → empty ≡ (n == 0) → empty ≡ false → gs ≡ [] → ⊥
 some_entity [] n empty count is some none = cc (ap (λ (k : ℕ). k == 0) count)

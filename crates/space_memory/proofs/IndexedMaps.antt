@@ -38,7 +38,7 @@ grown_index m old new g h = λ k x at. grown_marked old new g x (h k x at)
 pub none_there : (es : List Entity) → es ≡ [] → (k : EntityKey) (x : Entity) → get (entity_map es) k ≡ Some x → ⊥
 none_there es e k x at = let bad : None ≡ Some x = sym (ap (λ (l : List Entity). get (entity_map l) k) e ∙ get-from_entries key_total (keyed pair_of []) k) ∙ at in cc
 
--- -- what holds for each entity of a map, as entities are added and removed
+-- ---- what holds for each entity of a map, as entities are added and removed
 
 module _ (P : Entity → Type 0) where
   abbrev pub Each : Entities → Type 0
@@ -75,7 +75,7 @@ module _ (P : Entity → Type 0) where
   pub all_each : (es : List Entity) → All P es → Each (entity_map es)
   all_each es h = λ k x at. listed es k x (sym (get-from_entries key_total (keyed pair_of es) k) ∙ at) h
 
--- -- removals from the index
+-- ---- removals from the index
 
 small_kind : (k : Kind) → kind_index k ≤ 1
 small_kind Intent = omega arith

@@ -31,7 +31,7 @@ use Rattle.space_memory.proofs.SoughtMaps.{own_of, rising}
 pub naming_exact : CmpEqualImpliesEq naming_cmp
 naming_exact = exact_pairs nat_cmp nat_cmp exact_unsigned exact_unsigned
 
--- -- the index, as entities are added and removed
+-- ---- the index, as entities are added and removed
 
 pub inserted_more : (old new : BTreeSet Naming) (k : Naming) → Updates naming_cmp old new k true → NamesMore old new
 inserted_more old new k u = λ q h. u.0 q ∙ either (is_eq (naming_cmp k q)) (contains naming_cmp old q) h
@@ -76,7 +76,7 @@ forgotten es id intent old new none u h = λ k x at other is.
     ] refl in
     record { small = was.small; there = u.0 (other, x.id) ∙ (ap (λ b. cond b false (contains naming_cmp old (other, x.id))) apart ∙ was.there) }
 
--- -- the pairs of a subscription
+-- ---- the pairs of a subscription
 
 in_pairs : (id n most : ℕ) → n ≤ most → range_contains naming_cmp (Included (id, 0)) (Included (id, most)) (id, n) ≡ true
 in_pairs id n most h =
@@ -142,7 +142,7 @@ pairs_found names id most pairs small is rise =
       all = λ n has. any_second id n (filter p names.keys) (any_kept naming_cmp naming_exact p (id, n) names.keys (in_pairs id n most (small n has)) has.there);
     })
 
--- -- the intents that reference a subscription
+-- ---- the intents that reference a subscription
 
 module _ (look : ℕ → Option Entity) (id : ℕ) where
   abbrev names_it : ℕ → Bool
@@ -216,7 +216,7 @@ module _ (es : List Entity) (names : BTreeSet Naming) (id : ℕ) (pairs : List N
       ∙ (ap some_in dependents_found
       ∙ sym (any_filter (is_naming id) (λ (e : EntityKey × Entity). e.1) (λ (e : Entity). e.id) (entries (entity_map es))))
 
--- -- loops over pairs
+-- ---- loops over pairs
 
 pub not_some : {X : Type 0} (o : Option X) → is_some o ≡ false → o ≡ None
 not_some None h = refl

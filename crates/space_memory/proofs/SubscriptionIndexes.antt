@@ -35,7 +35,7 @@ other_marks : (g s : Sub) (old new : BTreeSet Mark) → KeepsOthers (holder_of g
 other_marks g s old new keeps other h =
     All-weaker (IsMarked old (holder_of s) 0) (IsMarked new (holder_of s) 0) (λ c m. record { cell = m.cell; narrow = m.narrow; mark = keeps (mark_of (holder_of s) 0 c) (λ put id. other id) m.mark }) s.volume.cells h
 
--- -- the whole index
+-- ---- the whole index
 
 module _ (ss : List Sub) (id : ℕ) (old new : BTreeSet Mark) where
   pub grown_but : Grows old new → IsIndexBut id (subscription_map ss) (Some old) → IsIndexBut id (subscription_map ss) (Some new)
@@ -60,7 +60,7 @@ but_one m id (Some marks) h = λ k s at other. h k s at
 pub nothing_there : (m : Subscriptions) (id : ℕ) → is_some (get m id) ≡ false → get m id ≡ None
 nothing_there m id h = elim (get m id) as (λ o. is_some o ≡ false → o ≡ None) [ None ↦ λ e. refl | Some x ↦ λ e. cc ] h
 
--- -- puts and removals
+-- ---- puts and removals
 
 pub put_but : (m n : Subscriptions) (id : ℕ) (x : Sub) (index : Option (BTreeSet Mark)) → n ≡ insert m id x → IsIndexBut id m index → IsIndexBut id n index
 put_but m n id x None is h = tt
@@ -107,7 +107,7 @@ listed marks (x ∷ ss) id s e h =
 pub all_indexed : (ss : List Sub) (marks : BTreeSet Mark) → All (AllMarked marks) ss → IsIndexOf (subscription_map ss) marks
 all_indexed ss marks h = λ id s at. listed marks ss id s (sym (get-from_entries nat_cmp_total (keyed pair_of ss) id) ∙ at) h
 
--- -- a put that is undone
+-- ---- a put that is undone
 
 values_of : (ss : List Sub) → map (λ (s : ℕ × Sub). s.1) (keyed pair_of ss) ≡ ss
 values_of [] = refl

@@ -14,7 +14,7 @@ use Rattle.space_memory.specs.CellIndex.{Holder, Mark, IsMarked, mark_cmp, place
 abbrev pub IsAt : {X : Type 0} → List X → ℕ → X → Type 0
 IsAt xs i x = (i < length xs) × (slice_index_or xs i x ≡ x)
 
--- -- bits for areas: areas whose indexes are equal modulo 64 share a bit
+-- ---- bits for areas: areas whose indexes are equal modulo 64 share a bit
 
 abbrev pub Pair : Type 0
 Pair = ℕ × ℕ
@@ -34,7 +34,7 @@ HasBits m k bits = (b : ℕ) → bit_at bits b ≡ 1 → HasBit m k b
 abbrev pub Widens : BTreeMap Pair ℕ → BTreeMap Pair ℕ → Type 0
 Widens old new = (k : Pair) (b : ℕ) → HasBit old k b → HasBit new k b
 
--- -- spans in which an index is searched: the range of a cell, and its ancestors
+-- ---- spans in which an index is searched: the range of a cell, and its ancestors
 
 -- A range of positions. The end is not included.
 abbrev pub Span : Type 0
@@ -64,7 +64,7 @@ abbrev pub HasAllSpans : BTreeMap Span ℕ → List Region → Type 0
 HasAllSpans spans areas = (j : ℕ) (d : Region) → j < length areas
     → All (HasSpansOf spans (2 ^ (j % 64))) (slice_index_or areas j d).cells
 
--- -- candidates
+-- ---- candidates
 
 -- The id of a holder and the number of one of its volumes.
 abbrev pub Part : Type 0

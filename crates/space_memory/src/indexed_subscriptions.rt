@@ -49,7 +49,7 @@ impl Model for IndexedSubscriptions {
     ghost invariant = { λ a. IsIndexIfAny (subscription_map a.subscriptions) a.marks };
 }
 
-// -- one subscription
+// ---- one subscription
 
 fn sub_holder(sub: &Sub) -> Holder
     ensures { result ≡ holder_of sub.now }
@@ -64,7 +64,7 @@ fn mark_sub(marks: &mut BTreeSet<Mark>, sub: &Sub) -> Result<(), AllocError>
     mark_cells(marks, sub_holder(sub), 0, sub.volume.cells())
 }
 
-// -- additions and removals
+// ---- additions and removals
 
 // Marks the subscription with this id, if it exists. On an error some of its cells can be marked.
 fn enter_sub(
@@ -151,7 +151,7 @@ fn put_sub(
     }
 }
 
-// -- searches
+// ---- searches
 
 fn is_of(sub: &Sub, uss: &UssId) -> bool
     ensures { result ≡ same_text sub.now.manager uss.now }

@@ -18,7 +18,7 @@ use std::collections::btree_set::Range;
 /// The number of a subscription's id, and the number of the id of an intent that references it.
 pub(crate) type Naming = (u128, u128);
 
-// -- additions and removals
+// ---- additions and removals
 
 /// Adds the pair of an entity, if it references a subscription.
 ///
@@ -59,7 +59,7 @@ pub(crate) fn forget_name(names: &mut BTreeSet<Naming>, entities: &Entities, gon
     }
 }
 
-// -- searches
+// ---- searches
 
 // Returns the pairs of a subscription, by ascending ids of the intents.
 fn pairs_of(names: &BTreeSet<Naming>, id: EntityId) -> Range<'_, Naming>

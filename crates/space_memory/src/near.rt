@@ -30,7 +30,7 @@ type Span = (u64, u64);
 // Spans, with bits for areas.
 type Spans = BTreeMap<Span, u64>;
 
-// -- bits for areas
+// ---- bits for areas
 
 // Returns the bit of an area. Areas whose indexes are 64 apart share a bit, so a volume can be
 // compared with more areas than necessary.
@@ -60,7 +60,7 @@ pub(crate) fn meets_one_of(volume: &Volume, bits: u64, areas: &[SortedArea]) -> 
     false
 }
 
-// -- the spans of the cells of areas and of their ancestors
+// ---- the spans of the cells of areas and of their ancestors
 
 fn add_span(spans: &mut Spans, span: Span, bits: u64) -> Result<(), AllocError>
     ensures kept { Widens spans.old spans.new }
@@ -131,7 +131,7 @@ fn spans_of(alloc: Global, areas: &[SortedArea]) -> Result<Spans, AllocError>
     Ok(spans)
 }
 
-// -- searches
+// ---- searches
 
 // Adds the bits to a candidate. Most candidates have them already from another cell, and then
 // nothing changes.

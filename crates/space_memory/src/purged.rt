@@ -29,7 +29,7 @@ const MOST_CELLS: usize = 1024;
 // subscription scans all references, because the database has no index of them.
 const NAMINGS_A_CELL: usize = 40;
 
-// -- tests of what has ended
+// ---- tests of what has ended
 
 fn has_ended(entity: &Entity, until: u64) -> bool
     ensures { result ≡ has_ended until entity.now }
@@ -66,7 +66,7 @@ fn is_full(gone: &Vec<PurgeItem>, cells: usize, most: usize) -> bool
     gone.len() >= most || cells > MOST_CELLS
 }
 
-// -- the items of a chunk
+// ---- the items of a chunk
 
 // Returns the first entities that have ended.
 fn first_ended(
@@ -195,7 +195,7 @@ fn chunk_of(
     first_free(alloc, subscriptions.entries(), entities, until, most)
 }
 
-// -- purging
+// ---- purging
 
 fn let_one_go(
     entities: &mut IndexedEntities,

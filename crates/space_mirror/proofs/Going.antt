@@ -41,7 +41,7 @@ pub none_of : (batch : List BatchChange) (is_empty : Bool) → is_empty ≡ nat_
 none_of batch is_empty e is = nil_from_length batch (grind arith)
 
 module _ {S : Type 0} (g : Ghosts S) where
-  -- -- what has ended
+  -- ---- what has ended
 
   -- The mirror finds it.
   pub told_by_list : {T : Type 0} (s : S) (l : MemorySpace) (k k' : ℕ) (r r' : Result T SpaceFault) (P : Airspace → T → Type 0) → IfErr r (λ fault. fault ≡ Unchanged) → IfOk r (λ x. P (content_of l) x)
@@ -92,7 +92,7 @@ module _ {S : Type 0} (g : Ghosts S) where
   untold_by_store s t k k' r r' P u same counted =
       store_answers_parts g s t 0 (refusals_after 0 r) k k' r r' P (record { counted = refl; breaks = u.breaks; stays_broken = u.stays_broken }) (untold_reads s t r P u) same counted
 
-  -- -- while no change is pending, a mirrored space changes as its store does
+  -- ---- while no change is pending, a mirrored space changes as its store does
 
   module _ (o n : MirroredModel S) (change : Airspace → Airspace) (calm : is_pending_in o ≡ false) (calm' : is_pending_in n ≡ false) where
     done_calm : (r : Result (Unit {0}) SpaceFault) → OnOk r ((a : Airspace) → g.holds o.store a → IsContent g.holds n.store (change a)) → OnOk r ((b : Airspace) → holds_in g o b → IsContent (holds_in g) n (change b))
@@ -116,7 +116,7 @@ module _ {S : Type 0} (g : Ghosts S) where
       frozen = λ sound set b seen. (seen_is_kept g.holds o b calm).1 (c.frozen sound.store set b ((seen_is_kept g.holds n b calm').0 seen));
     }
 
-  -- -- purging
+  -- ---- purging
 
   -- The store can purge the items that the mirrored space can purge.
   pub can_go : (s : S) (l : Option MemorySpace) (p : MirrorState) (batch : List BatchChange) (k : ℕ) (gone : List PurgeItem) → batch ≡ [] → MirrorAgrees g s l p batch
@@ -170,7 +170,7 @@ module _ {S : Type 0} (g : Ghosts S) where
           waits = calm' ∙ sym calm;
         })
 
-  -- -- while changes are pending
+  -- ---- while changes are pending
 
   works_waiting : (s : S) (l : Option MemorySpace) (p : MirrorState) (batch : List BatchChange) → (batch ≡ [] → ⊥) → MirrorAgrees g s l p batch → g.is_broken s ≡ false
   works_waiting s None p batch waits h = absurd (waits h.0)

@@ -60,7 +60,7 @@ module _ {S : Type 0} (g : Ghosts S) where
   pub list_shows : (s : S) (l : MemorySpace) (batch : List BatchChange) (a : Airspace) → IsMirrorAhead g s l batch → a ≡ content_of l → g.is_sound s → (b : Airspace) → holds_in g (mirrored_model s (Some batch) 0) b → b ≡ a
   list_shows s l batch a h same sound b seen = seen_listed s l batch 0 h sound b seen ∙ sym same
 
-  -- -- reading
+  -- ---- reading
 
   -- After a read, a store still holds one airspace.
   pub one_read : {T : Type 0} (s t : S) (n n' : ℕ) (r : Result T SpaceFault) (P : Airspace → T → Type 0) → ReportsFault n n' (g.is_broken s) (g.is_broken t) r → Reads g.holds g.is_sound g.is_whole s t r P

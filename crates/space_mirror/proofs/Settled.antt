@@ -29,7 +29,7 @@ module _ {S : Type 0} (g : Ghosts S) where
   whole_sound s None p batch n none sound = record { store = sound; fits = λ a held. tt; live = λ waits. absurd (let e = waits in cc) }
   whole_sound s (Some l) p batch n h sound = record { store = sound; fits = batch_fits s (Some l) p batch h sound; live = λ waits. h.live }
 
-  -- -- applying a batch
+  -- ---- applying a batch
 
   made_or_not : (s t : S) (batch : List BatchChange) (a b : Airspace) → IsContent g.holds s a → g.holds s b ⊎ ((c : Airspace) → g.holds s c → b ≡ changed_all batch c)
       → g.holds s b ⊎ ((c : Airspace) × g.holds s c × (b ≡ changed_all batch c))
@@ -64,7 +64,7 @@ module _ {S : Type 0} (g : Ghosts S) where
   making_of_listed s t None p batch r h there tells c = absurd (let e = there in cc)
   making_of_listed s t (Some l) p batch r h there tells c = making_by_store s t l batch r h tells c
 
-  -- -- the mirror after a batch
+  -- ---- the mirror after a batch
 
   ahead_after : (s t : S) (l : MemorySpace) (batch : List BatchChange) → IsMirrorAhead g s l batch → Making {T = Unit {0}} g s t batch (Ok tt) → IsMirrorAhead g t l []
   ahead_after s t l batch h made = record {
@@ -96,7 +96,7 @@ module _ {S : Type 0} (g : Ghosts S) where
   agrees_kept full s t None n p q batch r h there made mirror = absurd (let e = there in cc)
   agrees_kept full s t (Some l) n p q batch r h there made mirror = ahead_kept full s t l n q batch r h made mirror
 
-  -- -- without a mirror
+  -- ---- without a mirror
 
   not_broken : (b : Bool) → (b ≡ true → ⊥) → b ≡ false
   not_broken true never = absurd (never refl)
@@ -176,7 +176,7 @@ module _ {S : Type 0} (g : Ghosts S) where
   pub none_waits : (s : S) (l : Option MemorySpace) (p : MirrorState) (batch : List BatchChange) → l ≡ None → MirrorAgrees g s l p batch → batch ≡ []
   none_waits s l p batch none h = (subst (λ x. MirrorAgrees g s x p batch) none h).0
 
-  -- -- the visible airspace afterwards
+  -- ---- the visible airspace afterwards
 
   calm_after : (n : Option MemorySpace) → some_pending (pending (pending_if_mirrored n [])) ≡ false
   calm_after None = refl

@@ -16,7 +16,7 @@ use Rattle.space_mirror.specs.Mirrored.{MirrorAgrees, Changing, MirroredModel, H
 use Rattle.space_mirror.specs.declared.mirror_state.MirrorState.{MirrorState}
 use Rattle.space_mirror.proofs.Groups.{ahead_same}
 
--- -- one more change of a batch
+-- ---- one more change of a batch
 
 fits_more : (batch : List BatchChange) (w : BatchChange) (a : Airspace) → FitAll batch a → Fits w.change w.notify.items (changed_all batch a) → FitAll (batch ++ w ∷ []) a
 fits_more [] w a all one = (one, tt)
@@ -37,7 +37,7 @@ module _ (batch : List BatchChange) (w : BatchChange) (change : Change) (told : 
   fits_copied a fits = subst (λ c. Fits c w.notify.items a) (sym same) (subst (λ t. Fits change t a) (sym telling) fits)
 
 module _ {S : Type 0} (g : Ghosts S) where
-  -- -- a change that is visible and pending
+  -- ---- a change that is visible and pending
 
   module _ (s : S) (l m : MemorySpace) (batch : List BatchChange) (k k' : ℕ) (change : Change) (told : List ℕ) (h : IsMirrorAhead g s l batch) where
     abbrev old : MirroredModel S
@@ -124,7 +124,7 @@ module _ {S : Type 0} (g : Ghosts S) where
       subst (λ q. Changing {T = Unit {0}} g (mirrored_model s (Some batch) k) (mirrored_model s (Some batch') k') q (changed change told)) (sym is)
       (answered s l m batch k k' change told h batch' r fits r fault more stays counted)
 
-  -- -- a change that the store applies at once
+  -- ---- a change that the store applies at once
 
   module _ (s t : S) (k k' : ℕ) (change : Airspace → Airspace) where
     abbrev At : S → ℕ → MirroredModel S

@@ -38,7 +38,7 @@ module _ (Held : Airspace → Type 0) (batch : List BatchChange) where
   proper_seen b fits proper h =
       subst IsAirspace (sym h.2) (proper_all batch h.0 (fits h.0 h.1) (proper h.0 h.1))
 
--- -- while changes are pending, calls do not change the store
+-- ---- while changes are pending, calls do not change the store
 
 same_store_by : {S : Type 0} (x y : S) (p q : Option (List BatchChange))
     → fixed_by y q ≡ fixed_by x p → (some_pending (pending p) || some_pending (pending q)) ≡ true
@@ -83,7 +83,7 @@ pub works_while_waiting : {S : Type 0} (is_broken : S → Bool) (c : Coded S) (s
     → is_broken t.store ≡ is_broken s.store
 works_while_waiting is_broken c s t same waits = ap is_broken (same_store c s t same waits)
 
--- -- without pending changes
+-- ---- without pending changes
 
 module _ {S : Type 0} (g : Ghosts S) where
   -- A mirrored space is sound if its store is.

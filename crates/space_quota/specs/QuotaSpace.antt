@@ -10,7 +10,7 @@ use Rattle.space_core.specs.declared.space.SpaceFault.{SpaceFault}
 use Rattle.space_core.specs.Space.{Changes, ReportsFault, changed, max_count}
 use Rattle.space_quota.specs.declared.usage.Usage.{Usage}
 
--- -- usage
+-- ---- usage
 
 -- The quota of cells, given the quota of entities and subscriptions.
 abbrev pub max_cells : ℕ → ℕ
@@ -25,7 +25,7 @@ pub record IsWithin (most : ℕ) (before after : Usage) : Type 0 where
   pub things : IsWithinQuota most before.things after.things
   pub cells : IsWithinQuota (max_cells most) before.cells after.cells
 
--- -- the space
+-- ---- the space
 
 -- The model of a space with quotas in contracts.
 pub record QuotaModel (S : Type 0) : Type 0 where
