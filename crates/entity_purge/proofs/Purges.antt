@@ -134,7 +134,7 @@ stays_since u v k e h t =
 pub staying_join : (u v : ℕ) (m : Entities) → u ≤ v → retained v (retained u m) ≡ retained v m
 staying_join u v m h = maps_twice key_total key_exact (has_not_ended v) (has_not_ended u) m (λ k e there t. stays_since u v k e h t)
 
--- An entity retained until a later time is retained until an earlier one.
+-- A subscription that is referenced after a later purge is referenced after an earlier one.
 named_since : (u v : ℕ) (m : Entities) (id : ℕ) → u ≤ v → is_named_in (retained v m) id ≡ true → is_named_in (retained u m) id ≡ true
 named_since u v m id h t =
     let by = who_names (retained v m) id t in

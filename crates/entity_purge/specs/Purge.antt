@@ -104,7 +104,7 @@ if_kept test None = None
 if_kept test (Some x) = cond (test x) (Some x) None
 
 -- Holds if the second airspace has exactly the entities that have not ended and the subscriptions
--- that are not due for the purge, and is otherwise equal.
+-- that are not due for the purge. Everything else is equal.
 pub record IsPurged (until : ℕ) (a b : Airspace) : Type 0 where
   pub entities : (k : EntityKey)
       → get b.entities k ≡ if_kept (λ e. not (has_ended until e)) (get a.entities k)

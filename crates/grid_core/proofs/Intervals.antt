@@ -150,7 +150,7 @@ holds_by_path a b va vb j l e =
     let one = one_path a.face b.face da (take m db) (all_take _ 13 a.digits va.digits) (all_take _ m db small_b) (sym lt) (sym e ∙ up) in
     record { face = one.0; prefix = (drop m db, ap (λ (x : List ℕ). x ++ drop m db) one.1 ∙ split) }
 
--- Nested intervals at two scales stay nested.
+-- If q / j is p, each of the two intervals begins before the other ends.
 nested_below : (p q big small j : ℕ) → 0 < small → 0 < j → big ≡ j * small → q / j ≡ p → (p * big + 1 ≤ q * small + small) × (q * small + 1 ≤ p * big + big)
 nested_below p q big small j pos posj e h =
     let d : q / j * j + q % j ≡ q = div-add-mod' q j in

@@ -68,7 +68,7 @@ joins_merged is done last next m k j lt at o up near big big' one =
 pushed : (done : List Interval) (last : Interval) (n : ℕ) → list_any (lies_in n) (done ++ last ∷ []) ≡ (list_any (lies_in n) done || lies_in n last)
 pushed done last n = list_any-append (lies_in n) done (last ∷ []) ∙ ap (λ (b : Bool). list_any (lies_in n) done || b) (or-false (lies_in n last))
 
--- Intervals that are apart stay apart when `last` is pushed.
+-- Pushing `last` keeps the intervals apart.
 pub apart_pushed : (is done : List Interval) (last : Interval) (k : ℕ) → Joins is done last k → AreApart (done ++ last ∷ [])
 apart_pushed is done last k j = all_pairs_push (λ (a b : Interval). a.hi < b.lo) done last j.apart j.before
 

@@ -33,7 +33,7 @@ room value i lt few =
     let most : 16 ^ i ≤ 16 ^ 15 = pow-le-pow_right {n = 16} (omega arith) {i = i} {j = 15} (omega arith) in
     omega (arith, lt, most)
 
--- A number padded with zeros on the right has 16 digits.
+-- Padding a number of `count` hexadecimal digits with zeros to 16 digits does not overflow.
 pub filled : (value count : ℕ) → count ≤ 16 → value < 16 ^ count → value * 2 ^ (4 * (16 - count)) % 18446744073709551616 ≡ value * 16 ^ (16 - count)
 filled value count le lt =
     let rest = 16 - count in
@@ -43,7 +43,7 @@ filled value count le lt =
     let fits : value * 16 ^ rest < 18446744073709551616 = omega (arith, below, all, pos) in
     ap (λ (x : ℕ). value * x % 18446744073709551616) (sym (sixteen rest)) ∙ (omega (arith, fits))
 
--- Zero digits write nothing of a number.
+-- The first zero digits of a number are the empty text.
 pub written_none : (n : ℕ) → n < 2 ^ 64 → Written n 0 []
 written_none n lt = record { size = refl; digits = tt; value = (let e : 0 ≡ n / 2 ^ 64 = omega (arith, lt) in e); lower = refl }
 

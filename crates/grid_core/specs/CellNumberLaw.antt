@@ -19,7 +19,7 @@ four (suc r) = let a = pow-suc 4 r in let b = pow-suc 2 (2 * r) in let c = pow-s
     let i : 2 * suc r ≡ suc (suc (2 * r)) = omega arith in
     rw i (pow-suc 4 r ∙ (let d : 2 ^ suc (suc (2 * r)) ≡ 2 ^ suc (2 * r) * 2 = pow-suc 2 (suc (2 * r)) in omega (arith, ih, b, d)))
 
--- One level up in a path.
+-- A path is four times the path one level up, plus its last digit.
 pub path_step : (l p : ℕ) → 4 * (p / 4 ^ suc l) + p / 4 ^ l % 4 ≡ p / 4 ^ l
 path_step l p =
     let e : p / 4 ^ l / 4 ≡ p / 4 ^ suc l = div-div-eq-div-mul p (4 ^ l) 4 ∙ ap (λ (x : ℕ). p / x) (sym (pow-suc 4 l)) in
@@ -51,7 +51,7 @@ number_by_path f i k (d ∷ ds) e =
 turn : (a b : ℕ) → 2 * (a * b) ≡ a * (b * 2)
 turn a b = omega arith
 
--- A number is odd times the power of two of its lowest 1 bit.
+-- A face, its digits from a level on and the bit behind them, as one number computed from the path.
 pub odd_times : (n t : ℕ) → bit_at n t ≡ 1 → ((i : ℕ) → i < t → bit_at n i ≡ 0) → n ≡ (2 * (n / 2 ^ (t + 1)) + 1) * 2 ^ t
 odd_times n zero one none =
     let m : n / 2 ^ 1 * 2 + n % 2 ≡ n = div-add-mod' n 2 in

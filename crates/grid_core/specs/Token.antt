@@ -40,7 +40,7 @@ Parses text (Err Digit) = HasTokenLength text × (AllDigits 16 text → ⊥)
 Parses text (Err Invalid) = HasTokenLength text × AllDigits 16 text
     × ((c : Cell) → IsCell c → number_of c ≢ token_number text)
 
--- ---- the same, computed
+-- Holds if parsing a text can have this result: the cell that it represents, or its first fault.
 
 -- True if the text has 1 to 16 hexadecimal digits.
 abbrev pub has_token_form : List ℕ → Bool

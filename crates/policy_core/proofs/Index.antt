@@ -19,7 +19,7 @@ use Rattle.policy_core.specs.Missing.{in_key}
 same_by : (text sought : List ℕ) (o : Ordering) → slice_cmp nat_cmp text sought ≡ o → same_text sought text ≡ is_eq (ordering_reverse o)
 same_by text sought o e = texts_ties sought text ∙ (ap is_eq (nat_list_cmp_total.antisymm sought text) ∙ ap (λ (x : Ordering). is_eq (ordering_reverse x)) e)
 
--- Testing what is read of each element equals testing the list of what is read.
+-- Testing what is read from each element equals testing the list of what is read.
 any_read : {X Y : Type 0} (test : Y → Bool) (read : X → Y) (xs : List X) → list_any (λ x. test (read x)) xs ≡ list_any test (map read xs)
 any_read test read [] = refl
 any_read test read (x ∷ xs) = ap (λ b. test (read x) || b) (any_read test read xs)

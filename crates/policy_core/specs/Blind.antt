@@ -75,13 +75,13 @@ abbrev pub named_sub : List ℕ → Operation → Airspace → List Bool
 named_sub m op a =
     map (λ s. same_text s.1.manager m || is_sub_path op s.1.version) (entries a.subscriptions)
 
--- Holds if, for each entity that the USS does not manage, its OVN in one airspace is in the call's
--- key exactly if its OVN in the other is.
+-- Holds if the call's key has the OVN of each entity that the USS does not manage either in both
+-- airspaces or in neither.
 abbrev pub KnowsTheSame : List ℕ → Call → Airspace → Airspace → Type 0
 KnowsTheSame m c a b = known m c.op a ≡ known m c.op b
 
--- Holds if, in addition, the same is so for the OVN in the call's path, and for the version of each
--- subscription that the USS does not manage.
+-- Holds if the same is also true for the OVN in the call's path, and for the versions of
+-- subscriptions that the USS does not manage.
 pub record ToldTheSame (m : List ℕ) (c : Call) (a b : Airspace) : Type 0 where
   pub known : known m c.op a ≡ known m c.op b
   pub named : named m c.op a ≡ named m c.op b

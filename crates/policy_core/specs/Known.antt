@@ -40,9 +40,9 @@ put_of op = None
 abbrev pub call_needs : Airspace → Call → Nature → Bool
 call_needs a c nature = needs_kind (kind_of nature) c.caller (named_by c.op) (sub_of a c.op)
 
--- States that the put of an `Accepted` or `Activated` intent that breaks no rule has the current
--- OVN of each other entity in its key, if it meets the entity, needs to know it, and the entity is
--- not exempt.
+-- States what the key of a put that breaks no rule has, if the intent is `Accepted` or `Activated`.
+-- It has the current OVN of each other entity that it meets, that it needs to know and that is not
+-- exempt.
 abbrev pub PutsKnow : Type 0
 PutsKnow = (a : Airspace) (now : ℕ) (c : Call) (id : ℕ) (put : Put) (y : Entity)
     → put_of c.op ≡ Some (id, put) → first_broken a now c ≡ None → needs_key put.nature ≡ true

@@ -100,7 +100,7 @@ abbrev pub needed_put : Kind → Airspace → Option Caller → ℕ → Put → 
 needed_put kind a caller id put =
     needed_with kind a caller (sub_under a (subscription_of put.nature)) id put
 
--- The entities of a kind that a call needs to know, by ascending id. The caller's id does not
+-- The entities of a kind that a call needs to know, by ascending id. The caller's USS does not
 -- matter. Only puts need to know entities.
 abbrev pub needed : Kind → Airspace → Option Caller → Operation → List Entity
 needed kind a caller (Create id put) = needed_put kind a caller id put

@@ -7,8 +7,10 @@ pub fn view_is_blind()
     ensures { ViewIsBlind }
 {}
 
-/// States that the first rule of P1 to P13, P16 and P17 that a USS's call breaks does not depend on
-/// the OVNs and versions of what it does not manage.
+/// States that the first of P1 to P13, P16 and P17 that a USS's call breaks does not depend on
+/// certain OVNs and versions.
+///
+/// These are the OVNs of entities and the versions of subscriptions that the USS does not manage.
 pub fn rules_are_blind()
     ensures { RulesAreBlind }
 {}

@@ -5,9 +5,9 @@ use Rattle.space_core.specs.declared.space.SpaceFault.{SpaceFault}
 use Rattle.space_core.specs.declared.space.SpaceFault.TheVariants.{Unchanged}
 use Rattle.space_core.specs.Space.{IsContent}
 
--- Holds if a commit has its effect. After `Ok`, exactly the visible airspace is visible. After
--- `Unchanged`, the last durable airspace is visible. In every case, each visible airspace was
--- durable or visible before. A whole space stays whole.
+-- Holds if a commit has its effect. After `Ok`, the airspace that was visible is the content of the
+-- space. After `Unchanged`, the last durable airspace is visible. In every case, each visible
+-- airspace was durable or visible before. A whole space stays whole.
 pub record CommitEffect {S T : Type 0} (Holds Keeps : S → Airspace → Type 0)
     (IsSound IsWhole : S → Type 0) (old new : S) (result : Result T SpaceFault) : Type 0 where
   pub sound : IsSound new → IsSound old

@@ -4,8 +4,8 @@ ghost use Rattle.entity_core.specs.Search.{FoundInOrder};
 
 /// States that searches return their results by ascending id, and so each only once.
 ///
-/// This covers searches of entities by area, all entities of a kind, the intents that reference a
-/// subscription, a USS's subscriptions, and the subscriptions for a kind.
+/// The searches are for entities by area, for all entities of a kind, for the intents that
+/// reference a subscription, and for subscriptions.
 pub fn found_in_order()
     ensures { (a : Airspace) → IsAirspace a → FoundInOrder a }
 {}

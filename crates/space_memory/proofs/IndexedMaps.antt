@@ -101,7 +101,7 @@ not_put x serial there other at same =
     let not : was_put_at serial (Some x) ≡ false = ap (was_put_at serial) (sym at) ∙ other in
     let bad : true ≡ false = sym put ∙ not in cc
 
--- The marks that are removed do not belong to a stored entity.
+-- Removing the marks of an entity that is not stored leaves the index complete.
 pub forgotten_indexed : (es : List Entity) (g : Entity) (old new : BTreeSet Mark) → KeepsOthers (holder_of g) old new
     → was_put_at g.serial (get (entity_map es) (key_of g)) ≡ false → IsIndexOf (entity_map es) old → IsIndexOf (entity_map es) new
 forgotten_indexed es g old new keeps gone h = λ k x at.

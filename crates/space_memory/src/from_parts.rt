@@ -14,10 +14,10 @@ use space_core::space::Space;
 use std::alloc::{AllocError, Global};
 
 impl MemorySpace {
-    /// Creates an in-memory space with this content and no refusals.
+    /// Creates an in-memory space with this content.
     ///
-    /// Builds its indexes. No notification index may exceed the serial. Returns `AllocError` if
-    /// memory runs out.
+    /// It has not returned `Unchanged` yet. Builds the indexes. No notification index may exceed
+    /// the serial. Returns `AllocError` if memory runs out.
     pub fn from_parts(
         alloc: Global,
         entities: Entities,

@@ -276,7 +276,7 @@ impl IndexedEntities {
         dependents_of(alloc, &self.entities, &self.names, id)
     }
 
-    /// Returns the approximate number of intents that reference a subscription.
+    /// Returns the approximate number of intents that reference any subscription.
     pub(crate) fn namings(&self) -> usize {
         self.names.len()
     }

@@ -49,7 +49,7 @@ impl MemorySpace {
     ghost use Rattle.space_memory.specs.Memory.{CanFollow, IsOver, content_of, refusals_of};
     ghost use Rattle.space_core.specs.Space.{IsContent};
 
-    /// Creates an empty space with serial 0 and no refusals.
+    /// Creates an empty space with serial 0. It has not returned `Unchanged` yet.
     pub fn new(alloc: Global) -> Self
         ensures content { IsContent ⟦<MemorySpace as Space>⟧.holds result (empty_at 0) }
         ensures fresh { ⟦<MemorySpace as Space>⟧.refusals result ≡ 0 }
@@ -57,7 +57,7 @@ impl MemorySpace {
         MemorySpace::at_serial(alloc, 0)
     }
 
-    /// Creates an empty space with this serial and no refusals.
+    /// Creates an empty space with this serial. It has not returned `Unchanged` yet.
     pub fn at_serial(alloc: Global, serial: u64) -> Self
         requires { serial ≤ max_serial }
         ensures content { IsContent ⟦<MemorySpace as Space>⟧.holds result (empty_at serial) }
@@ -74,7 +74,7 @@ impl MemorySpace {
         }
     }
 
-    // Counts a refusal and changes nothing else.
+    // Counts an `Unchanged` result and changes nothing else.
     fn refuse(&mut self) -> SpaceFault
         ensures fault { result ≡ Unchanged }
         ensures content { content_of self.new ≡ content_of self.old }
@@ -97,7 +97,8 @@ impl MemorySpace {
         }
     }
 
-    // Applies a change and increments the serial by one. Counts a refusal if memory runs out.
+    // Applies a change and increments the serial by one. If memory runs out, changes nothing and
+    // counts an `Unchanged` result.
     fn go_on(&mut self, change: Change, notify: &[EntityId]) -> Result<(), SpaceFault>
         requires { CanFollow change (content_of self.old) }
         ensures done { OnOk result

@@ -165,8 +165,8 @@ fn gather(near: &mut Near, marks: &BTreeSet<Mark>, span: Span, bits: u64) -> Res
     Ok(())
 }
 
-// Returns the first position of a span that is not covered yet. The other span is covered, and
-// counts if it has at least the same bits.
+// Returns the first position of a span that is not covered yet. The covered span counts only if it
+// has at least the same bits.
 fn start_of(span: Span, bits: u64, done: Span, done_bits: u64) -> u64
     ensures { IsStart span bits done done_bits result }
 {
@@ -203,10 +203,10 @@ fn gather_all(alloc: Global, marks: &BTreeSet<Mark>, spans: &Spans) -> Result<Ne
     Ok(near)
 }
 
-/// Returns the volumes in an index that may meet some area, each with the bits of the areas of
-/// which a cell touches one of its own.
+/// Returns the volumes in an index that may meet some area.
 ///
-/// Altitudes and times are not considered. Returns `AllocError` if memory runs out.
+/// Each volume has the bits of the areas of which a cell touches one of its own. Altitudes and
+/// times are not considered. Returns `AllocError` if memory runs out.
 pub(crate) fn near(
     alloc: Global,
     marks: &BTreeSet<Mark>,

@@ -20,7 +20,7 @@ use entity_purge::purge_item::PurgeItem;
 use std::alloc::{AllocError, Global};
 use std::collections::btree_map::Range;
 
-/// The maximum number of cells in a chunk, except for its last item.
+/// The number of cells after which a chunk ends.
 ///
 /// Each cell is a row to delete, and no client should wait long for that.
 const MOST_CELLS: usize = 1024;

@@ -12,8 +12,8 @@ pub trait ToMemory: Space {
     /// Returns a copy of the whole content as an in-memory space.
     ///
     /// Reads as any other call does, and changes nothing. Returns `Unchanged` if the content cannot
-    /// be read or if memory runs out; a later call can succeed. Returns `Broken` if the space is
-    /// broken.
+    /// be read or if memory runs out; a later call can succeed. After `Broken`, every call of the
+    /// space returns `Broken`.
     fn to_memory(&mut self, alloc: Global) -> Result<MemorySpace, SpaceFault>
         ensures fixed { Self.fixed self.new ≡ Self.fixed self.old }
         ensures tells { ReportsFault (Self.refusals self.old) (Self.refusals self.new)

@@ -20,13 +20,13 @@ use Rattle.space_mirror.proofs.Groups.{list_reads, reads_kept, store_answers_par
 use Rattle.space_mirror.proofs.Settled.{agrees_none, whole_sound}
 use Rattle.space_mirror.proofs.Waits.{one_changed}
 
--- The faults of a mirror that refuses only for lack of memory.
+-- A mirror that returns no fault except `Unchanged` reports its faults.
 tells_unbroken : {T : Type 0} (r : Result T SpaceFault) → IfErr r (λ fault. fault ≡ Unchanged) → ReportsFault 0 (refusals_after 0 r) false false r
 tells_unbroken (Ok x) fault = record { counted = refl; breaks = refl; stays_broken = λ e. absurd (let f = e in cc) }
 tells_unbroken (Err Unchanged) fault = record { counted = refl; breaks = refl; stays_broken = λ e. absurd (let f = e in cc) }
 tells_unbroken (Err Broken) fault = absurd (let e = fault in cc)
 
--- The result of a read that shows only whether the store is broken.
+-- The result of a call that reads the store only to see whether it is broken.
 abbrev pub untold_of : {X T : Type 0} → Result X SpaceFault → Result T SpaceFault
 untold_of (Ok x) = Err Unchanged
 untold_of (Err Unchanged) = Err Unchanged
@@ -36,20 +36,20 @@ calm_of : (l : Option MemorySpace) (batch : List BatchChange) → batch ≡ [] �
 calm_of None batch none = refl
 calm_of (Some l) batch none = ap some_pending none
 
--- A batch that was found empty is empty.
+-- A batch of length 0 is empty.
 pub none_of : (batch : List BatchChange) (is_empty : Bool) → is_empty ≡ nat_eq (length batch) 0 → is_empty ≡ true → batch ≡ []
 none_of batch is_empty e is = nil_from_length batch (grind arith)
 
 module _ {S : Type 0} (g : Ghosts S) where
   -- ---- what has ended
 
-  -- The mirror finds it.
+  -- A result of the mirror is the result of a read of the mirrored space.
   pub told_by_list : {T : Type 0} (s : S) (l : MemorySpace) (k k' : ℕ) (r r' : Result T SpaceFault) (P : Airspace → T → Type 0) → IfErr r (λ fault. fault ≡ Unchanged) → IfOk r (λ x. P (content_of l) x)
       → r' ≡ r → k' ≡ refusals_after k r → ReadsParts g s s (Some l) (Some l) k k' r' P
   told_by_list s l k k' r r' P fault found same counted =
       list_reads g s l l 0 (refusals_after 0 r) k k' r r' P (tells_unbroken r fault) (reads_kept l l r P refl found) same counted
 
-  -- The read shows only whether the store is broken.
+  -- A read of the store of which only the fault is used gives `CannotSay`.
   module _ {X T : Type 0} (s t : S) (n n' : ℕ) (P : Airspace → X → Type 0) where
     untold_read : (r : Result X SpaceFault) → ReportsFault n n' (g.is_broken s) (g.is_broken t) r → Reads g.holds g.is_sound g.is_whole s t r P → CannotSay {T = T} g s t (untold_of r)
     untold_read (Ok x) tells reads = record {

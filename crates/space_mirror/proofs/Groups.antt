@@ -20,7 +20,7 @@ list_same l m n n' (Ok x) P t r = sym (r.stays tt (content_of l) refl)
 list_same l m n n' (Err Unchanged) P t r = sym (r.stays tt (content_of l) refl)
 list_same l m n n' (Err Broken) P t r = absurd (let e = t.breaks in cc)
 
--- The effect of a read on a mirror that stays as it is.
+-- A call that leaves the mirror as it is reads it.
 pub reads_kept : {T : Type 0} (l m : MemorySpace) (r : Result T SpaceFault) (P : Airspace → T → Type 0) → content_of m ≡ content_of l → IfOk r (λ found. P (content_of l) found)
     → Reads (λ (s : MemorySpace) a. a ≡ content_of s) (λ _. Unit {0}) (λ _. Unit {0}) l m r P
 reads_kept l m (Ok x) P kept found = record {
@@ -107,7 +107,7 @@ module _ {S : Type 0} (g : Ghosts S) where
       store_answers (Ok x) answer = λ b h. subst (λ c. P c x) (sym h.2) (answer h.0 h.1)
       store_answers (Err e) answer = tt
 
-  -- A result that the mirror returns.
+  -- A read from the mirror is a read of the mirrored space.
   pub list_reads : {T : Type 0} (s : S) (l m : MemorySpace) (n n' k k' : ℕ) (r r' : Result T SpaceFault) (P : Airspace → T → Type 0)
       → ReportsFault n n' false false r → Reads (λ (s : MemorySpace) a. a ≡ content_of s) (λ _. Unit {0}) (λ _. Unit {0}) l m r P
       → r' ≡ r → k' ≡ refusals_after k r → ReadsParts g s s (Some l) (Some m) k k' r' P
@@ -126,7 +126,8 @@ module _ {S : Type 0} (g : Ghosts S) where
     }),
   )
 
-  -- A result that the store returns, however it counts its own refusals.
+  -- A read from the store is a read of the mirrored space, however the store counts its own
+  -- `Unchanged` results.
   pub store_answers_parts : {T : Type 0} (s t : S) (n n' k k' : ℕ) (r r' : Result T SpaceFault) (P : Airspace → T → Type 0)
       → ReportsFault n n' (g.is_broken s) (g.is_broken t) r → Reads g.holds g.is_sound g.is_whole s t r P
       → r' ≡ r → k' ≡ refusals_after k r → ReadsParts g s t None None k k' r' P
@@ -145,7 +146,7 @@ module _ {S : Type 0} (g : Ghosts S) where
     }),
   )
 
-  -- A result that the store returns.
+  -- A read from the store is a read of the mirrored space.
   pub store_reads : {T : Type 0} (s t : S) (k k' : ℕ) (r r' : Result T SpaceFault) (P : Airspace → T → Type 0)
       → ReportsFault (g.refusals s) (g.refusals t) (g.is_broken s) (g.is_broken t) r → Reads g.holds g.is_sound g.is_whole s t r P
       → r' ≡ r → k' ≡ refusals_after k r → ReadsParts g s t None None k k' r' P

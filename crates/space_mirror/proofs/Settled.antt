@@ -72,7 +72,7 @@ module _ {S : Type 0} (g : Ghosts S) where
     base = λ sound. let it = h.base (made.sound sound) in (changed_all batch it.0, made.done sound it.0 it.1.held, tt, it.3);
   }
 
-  -- After a batch that was refused, the store still holds one airspace.
+  -- If the store fails the batch, it still holds one airspace.
   one_left : (s t : S) (l : MemorySpace) (batch : List BatchChange) → IsMirrorAhead g s l batch → Making {T = Unit {0}} g s t batch (Err Unchanged) → HoldsOne g t
   one_left s t l batch h made works sound =
       let it = h.base (made.sound sound) in
@@ -102,7 +102,7 @@ module _ {S : Type 0} (g : Ghosts S) where
   not_broken true never = absurd (never refl)
   not_broken false never = refl
 
-  -- The result of a read that must not fail.
+  -- The result of a read of which only `Broken` is reported.
   abbrev pub told : {T : Type 0} → Result T SpaceFault → Result (Unit {0}) SpaceFault
   told (Ok x) = Ok tt
   told (Err Unchanged) = Ok tt
@@ -149,7 +149,7 @@ module _ {S : Type 0} (g : Ghosts S) where
         → Making g s t [] q
     made_by_reading r q tells reads is = subst (λ x. Making g s t [] x) (sym is) (making_read r tells reads)
 
-  -- The mirror that was dropped is not rebuilt yet.
+  -- If the store is only checked and the mirror is not rebuilt, the parts still agree.
   pub agrees_checked : {T : Type 0} (s t : S) (n n' : ℕ) (P : Airspace → T → Type 0) (l : Option MemorySpace) (p : MirrorState) (r : Result T SpaceFault) → MirrorAgrees g s l p [] → l ≡ None
       → ReportsFault n n' (g.is_broken s) (g.is_broken t) r → Reads g.holds g.is_sound g.is_whole s t r P → MirrorAgrees g t l p []
   agrees_checked s t n n' P l p r h none tells reads =
@@ -160,7 +160,7 @@ module _ {S : Type 0} (g : Ghosts S) where
   pub one_where_lost : (s : S) (l : Option MemorySpace) (p : MirrorState) → MirrorAgrees g s l p [] → l ≡ None → is_dropped p ≡ true → HoldsOne g s
   one_where_lost s l p h none lost = (subst (λ x. MirrorAgrees g s x p []) none h).1 lost
 
-  -- The copy of a store that was loaded whole has its content.
+  -- A mirror that is loaded from a store has its content.
   pub ahead_anew : (s t : S) (c : MemorySpace) (n n' : ℕ) → HoldsOne g s → ReportsFault {T = MemorySpace} n n' (g.is_broken s) (g.is_broken t) (Ok c)
       → Reads {T = MemorySpace} g.holds g.is_sound g.is_whole s t (Ok c) (λ a mirror. content_of mirror ≡ a) → IsMirrorAhead g t c []
   ahead_anew s t c n n' one tells reads =

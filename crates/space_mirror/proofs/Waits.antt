@@ -160,7 +160,7 @@ module _ {S : Type 0} (g : Ghosts S) where
   store_changes s t k k' change r r' tells c is counted =
       subst (λ q. Changing {T = Unit {0}} g (mirrored_model s None k) (mirrored_model t None k') q change) (sym is) (alone s t k k' change r tells c counted)
 
-  -- Afterwards, the store still holds one airspace.
+  -- After the change, the store still holds one airspace.
   pub one_changed : (s t : S) (change : Airspace → Airspace) (r : Result (Unit {0}) SpaceFault) → ReportsFault (g.refusals s) (g.refusals t) (g.is_broken s) (g.is_broken t) r
       → Changes g.holds g.is_sound g.is_whole (g.is_broken s) s t r change → HoldsOne g s → HoldsOne g t
   one_changed s t change (Ok x) tells c one = λ works sound.

@@ -1,6 +1,6 @@
--- The visible airspace of a mirrored space is valid, calls do not change the durable airspace while
--- changes are pending, and the space is as its store otherwise. All of it is proved. It is in
--- `specs/` because a law of an `impl` can cite only `specs/`.
+-- The laws of a mirrored space. Its visible airspace is valid. Calls do not change the durable
+-- airspace while changes are pending. Without pending changes the space is as its store. All of it
+-- is proved. It is in `specs/` because a law of an `impl` can cite only `specs/`.
 use Rattle.std.specs.Prelude.{◌≡◌, ◌||◌, Bool, true, false, List, [], ◌∷◌, Option, Some, None, ◌↔◌, refl}
 use Rattle.std.specs.Coded.{Coded, coded_option}
 use Rattle.std.proofs.Common.{sym, ap, subst, ◌∙◌}

@@ -24,8 +24,8 @@ pub record Making {S T : Type 0} (g : Ghosts S) (old new : S) (batch : List Batc
       → g.holds old b ⊎ ((a : Airspace) × g.holds old a × (b ≡ changed_all batch a))
 
 -- Holds if the mirror is right after the store's result. After `Ok` it stays unless it is full.
--- Otherwise it is dropped, and can be rebuilt only if the store refused the batch and the mirror is
--- not full.
+-- Otherwise it is dropped. It can be rebuilt only if the store returned `Unchanged` and the mirror
+-- was not full.
 abbrev pub MirrorStays : {T : Type 0} → (full : Bool) → Result T SpaceFault
     → (mirror mirror' : Option MemorySpace) → (lost' : Bool) → Type 0
 MirrorStays true answer mirror mirror' lost' = (mirror' ≡ None) × (lost' ≡ false)

@@ -94,7 +94,7 @@ is_full Full = true
 is_full Dropped = false
 is_full RebuildDue = false
 
--- True if the mirror was dropped with a batch that was refused.
+-- True if the mirror was dropped because its batch failed.
 abbrev pub is_dropped : MirrorState → Bool
 is_dropped Steady = false
 is_dropped Full = false

@@ -124,8 +124,8 @@ pub(crate) fn apply<S: Space>(
     }
 }
 
-// Keeps the mirror after `Ok`, unless it is full. If the store refused, drops the mirror so that it
-// can be rebuilt.
+// Keeps the mirror after `Ok`, unless it is full. If the store returned `Unchanged`, drops the
+// mirror so that it can be rebuilt.
 fn keep_or_drop_mirror(
     mirror: &mut Option<MemorySpace>,
     state: &mut MirrorState,
@@ -160,7 +160,7 @@ fn commit_batch<S: ApplyBatch>(
     answer
 }
 
-// Returns `Broken` if the store is broken. There is no mirror.
+// Returns `Broken` if the store is broken, and `Ok` otherwise. There is no mirror.
 fn check_store<S: Space>(
     store: &mut S,
     mirror: &Option<MemorySpace>,
@@ -240,10 +240,9 @@ fn commit_or_rebuild<S: ApplyBatch + ToMemory>(
 
 /// Commits all pending changes to the store, or none.
 ///
-/// Drops a mirror that is full, for good. Drops a mirror that is ahead of a store that refused. The
-/// first `commit` after the store has applied a change rebuilds that one, so that it costs nothing
-/// while the store refuses every change. If memory runs out for it, the mirror stays dropped for
-/// good.
+/// Drops a mirror that is full, for good. Drops a mirror if its batch fails, and rebuilds it in the
+/// first `commit` after the store has applied a change. So it costs nothing to rebuild while every
+/// change fails. If memory runs out for it, the mirror stays dropped for good.
 pub(crate) fn commit<S: ApplyBatch + ToMemory>(
     alloc: Global,
     store: &mut S,

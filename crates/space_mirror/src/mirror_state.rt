@@ -7,10 +7,9 @@ pub(crate) enum MirrorState {
     Steady,
     /// The mirror ran out of memory for a change and is dropped for good.
     Full,
-    /// The mirror was dropped with a batch that was refused, and the store has applied no change
-    /// since.
+    /// The mirror was dropped because its batch failed, and the store has applied no change since.
     Dropped,
-    /// The mirror was dropped with a batch that was refused, and the store has applied a change
-    /// since. The mirror is rebuilt.
+    /// The mirror was dropped because its batch failed, and the store has applied a change since.
+    /// The next `commit` rebuilds the mirror.
     RebuildDue,
 }

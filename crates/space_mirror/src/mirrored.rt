@@ -34,9 +34,9 @@ use std::marker::Model;
 /// next `commit` drops the mirror for good. Without a mirror, calls use only the store, which
 /// applies each change at once.
 ///
-/// If the store refuses the pending changes, for example because the disk is full, the mirror is
-/// dropped. Once the store has applied a change again, the next `commit` loads the store and
-/// rebuilds the mirror. If memory runs out for that, the mirror stays dropped for good.
+/// If the store fails to apply the pending changes, for example because the disk is full, the
+/// mirror is dropped. Once the store has applied a change again, the next `commit` loads the store
+/// and rebuilds the mirror. If memory runs out for that, the mirror stays dropped for good.
 #[derive(Drop)]
 pub struct Mirrored<S: ApplyBatch + ToMemory> {
     store: S,
@@ -66,7 +66,7 @@ impl<S: ApplyBatch + ToMemory> Model for Mirrored<S> {
 impl<S: ApplyBatch + ToMemory + Drop> Mirrored<S> {
     /// Creates a mirrored space. The mirror must hold the same airspace as the store.
     ///
-    /// It has no refusals and no pending changes.
+    /// It has no pending changes and has not returned `Unchanged` yet.
     pub fn new(alloc: Global, store: S, mirror: MemorySpace) -> Self
         requires { IsMirrorAhead S.Space store mirror [] }
         ensures { result ≡ mirrored_model store (Some []) 0 }
@@ -83,7 +83,7 @@ impl<S: ApplyBatch + ToMemory + Drop> Mirrored<S> {
 
     /// Creates a space without a mirror. The store applies each change at once.
     ///
-    /// It has no refusals.
+    /// It has not returned `Unchanged` yet.
     pub fn without_mirror(alloc: Global, store: S) -> Self
         ensures { result ≡ mirrored_model store None 0 }
     {

@@ -39,7 +39,7 @@ fn refuse_ended<S: Space>(store: &mut S) -> Result<Vec<PurgeItem>, SpaceFault>
 
 /// Returns some items that have ended, at most `most` of them, if there is a mirror.
 ///
-/// Counts a refusal if memory runs out or if there is no mirror.
+/// Returns and counts `Unchanged` if memory runs out or there is no mirror.
 pub(crate) fn ended<S: Space>(
     store: &mut S,
     mirror: &Option<MemorySpace>,

@@ -30,7 +30,8 @@ pub record IsWithin (most : ℕ) (before after : Usage) : Type 0 where
 -- The model of a space with quotas in contracts.
 pub record QuotaModel (S : Type 0) : Type 0 where
   pub space : S
-  -- The number of changes and purges that were refused without the inner space.
+  -- The number of `Unchanged` results for changes and purges that were not passed to the inner
+  -- space.
   pub over : ℕ
   pub is_bounded : Bool
 
@@ -48,7 +49,7 @@ abbrev pub is_some : {X : Type 0} → Option X → Bool
 is_some (Some x) = true
 is_some None = false
 
--- The refusals of the inner space plus its own.
+-- The number of `Unchanged` results: those of the inner space plus its own.
 abbrev pub refusals_in : {S : Type 0} → Ghosts S → QuotaModel S → ℕ
 refusals_in g s = min (g.refusals s.space + s.over) max_count
 
@@ -60,8 +61,7 @@ IsPut (Avail uss availability version) = ⊥
 IsPut (PutSub s) = Unit {0}
 IsPut (RemoveSub id) = ⊥
 
--- Holds if a call that changes has its results and effects. On its own the quota refuses only puts,
--- and only if there is one.
+-- Holds if a call that changes has its results and effects. The quota itself fails only puts.
 pub record Applying {S T : Type 0} (g : Ghosts S) (old new : QuotaModel S) (change : Change)
     (told : List ℕ) (result : Result T SpaceFault) : Type 0 where
   pub fixed : g.fixed new.space ≡ g.fixed old.space

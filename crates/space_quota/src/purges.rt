@@ -65,7 +65,8 @@ fn let_go_counted<S: PurgeEnded + SnapshotSource>(
 
 /// Purges these items and reduces the usage of their USSs.
 ///
-/// Refuses if changes are pending. With a usage table, also refuses if the space has no snapshot.
+/// Returns `Unchanged` if changes are pending. With a usage table, purges nothing if the space has
+/// no snapshot.
 pub(crate) fn let_go<S: PurgeEnded + SnapshotSource>(
     space: &mut S,
     tally: &mut Option<UsageTable>,

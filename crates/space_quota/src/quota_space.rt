@@ -30,13 +30,14 @@ use std::marker::Model;
 ///
 /// The visible and the durable airspace are those of the inner space. With a table, it returns
 /// `Unchanged` for a put that would raise the usage of its USS above the quota. An update that does
-/// not raise the usage passes, and so does each removal. Without a table, it refuses nothing on its
-/// own.
+/// not raise the usage passes, and so does each removal. Without a table, every change is passed to
+/// the inner space.
 #[derive(Drop)]
 pub struct QuotaSpace<S: GroupCommit> {
     space: S,
     tally: Option<UsageTable>,
-    // The number of changes and purges that were refused without the inner space.
+    // The number of `Unchanged` results for changes and purges that were not passed to the inner
+    // space.
     over: u64,
 }
 
@@ -53,7 +54,7 @@ impl<S: GroupCommit> Model for QuotaSpace<S> {
 impl<S: GroupCommit + Drop> QuotaSpace<S> {
     /// Creates a space with a usage table of its content, or with none.
     ///
-    /// It has no refusals of its own.
+    /// It has not returned `Unchanged` itself yet.
     pub fn new(space: S, tally: Option<UsageTable>) -> Self
         ensures { result ≡ quota_model space 0 (is_some tally) }
     {

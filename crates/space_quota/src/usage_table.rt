@@ -23,7 +23,7 @@ struct UssEntry {
 /// The usage of each USS, and the quota.
 ///
 /// The quota is a number of entities and subscriptions, and 64 cells for each of them. If memory
-/// runs out while counting, every put is refused.
+/// runs out while counting, every put fails.
 #[derive(Debug, Drop)]
 pub struct UsageTable {
     most: u32,
@@ -65,7 +65,7 @@ impl UsageTable {
         self.commit();
     }
 
-    /// Disables counting, because memory ran out: every put is refused from now on.
+    /// Disables counting, because memory ran out: every put fails from now on.
     pub fn disable(&mut self) {
         self.is_whole = false;
     }
@@ -127,8 +127,8 @@ impl UsageTable {
 
     /// Returns the effect of a change on the usage, which takes away what the change replaces.
     ///
-    /// Returns `None` for a put if its USS would exceed its quota and its previous usage, if memory
-    /// runs out, or if the table is disabled.
+    /// Returns `None` for a put if its USS would exceed both its quota and its previous usage. Also
+    /// returns `None` for a put if memory runs out or the table is disabled.
     pub(crate) fn delta(
         &mut self,
         change: &Change,
