@@ -36,7 +36,7 @@ odd_product p x y e = rw e (omega arith)
 four_product : (f d x y s : ℕ) → y ≡ x * 4 → f * y + (d * x + s) ≡ (4 * f + d) * x + s
 four_product f d x y s e = rw e (omega arith)
 
--- The digits from a level on, with the bit behind them, in terms of the path.
+-- A face, its digits from a level on and the bit behind them, as one number computed from the path.
 pub number_by_path : (f i k : ℕ) → (ds : List ℕ) → i + length ds + k ≡ 30 → f * 2 ^ (61 - 2 * i) + digits_sum i ds ≡ (2 * path f ds + 1) * 4 ^ k
 number_by_path f i k [] e =
     let bit : 60 - 2 * i ≡ 2 * k = omega arith in
@@ -51,7 +51,7 @@ number_by_path f i k (d ∷ ds) e =
 turn : (a b : ℕ) → 2 * (a * b) ≡ a * (b * 2)
 turn a b = omega arith
 
--- A face, its digits from a level on and the bit behind them, as one number computed from the path.
+-- A number is odd times the power of two of its lowest 1 bit.
 pub odd_times : (n t : ℕ) → bit_at n t ≡ 1 → ((i : ℕ) → i < t → bit_at n i ≡ 0) → n ≡ (2 * (n / 2 ^ (t + 1)) + 1) * 2 ^ t
 odd_times n zero one none =
     let m : n / 2 ^ 1 * 2 + n % 2 ≡ n = div-add-mod' n 2 in

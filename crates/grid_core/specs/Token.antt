@@ -32,7 +32,7 @@ pub record IsTokenOf (text : List ℕ) (c : Cell) : Type 0 where
   pub digits : AllDigits 16 text
   pub number : number_of c ≡ token_number text
 
--- Holds if `Parses` allows this result for the text.
+-- Holds if parsing a text can have this result: the cell that it represents, or its first fault.
 abbrev pub Parses : List ℕ → Result Cell TokenFault → Type 0
 Parses text (Ok c) = IsCell c × IsTokenOf text c
 Parses text (Err Length) = HasTokenLength text → ⊥
@@ -40,7 +40,7 @@ Parses text (Err Digit) = HasTokenLength text × (AllDigits 16 text → ⊥)
 Parses text (Err Invalid) = HasTokenLength text × AllDigits 16 text
     × ((c : Cell) → IsCell c → number_of c ≢ token_number text)
 
--- Holds if parsing a text can have this result: the cell that it represents, or its first fault.
+-- ---- the same, computed
 
 -- True if the text has 1 to 16 hexadecimal digits.
 abbrev pub has_token_form : List ℕ → Bool

@@ -28,16 +28,13 @@ pub fn apart_or_nested()
 
 /// States what an index on `(lo, hi)` finds.
 ///
-/// A cell d touches a cell c exactly if `d.lo` is from `c.lo` to `c.hi`, or d has the interval of a
-/// cell at a level below 13 that contains c.
+/// A cell d touches a cell c exactly if one of two conditions holds. Either `d.lo` is from `c.lo`
+/// to `c.hi`, or d has the interval of a cell at a level below 13 that contains c.
 pub fn found_by_index()
     ensures { FoundByIndex }
 {}
 
-/// States what an index on `(lo, hi)` finds.
-///
-/// A cell d touches a cell c exactly if one of two conditions holds. Either `d.lo` is from `c.lo`
-/// to `c.hi`, or d has the interval of a cell at a level below 13 that contains c.
+/// States that the cell that a token names is the cell that it represents.
 pub fn names_cell()
     ensures { NamesCell }
 {}

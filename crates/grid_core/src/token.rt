@@ -83,8 +83,8 @@ fn padded(value: u64, count: usize) -> u64
 /// Returns the cell that a token represents.
 ///
 /// A token has 1 to 16 hexadecimal digits of either case. Padded with zeros on the right, they are
-/// the cell's number (S2 Geometry; this project's profile also accepts the zeros). Returns the
-/// first fault, checked in the order of their numbers. Allocates nothing.
+/// the cell's number (S2 Geometry). A token with trailing zeros is accepted (this project's
+/// profile). Returns the first fault, checked in the order of their numbers. Allocates nothing.
 pub fn parse_token(text: &str) -> Result<CellId, TokenFault>
     ensures reads { Parses text.now result }
     ensures named { IfOk result (λ c. cell_named text.now ≡ Some c) }
@@ -102,11 +102,7 @@ pub fn parse_token(text: &str) -> Result<CellId, TokenFault>
     }
 }
 
-// Returns the cell that a token represents.
-//
-// A token has 1 to 16 hexadecimal digits of either case. Padded with zeros on the right, they are
-// the cell's number (S2 Geometry). A text may have trailing zeros (this project's profile). Returns
-// the first fault, checked in the order of their numbers. Allocates nothing.
+// Returns the hexadecimal digit at an index of a number. Index 0 is the highest four bits.
 fn glyph_at(raw: u64, place: u32) -> char
     requires { place < 16 }
     ensures value { digit_value result ≡ raw / 2 ^ (60 - 4 * place) - raw / 2 ^
