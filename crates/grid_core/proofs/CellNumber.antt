@@ -143,7 +143,7 @@ face-cell_of n v =
     let l : 30 - t / 2 ≡ a.levels = let x = a.all in let y = a.place in let z = v.even in omega arith in
     ap (λ (x : ℕ). n / 2 ^ (t + 1) / 4 ^ x) l ∙ a.top
 
--- A nonzero number has a 1 bit. The trailing zeros of 0 would be 64.
+-- A number with at most 60 trailing zeros is not 0. The number 0 would have 64.
 pub some_by_place : (n : ℕ) → trailing_zeros w64 n ≤ 60 → 0 < n
 unfolding count_trailing_zeros
 some_by_place zero h = absurd (omega (arith, h))

@@ -96,7 +96,7 @@ joins_pushed is done last next k j lt at o far =
 pub joins_all : (is done : List Interval) (last : Interval) (k : ℕ) → Joins is done last k → length is ≤ k + 1 → HaveSamePlaces (done ++ last ∷ []) is
 joins_all is done last k j all n = pushed done last n ∙ (j.same n ∙ ap (list_any (lies_in n)) (take_all (k + 1) is all))
 
--- ---- as the code has it
+-- ---- as in the code
 
 -- Element k of the tail is element k + 1 of the list.
 pub at_rest : (is : List Interval) (i : Interval) (rest : List Interval) → is ≡ i ∷ rest → (k : ℕ) (d : Interval) → k < length rest → get_or rest k d ≡ get_or is (k + 1) (get_or rest k d)
