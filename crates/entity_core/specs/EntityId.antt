@@ -14,7 +14,7 @@ spelled text = option_map (from_be_bytes w128) (parsed_hyphenated text)
 abbrev pub printed : ℕ → List ℕ
 printed number = hyphenated_text lower (to_be_bytes w128 number)
 
--- Holds if parsing the text may have this result: the id that it represents, or its first fault.
+-- Holds if parsing the text can have this result: the id that it represents, or its first fault.
 abbrev pub ReadsId : List ℕ → Result ℕ IdFault → Type 0
 ReadsId text (Ok number) = spelled text ≡ Some number
 ReadsId text (Err Length) = length text ≢ 36

@@ -40,7 +40,7 @@ ovn_fault text = first_fault 16 128 is_visible_byte text
 abbrev pub url_fault : List ℕ → Option IdFault
 url_fault text = first_fault 1 255 is_visible_byte text
 
--- Holds if parsing may report this fault. `Memory` is possible only if the text has no fault.
+-- Holds if parsing can report this fault. `Memory` is possible only if the text has no fault.
 abbrev pub IsReadFault : Option IdFault → IdFault → Type 0
 IsReadFault fault Memory = fault ≡ None
 IsReadFault fault Length = fault ≡ Some Length

@@ -191,7 +191,7 @@ impl Volume {
             area.altitude.0,
             area.altitude.1,
         ) && share_time(Some(time.0), Some(time.1), area.time.0, area.time.1);
-        // The cells are compared last, since there may be many.
+        // The cells are compared last, since there can be many.
         shares_bounds && area.touches_some(self.cells())
     }
 }

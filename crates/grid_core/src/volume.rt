@@ -33,7 +33,7 @@ impl Model for Volume {
         ≡ None };
 }
 
-/// An area to search: like a volume, but each of the four bounds may be absent.
+/// An area to search: like a volume, but each of the four bounds can be absent.
 ///
 /// An absent bound does not restrict. Contracts see a `Region`.
 #[derive(Debug, Drop)]
@@ -232,7 +232,7 @@ impl Volume {
             area.time.0,
             area.time.1,
         );
-        // The cells are compared last, since there may be many.
+        // The cells are compared last, since there can be many.
         shares_bounds && are_touching(&self.cells, &area.cells)
     }
 }
@@ -315,7 +315,7 @@ impl Area {
             area.altitude.0,
             area.altitude.1,
         ) && share_time(self.time.0, self.time.1, area.time.0, area.time.1);
-        // The cells are compared last, since there may be many.
+        // The cells are compared last, since there can be many.
         shares_bounds && are_touching(&self.cells, &area.cells)
     }
 }

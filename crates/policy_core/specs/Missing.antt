@@ -60,7 +60,7 @@ abbrev pub put_needs : Kind → Option Caller → Put → Option Sub → Bool
 put_needs kind caller put sub =
     needs_key put.nature && needs_kind kind caller (subscription_of put.nature) sub
 
--- The excluded id. An intent does not need to know itself, but may need to know a constraint with
+-- The excluded id. An intent does not need to know itself, but can need to know a constraint with
 -- the same id.
 abbrev pub excepted : Kind → ℕ → Option ℕ
 excepted kinds.Intent id = Some id

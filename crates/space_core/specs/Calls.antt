@@ -6,7 +6,7 @@ use Rattle.space_core.specs.declared.space.SpaceFault.{SpaceFault}
 use Rattle.space_core.specs.GroupCommit.{CommitEffect}
 use Rattle.space_core.specs.Space.{Changes, Reads, ReportsFaultBy}
 
--- Holds if P holds for each airspace that a sound space may hold.
+-- Holds if P holds for each airspace that a sound space can hold.
 abbrev pub ForEachHeld : {S : Type 0} → Ghosts S → S → (Airspace → Type 0) → Type 0
 ForEachHeld g s P = g.is_sound s → (a : Airspace) → g.holds s a → P a
 

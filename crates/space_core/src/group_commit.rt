@@ -11,7 +11,7 @@ use crate::space::{Space, SpaceFault};
 /// leaves the durable airspace (`persists`). That is the visible airspace if no change is pending,
 /// and otherwise the one before the pending changes.
 pub trait GroupCommit: Space {
-    /// Relates the space to the airspaces that may be durable.
+    /// Relates the space to the airspaces that can be durable.
     ghost persists: { Self → Airspace → Type 0 };
 
     /// Whether changes are pending.

@@ -69,7 +69,7 @@ impl Change {
 /// call states its effect. A space that is broken before its first call has no single content.
 /// Unless stated otherwise, a crash leaves the visible airspace.
 pub trait Space {
-    /// Relates the space to the airspaces that may be visible. There is only one until the space is
+    /// Relates the space to the airspaces that can be visible. There is only one until the space is
     /// broken.
     ghost holds: { Self → Airspace → Type 0 };
 

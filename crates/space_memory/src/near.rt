@@ -203,7 +203,7 @@ fn gather_all(alloc: Global, marks: &BTreeSet<Mark>, spans: &Spans) -> Result<Ne
     Ok(near)
 }
 
-/// Returns the volumes in an index that may meet some area.
+/// Returns the volumes in an index that can meet some area.
 ///
 /// Each volume has the bits of the areas of which a cell touches one of its own. Altitudes and
 /// times are not considered. Returns `AllocError` if memory runs out.

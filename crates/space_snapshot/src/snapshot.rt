@@ -25,7 +25,7 @@ pub struct Snapshot<'a> {
 pub enum NoMirror {
     /// Memory ran out, or the space could not be read. The mirror is not built again.
     None,
-    /// The mirror was dropped with changes that were not committed. It may be rebuilt.
+    /// The mirror was dropped with changes that were not committed. It can be rebuilt.
     Dropped,
 }
 
