@@ -23,7 +23,8 @@ pub trait GroupCommit: Space {
 
     /// Commits all pending changes, or none.
     ///
-    /// If none, the last durable airspace is visible again. No change is pending afterwards.
+    /// Returns `Unchanged` if none was committed: the last durable airspace is visible again.
+    /// Returns `Broken` if the outcome is unknown. No change is pending afterwards.
     fn commit(&mut self) -> Result<(), SpaceFault>
         ensures tells { CallReportsFault Self.Space self.old self.new result }
         ensures calm { is_pending self.new ≡ false }

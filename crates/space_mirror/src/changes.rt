@@ -240,9 +240,10 @@ fn commit_or_rebuild<S: ApplyBatch + ToMemory>(
 
 /// Commits all pending changes to the store, or none.
 ///
-/// Drops a mirror that is full, for good. Drops a mirror if its batch fails, and rebuilds it in the
-/// first `commit` after the store has applied a change. So it costs nothing to rebuild while every
-/// change fails. If memory runs out for it, the mirror stays dropped for good.
+/// Drops a mirror that is full, for good. If the store returns `Unchanged` for the batch, drops the
+/// mirror, and rebuilds it in the first `commit` after the store has applied a change. So it costs
+/// nothing to rebuild while every change fails. If memory runs out for it, the mirror stays dropped
+/// for good.
 pub(crate) fn commit<S: ApplyBatch + ToMemory>(
     alloc: Global,
     store: &mut S,

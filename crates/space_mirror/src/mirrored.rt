@@ -271,7 +271,9 @@ impl<S: ApplyBatch + ToMemory + Drop> SnapshotSource for Mirrored<S> {
 }
 
 impl<S: ApplyBatch + ToMemory + Purge + Drop> PurgeEnded for Mirrored<S> {
-    /// Returns what the mirror finds, or `Unchanged` if there is no mirror.
+    /// Returns what the mirror finds.
+    ///
+    /// Without a mirror, returns `Unchanged`, or `Broken` if the store is broken.
     fn find_ended(&mut self, until: u64, most: usize) -> Result<Vec<PurgeItem>, SpaceFault> {
         purges::ended(
             &mut self.store,

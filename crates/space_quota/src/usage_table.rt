@@ -65,7 +65,7 @@ impl UsageTable {
         self.commit();
     }
 
-    /// Disables counting, because memory ran out: every put fails from now on.
+    /// Disables the table, because the stored data cannot be counted: every put fails from now on.
     pub fn disable(&mut self) {
         self.is_whole = false;
     }
