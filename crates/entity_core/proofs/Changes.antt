@@ -1,4 +1,4 @@
--- What is found after a change, and that an airspace may be kept after it.
+-- Lookups after a change. A change of a valid airspace gives a valid airspace.
 use Rattle.std.specs.Prelude.{◌≡◌, ℕ, ◌≤◌, ◌+◌, ◌&&◌, Bool, true, false, T, List, [], ◌∷◌, map, Some, None, option_map, cond, refl, ◌⊎◌}
 use Rattle.std.proofs.Common.{arith, sym, ap, ◌∙◌, subst, inl, inr}
 use Rattle.std.proofs.lemmas.Option.{same_Some}
@@ -15,7 +15,7 @@ use Rattle.entity_core.specs.declared.subscription.Sub.{Sub}
 use Rattle.entity_core.proofs.Entries.{first, less, second}
 use Rattle.entity_core.proofs.Keys.{key_total, one_key}
 
--- what is found after an insertion is what was put, or was there
+-- A lookup after an insertion finds the inserted entity or an earlier one.
 pub got : (m : Entities) (k : EntityKey) (e : Entity) (q : EntityKey) (x : Entity) → get (insert m k e) q ≡ Some x → ((eq_by_cmp key_cmp q k ≡ true) × (e ≡ x)) ⊎ ((eq_by_cmp key_cmp q k ≡ false) × (get m q ≡ Some x))
 got m k e q x h =
     elim (eq_by_cmp key_cmp q k) as (λ b. eq_by_cmp key_cmp q k ≡ b → cond b (Some e) (get m q) ≡ Some x → ((eq_by_cmp key_cmp q k ≡ true) × (e ≡ x)) ⊎ ((eq_by_cmp key_cmp q k ≡ false) × (get m q ≡ Some x))) [
@@ -23,7 +23,7 @@ got m k e q x h =
       | false ↦ λ t s. inr (t, s)
     ] refl (sym (get-insert key_total m k e q) ∙ h)
 
--- what is found after a removal was there
+-- Everything found after a removal was there before it.
 pub stayed : (m : Entities) (k q : EntityKey) (x : Entity) → get (remove m k) q ≡ Some x → get m q ≡ Some x
 stayed m k q x h =
     elim (eq_by_cmp key_cmp q k) as (λ b. cond b None (get m q) ≡ Some x → get m q ≡ Some x) [
@@ -56,7 +56,7 @@ stayed_sub m k q x h =
       | false ↦ λ s. s
     ] (sym (get-remove nat_cmp_total m k q) ∙ h)
 
--- an index stays below a serial that goes on
+-- An index stays at most the serial when the serial is incremented.
 below_next : (i n : ℕ) → i ≤ n → i ≤ n + 1
 below_next i n h = omega (arith, h)
 
@@ -113,7 +113,7 @@ proper_empty n = record {
   told = λ id s h. let e : None ≡ Some s = sym (get-empty nat_cmp id) ∙ h in cc;
 }
 
--- ---- what is told
+-- ---- notifications
 
 told_find : (test : ℕ × Sub → Bool) (id : ℕ) (ss : List (ℕ × Sub)) → find nat_cmp id (map (notified_if test) ss) ≡ option_map (λ s. (notified_if test (id, s)).1) (find nat_cmp id ss)
 told_find test id [] = refl
@@ -134,7 +134,7 @@ told_sorted test (s ∷ ss) = λ i. told_below test s.0 ss i && told_sorted test
 pub told_rise : (test : ℕ × Sub → Bool) (m : Subscriptions) → T (is_sorted nat_cmp (map (notified_if test) (entries m)))
 told_rise test m = subst T (sym (told_sorted test (entries m))) (entries_sorted m)
 
--- the entries after telling
+-- The entries after a notification.
 pub entries-told : (test : ℕ × Sub → Bool) (m : Subscriptions) → entries (notified_where test m) ≡ map (notified_if test) (entries m)
 unfolding notified_where
 entries-told test m = entries-from_sorted nat_cmp (map (notified_if test) (entries m)) (told_rise test m)
@@ -145,7 +145,7 @@ told_once m test id =
     get-from_sorted nat_cmp (map (notified_if test) (entries m)) id (told_rise test m)
     ∙ (told_find test id (entries m) ∙ ap (option_map (λ (s : Sub). (notified_if test (id, s)).1)) (sym (get-entries m id)))
 
--- what is found after telling was there, told or not
+-- Every subscription found after a notification was there before it, possibly with a lower index.
 pub told_was : (test : ℕ × Sub → Bool) (m : Subscriptions) (id : ℕ) (x : Sub) → get (notified_where test m) id ≡ Some x → (s : Sub) × (get m id ≡ Some s) × ((notified_if test (id, s)).1 ≡ x)
 told_was test m id x h =
     elim (get m id) as (λ o. get m id ≡ o → option_map (λ s. (notified_if test (id, s)).1) o ≡ Some x → (s : Sub) × (get m id ≡ Some s) × ((notified_if test (id, s)).1 ≡ x)) [
@@ -168,7 +168,7 @@ proper_told a test room proper = record {
   told = λ id x h. let was = told_was test a.subscriptions id x h in subst (λ (y : Sub). y.index ≤ a.serial) was.2 (told_most (test (id, was.0)) was.0 a.serial (room id was.0 was.1));
 }
 
--- after a change that lets the serial go on
+-- An index stays at most the serial when both are incremented.
 told_room : (i n : ℕ) → i ≤ n → i + 1 ≤ n + 1
 told_room i n h = omega (arith, h)
 

@@ -1,4 +1,4 @@
--- Hexadecimal digits are visible.
+-- Hexadecimal digits are visible characters.
 use Rattle.std.proofs.Common.{◌≡◌, ℕ, zero, suc, ◌/◌, ◌%◌, ◌<◌, Bool, true, List, [], ◌∷◌, slice_index, length, None, refl, arith, inl, inr, ◌&&◌}
 use Rattle.std.proofs.lemmas.Bool.{and_parts, cases_lt}
 use Rattle.std.specs.List.{list_all}
@@ -6,7 +6,7 @@ use Rattle.hex.specs.Hex.{IsBytes, encode_lower, encode_with, lower_digits}
 use Rattle.hex.proofs.HexLemmas.{length-encode_with}
 use Rattle.entity_core.specs.IdTexts.{is_visible_byte, ovn_fault}
 
--- whether the first n numbers pass
+-- True if the first n numbers pass.
 abbrev first_pass : (ℕ → Bool) → ℕ → Bool
 first_pass p zero = true
 first_pass p (suc n) = p n && first_pass p n
@@ -33,7 +33,7 @@ visible_hex (b ∷ rest) h =
     let ih = visible_hex rest (λ k. h (suc k)) in
     rw (digit_visible (b / 16) high, digit_visible (b % 16) low) ih
 
--- the digits of 32 bytes are an OVN
+-- The hexadecimal digits of 32 bytes are an OVN.
 pub hex_is_ovn : (xs : List ℕ) → IsBytes xs → length xs ≡ 32 → ovn_fault (encode_lower xs) ≡ None
 hex_is_ovn xs bytes long =
     let digits : length (encode_lower xs) ≡ 64 = omega (arith, length-encode_with lower_digits xs) in

@@ -28,7 +28,7 @@ turned false false x e = refl
 turned true false x e = absurd (true≢false e)
 turned false true x e = absurd (true≢false (sym e))
 
--- the entries of a map without a key
+-- The entries of a map without a key.
 pub entries-remove : {K X : Type 0} {R : K → K → Ordering} → IsTotalOrder R → IsAntisymmetric R → (m : FinMap R X) (k : K) → entries (remove m k) ≡ where_key R (λ x. not (eq_by_cmp R k x)) (entries m)
 entries-remove {K} {X} {R} o same m k =
     let sorted = is_sorted-where_key R (λ x. not (eq_by_cmp R k x)) (entries m) (entries_sorted m) in
@@ -50,7 +50,7 @@ below_kept R q p (e ∷ es) h =
     let rest = below_kept R q p es (second (is_lt (R q e.0)) _ h) in
     elim (p e) as (λ b. T (below_all R q (cond b (e ∷ filter p es) (filter p es)))) [ true ↦ both _ _ (first _ _ h) rest | false ↦ rest ]
 
--- some of the entries, in order
+-- Filtering sorted entries keeps them sorted.
 pub sorted_kept : {K X : Type 0} (R : K → K → Ordering) (p : K × X → Bool) (es : List (K × X)) → T (is_sorted R es) → T (is_sorted R (filter p es))
 sorted_kept R p [] h = tt
 sorted_kept R p (e ∷ es) h =

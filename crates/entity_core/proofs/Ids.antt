@@ -1,4 +1,4 @@
--- Texts of ids.
+-- The textual form of ids.
 use Rattle.std.proofs.Common.{◌≡◌, ◌∙◌, sym, ap, ℕ, List, length, Option, Some, None, refl, ◌<◌, ◌^◌, ◌%◌, All, [], ◌∷◌, zero, suc, arith, inl}
 use Rattle.std.specs.List.{AllByRecursion}
 use Rattle.std.proofs.lemmas.Nat.{mod_below}
@@ -17,7 +17,7 @@ none_left : (o : Option (List ℕ)) → ((u : List ℕ) → o ≡ Some u → ⊥
 none_left None h = refl
 none_left (Some u) h = absurd (h u refl)
 
--- what is no UUID spells no id
+-- A text that is not a UUID represents no id.
 pub unspelled : (text : List ℕ) → length text ≡ 36 → ((u : List ℕ) → parsed text ≡ Some u → ⊥) → spelled text ≡ None
 unspelled text size not = ap (option_map (from_be_bytes w128)) (sym (at_36 text size) ∙ none_left (parsed text) not)
 
@@ -33,13 +33,13 @@ small_bytes : (n : ℕ) → AllByRecursion (λ b. b < 256) (to_be_bytes w128 n)
 small_bytes n =
     (byte _, (byte _, (byte _, (byte _, (byte _, (byte _, (byte _, (byte _, (byte _, (byte _, (byte _, (byte _, (byte _, (byte _, (byte _, (byte _, tt))))))))))))))))
 
--- an id is read again from what it is printed as
+-- The printed form of an id represents that id.
 pub printed_spells : (n : ℕ) (text : List ℕ) → text ≡ printed n → n < 2 ^ 128 → spelled text ≡ Some n
 printed_spells n text e fits =
     let bytes : List ℕ = to_be_bytes w128 n in
     let back : Some bytes ≡ parsed_hyphenated (printed n) = parses_hyphenated_text lower bytes (inl refl) refl (all_at (λ b. b < 256) bytes (small_bytes n)) in
     ap spelled e ∙ (sym (ap (option_map (from_be_bytes w128)) back) ∙ ap Some (from_be_bytes-to_be_bytes_16 n fits))
 
--- a printed id has 36 characters
+-- A printed id has 36 characters.
 pub length-printed : (n : ℕ) → length (printed n) ≡ 36
 length-printed n = by_index_length 36 _

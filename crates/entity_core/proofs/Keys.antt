@@ -30,6 +30,6 @@ key_exact a b e =
     let h = both_equal (nat_cmp (kind_index a.0) (kind_index b.0)) (nat_cmp a.1 b.1) e in
     λ i. (one_kind a.0 b.0 h.0 i, nat_cmp-IsAntisymmetric a.1 b.1 h.1 i)
 
--- a key that compares as equal is the key
+-- Keys that compare as equal are equal.
 pub one_key : (k l : EntityKey) → eq_by_cmp key_cmp k l ≡ true → k ≡ l
 one_key k l h = key_exact k l ((Equal-is (key_cmp k l)).0 h)

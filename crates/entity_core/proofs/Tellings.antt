@@ -1,4 +1,4 @@
--- Subscriptions of a list are told one after the other.
+-- The subscriptions of a list are notified one after another.
 use Rattle.std.specs.Prelude.{◌≡◌, ℕ, ◌+◌, ◌<◌, List, [], ◌∷◌, ◌++◌, map, length, refl}
 use Rattle.std.proofs.lemmas.List.Edits.{map_over_more}
 use Rattle.std.proofs.lemmas.List.{length-map, take-append-le, take_all}
@@ -17,14 +17,14 @@ not_yet f [] i d within = absurd (omega (arith, within))
 not_yet f (x ∷ xs) zero d within = refl
 not_yet f (x ∷ xs) (suc i) d within = not_yet f xs i d (omega (arith, within))
 
--- one more is told
+-- One more subscription is notified.
 tell_more : {X : Type 0} (P : X → Type 0) (f : X → X) (xs ys : List X) (i : ℕ) (x y : X) → i < length xs → AllByRecursion P xs → (P x → y ≡ f x) → ys ≡ map f (take i xs) ++ drop i xs → x ≡ get_or ys i x
     → set ys i y ≡ map f (take (i + 1) xs) ++ drop (i + 1) xs
 tell_more {X = X} P f xs ys i x y within all told inv is =
     let here : get_or xs i x ≡ x = sym (not_yet f xs i x within) ∙ (ap (λ (zs : List X). get_or zs i x) (sym inv) ∙ sym is) in
     ap (set ys i) (told (subst P here (at_place P xs i x within all))) ∙ map_over_more f xs ys i x within inv is
 
--- the list of a vector, all of which was told
+-- After the loop, every subscription of the vector is notified.
 pub told_whole : (f : Sub → Sub) (old seen new : List Sub) (n : ℕ) → seen ≡ old → new ≡ map f seen → length seen ≡ n → take n (new ++ drop (length new) old) ≡ map f old
 told_whole f old seen new n same told size =
     let len : length new ≡ n = ap length told ∙ (length-map seen f ∙ size) in

@@ -1,4 +1,4 @@
--- What a service keeps.
+-- The airspace: all state of the service.
 use Rattle.std.specs.Prelude.{◌≡◌, ℕ, ◌+◌, ◌≤◌, nat_eq, Bool, if◌then◌else◌, List, [], map, Some, unwrap_or, option_map}
 use Rattle.std.specs.List.{list_any}
 use Rattle.std.specs.Ordering.{nat_cmp, ordering_then}
@@ -12,22 +12,22 @@ use Rattle.entity_core.specs.declared.entity.Entity.{Entity}
 use Rattle.entity_core.specs.declared.subscription.Sub.{Sub}
 use Rattle.entity_core.specs.Entity.{kind_index, kind_of}
 
--- texts in the order of their bytes
+-- The order of texts by their bytes.
 abbrev pub text_cmp : List ℕ → List ℕ → Ordering
 text_cmp a b = slice_cmp nat_cmp a b
 
--- an availability, and its availability version: the OVN that setting it gave
+-- An availability and its version: the OVN of the change that set it.
 abbrev pub VersionedAvailability : Type 0
 VersionedAvailability = Availability × List ℕ
 
 abbrev pub Availabilities : Type 0
 Availabilities = FinMap text_cmp VersionedAvailability
 
--- a kind and an id; each kind has ids of its own
+-- A kind and an id. Each kind has its own ids.
 abbrev pub EntityKey : Type 0
 EntityKey = Kind × ℕ
 
--- kind by kind, each by rising ids
+-- The order of keys: by kind, then by id.
 abbrev pub key_cmp : EntityKey → EntityKey → Ordering
 key_cmp a b = ordering_then (nat_cmp (kind_index a.0) (kind_index b.0)) (nat_cmp a.1 b.1)
 
@@ -37,88 +37,90 @@ key_of e = (kind_of e.nature, e.id)
 abbrev pub Entities : Type 0
 Entities = FinMap key_cmp Entity
 
--- subscriptions by id; their ids are apart from those of entities
+-- Subscriptions by id. Their ids are separate from those of entities.
 abbrev pub Subscriptions : Type 0
 Subscriptions = FinMap nat_cmp Sub
 
--- the entities by kind and id, the subscriptions by id, the availability of each supplier that has
--- set one, and how many changes there were
+-- The entities by kind and id, the subscriptions by id, the availability of each USS that has set
+-- one, and the number of changes.
 pub record Airspace : Type 0 where
   pub entities : Entities
   pub subscriptions : Subscriptions
   pub availabilities : Availabilities
   pub serial : ℕ
 
--- an airspace that may be kept: each entity stands under its own kind and id, each subscription
--- under its own id, and the index of none is over the serial
+-- Holds if an airspace is valid. Each entity is stored under its own kind and id, and each
+-- subscription under its own id. No notification index exceeds the serial.
 pub record IsAirspace (a : Airspace) : Type 0 where
   pub keyed : (k : EntityKey) (x : Entity) → get a.entities k ≡ Some x → key_of x ≡ k
   pub own : (id : ℕ) (s : Sub) → get a.subscriptions id ≡ Some s → s.id ≡ id
   pub told : (id : ℕ) (s : Sub) → get a.subscriptions id ≡ Some s → s.index ≤ a.serial
 
--- what is kept of a supplier; of one that has set nothing, `Unknown` under the empty version
+-- The stored availability of a USS. If the USS has set none, `Unknown` with the empty version.
 abbrev pub availability_of : Airspace → List ℕ → VersionedAvailability
 availability_of a uss = unwrap_or (get a.availabilities uss) (Unknown, [])
 
--- Each change lets the serial go on by one.
+-- Each change increments the serial by one.
 
--- with the availability of a supplier under an availability version
+-- The airspace after a USS has set its availability.
 abbrev pub with_availability : Airspace → List ℕ → VersionedAvailability → Airspace
 with_availability a uss stated = record a {
   availabilities = insert a.availabilities uss stated;
   serial = a.serial + 1;
 }
 
--- with an entity, in the place of the one that has its kind and id
+-- The airspace after an entity is put. It replaces the entity with the same kind and id.
 abbrev pub with_entity : Airspace → Entity → Airspace
 with_entity a e = record a { entities = insert a.entities (key_of e) e; serial = a.serial + 1 }
 
--- without the entity of a kind and an id
+-- The airspace after an entity is deleted.
 abbrev pub without_entity : Airspace → EntityKey → Airspace
 without_entity a k = record a { entities = remove a.entities k; serial = a.serial + 1 }
 
--- with a subscription, in the place of the one that has its id
+-- The airspace after a subscription is put. It replaces the subscription with the same id.
 abbrev pub with_subscription : Airspace → Sub → Airspace
 with_subscription a s = record a {
   subscriptions = insert a.subscriptions s.id s;
   serial = a.serial + 1;
 }
 
--- without the subscription of an id
+-- The airspace after a subscription is deleted.
 abbrev pub without_subscription : Airspace → ℕ → Airspace
 without_subscription a id = record a {
   subscriptions = remove a.subscriptions id;
   serial = a.serial + 1;
 }
 
--- ---- what is told
+-- ---- notifications
 
--- a subscription that was told of one more change; its version and its serial stay
+-- A subscription after one more notification. Its version and serial stay.
 abbrev pub notified_again : Sub → Sub
 notified_again s = record s { index = s.index + 1 }
 
--- the same of one that passes a test; any other stays as it was
+-- A subscription after one more notification if it passes the test, and unchanged otherwise.
 abbrev pub notified_if : (ℕ × Sub → Bool) → ℕ × Sub → ℕ × Sub
 notified_if test s = (s.0, if test s then notified_again s.1 else s.1)
 
--- subscriptions, of which each that passes a test was told of one more change
+-- The subscriptions after one more notification of each that passes the test.
 unfoldable pub notified_where : (ℕ × Sub → Bool) → Subscriptions → Subscriptions
 notified_where test m = from_sorted {R = nat_cmp} (map (notified_if test) (entries m))
 
--- a subscription of one of these ids
+-- True if a subscription has one of these ids.
 abbrev pub is_one_of : List ℕ → ℕ × Sub → Bool
 is_one_of ids s = list_any (λ id. nat_eq id s.0) ids
 
--- What is found then under an id is what was, told of one more change exactly where it passes.
+-- States that a lookup after a notification finds the same subscription, notified once more exactly
+-- if it passes the test.
 abbrev pub NotifiedOnce : Type 0
 NotifiedOnce = (m : Subscriptions) (test : ℕ × Sub → Bool) (id : ℕ)
     → get (notified_where test m) id ≡ option_map (λ s. (notified_if test (id, s)).1) (get m id)
 
--- the airspace with these told; the serial stays, since it is a part of a change
+-- The airspace after these subscriptions are notified. The serial stays, because a notification is
+-- part of a change.
 abbrev pub with_notified_subs : Airspace → (ℕ × Sub → Bool) → Airspace
 with_notified_subs a test = record a { subscriptions = notified_where test a.subscriptions }
 
--- an airspace in which nothing is kept, at a serial
+-- An empty airspace with this serial.
 abbrev pub empty_at : ℕ → Airspace
 empty_at serial = record {
   entities = empty;

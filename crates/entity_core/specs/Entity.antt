@@ -1,4 +1,4 @@
--- What is kept of an entity.
+-- Entities as they are stored.
 use Rattle.std.specs.Prelude.{ℕ, List, Option, Some, None, codes}
 use Rattle.entity_core.specs.declared.nature.Kind.{Kind}
 use Rattle.entity_core.specs.declared.nature.Kind.TheVariants as kind
@@ -10,7 +10,7 @@ use Rattle.entity_core.specs.declared.nature.Nature.TheVariants as nature
 abbrev pub max_version : ℕ
 max_version = 2147483647
 
--- the place of a kind in the order of kinds
+-- The index of a kind in the order of kinds.
 abbrev pub kind_index : Kind → ℕ
 kind_index kind.Intent = 0
 kind_index kind.Constraint = 1
@@ -23,12 +23,12 @@ abbrev pub state_of : Nature → Option State
 state_of (nature.Intent state named) = Some state
 state_of nature.Constraint = None
 
--- the id of the subscription that an intent names
+-- The id of the subscription that an intent references, if any.
 abbrev pub subscription_of : Nature → Option ℕ
 subscription_of (nature.Intent state named) = named
 subscription_of nature.Constraint = None
 
--- the name of a state
+-- The name of a state.
 abbrev pub state_name : State → List ℕ
 state_name Accepted = codes "Accepted"
 state_name Activated = codes "Activated"

@@ -1,4 +1,4 @@
--- What is looked for among the entities and the subscriptions of an airspace.
+-- Searches of entities and subscriptions in an airspace.
 use Rattle.std.specs.Prelude.{ℕ, ◌&&◌, not, nat_eq, Bool, true, false, List, map, filter, Option, Some, None}
 use Rattle.std.specs.Ordering.{nat_cmp}
 use Rattle.std.specs.FinMap.{entries}
@@ -20,16 +20,17 @@ abbrev pub is_not : Option ℕ → EntityKey → Bool
 is_not None k = true
 is_not (Some id) k = not (nat_eq k.1 id)
 
--- an entity of the kind, but the one of that id, some volume of which meets some area
+-- True if an entity has the kind, does not have the excluded id, and some volume of it meets some
+-- area.
 abbrev pub is_sought : Kind → List Region → Option ℕ → EntityKey × Entity → Bool
 is_sought kind areas except e =
     has_kind kind e.0 && (is_not except e.0 && any_meet e.1.volumes areas)
 
--- all of them, by rising ids
+-- All such entities, by ascending id.
 unfoldable pub meeting_in : Entities → Kind → List Region → Option ℕ → List Entity
 meeting_in m kind areas except = map (λ e. e.1) (filter (is_sought kind areas except) (entries m))
 
--- all entities of a kind, by rising ids
+-- All entities of a kind, by ascending id.
 unfoldable pub all_in : Entities → Kind → List Entity
 all_in m kind = map (λ e. e.1) (filter (λ e. has_kind kind e.0) (entries m))
 
@@ -39,34 +40,34 @@ abbrev pub is_id : ℕ → Option ℕ → Bool
 is_id id None = false
 is_id id (Some named) = nat_eq named id
 
--- an intent that names a subscription
+-- True if an intent references the subscription.
 abbrev pub is_naming : ℕ → EntityKey × Entity → Bool
 is_naming id e = is_id id (subscription_of e.1.nature)
 
--- the ids of the intents that name a subscription, rising
+-- The ids of the intents that reference a subscription, ascending.
 unfoldable pub dependents_in : Entities → ℕ → List ℕ
 dependents_in m id = map (λ e. e.id) (map (λ e. e.1) (filter (is_naming id) (entries m)))
 
--- a subscription of a supplier, whose volume meets an area
+-- True if a subscription belongs to the USS and its volume meets the area.
 abbrev pub is_own_near : List ℕ → Region → ℕ × Sub → Bool
 is_own_near uss area s = same_text s.1.manager uss && meets (region_of s.1.volume) area
 
--- all of them, by rising ids
+-- All such subscriptions, by ascending id.
 unfoldable pub subscriptions_in : Subscriptions → List ℕ → Region → List Sub
 subscriptions_in m uss area = map (λ s. s.1) (filter (is_own_near uss area) (entries m))
 
--- a subscription that is for a kind, whoever manages it, and whose volume meets some area
+-- True if a subscription is for the kind and its volume meets some area. Its manager does not
+-- matter.
 abbrev pub is_for_near : Kind → List Region → ℕ × Sub → Bool
 is_for_near kind areas s = wants s.1.interest kind && meets_some s.1.volume areas
 
--- all of them, by rising ids
+-- All such subscriptions, by ascending id.
 unfoldable pub subscribers_in : Subscriptions → Kind → List Region → List Sub
 subscribers_in m kind areas = map (λ s. s.1) (filter (is_for_near kind areas) (entries m))
 
--- ---- their order
+-- ---- order of the results
 
--- Of an airspace, what is sought, all of a kind, what names a subscription, a supplier's
--- subscriptions, and those that are for a kind come by rising ids, and so each once.
+-- Holds if every search of the airspace returns its results by ascending id, and so each only once.
 pub record FoundInOrder (a : Airspace) : Type 0 where
   pub meeting : (kind : Kind) (areas : List Region) (except : Option ℕ)
       → IsStrictlySortedBy nat_cmp (map (λ e. e.id) (meeting_in a.entities kind areas except))

@@ -1,6 +1,6 @@
 -- Serials.
 use Rattle.std.specs.Prelude.{ℕ}
 
--- the greatest serial of an airspace
+-- The maximum serial of an airspace.
 abbrev pub max_serial : ℕ
 max_serial = 9223372036854775807

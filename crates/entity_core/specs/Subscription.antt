@@ -1,11 +1,11 @@
--- What a subscription is for.
+-- The interest of a subscription.
 use Rattle.std.specs.Prelude.{Bool, true, false}
 use Rattle.entity_core.specs.declared.interest.Interest.{Interest}
 use Rattle.entity_core.specs.declared.interest.Interest.TheVariants.{Intents, Constraints, Both}
 use Rattle.entity_core.specs.declared.nature.Kind.{Kind}
 use Rattle.entity_core.specs.declared.nature.Kind.TheVariants.{Intent, Constraint}
 
--- whether one of that interest is told of changes of a kind
+-- True if a subscription with this interest is notified of changes of a kind.
 abbrev pub wants : Interest → Kind → Bool
 wants Intents Intent = true
 wants Intents Constraint = false

@@ -1,9 +1,9 @@
-//! Availabilities of suppliers.
+//! Availabilities of USSs.
 
-/// Whether a supplier (USS) says that it can be reached, as far as the service was told.
+/// The availability of a USS, as last reported to the service.
 #[derive(Clone, Copy, Debug, PartialEq, Eq)]
 pub enum Availability {
-    /// Never set, or set to `Unknown`.
+    /// It was never set, or was set to `Unknown`.
     Unknown,
     Normal,
     Down,

@@ -1,4 +1,4 @@
-//! Addresses of suppliers.
+//! Base URLs of USSs.
 ghost use Rattle.std.specs.Prelude.{◌≡◌, IfOk, None};
 ghost use Rattle.entity_core.specs.IdTexts.{ReadsText, url_fault};
 
@@ -7,8 +7,10 @@ use crate::visible::read_visible;
 use std::alloc::{AllocError, Global};
 use std::marker::Model;
 
-/// The address under which a supplier answers for an entity: 1 to 255 bytes from 0x21 to 0x7E (this
-/// project's profile). Contracts see its bytes.
+/// The base URL at which a USS serves an entity: 1 to 255 bytes from 0x21 to 0x7E (this project's
+/// profile).
+///
+/// Contracts see its bytes.
 #[derive(Debug, Drop)]
 pub struct BaseUrl {
     letters: String,
@@ -28,7 +30,9 @@ impl Model for BaseUrl {
 }
 
 impl BaseUrl {
-    /// Reads an address. The error is the first fault of the text.
+    /// Parses a base URL.
+    ///
+    /// Returns the first fault of the text, or `Memory` if memory runs out.
     pub fn read(alloc: Global, text: &str) -> Result<BaseUrl, IdFault>
         ensures { ReadsText (url_fault text.now) text.now result }
     {
@@ -36,7 +40,7 @@ impl BaseUrl {
         Ok(BaseUrl { letters })
     }
 
-    /// The address as it was read.
+    /// Returns the URL as it was parsed.
     pub fn text(&self) -> &str
         ensures same { result.now ≡ self.now }
         ensures reads { url_fault self.now ≡ None }
@@ -44,7 +48,9 @@ impl BaseUrl {
         self.letters.as_str()
     }
 
-    /// An equal address.
+    /// Returns a copy of the URL.
+    ///
+    /// Returns `AllocError` if memory runs out.
     pub fn clone(&self) -> Result<BaseUrl, AllocError>
         ensures { IfOk result (λ url. url ≡ self.now) }
     {

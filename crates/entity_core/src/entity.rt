@@ -1,4 +1,4 @@
-//! Entities: what is kept of operational intents and constraints.
+//! Entities: operational intents and constraints.
 ghost use Rattle.std.specs.Prelude.{◌≡◌, IfOk};
 ghost use Rattle.grid_core.specs.Volumes.{IsSpan, span_of};
 ghost use Rattle.entity_core.specs.Airspace.{key_cmp, key_of};
@@ -14,24 +14,24 @@ use grid_core::volumes::Volumes;
 use std::alloc::{AllocError, Global};
 use std::cmp::Ordering;
 
-/// What is kept of an operational intent or a constraint.
+/// A stored operational intent or constraint.
 #[derive(Debug, Drop)]
 pub struct Entity {
     pub nature: Nature,
     pub id: EntityId,
-    /// The supplier that created it, and alone may change it.
+    /// The USS that created it. Only this USS may change it.
     pub manager: UssId,
-    /// How often it was put.
+    /// The number of times that it was put.
     pub version: Version,
     /// The serial of its last put.
     pub serial: Serial,
-    /// The OVN that goes with that serial.
+    /// The OVN of that serial.
     pub ovn: Ovn,
     pub volumes: Volumes,
     pub url: BaseUrl,
 }
 
-/// The order of entities: kind by kind, each by rising ids.
+/// Compares two keys of entities: by kind, then by id.
 pub fn key_order(kind: Kind, id: EntityId, other_kind: Kind, other_id: EntityId) -> Ordering
     ensures { result ≡ key_cmp (kind, id) (other_kind, other_id) }
 {
@@ -43,14 +43,14 @@ pub fn key_order(kind: Kind, id: EntityId, other_kind: Kind, other_id: EntityId)
 }
 
 impl Entity {
-    /// How its kind and id stand to others in the order of entities.
+    /// Compares its kind and id with another kind and id.
     pub fn order(&self, kind: Kind, id: EntityId) -> Ordering
         ensures { result ≡ key_cmp (key_of self.now) (kind, id) }
     {
         key_order(self.nature.kind(), self.id, kind, id)
     }
 
-    /// The least first time and the greatest last time of its volumes, in seconds since 1970.
+    /// Returns the earliest start and the latest end of its volumes, in Unix seconds.
     pub fn times(&self) -> (u64, u64)
         ensures value { result ≡ span_of self.now.volumes }
         ensures relation { IsSpan self.now.volumes result }
@@ -58,7 +58,9 @@ impl Entity {
         self.volumes.times()
     }
 
-    /// An equal entity.
+    /// Returns a copy of the entity.
+    ///
+    /// Returns `AllocError` if memory runs out.
     pub fn clone(&self, alloc: Global) -> Result<Entity, AllocError>
         ensures { IfOk result (λ entity. entity ≡ self.now) }
     {

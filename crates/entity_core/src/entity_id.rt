@@ -8,8 +8,9 @@ use std::alloc::{AllocError, Global};
 use std::marker::Model;
 use uuid::Uuid;
 
-/// The id of an operational intent or a constraint: a UUID of any version (RFC 9562). Intents and
-/// constraints have separate ids. Contracts see its number.
+/// The id of an operational intent or a constraint: a UUID of any version (RFC 9562).
+///
+/// Intents and constraints have separate ids. Contracts see its number.
 #[derive(Clone, Copy, Debug, PartialEq, Eq, PartialOrd, Ord)]
 pub struct EntityId {
     number: u128,
@@ -26,8 +27,9 @@ impl Model for EntityId {
 }
 
 impl EntityId {
-    /// Reads a hyphenated UUID of 36 characters, of either case. The error is the first fault of
-    /// the text, and never want of memory: it takes none.
+    /// Parses a hyphenated UUID of 36 characters, in either case.
+    ///
+    /// Returns the first fault of the text, and never `Memory`. Allocates nothing.
     pub fn read(text: &str) -> Result<EntityId, IdFault>
         ensures { ReadsId text.now result }
     {
@@ -42,7 +44,7 @@ impl EntityId {
         }
     }
 
-    /// The id as a number, by which ids are ordered.
+    /// Returns the id as a number. Ids are ordered by their numbers.
     pub fn number(self) -> u128
         ensures { result ≡ self }
     {
@@ -50,14 +52,16 @@ impl EntityId {
         number
     }
 
-    /// Whether the two are one id.
+    /// Returns true if the two ids are equal.
     pub fn is(self, other: EntityId) -> bool
         ensures { result ≡ nat_eq self other }
     {
         self.number() == other.number()
     }
 
-    /// The hyphenated UUID in lower case. It reads as this id.
+    /// Returns the hyphenated UUID in lower case, which represents this id.
+    ///
+    /// Returns `AllocError` if memory runs out.
     pub fn text(&self, alloc: Global) -> Result<String, AllocError>
         ensures text { IfOk result (λ text. string_bytes text ≡ printed self.now) }
         ensures reads { IfOk result (λ text. spelled (string_bytes text) ≡ Some self.now) }

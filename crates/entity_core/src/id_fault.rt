@@ -1,13 +1,14 @@
-//! Why a text was not read as an id.
+//! The faults of parsing an id.
 
-/// The first fault of a text that should be an id. Lengths are counted in bytes, and a wrong length
-/// comes before a wrong byte.
+/// The first fault of a text that is not an id.
+///
+/// Lengths are in bytes. A wrong length is reported before a wrong byte.
 #[derive(Clone, Copy, Debug, PartialEq, Eq)]
 pub enum IdFault {
     /// The text is too short or too long.
     Length,
-    /// The text has a right length and is wrong otherwise.
+    /// The length is right, but the text is otherwise wrong.
     Form,
-    /// The text is right, and there was no room for it.
+    /// The text is right, but memory ran out.
     Memory,
 }

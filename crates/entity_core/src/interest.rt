@@ -1,11 +1,11 @@
-//! What subscriptions are for.
+//! Interests of subscriptions.
 ghost use Rattle.std.specs.Prelude.{◌≡◌, IfSome, IfNone, false};
 ghost use Rattle.entity_core.specs.declared.nature.Kind.TheVariants as kinds;
 ghost use Rattle.entity_core.specs.Subscription.{wants};
 
 use crate::nature::Kind;
 
-/// The kinds of entities of whose changes a subscription is to be told: one of them at least.
+/// The kinds of entities whose changes a subscription is notified of. At least one kind.
 #[derive(Clone, Copy, Debug, PartialEq, Eq)]
 pub enum Interest {
     Intents,
@@ -14,7 +14,7 @@ pub enum Interest {
 }
 
 impl Interest {
-    /// That of intents, or constraints, or both; none for neither.
+    /// Returns the interest in intents, in constraints, or in both. Returns `None` for neither.
     pub fn from_flags(intents: bool, constraints: bool) -> Option<Interest>
         ensures intents { IfSome result (λ i. wants i kinds.Intent ≡ intents) }
         ensures constraints { IfSome result (λ i. wants i kinds.Constraint ≡ constraints) }
@@ -28,7 +28,7 @@ impl Interest {
         }
     }
 
-    /// Whether it is told of changes of a kind.
+    /// Returns true if the subscription is notified of changes of a kind.
     pub fn wants(self, kind: Kind) -> bool
         ensures { result ≡ wants self kind }
     {

@@ -1,5 +1,5 @@
-//! What every other crate speaks of: ids, OVNs, versions, availabilities, and the airspace as a
-//! definition.
+//! Types that all other crates use: ids, OVNs, versions, availabilities, entities and
+//! subscriptions. Its `specs` define the airspace.
 #![tactic(auto)]
 
 pub mod availability;

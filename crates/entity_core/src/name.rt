@@ -1,4 +1,4 @@
-//! Texts of names: USS ids and salts.
+//! Names: USS ids and salts.
 ghost use Rattle.std.specs.Prelude.{◌≡◌, MatchResult, None};
 ghost use Rattle.std.specs.List.{list_all};
 ghost use Rattle.std.specs.String.{string_bytes};
@@ -16,7 +16,9 @@ fn is_name(text: &str) -> bool
         || *b == b'_')
 }
 
-/// A copy of a name. The error is its first fault.
+/// Returns a copy of a name.
+///
+/// Returns its first fault, or `Memory` if memory runs out.
 pub(crate) fn read_name(alloc: Global, text: &str) -> Result<String, IdFault>
     ensures { MatchResult result (λ s. (string_bytes s ≡ text.now) × (name_fault text.now ≡ None))
         (λ e. IsReadFault (name_fault text.now) e) }

@@ -1,10 +1,10 @@
-//! What an entity is.
+//! The kinds and states of entities.
 ghost use Rattle.std.specs.Prelude.{◌≡◌, nat_eq};
 ghost use Rattle.entity_core.specs.Entity.{kind_index, kind_of, state_name, state_of, subscription_of};
 
 use crate::entity_id::EntityId;
 
-/// The kinds of entities. Each has ids of its own.
+/// The kinds of entities. Each kind has its own ids.
 #[derive(Clone, Copy, Debug, PartialEq, Eq)]
 pub enum Kind {
     /// An operational intent.
@@ -14,14 +14,14 @@ pub enum Kind {
 }
 
 impl Kind {
-    /// Whether the two are one kind.
+    /// Returns true if the two kinds are equal.
     pub fn is(self, other: Kind) -> bool
         ensures { result ≡ nat_eq (kind_index self) (kind_index other) }
     {
         self.index() == other.index()
     }
 
-    // Its place in the order of kinds.
+    // Returns the index of the kind in the order of kinds.
     pub(crate) fn index(self) -> u8
         ensures { result ≡ kind_index self }
     {
@@ -32,21 +32,21 @@ impl Kind {
     }
 }
 
-/// How far an operational intent has come.
+/// The state of an operational intent.
 #[derive(Clone, Copy, Debug, PartialEq, Eq)]
 pub enum State {
     /// It is planned.
     Accepted,
     /// It is flown.
     Activated,
-    /// It is flown, and not as it was planned.
+    /// It is flown, but not as planned.
     Nonconforming,
-    /// It cannot be flown as it was planned any more.
+    /// It can no longer be flown as planned.
     Contingent,
 }
 
 impl State {
-    /// Its name.
+    /// Returns the name of the state.
     pub fn name(self) -> &'static str
         ensures { result.now ≡ state_name self }
     {
@@ -59,17 +59,18 @@ impl State {
     }
 }
 
-/// The kind of an entity, with what only that kind has: a state stands exactly for an intent, and
-/// only an intent names a subscription.
+/// The kind of an entity, with the data that only this kind has.
+///
+/// Only an intent has a state, and only an intent references a subscription.
 #[derive(Clone, Copy, Debug, PartialEq, Eq)]
 pub enum Nature {
-    /// With its state, and the id of the subscription that it names, if it names one.
+    /// An intent with its state, and the id of the subscription that it references, if any.
     Intent(State, Option<EntityId>),
     Constraint,
 }
 
 impl Nature {
-    /// The kind.
+    /// Returns the kind.
     pub fn kind(self) -> Kind
         ensures { result ≡ kind_of self }
     {
@@ -79,7 +80,7 @@ impl Nature {
         }
     }
 
-    /// The state, of an intent.
+    /// Returns the state of an intent, and `None` for a constraint.
     pub fn state(self) -> Option<State>
         ensures { result ≡ state_of self }
     {
@@ -89,7 +90,7 @@ impl Nature {
         }
     }
 
-    /// The id of the subscription that an intent names, if it names one.
+    /// Returns the id of the subscription that an intent references, if any.
     pub fn subscription(self) -> Option<EntityId>
         ensures { result ≡ subscription_of self }
     {

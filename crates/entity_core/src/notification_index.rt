@@ -5,8 +5,10 @@ ghost use Rattle.entity_core.specs.Serial.{max_serial};
 use crate::serial::MAX_SERIAL;
 use std::marker::Model;
 
-/// How many changes a subscription was told of, from 0 to the greatest serial (this project's
-/// profile). Contracts see the number.
+/// The number of changes that a subscription was notified of, from 0 to the maximum serial (this
+/// project's profile).
+///
+/// Contracts see the number.
 #[derive(Clone, Copy, Debug, PartialEq, Eq)]
 pub struct NotificationIndex {
     number: u64,
@@ -26,14 +28,14 @@ impl Model for NotificationIndex {
 }
 
 impl NotificationIndex {
-    /// That of a subscription which was created.
+    /// Returns the index of a new subscription.
     pub fn zero() -> NotificationIndex
         ensures { result ≡ 0 }
     {
         NotificationIndex { number: 0 }
     }
 
-    /// That of a number up to the greatest serial.
+    /// Returns the index with this number, or `None` if it exceeds the maximum serial.
     pub fn from_number(number: u64) -> Option<NotificationIndex>
         ensures some { IfSome result (λ index. index ≡ number) }
         ensures none { IfNone result (max_serial < number) }
@@ -45,7 +47,7 @@ impl NotificationIndex {
         }
     }
 
-    /// That after one more change, while there is one.
+    /// Returns the index after one more notification, or the same index at the maximum.
     pub fn next(self) -> NotificationIndex
         ensures { self < max_serial → result ≡ self + 1 }
     {
@@ -58,7 +60,7 @@ impl NotificationIndex {
         }
     }
 
-    /// The number.
+    /// Returns the number.
     pub fn number(self) -> u64
         ensures number { result ≡ self }
         ensures most { self ≤ max_serial }

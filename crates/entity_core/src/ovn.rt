@@ -13,7 +13,9 @@ use sha2::{Digest, Sha256};
 use std::alloc::{AllocError, Global};
 use std::marker::Model;
 
-/// An OVN: 16 to 128 bytes from 0x21 to 0x7E (this project's profile). Contracts see its bytes.
+/// An OVN: 16 to 128 bytes from 0x21 to 0x7E (this project's profile).
+///
+/// Contracts see its bytes.
 #[derive(Debug, Drop)]
 pub struct Ovn {
     letters: String,
@@ -33,7 +35,9 @@ impl Model for Ovn {
 }
 
 impl Ovn {
-    /// Reads an OVN as a caller writes it. The error is the first fault of the text.
+    /// Parses an OVN that a client sent.
+    ///
+    /// Returns the first fault of the text, or `Memory` if memory runs out.
     pub fn read(alloc: Global, text: &str) -> Result<Ovn, IdFault>
         ensures { ReadsText (ovn_fault text.now) text.now result }
     {
@@ -41,7 +45,7 @@ impl Ovn {
         Ok(Ovn { letters })
     }
 
-    /// The OVN as it was read or made.
+    /// Returns the OVN as it was parsed or created.
     pub fn text(&self) -> &str
         ensures same { result.now ≡ self.now }
         ensures reads { ovn_fault self.now ≡ None }
@@ -49,7 +53,9 @@ impl Ovn {
         self.letters.as_str()
     }
 
-    /// The same letters, as a text. It takes no memory.
+    /// Converts the OVN into a text with the same bytes.
+    ///
+    /// Allocates nothing.
     pub fn into_text(self) -> Text
         ensures { result ≡ self }
     {
@@ -57,7 +63,9 @@ impl Ovn {
         Text::from_string(letters)
     }
 
-    /// An equal OVN.
+    /// Returns a copy of the OVN.
+    ///
+    /// Returns `AllocError` if memory runs out.
     pub fn clone(&self) -> Result<Ovn, AllocError>
         ensures { IfOk result (λ ovn. ovn ≡ self.now) }
     {
@@ -74,7 +82,7 @@ fn message(alloc: Global, salt: &Salt, serial: u64) -> Result<String, AllocError
     format!(in alloc; "dss-ovn|{salt}|{serial}")
 }
 
-// The OVN that the digits of a digest are.
+// Returns the OVN made of the hexadecimal digits of a digest.
 fn of_digest(alloc: Global, digest: &[u8]) -> Result<Ovn, AllocError>
     requires { length digest.now ≡ 32 }
     ensures { IfOk result (λ ovn. ovn ≡ encode_lower digest.now) }
@@ -84,8 +92,10 @@ fn of_digest(alloc: Global, digest: &[u8]) -> Result<Ovn, AllocError>
     })
 }
 
-/// The OVN that goes with a serial: the 64 lower-case hexadecimal digits of SHA-256 (FIPS 180-4)
-/// of `dss-ovn|`, the salt, `|` and the serial in decimal (this project's profile).
+/// Computes the OVN of a serial.
+///
+/// It is the 64 lower-case hexadecimal digits of SHA-256 (FIPS 180-4) of `dss-ovn|`, the salt, `|`
+/// and the serial in decimal (this project's profile). Returns `AllocError` if memory runs out.
 pub fn ovn_of(alloc: Global, salt: &Salt, serial: u64) -> Result<Ovn, AllocError>
     ensures { IfOk result (λ ovn. ovn ≡ ovn_text salt.now serial) }
 {

@@ -7,8 +7,10 @@ use crate::name::read_name;
 use std::alloc::{AllocError, Global};
 use std::marker::Model;
 
-/// What a service mixes into its OVNs, so that others cannot compute them: 1 to 64 ASCII letters,
-/// digits, `-`, `_` or `.` (this project's profile). Contracts see its bytes.
+/// The secret that a service mixes into its OVNs, so that others cannot compute them.
+///
+/// 1 to 64 ASCII letters, digits, `-`, `_` or `.` (this project's profile). Contracts see its
+/// bytes.
 #[derive(Debug, Drop)]
 pub struct Salt {
     letters: String,
@@ -28,7 +30,9 @@ impl Model for Salt {
 }
 
 impl Salt {
-    /// Reads a salt. The error is the first fault of the text.
+    /// Parses a salt.
+    ///
+    /// Returns the first fault of the text, or `Memory` if memory runs out.
     pub fn read(alloc: Global, text: &str) -> Result<Salt, IdFault>
         ensures { ReadsText (name_fault text.now) text.now result }
     {
@@ -36,7 +40,7 @@ impl Salt {
         Ok(Salt { letters })
     }
 
-    /// The salt as it was read.
+    /// Returns the salt as it was parsed.
     pub fn text(&self) -> &str
         ensures same { result.now ≡ self.now }
         ensures reads { name_fault self.now ≡ None }
@@ -44,7 +48,9 @@ impl Salt {
         self.letters.as_str()
     }
 
-    /// An equal salt.
+    /// Returns a copy of the salt.
+    ///
+    /// Returns `AllocError` if memory runs out.
     pub fn clone(&self) -> Result<Salt, AllocError>
         ensures { IfOk result (λ salt. salt ≡ self.now) }
     {

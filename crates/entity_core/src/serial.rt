@@ -1,11 +1,10 @@
-//! Serials count the changes of an airspace.
+//! Serials, which number the changes of an airspace.
 ghost use Rattle.std.specs.Prelude.{◌≡◌, ◌≤◌, ◌+◌, IfSome, IfNone};
 ghost use Rattle.entity_core.specs.Serial.{max_serial};
 
 use std::marker::Model;
 
-/// The greatest serial of an airspace, 2^63 - 1 (this project's profile: it fits a column of
-/// SQLite).
+/// The maximum serial of an airspace, 2^63 - 1 (this project's profile: it fits an SQLite column).
 pub const MAX_SERIAL: u64 = 9_223_372_036_854_775_807;
 
 /// The serial of a change, from 1 to [`MAX_SERIAL`]. Contracts see the number.
@@ -28,7 +27,7 @@ impl Model for Serial {
 }
 
 impl Serial {
-    /// The one after the serial of an airspace, if that is not the greatest.
+    /// Returns the serial after `number`, or `None` if `number` is at least the maximum.
     pub fn next_after(number: u64) -> Option<Serial>
         ensures some { IfSome result (λ serial. serial ≡ number + 1) }
         ensures none { IfNone result (max_serial ≤ number) }
@@ -40,14 +39,14 @@ impl Serial {
         }
     }
 
-    /// The greatest one.
+    /// Returns the maximum serial.
     pub fn max() -> Serial
         ensures { result ≡ max_serial }
     {
         Serial { number: MAX_SERIAL }
     }
 
-    /// The number.
+    /// Returns the number.
     pub fn number(self) -> u64
         ensures number { result ≡ self }
         ensures least { 1 ≤ self }

@@ -1,4 +1,4 @@
-//! Subscriptions: where a supplier is to be told of changes.
+//! Subscriptions of USSs to changes.
 ghost use Rattle.std.specs.Prelude.{◌≡◌, ◌<◌, IfOk};
 ghost use Rattle.entity_core.specs.Airspace.{notified_again};
 ghost use Rattle.entity_core.specs.Serial.{max_serial};
@@ -13,26 +13,29 @@ use crate::uss_id::UssId;
 use grid_core::volume::Volume;
 use std::alloc::AllocError;
 
-/// What is kept of a subscription. Its ids are apart from those of entities (all of it is this
-/// project's profile).
+/// A stored subscription.
+///
+/// Its ids are separate from those of entities (all of it is this project's profile).
 #[derive(Debug, Drop)]
 pub struct Sub {
     pub id: EntityId,
-    /// The supplier that created it, and alone may read and change it.
+    /// The USS that created it. Only this USS may read and change it.
     pub manager: UssId,
-    /// The OVN that goes with its serial.
+    /// The OVN of its serial.
     pub version: Ovn,
     /// The serial of its last put.
     pub serial: Serial,
     pub index: NotificationIndex,
     pub volume: Volume,
-    /// Where its supplier is to be told.
+    /// The base URL at which its USS is notified.
     pub url: BaseUrl,
     pub interest: Interest,
 }
 
 impl Sub {
-    /// An equal subscription.
+    /// Returns a copy of the subscription.
+    ///
+    /// Returns `AllocError` if memory runs out.
     pub fn clone(&self) -> Result<Sub, AllocError>
         ensures { IfOk result (λ sub. sub ≡ self.now) }
     {
@@ -48,7 +51,7 @@ impl Sub {
         })
     }
 
-    /// It is told of one more change, while its index can rise.
+    /// Increments the notification index, up to its maximum.
     pub fn notify(&mut self)
         ensures { self.old.index < max_serial → self.new ≡ notified_again self.old }
     {

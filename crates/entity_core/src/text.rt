@@ -1,11 +1,13 @@
-//! Texts that are kept as they came.
+//! Unparsed texts.
 ghost use Rattle.std.specs.Prelude.{◌≡◌, [], IfOk};
 ghost use Rattle.std.specs.String.{string_bytes};
 
 use std::alloc::{AllocError, Global};
 use std::marker::Model;
 
-/// A text of any form. Contracts see its bytes.
+/// A text of any form.
+///
+/// Contracts see its bytes.
 #[derive(Debug, Drop)]
 pub struct Text {
     letters: String,
@@ -21,14 +23,18 @@ impl Model for Text {
 }
 
 impl Text {
-    /// The string as a text. It takes no memory.
+    /// Converts a string into a text.
+    ///
+    /// Allocates nothing.
     pub fn from_string(letters: String) -> Text
         ensures { result ≡ string_bytes letters }
     {
         Text { letters }
     }
 
-    /// The empty text. It takes no memory.
+    /// Returns the empty text.
+    ///
+    /// Allocates nothing.
     pub fn empty(alloc: Global) -> Text
         ensures { result ≡ [] }
     {
@@ -37,14 +43,16 @@ impl Text {
         }
     }
 
-    /// The text.
+    /// Returns the text as a string slice.
     pub fn text(&self) -> &str
         ensures { result.now ≡ self.now }
     {
         self.letters.as_str()
     }
 
-    /// An equal text.
+    /// Returns a copy of the text.
+    ///
+    /// Returns `AllocError` if memory runs out.
     pub fn clone(&self) -> Result<Text, AllocError>
         ensures { IfOk result (λ text. text ≡ self.now) }
     {

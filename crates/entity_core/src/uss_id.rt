@@ -1,4 +1,4 @@
-//! Suppliers.
+//! Ids of USSs.
 ghost use Rattle.std.specs.Prelude.{◌≡◌, ◌↔◌, IsTrue, IfOk, None};
 ghost use Rattle.entity_core.specs.IdTexts.{ReadsText, name_fault};
 
@@ -7,8 +7,10 @@ use crate::name::read_name;
 use std::alloc::{AllocError, Global};
 use std::marker::Model;
 
-/// The id of a supplier (USS): 1 to 64 ASCII letters, digits, `-`, `_` or `.` (this project's
-/// profile). Contracts see its bytes.
+/// The id of a USS (UAS service supplier): 1 to 64 ASCII letters, digits, `-`, `_` or `.` (this
+/// project's profile).
+///
+/// Contracts see its bytes.
 #[derive(Debug, Drop)]
 pub struct UssId {
     letters: String,
@@ -28,7 +30,9 @@ impl Model for UssId {
 }
 
 impl UssId {
-    /// Reads an id. The error is the first fault of the text.
+    /// Parses a USS id.
+    ///
+    /// Returns the first fault of the text, or `Memory` if memory runs out.
     pub fn read(alloc: Global, text: &str) -> Result<UssId, IdFault>
         ensures { ReadsText (name_fault text.now) text.now result }
     {
@@ -36,7 +40,7 @@ impl UssId {
         Ok(UssId { letters })
     }
 
-    /// The id as it was read.
+    /// Returns the id as it was parsed.
     pub fn text(&self) -> &str
         ensures same { result.now ≡ self.now }
         ensures reads { name_fault self.now ≡ None }
@@ -44,14 +48,16 @@ impl UssId {
         self.letters.as_str()
     }
 
-    /// Whether the two are one supplier.
+    /// Returns true if the two ids are equal.
     pub fn is(&self, other: &UssId) -> bool
         ensures { IsTrue result ↔ (self.now ≡ other.now) }
     {
         self.text() == other.text()
     }
 
-    /// An equal id.
+    /// Returns a copy of the id.
+    ///
+    /// Returns `AllocError` if memory runs out.
     pub fn clone(&self) -> Result<UssId, AllocError>
         ensures { IfOk result (λ id. id ≡ self.now) }
     {

@@ -1,14 +1,15 @@
-//! Versions of entities, as counts.
+//! Versions of entities, which count their puts.
 ghost use Rattle.std.specs.Prelude.{◌≡◌, ◌≤◌, ◌+◌, IfSome, IfNone};
 ghost use Rattle.entity_core.specs.Entity.{max_version};
 
 use std::marker::Model;
 
-/// The greatest version, 2^31 - 1 (this project's profile).
+/// The maximum version, 2^31 - 1 (this project's profile).
 pub const MAX_VERSION: u32 = 2_147_483_647;
 
-/// How often an entity was put, from 1 to 2,147,483,647 (this project's profile). Contracts see the
-/// number.
+/// The number of times that an entity was put, from 1 to 2,147,483,647 (this project's profile).
+///
+/// Contracts see the number.
 #[derive(Clone, Copy, Debug, PartialEq, Eq)]
 pub struct Version {
     number: u32,
@@ -28,14 +29,14 @@ impl Model for Version {
 }
 
 impl Version {
-    /// That of an entity which was created.
+    /// Returns the version of a new entity.
     pub fn first() -> Version
         ensures { result ≡ 1 }
     {
         Version { number: 1 }
     }
 
-    /// That of a number from 1 to [`MAX_VERSION`].
+    /// Returns the version with this number, or `None` unless it is from 1 to [`MAX_VERSION`].
     pub fn from_number(number: u32) -> Option<Version>
         ensures some { IfSome result (λ v. v ≡ number) }
         ensures none { IfNone result ((1 ≤ number) → (number ≤ max_version) → ⊥) }
@@ -47,7 +48,7 @@ impl Version {
         }
     }
 
-    /// The next one, if this is not the greatest.
+    /// Returns the next version, or `None` at the maximum.
     pub fn next(self) -> Option<Version>
         ensures some { IfSome result (λ v. v ≡ self + 1) }
         ensures none { IfNone result (self ≡ max_version) }
@@ -61,7 +62,7 @@ impl Version {
         }
     }
 
-    /// The number.
+    /// Returns the number.
     pub fn number(self) -> u32
         ensures number { result ≡ self }
         ensures least { 1 ≤ self }

@@ -1,4 +1,4 @@
-//! Texts of visible ASCII characters: OVNs and addresses.
+//! Texts of visible ASCII characters: OVNs and base URLs.
 ghost use Rattle.std.specs.Prelude.{◌≡◌, MatchResult, None};
 ghost use Rattle.std.specs.List.{list_all};
 ghost use Rattle.std.specs.String.{string_bytes};
@@ -13,8 +13,9 @@ fn is_visible(text: &str) -> bool
     text.as_bytes().iter().all(|b| b.is_ascii_graphic())
 }
 
-/// A copy of a text of visible characters, of at least and at most so many bytes. The error is its
-/// first fault.
+/// Returns a copy of a text of visible characters whose length is in a range.
+///
+/// Returns its first fault, or `Memory` if memory runs out.
 pub(crate) fn read_visible(
     alloc: Global,
     text: &str,

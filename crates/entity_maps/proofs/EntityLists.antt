@@ -1,4 +1,4 @@
--- What is found in lists of entities and of subscriptions.
+-- Results of searches in lists of entities and of subscriptions.
 use Rattle.std.specs.Prelude.{◌≡◌, ℕ, List, map, filter, Option}
 use Rattle.std.proofs.Common.{sym, ap, ◌∙◌}
 use Rattle.std.proofs.lemmas.List.{map-id}

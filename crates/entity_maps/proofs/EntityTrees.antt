@@ -1,4 +1,4 @@
--- Trees of entities, and the maps that their lists are.
+-- Trees of entities, and the maps of their lists.
 use Rattle.std.specs.Prelude.{◌≡◌, ℕ, ◌+◌, Bool, true, cond, not, ◌&&◌, List, map, filter, nat_eq, Option, Some, None, Result, OnOk, OnErr, refl}
 use Rattle.std.proofs.Common.{arith, ap, ◌∙◌}
 use Rattle.std.proofs.lemmas.Bool.Decides.{nat_tests}

@@ -1,4 +1,4 @@
--- Lists in the order of their keys, and the maps that they are.
+-- Lists sorted by key, and their maps.
 use Rattle.std.specs.Prelude.{◌≡◌, Bool, true, false, cond, ◌&&◌, T, List, [], ◌∷◌, ◌++◌, map, filter, length, Some, None, refl}
 use Rattle.std.specs.Ordering.{is_eq, is_lt, ordering_reverse}
 use Rattle.std.specs.declared.cmp.Ordering.{Ordering}
@@ -12,12 +12,12 @@ use Rattle.entity_maps.specs.Sorted.{keyed, Rise, map_of, AllBelow, StartsAbove}
 use Rattle.entity_core.proofs.Entries.{first, second, less}
 use Rattle.std.proofs.Common.{ℕ, suc, zero, ◌<◌, ◌≤◌, get_or, take, drop, arith, sym, ap, ◌∙◌, subst}
 
--- an entry below all others is put first
+-- Inserting a key below all others puts its entry first.
 put_first : {K X : Type 0} (R : K → K → Ordering) (k : K) (x : X) (es : List (K × X)) → T (below_all R k es) → put R k x es ≡ (k, x) ∷ es
 put_first R k x [] h = refl
 put_first R k x (e ∷ es) h = ap (λ (r : Ordering). by_order r ((k, x) ∷ e ∷ es) ((e.0, x) ∷ es) (e ∷ put R k x es)) (less (R k e.0) (first _ _ h))
 
--- the entries of the map of a list in order
+-- The entries of the map of a sorted list are the list.
 entries-from_entries : {K X : Type 0} {R : K → K → Ordering} → IsTotalOrder R → (es : List (K × X)) → T (is_sorted R es) → entries (from_entries {R = R} es) ≡ es
 entries-from_entries {R = R} o [] s = nil_from_length (entries (empty {R = R})) (sym (len-entries (empty {R = R})) ∙ len-empty R _)
 entries-from_entries {R = R} o (e ∷ es) s =
@@ -31,7 +31,7 @@ module _ {A K X : Type 0} (R : K → K → Ordering) (pair : A → K × X) where
   abbrev val : A → X
   val x = (pair x).1
 
-  -- the values of the pairs that pass a test
+  -- Filtering the pairs and taking their values gives the filtered values.
   pub kept_values : (p : K × X → Bool) (xs : List A) → map (λ e. e.1) (filter p (keyed pair xs)) ≡ map val (filter (λ x. p (pair x)) xs)
   kept_values p [] = refl
   kept_values p (x ∷ xs) = elim (p (pair x)) as (λ b. map (λ e. e.1) (cond b (pair x ∷ filter p (keyed pair xs)) (filter p (keyed pair xs))) ≡ map val (cond b (x ∷ filter (λ y. p (pair y)) xs) (filter (λ y. p (pair y)) xs))) [
@@ -43,7 +43,7 @@ module _ {A K X : Type 0} (R : K → K → Ordering) (pair : A → K × X) where
   Rise_rest [] ys s = s
   Rise_rest (x ∷ xs) ys s = Rise_rest xs ys (second (below_all R (key x) (keyed pair (xs ++ ys))) _ s)
 
-  -- ---- by places
+  -- ---- by index
 
   pub below_from : (k : K) (xs : List A) (i : ℕ) → i ≤ length xs → ((j : ℕ) (d : A) → j < i → R (key (get_or xs j d)) k ≡ Less) → AllBelow R pair k (take i xs)
   below_from k xs zero h p = tt
@@ -70,7 +70,7 @@ module _ {A K X : Type 0} (R : K → K → Ordering) (pair : A → K × X) where
   not_after : IsTotalOrder R → (x y : K) → R x y ≡ Less → is_lt (R y x) ≡ false
   not_after o x y e = ap is_lt (o.antisymm y x ∙ ap ordering_reverse e)
 
-  -- neighbours are in order
+  -- Adjacent elements are in order.
   pub neighbours : IsTotalOrder R → (xs : List A) (i : ℕ) (d : A) → suc i < length xs → Rise R pair xs → is_lt (R (key (get_or xs (suc i) d)) (key (get_or xs i d))) ≡ false
   neighbours o [] i d h s = absurd (omega arith)
   neighbours o (x ∷ []) i d h s = absurd (omega arith)
@@ -87,7 +87,7 @@ module _ {A K X : Type 0} (R : K → K → Ordering) (pair : A → K × X) where
     level : (x : A) (k : K) → R (key x) k ≡ Equal → R k (key x) ≡ Equal
     level x k e = o.antisymm k (key x) ∙ ap ordering_reverse e
 
-    -- a new value between those below it and those above it
+    -- Inserting a new value between smaller and larger keys is a put.
     pub put_between : (v : A) (xs ys : List A) → AllBelow R pair (key v) xs → StartsAbove R pair (key v) ys → keyed pair (xs ++ v ∷ ys) ≡ put R (key v) (val v) (keyed pair (xs ++ ys))
     put_between v [] [] a b = refl
     put_between v [] (y ∷ ys) a b = ap (λ (r : Ordering). by_order r (pair v ∷ pair y ∷ keyed pair ys) ((key y, val v) ∷ keyed pair ys) (pair y ∷ put R (key v) (val v) (keyed pair ys))) (sym (below y (key v) b))
@@ -95,7 +95,7 @@ module _ {A K X : Type 0} (R : K → K → Ordering) (pair : A → K × X) where
         ap (λ (es : List (K × X)). pair x ∷ es) (put_between v xs ys a.1 b)
         ∙ ap (λ (r : Ordering). by_order r (pair v ∷ pair x ∷ keyed pair (xs ++ ys)) ((key x, val v) ∷ keyed pair (xs ++ ys)) (pair x ∷ put R (key v) (val v) (keyed pair (xs ++ ys)))) (sym (above x (key v) a.0))
 
-    -- a new value in the place of another of its key
+    -- Replacing a value under its key is a put.
     pub put_over : IsAntisymmetric R → (v w : A) (xs ys : List A) → AllBelow R pair (key v) xs → R (key w) (key v) ≡ Equal → keyed pair (xs ++ v ∷ ys) ≡ put R (key v) (val v) (keyed pair (xs ++ w ∷ ys))
     put_over same v w [] ys a e =
         ap (λ (k : K). (k, val v) ∷ keyed pair ys) (sym (same (key w) (key v) e))
@@ -104,7 +104,7 @@ module _ {A K X : Type 0} (R : K → K → Ordering) (pair : A → K × X) where
         ap (λ (es : List (K × X)). pair x ∷ es) (put_over same v w xs ys a.1 e)
         ∙ ap (λ (r : Ordering). by_order r (pair v ∷ pair x ∷ keyed pair (xs ++ w ∷ ys)) ((key x, val v) ∷ keyed pair (xs ++ w ∷ ys)) (pair x ∷ put R (key v) (val v) (keyed pair (xs ++ w ∷ ys)))) (sym (above x (key v) a.0))
 
-    -- ---- look-ups
+    -- ---- lookups
 
     pub find_past : (k : K) (xs ys : List A) → AllBelow R pair k xs → find R k (keyed pair (xs ++ ys)) ≡ find R k (keyed pair ys)
     find_past k [] ys a = refl
@@ -137,7 +137,7 @@ module _ {A K X : Type 0} (R : K → K → Ordering) (pair : A → K × X) where
     pub entries_of : (xs : List A) → Rise R pair xs → entries (map_of R pair xs) ≡ keyed pair xs
     entries_of xs s = entries-from_entries o (keyed pair xs) s
 
-    -- the values that pass a test, in order
+    -- The values of the map that pass a test are the elements that pass it, in order.
     pub values_of_kept : (p : K × X → Bool) (xs : List A) → Rise R pair xs → map (λ e. e.1) (filter p (entries (map_of R pair xs))) ≡ map val (filter (λ x. p (pair x)) xs)
     values_of_kept p xs s = ap (λ (es : List (K × X)). map (λ e. e.1) (filter p es)) (entries_of xs s) ∙ kept_values p xs
 

@@ -1,4 +1,4 @@
--- Lists in the order of their keys, by where a search ends.
+-- Sorted lists, described by the index at which a search ends.
 use Rattle.std.specs.Prelude.{◌≡◌, ℕ, suc, ◌<◌, ◌≤◌, ◌+◌, true, false, List, [], ◌∷◌, ◌++◌, length, take, drop, Option, Some, None, Result, Ok, Err, IfOk, IfErr, OnOk, OnErr, IsSome, IsNone}
 use Rattle.std.specs.Ordering.{is_lt}
 use Rattle.std.specs.declared.cmp.Ordering.{Ordering}
@@ -33,7 +33,7 @@ module _ {A K X : Type 0} (R : K → K → Ordering) (pair : A → K × X) where
   read_hit xs k i h d is = is ∙ get_or_from_slice_get xs i h.element d h.at
 
   module _ (o : IsTotalOrder R) where
-    -- ---- what the search gives
+    -- ---- the result of a search
 
     hit_from : (xs : List A) (k : K) (i : ℕ) → Rise R pair xs → i < length xs → ((d : A) → R (key (get_or xs i d)) k ≡ Equal) → Hit R pair xs k i
     hit_from [] k i s h p = absurd (omega arith)
@@ -71,7 +71,7 @@ module _ {A K X : Type 0} (R : K → K → Ordering) (pair : A → K × X) where
     place_gap xs k (Ok i) s b p = tt
     place_gap xs k (Err i) s b p = gap_from xs k i b (p (searchable_from_sorted o (λ (e : A). key e) xs k (sorted_by xs s)))
 
-    -- ---- look-ups
+    -- ---- lookups
 
     pub found_hit : (xs : List A) (k : K) (i : ℕ) (h : Hit R pair xs k i) → Some (val h.element) ≡ find R k (keyed pair xs)
     found_hit xs k i h = sym (ap (λ (x : List A). find R k (keyed pair x)) h.split
@@ -94,7 +94,7 @@ module _ {A K X : Type 0} (R : K → K → Ordering) (pair : A → K × X) where
     pub not_some : (xs : List A) (k : K) (i : ℕ) → Gap R pair xs k i → Rise R pair xs → IsSome (find R k (keyed pair xs)) → ⊥
     not_some xs k i g s some = let bad : false ≡ true = subst IsSome (sym (found_gap xs k i g s)) some in cc
 
-    -- what is said of what is found is said of what the map has
+    -- What holds for a lookup in the map holds for a search in the list.
     pub get_says : (P : Option X → Type 0) (d xs : List A) (k : K) → d ≡ xs → P (get (map_of R pair xs) k) → P (find R k (keyed pair d))
     get_says P d xs k e h = subst P (get_of R pair o k xs ∙ ap (λ (x : List A). find R k (keyed pair x)) (sym e)) h
 

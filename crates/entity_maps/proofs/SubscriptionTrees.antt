@@ -1,4 +1,4 @@
--- Trees of subscriptions, and the maps that their lists are.
+-- Trees of subscriptions, and the maps of their lists.
 use Rattle.std.specs.Prelude.{◌≡◌, ℕ, Bool, true, false, cond, List, [], ◌∷◌, filter, Some, None, Result, OnOk, OnErr, refl}
 use Rattle.std.proofs.Common.{sym, ap, ◌∙◌}
 use Rattle.std.proofs.lemmas.Cmp.{nat_cmp_total}
@@ -47,7 +47,7 @@ module _ (m n : BTreeMap ℕ Sub) (old : List Sub) (e : tree.values m ≡ old) (
   pub without_map : (gone : ℕ) → ((q : ℕ) → tree.get nat_cmp n q ≡ cond (is_at (nat_cmp gone) q) None (tree.get nat_cmp m q)) → subscription_map (tree.values n) ≡ remove (subscription_map old) gone
   without_map = trees.without_map nat_cmp own_number id_of nat_cmp_total nat_cmp-IsAntisymmetric m n old e a b
 
-  -- the map of a tree whose subscriptions were told
+  -- Notifying subscriptions of a tree notifies them in its map.
   pub told_map : (ids : List ℕ) → Notifies ids m n → subscription_map (tree.values n) ≡ notified_where (is_one_of ids) (subscription_map old)
   told_map ids told = same_map nat_cmp_total nat_cmp-IsAntisymmetric (subscription_map (tree.values n)) (notified_where (is_one_of ids) (subscription_map old)) (λ id.
       sym (get_in n (tree.values n) id refl b) ∙ (told id
@@ -79,9 +79,9 @@ own_near uss area ss = filter (λ s. is_own_near uss area (pair_of s)) ss
 abbrev pub for_near : Kind → List Region → List Sub → List Sub
 for_near kind areas ss = filter (λ s. is_for_near kind areas (pair_of s)) ss
 
--- ---- one is set
+-- ---- one subscription is replaced
 
--- what is found under an id is the subscription of that id
+-- The subscription found under an id has that id.
 pub own_id : (id : ℕ) (es : Entries) (s : Sub) → AreKeyed es → lookup (is_at (nat_cmp id)) es ≡ Some s → s.id ≡ id
 own_id id [] s a h = cc
 own_id id (e ∷ es) s a h = elim (eq_by_cmp nat_cmp id e.0) as (λ b. eq_by_cmp nat_cmp id e.0 ≡ b → cond b (Some e.1) (lookup (is_at (nat_cmp id)) es) ≡ Some s → s.id ≡ id) [

@@ -1,4 +1,4 @@
--- Subscriptions of a tree are told by their ids, one id after another.
+-- Subscriptions of a tree are notified by id, one id after another.
 use Rattle.std.specs.Prelude.{◌≡◌, ℕ, ◌+◌, ◌<◌, ◌||◌, ◌↔◌, nat_eq, Bool, true, false, cond, IsTrue, IfSome, List, [], ◌∷◌, ◌++◌, length, take, Option, Some, None, refl}
 use Rattle.std.proofs.Common.{arith, get_or, sym, ap, ◌∙◌, subst, true≢false, ltb, length-take}
 use Rattle.std.proofs.lemmas.Bool.{ltb-true}
@@ -19,7 +19,7 @@ use Rattle.entity_core.specs.Serial.{max_serial}
 use Rattle.entity_core.proofs.Changes.{one_id}
 use Rattle.entity_maps.specs.Subscriptions.{Notifies, TreeCanNotify, notified_at}
 
--- whether an id is among these
+-- True if an id is in the list.
 abbrev pub has : List ℕ → ℕ → Bool
 has ids id = list_any (λ j. nat_eq j id) ids
 
@@ -34,12 +34,12 @@ equal k l e = grind (arith, nat_tests, e)
 
 -- ---- one subscription
 
--- that of another id stays
+-- Subscriptions with other ids are unchanged.
 other : (id q : ℕ) (o : Option Sub) → nat_eq id q ≡ false → o ≡ option_map (notified_at (id ∷ []) q) o
 other id q None e = refl
 other id q (Some s) e = λ i. Some (cond (sym e i || false) (notified_again s) s)
 
--- the one of an id is told
+-- Writing the notified subscription back notifies the id.
 pub told_written : (id : ℕ) (m n : BTreeMap ℕ Sub) (s w : Sub) → tree.get nat_cmp m id ≡ Some s → w ≡ notified_again s → ((q : ℕ) → tree.get nat_cmp n q ≡ cond (is_at (nat_cmp id) q) (Some w) (tree.get nat_cmp m q)) → Notifies (id ∷ []) m n
 told_written id m n s w found new u = λ q. u q ∙ elim (eq_by_cmp nat_cmp id q) as (λ b. eq_by_cmp nat_cmp id q ≡ b → cond b (Some w) (tree.get nat_cmp m q) ≡ option_map (notified_at (id ∷ []) q) (tree.get nat_cmp m q)) [
   | true ↦ λ t.
@@ -50,7 +50,7 @@ told_written id m n s w found new u = λ q. u q ∙ elim (eq_by_cmp nat_cmp id q
   | false ↦ λ t. other id q (tree.get nat_cmp m q) (differs id q t)
 ] refl
 
--- none is told where there is none
+-- If no subscription has the id, none is notified.
 pub told_missed : (id : ℕ) (m n : BTreeMap ℕ Sub) → tree.get nat_cmp m id ≡ None → n ≡ m → Notifies (id ∷ []) m n
 told_missed id m n none e = λ q. ap (λ (x : BTreeMap ℕ Sub). tree.get nat_cmp x q) e ∙ elim (eq_by_cmp nat_cmp id q) as (λ b. eq_by_cmp nat_cmp id q ≡ b → tree.get nat_cmp m q ≡ option_map (notified_at (id ∷ []) q) (tree.get nat_cmp m q)) [
   | true ↦ λ t.
@@ -90,7 +90,7 @@ twice ids id q (Some s) new = ap (λ (x : Sub). Some x) (told_next ids id q s ne
 tell_next : (ids : List ℕ) (id : ℕ) (m n o : BTreeMap ℕ Sub) → has ids id ≡ false → Notifies ids m n → Notifies (id ∷ []) n o → Notifies (ids ++ id ∷ []) m o
 tell_next ids id m n o new before now = λ q. now q ∙ (ap (option_map (notified_at (id ∷ []) q)) (before q) ∙ twice ids id q (tree.get nat_cmp m q) new)
 
--- an id that was among them adds nothing
+-- Appending an id that is already in the list adds nothing.
 had : (ids : List ℕ) (id q : ℕ) → has ids id ≡ true → has ids q ≡ has (ids ++ id ∷ []) q
 had ids id q old =
     let test = list_any-append (λ j. nat_eq j q) ids (id ∷ []) in
@@ -107,7 +107,7 @@ tell_again ids id m n old before = λ q. before q ∙ ap (λ (b : Bool). option_
 next : (ids : List ℕ) (k id : ℕ) → k < length ids → id ≡ get_or ids k id → take k ids ++ id ∷ [] ≡ take (k + 1) ids
 next ids k id lt at = ap (λ (x : ℕ). take k ids ++ x ∷ []) at ∙ sym (take_more ids k id lt)
 
--- one more of ids, which was told now or was among those before it
+-- After one more id, all ids so far are notified. The id is notified now or was notified before.
 pub tell_more : (ids : List ℕ) (k id : ℕ) (m n o : BTreeMap ℕ Sub) → k < length ids → id ≡ get_or ids k id → has (take k ids) id ≡ false → Notifies (take k ids) m n → Notifies (id ∷ []) n o → Notifies (take (k + 1) ids) m o
 tell_more ids k id m n o lt at new before now = subst (λ (all : List ℕ). Notifies all m o) (next ids k id lt at) (tell_next (take k ids) id m n o new before now)
 
@@ -118,14 +118,14 @@ rises_in : (ids : List ℕ) (id : ℕ) (o : Option Sub) → has ids id ≡ false
 rises_in ids id None new h = tt
 rises_in ids id (Some s) new h = subst (λ (b : Bool). (cond b (notified_again s) s).index < max_serial) (sym new) (h s refl)
 
--- the index of the next one can rise, since it was not yet told
+-- The index of the next subscription can be incremented, because it was not notified yet.
 pub rises_next : (ids : List ℕ) (id : ℕ) (m n : BTreeMap ℕ Sub) → has ids id ≡ false → TreeCanNotify m → Notifies ids m n → IfSome (tree.get nat_cmp n id) (λ s. s.index < max_serial)
 rises_next ids id m n new can before = subst (λ (o : Option Sub). IfSome o (λ s. s.index < max_serial)) (sym (before id)) (rises_in ids id (tree.get nat_cmp m id) new (can id))
 
 lower : (a b : ℕ) → a < b → nat_eq a b ≡ false
 lower a b h = grind (arith, nat_tests)
 
--- the next one of ids that rise is none of those before it
+-- In an ascending list, the next id is not among the previous ones.
 pub not_among : (ids : List ℕ) (k id : ℕ) → k < length ids → id ≡ get_or ids k id → IsStrictlyIncreasing ids → has (take k ids) id ≡ false
 not_among ids k id lt at up = list_any_none (λ j. nat_eq j id) (take k ids) (λ j d in_range.
     let less : j < k = omega (arith, length-take k ids, in_range) in
@@ -133,7 +133,7 @@ not_among ids k id lt at up = list_any_none (λ j. nat_eq j id) (take k ids) (λ
     let here : get_or ids k d ≡ id = get_or_default ids k d id lt ∙ sym at in
     ap (λ (x : ℕ). nat_eq x id) (get_or-take k ids j d less) ∙ lower (get_or ids j d) id (omega (arith, rise, here)))
 
--- whether ids rise is asked of each and the next
+-- Comparing each id with its successor tests whether the list is ascending.
 pub rising_answer : (ids : List ℕ) (r : Bool) → IsAllAdjacentAnswer (λ x y b. b ≡ ltb x y) ids r → IsTrue r ↔ IsStrictlyIncreasing ids
 rising_answer ids true h = (λ t k lt. ltb-true (get_or ids k 0) (get_or ids (k + 1) 0) (sym (h k 0 lt)), λ up. refl)
 rising_answer ids false h = (

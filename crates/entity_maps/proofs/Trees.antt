@@ -1,4 +1,4 @@
--- Trees in which each value stands under its own key, and the maps that their lists are.
+-- Trees in which each value is stored under its own key, and the maps of their lists.
 use Rattle.std.specs.Prelude.{◌≡◌, Bool, true, false, cond, ◌&&◌, T, List, [], ◌∷◌, ◌++◌, filter, Some, None, Result, Ok, Err, OnOk, OnErr, refl}
 use Rattle.std.proofs.Common.{sym, ap, ◌∙◌, subst}
 use Rattle.std.proofs.lemmas.Cmp.{eq_by_cmp_equiv}
@@ -29,7 +29,7 @@ and_true : (b : Bool) → b && true ≡ b
 and_true true = refl
 and_true false = refl
 
--- A key as the tree has it is `number` of the key of the map, whose order is that of the tree.
+-- A tree's key is `number` of the map's key, and both have the same order.
 module _ {K N A : Type 0} (S : N → N → Ordering) (number : K → N) (key : A → K) where
   abbrev order : K → K → Ordering
   order k l = S (number k) (number l)
@@ -115,7 +115,7 @@ module _ {K N A : Type 0} (S : N → N → Ordering) (number : K → N) (key : A
     found_whole es h = ap values_of (h ∙ all_entries m.entries) ∙ e
 
   module _ (total : IsTotalOrder order) where
-    -- ---- what a tree has under a key is what the map of its list has
+    -- ---- a lookup in a tree agrees with a lookup in the map of its list
 
     found_in : (es : Entries) (k : K) → Keyed es → lookup (test k) es ≡ maps.find order k (keyed pair (values_of es))
     found_in [] k a = refl
@@ -141,7 +141,7 @@ module _ {K N A : Type 0} (S : N → N → Ordering) (number : K → N) (key : A
           ∙ (ap (λ t. cond t None (get (map_of order pair old) k)) ((eq_by_cmp_equiv total).symm gone k)
           ∙ sym (get-remove total (map_of order pair old) gone k)))))
 
--- ---- loops: what was found and what is left
+-- ---- loops: the results so far and the remaining elements
 
 no_more : {A : Type 0} (xs : List A) → xs ++ [] ≡ xs
 no_more [] = refl

@@ -1,4 +1,4 @@
--- Entities in the order of their kinds and ids.
+-- Entities ordered by kind and id.
 use Rattle.std.specs.Prelude.{◌≡◌, ℕ, nat_eq, Bool, false, List, Option, Some, None}
 use Rattle.std.specs.Ordering.{is_le}
 use Rattle.std.specs.List.{AllByRecursion}
@@ -7,30 +7,30 @@ use Rattle.entity_core.specs.Airspace.{Entities, EntityKey, key_cmp, key_of}
 use Rattle.entity_core.specs.Entity.{kind_index}
 use Rattle.entity_maps.specs.Sorted.{Rise, map_of}
 
--- an entity under its key
+-- An entity under its key.
 abbrev pub pair_of : Entity → EntityKey × Entity
 pair_of e = (key_of e, e)
 
--- a key as numbers, whose order is that of the keys
+-- A key as a pair of numbers with the same order.
 abbrev pub numbers_of : EntityKey → ℕ × ℕ
 numbers_of k = (kind_index k.0, k.1)
 
--- each entity stands under its own key
+-- Holds if each entity is stored under its own key.
 abbrev pub AreKeyed : List ((ℕ × ℕ) × Entity) → Type 0
 AreKeyed es = AllByRecursion (λ e. e.0 ≡ numbers_of (key_of e.1)) es
 
 abbrev pub InOrder : List Entity → Type 0
 InOrder es = Rise key_cmp pair_of es
 
--- the map that they are
+-- The map of a list of entities.
 abbrev pub entity_map : List Entity → Entities
 entity_map es = map_of key_cmp pair_of es
 
--- whether there is an entity, and it was last put at a serial
+-- True if there is an entity and it was last put at this serial.
 abbrev pub was_put_at : ℕ → Option Entity → Bool
 was_put_at serial None = false
 was_put_at serial (Some e) = nat_eq e.serial serial
 
--- whether an entity is the one of a key or comes behind it
+-- True if an entity has the key or a later one.
 abbrev pub comes_from : EntityKey → Entity → Bool
 comes_from k e = is_le (key_cmp k (key_of e))

@@ -1,4 +1,4 @@
--- The airspace that sorted lists are.
+-- The airspace of sorted lists.
 use Rattle.std.specs.Prelude.{ℕ, List}
 use Rattle.entity_core.specs.Airspace.{Airspace}
 use Rattle.entity_core.specs.declared.entity.Entity.{Entity}

@@ -1,5 +1,5 @@
--- What stands under a key in a list of entities is the entity of that key. Proved, so nothing has to be
--- believed here: a law of an `impl` cites `specs/` alone.
+-- Every entity found under a key has that key. All of it is proved. It is in `specs/` because a law
+-- of an `impl` can cite only `specs/`.
 use Rattle.std.specs.Prelude.{◌≡◌, true, false, List, [], ◌∷◌, Some, cond, refl}
 use Rattle.std.proofs.Common.{sym, ap, ◌∙◌}
 use Rattle.std.proofs.lemmas.Option.{same_Some}

@@ -1,4 +1,4 @@
-//! Availabilities in the order of their suppliers.
+//! Availabilities ordered by USS id.
 ghost use Rattle.std.specs.Prelude.{◌≡◌, [], OnOk, OnErr, IfOk, IfErr, IsOk, IsSome, IsNone, length, unwrap_or};
 ghost use Rattle.std.specs.List.Sorted.{IsBinarySearchResult, IsSearchInRange};
 ghost use Rattle.std.specs.FinMap.{find, get, insert};
@@ -14,7 +14,7 @@ use std::alloc::{AllocError, Global};
 use std::cmp::Ordering;
 use std::marker::Model;
 
-/// What one supplier has set.
+/// The availability of one USS.
 #[derive(Debug, Drop)]
 pub struct AvailabilityEntry {
     uss: UssId,
@@ -22,7 +22,9 @@ pub struct AvailabilityEntry {
     version: Ovn,
 }
 
-/// What suppliers have set, in the order of their ids, each once. Contracts see the list.
+/// The availabilities of USSs, ordered by USS id, one for each USS.
+///
+/// Contracts see the list.
 #[derive(Debug, Drop)]
 pub struct Availabilities {
     items: Vec<AvailabilityEntry>,
@@ -53,7 +55,7 @@ fn search_settings(items: &[AvailabilityEntry], uss: &UssId) -> Result<usize, us
     items.binary_search_by(|setting| uss_order(&setting.uss, uss))
 }
 
-// Where a supplier's setting stands, or would stand.
+// Returns the index of a USS's entry, or as an error the index at which to insert it.
 fn setting_place(items: &[AvailabilityEntry], uss: &UssId) -> Result<usize, usize>
     ensures hit { InOrder items.now → IfOk result (Hit text_cmp pair_of items.now uss.now) }
     ensures gap { InOrder items.now → IfErr result (Gap text_cmp pair_of items.now uss.now) }
@@ -76,7 +78,8 @@ fn find_setting(
     }
 }
 
-// The availability alone, without memory; of a supplier that has set none, `Unknown`.
+// Returns the availability without its version. Allocates nothing. Returns `Unknown` if the USS has
+// set none.
 fn present(items: &[AvailabilityEntry], uss: &UssId) -> Availability
     requires { InOrder items.now }
     ensures { result ≡ (unwrap_or (find text_cmp uss.now (keyed pair_of items.now))
@@ -110,14 +113,14 @@ fn put_setting(
 }
 
 impl AvailabilityEntry {
-    /// The supplier.
+    /// Returns the id of the USS.
     pub fn uss(&self) -> &UssId
         ensures { result.now ≡ self.now.uss }
     {
         &self.uss
     }
 
-    /// What it has set.
+    /// Returns the availability.
     pub fn availability(&self) -> Availability
         ensures { result ≡ self.now.availability }
     {
@@ -132,7 +135,9 @@ impl AvailabilityEntry {
 }
 
 impl Availabilities {
-    /// No availabilities. It takes no memory.
+    /// Returns an empty map.
+    ///
+    /// Allocates nothing.
     pub fn new(alloc: Global) -> Availabilities
         ensures { result ≡ [] }
     {
@@ -141,15 +146,16 @@ impl Availabilities {
         }
     }
 
-    /// What each supplier has set, in the order of their ids.
+    /// Returns all entries, ordered by USS id.
     pub fn items(&self) -> &[AvailabilityEntry]
         ensures { result.now ≡ self.now }
     {
         &self.items
     }
 
-    /// A copy of what a supplier has set, if it has set anything. That it has set nothing takes no
-    /// memory to tell.
+    /// Returns a copy of the availability and version that a USS has set, if any.
+    ///
+    /// Returns `AllocError` if memory runs out. Allocates nothing if the USS has set none.
     pub fn availability(&self, uss: &UssId) -> Result<Option<(Availability, Ovn)>, AllocError>
         ensures found { IfOk result (λ found. found ≡ get (availability_map self.now) uss.now) }
         ensures none { IsNone (get (availability_map self.now) uss.now) → IsOk result }
@@ -157,8 +163,9 @@ impl Availabilities {
         find_setting(&self.items, uss)
     }
 
-    /// The present availability of a supplier; of one that has set none, `Unknown`. It takes no
-    /// memory.
+    /// Returns the availability of a USS, or `Unknown` if it has set none.
+    ///
+    /// Allocates nothing.
     pub fn present(&self, uss: &UssId) -> Availability
         ensures { result ≡ (unwrap_or (get (availability_map self.now) uss.now)
             (Availability.Unknown, [])).0 }
@@ -166,8 +173,10 @@ impl Availabilities {
         present(&self.items, uss)
     }
 
-    /// Puts what a supplier sets in the place of what it had set, or among the others where its
-    /// place is. On an error nothing is changed; where it had set something, none comes.
+    /// Sets the availability of a USS, replacing an earlier one.
+    ///
+    /// Returns `AllocError` and changes nothing if memory runs out. Replacing an earlier one does
+    /// not fail.
     pub fn put(
         &mut self,
         uss: UssId,

@@ -1,4 +1,4 @@
-//! Entities in the order of their kinds and ids.
+//! Entities ordered by kind and id.
 ghost use Rattle.std.specs.Prelude.{◌≡◌, [], filter, OnOk, OnErr, IfOk, IfErr, IsOk, IsNone};
 ghost use Rattle.std.specs.Map.{values_of};
 ghost use Rattle.std.specs.Option.{option_copied};
@@ -18,11 +18,13 @@ use std::collections::BTreeMap;
 use std::collections::btree_map::{Range, Values};
 use std::marker::Model;
 
-/// The place of a kind in the order of kinds, and the number of an id.
+/// The key of an entity as numbers: the index of its kind, and the number of its id.
 pub type OrderKey = (u8, u128);
 
-/// Entities in the order of their kinds and ids, each kind and id once. They stand in a tree, where
-/// none is moved as another comes or goes. Contracts see their list.
+/// Entities ordered by kind and id, one for each kind and id.
+///
+/// They are stored in a tree, so that inserting or removing an entity does not move the others.
+/// Contracts see their list.
 #[derive(Debug, Drop)]
 pub struct Entities {
     tree: BTreeMap<OrderKey, Entity>,
@@ -41,7 +43,7 @@ impl Model for Entities {
     ghost invariant = { λ a. AreKeyed a.tree.entries };
 }
 
-/// The place of a kind in the order of kinds.
+/// Returns the index of a kind in the order of kinds.
 pub fn kind_index(kind: Kind) -> u8
     ensures { result ≡ kind_index kind }
 {
@@ -63,7 +65,7 @@ fn own_key(entity: &Entity) -> OrderKey
     key(entity.nature.kind(), entity.id.number())
 }
 
-/// Whether an id is not the one to leave out, if there is one.
+/// Returns true if the id is not the excluded one.
 pub fn is_other(except: Option<EntityId>, kind: Kind, id: EntityId) -> bool
     ensures { result ≡ is_not except (kind, id) }
 {
@@ -90,7 +92,9 @@ fn is_naming(entity: &Entity, id: EntityId) -> bool
 }
 
 impl Entities {
-    /// No entities. It takes no memory.
+    /// Returns an empty map.
+    ///
+    /// Allocates nothing.
     pub fn new(alloc: Global) -> Entities
         ensures { result ≡ [] }
     {
@@ -99,7 +103,7 @@ impl Entities {
         }
     }
 
-    /// The entities, in their order.
+    /// Returns an iterator over the entities, in their order.
     pub fn iter(&self) -> Values<'_, OrderKey, Entity>
         ensures items { result ≡ self.now }
         ensures order { InOrder self.now }
@@ -107,7 +111,7 @@ impl Entities {
         self.tree.values()
     }
 
-    /// The same, each under its key.
+    /// Returns an iterator over the entities with their keys, in their order.
     pub fn entries(&self) -> Range<'_, OrderKey, Entity>
         ensures items { values_of result ≡ self.now }
         ensures order { InOrder self.now }
@@ -115,7 +119,7 @@ impl Entities {
         self.tree.range(..)
     }
 
-    /// The entity of a kind and an id and those behind it, in their order, each under its key.
+    /// Returns an iterator over the entities from this key on, with their keys, in their order.
     pub fn range_from(&self, kind: Kind, id: EntityId) -> Range<'_, OrderKey, Entity>
         ensures items { values_of result ≡ filter (comes_from (kind, id)) self.now }
         ensures order { InOrder self.now }
@@ -123,15 +127,18 @@ impl Entities {
         self.tree.range(key(kind, id.number())..)
     }
 
-    /// The entity of a kind and the number of an id, which is all that an index has of it.
+    /// Returns the entity with this kind and the number of its id.
+    ///
+    /// An index stores only the number.
     pub fn get(&self, kind: Kind, number: u128) -> Option<&Entity>
         ensures { option_copied result ≡ get (entity_map self.now) (kind, number) }
     {
         self.tree.get(&key(kind, number))
     }
 
-    /// A copy of the entity of a kind and an id, if there is one. That there is none takes no
-    /// memory to tell.
+    /// Returns a copy of the entity with this kind and id, if any.
+    ///
+    /// Returns `AllocError` if memory runs out. Allocates nothing if there is none.
     pub fn entity(
         &self,
         alloc: Global,
@@ -147,7 +154,9 @@ impl Entities {
         }
     }
 
-    /// Copies of the entities of a kind, by rising ids.
+    /// Returns copies of the entities of a kind, by ascending id.
+    ///
+    /// Returns `AllocError` if memory runs out.
     pub fn all(&self, alloc: Global, kind: Kind) -> Result<Vec<Entity>, AllocError>
         ensures { IfOk result (λ found. found.items ≡ all_in (entity_map self.now) kind) }
     {
@@ -159,8 +168,10 @@ impl Entities {
         Ok(found)
     }
 
-    /// Copies of the entities of a kind, but the one of an id, of which some volume meets some
-    /// area, by rising ids.
+    /// Returns copies of the entities of a kind of which some volume meets some area, by ascending
+    /// id.
+    ///
+    /// Leaves out the entity with the excluded id. Returns `AllocError` if memory runs out.
     pub fn meeting(
         &self,
         alloc: Global,
@@ -194,7 +205,9 @@ impl Entities {
         Ok(found)
     }
 
-    /// The ids of the intents that name a subscription, rising.
+    /// Returns the ids of the intents that reference a subscription, ascending.
+    ///
+    /// Returns `AllocError` if memory runs out.
     pub fn dependents(&self, alloc: Global, id: EntityId) -> Result<Vec<EntityId>, AllocError>
         ensures { IfOk result (λ found. found.items ≡ dependents_in (entity_map self.now) id) }
     {
@@ -207,7 +220,7 @@ impl Entities {
         Ok(found)
     }
 
-    /// Whether an entity of the same kind, id and serial is among them.
+    /// Returns true if it has an entity with the same kind, id and serial.
     pub fn has_put(&self, entity: &Entity) -> bool
         ensures { result ≡ was_put_at entity.now.serial
             (get (entity_map self.now) (key_of entity.now)) }
@@ -218,8 +231,9 @@ impl Entities {
         }
     }
 
-    /// Puts an entity in the place of the one that has its kind and id, which it gives, or among
-    /// the others where its place is. On an error nothing is changed, and the entity comes back.
+    /// Puts an entity and returns the one that it replaces, if any.
+    ///
+    /// Returns the entity with the error and changes nothing if memory runs out.
     pub fn replace(&mut self, entity: Entity) -> Result<Option<Entity>, AllocFailed<Entity>>
         ensures was { IfOk result (λ was. was ≡ get (entity_map self.old) (key_of entity)) }
         ensures ok { OnOk result (entity_map self.new
@@ -235,7 +249,9 @@ impl Entities {
         }
     }
 
-    /// The same, and lets go what had its kind and id. On an error nothing is changed.
+    /// Puts an entity and drops the one that it replaces, if any.
+    ///
+    /// Returns `AllocError` and changes nothing if memory runs out.
     pub fn put(&mut self, entity: Entity) -> Result<(), AllocError>
         ensures ok { OnOk result (entity_map self.new
             ≡ insert (entity_map self.old) (key_of entity) entity) }
@@ -247,8 +263,9 @@ impl Entities {
         }
     }
 
-    /// Removes the entity of a kind and an id, and gives it; where there is none, nothing is
-    /// changed.
+    /// Removes the entity with this kind and id and returns it.
+    ///
+    /// Changes nothing and returns `None` if it does not exist.
     pub fn take(&mut self, kind: Kind, id: EntityId) -> Option<Entity>
         ensures was { result ≡ get (entity_map self.old) (kind, id) }
         ensures left { entity_map self.new ≡ remove (entity_map self.old) (kind, id) }
@@ -256,7 +273,9 @@ impl Entities {
         self.tree.remove(&key(kind, id.number()))
     }
 
-    /// The entities themselves, in their order.
+    /// Converts the map into a vector of its entities, in their order.
+    ///
+    /// Returns `AllocError` if memory runs out.
     pub fn into_vec(self, alloc: Global) -> Result<Vec<Entity>, AllocError>
         ensures items { IfOk result (λ items. items.items ≡ self) }
         ensures order { IfOk result (λ _. InOrder self) }

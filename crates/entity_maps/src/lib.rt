@@ -1,4 +1,4 @@
-//! Maps of entities, of subscriptions and of availabilities: two trees, and a sorted list.
+//! Maps of entities, subscriptions and availabilities: two trees and a sorted vector.
 #![tactic(auto)]
 
 pub mod availabilities;

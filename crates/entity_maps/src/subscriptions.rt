@@ -1,4 +1,4 @@
-//! Subscriptions in the order of their ids.
+//! Subscriptions ordered by id.
 ghost use Rattle.std.specs.Prelude.{◌≡◌, ◌<◌, ◌↔◌, [], ◌∷◌, OnOk, OnErr, IfOk, IsOk, IfSome, IsSome, IsNone, IsTrue, filter, length, nat_eq};
 ghost use Rattle.std.specs.List.{list_any};
 ghost use Rattle.std.specs.List.Sorted.{IsStrictlyIncreasing};
@@ -23,8 +23,10 @@ use std::collections::BTreeMap;
 use std::collections::btree_map::{Range, Values};
 use std::marker::Model;
 
-/// Subscriptions in the order of their ids, each once. They stand in a tree, where none is moved as
-/// another comes or goes. Contracts see their list.
+/// Subscriptions ordered by id, one for each id.
+///
+/// They are stored in a tree, so that inserting or removing a subscription does not move the
+/// others. Contracts see their list.
 #[derive(Debug, Drop)]
 pub struct Subscriptions {
     tree: BTreeMap<u128, Sub>,
@@ -43,14 +45,14 @@ impl Model for Subscriptions {
     ghost invariant = { λ a. AreKeyed a.tree.entries };
 }
 
-// Whether a subscription is a supplier's, and its volume meets an area.
+// Returns true if a subscription belongs to the USS and its volume meets the area.
 fn is_own_near(sub: &Sub, uss: &UssId, area: &SortedArea) -> bool
     ensures { result ≡ is_own_near uss.now area.now (pair_of sub.now) }
 {
     sub.manager.text() == uss.text() && sub.volume.meets_sorted(area)
 }
 
-// Whether a subscription is for a kind, and its volume meets some area.
+// Returns true if a subscription is for the kind and its volume meets some area.
 fn is_for_near(sub: &Sub, kind: Kind, areas: &[SortedArea]) -> bool
     ensures { result ≡ is_for_near kind areas.now (pair_of sub.now) }
 {
@@ -69,7 +71,7 @@ fn are_rising(ids: &[EntityId]) -> bool
     ids.is_sorted_by(|id, next| id.number() < next.number())
 }
 
-// Tells the one of an id, if there is one.
+// Notifies the subscription with this id, if it exists.
 fn tell_one(tree: &mut BTreeMap<u128, Sub>, id: EntityId)
     requires keyed { AreKeyed tree.old.entries }
     requires rises { IfSome (trees.get nat_cmp tree.old id) (λ s. s.index < max_serial) }
@@ -81,7 +83,8 @@ fn tell_one(tree: &mut BTreeMap<u128, Sub>, id: EntityId)
     }
 }
 
-// Tells those of ids, each once: where these rise, in the size of what is told.
+// Notifies the subscriptions with these ids, each once. Looks for repeated ids only if the ids are
+// not ascending.
 fn tell_those(tree: &mut BTreeMap<u128, Sub>, ids: &[EntityId])
     requires keyed { AreKeyed tree.old.entries }
     requires rises { TreeCanNotify tree.old }
@@ -98,7 +101,9 @@ fn tell_those(tree: &mut BTreeMap<u128, Sub>, ids: &[EntityId])
 }
 
 impl Subscriptions {
-    /// No subscriptions. It takes no memory.
+    /// Returns an empty map.
+    ///
+    /// Allocates nothing.
     pub fn new(alloc: Global) -> Subscriptions
         ensures { result ≡ [] }
     {
@@ -107,14 +112,14 @@ impl Subscriptions {
         }
     }
 
-    /// How many there are.
+    /// Returns the number of subscriptions.
     pub fn len(&self) -> usize
         ensures { result ≡ length self.now }
     {
         self.tree.len()
     }
 
-    /// The subscriptions, by rising ids.
+    /// Returns an iterator over the subscriptions, by ascending id.
     pub fn iter(&self) -> Values<'_, u128, Sub>
         ensures items { result ≡ self.now }
         ensures order { InOrder self.now }
@@ -122,7 +127,7 @@ impl Subscriptions {
         self.tree.values()
     }
 
-    /// The same, each under the number of its id.
+    /// Returns an iterator over the subscriptions with the numbers of their ids, by ascending id.
     pub fn entries(&self) -> Range<'_, u128, Sub>
         ensures items { values_of result ≡ self.now }
         ensures order { InOrder self.now }
@@ -130,8 +135,8 @@ impl Subscriptions {
         self.tree.range(..)
     }
 
-    /// The subscription of an id and those behind it, by rising ids, each under the number of its
-    /// id.
+    /// Returns an iterator over the subscriptions from this id on, with the numbers of their ids,
+    /// by ascending id.
     pub fn range_from(&self, id: EntityId) -> Range<'_, u128, Sub>
         ensures items { values_of result ≡ filter (comes_from id) self.now }
         ensures order { InOrder self.now }
@@ -139,15 +144,18 @@ impl Subscriptions {
         self.tree.range(id.number()..)
     }
 
-    /// The subscription of the number of an id, which is all that an index has of it.
+    /// Returns the subscription with the number of its id.
+    ///
+    /// An index stores only the number.
     pub fn get(&self, number: u128) -> Option<&Sub>
         ensures { option_copied result ≡ get (subscription_map self.now) number }
     {
         self.tree.get(&number)
     }
 
-    /// A copy of the subscription of an id, if there is one. That there is none takes no memory to
-    /// tell.
+    /// Returns a copy of the subscription with this id, if any.
+    ///
+    /// Returns `AllocError` if memory runs out. Allocates nothing if there is none.
     pub fn subscription(&self, id: EntityId) -> Result<Option<Sub>, AllocError>
         ensures found { IfOk result (λ found. found ≡ get (subscription_map self.now) id) }
         ensures none { IsNone (get (subscription_map self.now) id) → IsOk result }
@@ -158,7 +166,9 @@ impl Subscriptions {
         }
     }
 
-    /// Copies of the subscriptions of a supplier whose volumes meet an area, by rising ids.
+    /// Returns copies of a USS's subscriptions whose volumes meet an area, by ascending id.
+    ///
+    /// Returns `AllocError` if memory runs out.
     pub fn subscriptions_of(
         &self,
         alloc: Global,
@@ -190,8 +200,10 @@ impl Subscriptions {
         Ok(own)
     }
 
-    /// Copies of the subscriptions that are for a kind and whose volumes meet some area, by rising
-    /// ids.
+    /// Returns copies of the subscriptions that are for a kind and whose volumes meet some area, by
+    /// ascending id.
+    ///
+    /// Returns `AllocError` if memory runs out.
     pub fn subscribers(
         &self,
         alloc: Global,
@@ -223,8 +235,9 @@ impl Subscriptions {
         Ok(wanted)
     }
 
-    /// Tells each subscription whose id is among these of one more change. It takes no memory. The
-    /// index of each can rise.
+    /// Notifies each subscription with one of these ids once: increments its notification index.
+    ///
+    /// Each index must be below its maximum. Allocates nothing.
     pub fn notify(&mut self, ids: &[EntityId])
         requires { CanNotify self.old }
         ensures { subscription_map self.new
@@ -233,8 +246,9 @@ impl Subscriptions {
         tell_those(&mut self.tree, ids);
     }
 
-    /// Puts a subscription in the place of the one that has its id, or among the others where its
-    /// place is. On an error nothing is changed; over one that has its id, none comes.
+    /// Puts a subscription, replacing the one with the same id.
+    ///
+    /// Returns `AllocError` and changes nothing if memory runs out. Replacing one does not fail.
     pub fn put(&mut self, sub: Sub) -> Result<(), AllocError>
         ensures ok { OnOk result (subscription_map self.new
             ≡ insert (subscription_map self.old) sub.id sub) }
@@ -247,7 +261,9 @@ impl Subscriptions {
         }
     }
 
-    /// Removes the subscription of an id; where there is none, nothing is changed.
+    /// Removes the subscription with this id.
+    ///
+    /// Changes nothing if it does not exist.
     pub fn remove(&mut self, id: EntityId)
         ensures { subscription_map self.new ≡ remove (subscription_map self.old) id }
     {

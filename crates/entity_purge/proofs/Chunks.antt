@@ -1,4 +1,4 @@
--- A sweep in pieces.
+-- A purge in chunks.
 use Rattle.std.specs.Prelude.{◌≡◌, ℕ, ◌≤◌, ◌&&◌, not, Bool, true, false, Some, refl}
 use Rattle.std.proofs.Common.{sym, ap, ◌∙◌, subst}
 use Rattle.std.proofs.lemmas.Cmp.{nat_cmp_total}
@@ -64,7 +64,7 @@ nothing_goes until b lasts stay =
     let ss : retained_subs until m b.subscriptions ≡ b.subscriptions = kept_all nat_cmp_total nat_cmp-IsAntisymmetric (λ x. not (is_due_by until m x)) b.subscriptions (λ id s h. ap not (stay id s h)) in
     λ i. record { entities = es i; subscriptions = ss i; availabilities = b.availabilities; serial = b.serial }
 
--- who is named by one that stays is named
+-- A subscription that a retained intent references is referenced.
 staying_named : (until : ℕ) (m : Entities) (id : ℕ) → is_named_in (retained until m) id ≡ true → is_named_in m id ≡ true
 staying_named until m id h =
     let by = who_names (retained until m) id h in

@@ -1,4 +1,4 @@
--- What is let go of, one thing after the other.
+-- Purging items one after another.
 use Rattle.std.specs.Prelude.{◌≡◌, ℕ, ◌||◌, Bool, true, false, cond, List, [], ◌∷◌, map, filter, Some, IsSome, refl}
 use Rattle.std.proofs.Common.{sym, ap, ◌∙◌, subst}
 use Rattle.std.specs.List.{list_any}

@@ -1,4 +1,4 @@
--- Maps of which some entries are kept.
+-- Maps with some entries removed.
 use Rattle.std.specs.Prelude.{◌≡◌, ℕ, nat_eq, ◌&&◌, ◌||◌, not, Bool, true, false, cond, T, List, [], ◌∷◌, filter, Option, Some, None, refl}
 use Rattle.std.proofs.Common.{arith, sym, ap, ◌∙◌, subst}
 use Rattle.std.proofs.lemmas.Option.{same_Some}
@@ -71,7 +71,7 @@ pub kept_whole : {X : Type 0} (p : X → Bool) (o : Option X) → ((x : X) → o
 kept_whole p None all = refl
 kept_whole p (Some x) all = ap (λ (b : Bool). cond b (Some x) None) (all x refl)
 
--- what is kept was there, and passes
+-- A value that the filter retains was there and passes the test.
 pub kept_was : {X : Type 0} (p : X → Bool) (o : Option X) (x : X) → if_kept p o ≡ Some x → (o ≡ Some x) × (p x ≡ true)
 kept_was p None x h = cc
 kept_was {X} p (Some y) x h =
@@ -102,7 +102,7 @@ none_below {X = X} R k q es o below t =
       | Some x ↦ λ h. absurd (below_found R k q x es o below h t)
     ] refl
 
--- an entry that passes is found under its key
+-- An entry that passes the test is found under its key.
 pub any_found : {K X : Type 0} (R : K → K → Ordering) (p : K × X → Bool) (es : List (K × X)) → IsTotalOrder R → T (is_sorted R es) → list_any p es ≡ true → (k : K) × (x : X) × (find R k es ≡ Some x) × (p (k, x) ≡ true)
 any_found R p [] o rises h = cc
 any_found {K} {X} R p (e ∷ es) o rises h =
@@ -159,7 +159,7 @@ still_found R e es (f ∷ fs) o below all = (
   still_found R e es fs o below all.1,
 )
 
--- each entry is found under its key
+-- Each entry is found under its key.
 all_found : {K X : Type 0} (R : K → K → Ordering) (es : List (K × X)) → IsTotalOrder R → T (is_sorted R es) → AllByRecursion (λ e. find R e.0 es ≡ Some e.1) es
 all_found R [] o rises = tt
 all_found R (e ∷ es) o rises = (
@@ -185,7 +185,7 @@ at_found {K} {X} R P (e ∷ es) k x same h all =
       | false ↦ λ t g. at_found R P es k x same g all.1
     ] refl h
 
--- what each entry has, what is found has
+-- What holds for each entry holds for the entry found under a key.
 pub all_at : {K X : Type 0} {R : K → K → Ordering} → IsAntisymmetric R → (P : K × X → Type 0) (m : FinMap R X) (k : K) (x : X) → get m k ≡ Some x → AllByRecursion P (entries m) → P (k, x)
 all_at {R = R} same P m k x h all = at_found R P (entries m) k x same (sym (get-entries m k) ∙ h) all
 
@@ -206,12 +206,13 @@ module _ {K X : Type 0} {R : K → K → Ordering} (o : IsTotalOrder R) (same : 
   maps_agree p q m agree = same_map o same (kept_where p m) (kept_where q m) (λ k.
       get_kept p m k ∙ (kept_agree (λ x. p (k, x)) (λ x. q (k, x)) (get m k) (λ x h. agree k x h) ∙ sym (get_kept q m k)))
 
-  -- what passes the one passes the other
+  -- If the first test implies the second, filtering by the second first does not matter.
   pub maps_twice : (p q : K × X → Bool) (m : FinMap R X) → ((k : K) (x : X) → get m k ≡ Some x → p (k, x) ≡ true → q (k, x) ≡ true) → kept_where p (kept_where q m) ≡ kept_where p m
   maps_twice p q m on = same_map o same (kept_where p (kept_where q m)) (kept_where p m) (λ k.
       get_kept p (kept_where q m) k ∙ (ap (if_kept (λ x. p (k, x))) (get_kept q m k) ∙ (kept_twice (λ x. p (k, x)) (λ x. q (k, x)) (get m k) (λ x h. on k x h) ∙ sym (get_kept p m k))))
 
-  -- so it is found in a map of which less is kept
+  -- If the first test implies the second, filtering the map first does not change the filtered
+  -- entries.
   pub filter_twice : (p q : K × X → Bool) (m : FinMap R X) → ((k : K) (x : X) → get m k ≡ Some x → p (k, x) ≡ true → q (k, x) ≡ true) → filter p (entries (kept_where q m)) ≡ filter p (entries m)
   filter_twice p q m on = sym (entries_kept p (kept_where q m)) ∙ (ap entries (maps_twice p q m on) ∙ entries_kept p m)
 
@@ -226,7 +227,7 @@ module _ {K X : Type 0} {R : K → K → Ordering} (o : IsTotalOrder R) (same : 
   inserted_kept p q m k v j true on = refl
   inserted_kept p q m k v j false on = kept_twice (λ x. p (j, x)) (λ x. q (j, x)) (get m j) on
 
-  -- of a map with one more entry
+  -- The same holds after an insertion.
   pub insert_twice : (p q : K × X → Bool) (m : FinMap R X) (k : K) (v : X) → ((j : K) (x : X) → get m j ≡ Some x → p (j, x) ≡ true → q (j, x) ≡ true) → kept_where p (insert (kept_where q m) k v) ≡ kept_where p (insert m k v)
   insert_twice p q m k v on = same_map o same (kept_where p (insert (kept_where q m) k v)) (kept_where p (insert m k v)) (λ j.
       get_kept p (insert (kept_where q m) k v) j
@@ -239,7 +240,7 @@ module _ {K X : Type 0} {R : K → K → Ordering} (o : IsTotalOrder R) (same : 
   removed_kept p q m j true on = refl
   removed_kept p q m j false on = kept_twice (λ x. p (j, x)) (λ x. q (j, x)) (get m j) on
 
-  -- of a map with one entry less
+  -- The same holds after a removal.
   pub remove_twice : (p q : K × X → Bool) (m : FinMap R X) (k : K) → ((j : K) (x : X) → get m j ≡ Some x → p (j, x) ≡ true → q (j, x) ≡ true) → kept_where p (remove (kept_where q m) k) ≡ kept_where p (remove m k)
   remove_twice p q m k on = same_map o same (kept_where p (remove (kept_where q m) k)) (kept_where p (remove m k)) (λ j.
       get_kept p (remove (kept_where q m) k) j
@@ -251,7 +252,7 @@ module _ {K X : Type 0} {R : K → K → Ordering} (o : IsTotalOrder R) (same : 
   insert_passes p m k v j true passes = ap (λ (b : Bool). cond b (Some v) None) (passes refl)
   insert_passes p m k v j false passes = refl
 
-  -- what passes may be put before or after
+  -- An entry that passes can be inserted before or after filtering.
   pub kept_insert : (p : K × X → Bool) (m : FinMap R X) (k : K) (v : X) → p (k, v) ≡ true → insert (kept_where p m) k v ≡ kept_where p (insert m k v)
   kept_insert p m k v h = same_map o same (insert (kept_where p m) k v) (kept_where p (insert m k v)) (λ j.
       get-insert o (kept_where p m) k v j
@@ -275,7 +276,7 @@ module _ {K X : Type 0} {R : K → K → Ordering} (o : IsTotalOrder R) (same : 
   less_kept p true (Some y) gone = ap (λ (b : Bool). cond b (Some y) None) (sym (gone refl y refl))
   less_kept p false x gone = refl
 
-  -- what does not pass may be removed before
+  -- An entry that does not pass can be removed before filtering.
   pub kept_less : (p : K × X → Bool) (m : FinMap R X) (k : K) → ((x : X) → get m k ≡ Some x → p (k, x) ≡ false) → kept_where p (remove m k) ≡ kept_where p m
   kept_less p m k gone = same_map o same (kept_where p (remove m k)) (kept_where p m) (λ j.
       get_kept p (remove m k) j

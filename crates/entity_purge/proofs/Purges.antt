@@ -1,4 +1,4 @@
--- What a sweep leaves.
+-- The airspace after a purge.
 use Rattle.std.specs.Prelude.{◌≡◌, ℕ, ◌≤◌, ◌&&◌, not, nat_le, Bool, true, false, cond, List, [], ◌∷◌, Option, Some, None, is_some, refl}
 use Rattle.std.proofs.Common.{arith, zero, suc, sym, ap, ◌∙◌, subst}
 use Rattle.std.proofs.lemmas.Cmp.{nat_cmp_total}
@@ -28,7 +28,7 @@ below_least : (m n : ℕ) (es : List Extent) → AllByRecursion (λ v. v.time.1 
 below_least m n [] all h = tt
 below_least m n (v ∷ es) all h = ((let k = all.0 in omega (arith, h, k)), below_least m n es all.1 h)
 
--- of volumes with a last end, each ends by then
+-- Each volume has ended by the latest end.
 ends_within : (es : List Extent) → HaveEnded (span_of es).1 es
 ends_within [] = tt
 ends_within (v ∷ es) = (span_is (v ∷ es) (span_of (v ∷ es)) refl (omega arith)).last
@@ -51,14 +51,14 @@ all_ended until (e ∷ es) all =
 pub ended_all : EndedIsAll
 ended_all = record { each = each_ended; all = all_ended }
 
--- what has ended by a moment has by each later one
+-- Volumes that have ended by a time have ended by each later time.
 pub ended_later : (u v : ℕ) (es : List Extent) → u ≤ v → have_ended u es ≡ true → have_ended v es ≡ true
 ended_later u v es h e = le_true (span_of es).1 v (let k = le_holds (span_of es).1 u e in omega (arith, h, k))
 
 pub sub_ended_later : (u v : ℕ) (s : Sub) → u ≤ v → sub_has_ended u s ≡ true → sub_has_ended v s ≡ true
 sub_ended_later u v s h e = le_true s.volume.time.1 v (let k = le_holds s.volume.time.1 u e in omega (arith, h, k))
 
--- ---- what is found
+-- ---- lookups
 
 pub found_staying : (until : ℕ) (m : Entities) (k : EntityKey) → get (retained until m) k ≡ if_kept (λ e. not (has_ended until e)) (get m k)
 found_staying until m k = get_kept key_total key_exact (has_not_ended until) m k
@@ -74,7 +74,7 @@ purge_exact until a = record {
   serial = refl;
 }
 
--- what is found after a sweep was there, and has not ended or does not go
+-- An entity found after a purge was there before and has not ended.
 pub entity_was : (until : ℕ) (a : Airspace) (k : EntityKey) (e : Entity) → get (purged until a).entities k ≡ Some e → (get a.entities k ≡ Some e) × (has_ended until e ≡ false)
 entity_was until a k e h =
     let was = kept_was (λ x. not (has_ended until x)) (get a.entities k) e (sym (found_staying until a.entities k) ∙ h) in
@@ -92,7 +92,7 @@ purge_keeps until a proper = record {
   told = λ id s h. proper.told id s (sub_was until a id s h).0;
 }
 
--- ---- who names a subscription
+-- ---- references to a subscription
 
 pub who_names : (m : Entities) (id : ℕ) → is_named_in m id ≡ true → (k : EntityKey) × (e : Entity) × (get m k ≡ Some e) × (is_naming id (k, e) ≡ true)
 who_names m id h = some_got key_total key_exact (is_naming id) m h
@@ -100,7 +100,7 @@ who_names m id h = some_got key_total key_exact (is_naming id) m h
 pub named_by_one : (m : Entities) (id : ℕ) (k : EntityKey) (e : Entity) → get m k ≡ Some e → is_naming id (k, e) ≡ true → is_named_in m id ≡ true
 named_by_one m id k e h t = got_some key_total key_exact (is_naming id) m k e h t
 
--- a subscription that an entity names, among those that stay, does not go
+-- A subscription that a retained entity references is not purged.
 pub named_stays : (until : ℕ) (m : Entities) (id : ℕ) (s : Sub) → is_named_in m id ≡ true → is_due_by until m (id, s) ≡ false
 named_stays until m id s h = ap (λ (b : Bool). sub_has_ended until s && not b) h ∙ and_false (sub_has_ended until s)
 
@@ -122,7 +122,7 @@ purge_keeps_names until a stand k e id h names =
     ap is_some (found_subs until m a.subscriptions id)
     ∙ kept_there (λ s. not (is_due_by until m (id, s))) (get a.subscriptions id) (stand k e id (entity_was until a k e h).0 names) (λ s there. ap not (named_stays until m id s named))
 
--- ---- sweeps join
+-- ---- consecutive purges
 
 stays_since : (u v : ℕ) (k : EntityKey) (e : Entity) → u ≤ v → has_not_ended v (k, e) ≡ true → has_not_ended u (k, e) ≡ true
 stays_since u v k e h t =
@@ -134,7 +134,7 @@ stays_since u v k e h t =
 pub staying_join : (u v : ℕ) (m : Entities) → u ≤ v → retained v (retained u m) ≡ retained v m
 staying_join u v m h = maps_twice key_total key_exact (has_not_ended v) (has_not_ended u) m (λ k e there t. stays_since u v k e h t)
 
--- what stays until later was there until earlier
+-- A subscription that is referenced after a later purge is referenced after an earlier one.
 named_since : (u v : ℕ) (m : Entities) (id : ℕ) → u ≤ v → is_named_in (retained v m) id ≡ true → is_named_in (retained u m) id ≡ true
 named_since u v m id h t =
     let by = who_names (retained v m) id t in
@@ -165,7 +165,7 @@ purges_join u v a h =
     ap (λ (m : Entities). retained_subs v m (retained_subs u (retained u a.entities) a.subscriptions)) same ∙ subs_join u v a.entities a.subscriptions h in
     λ i. record a { entities = same i; subscriptions = subs i }
 
--- ---- what decides that two airspaces are the same once swept
+-- ---- when two airspaces are equal after a purge
 
 pub once_purged : (until : ℕ) (x y : Airspace) → retained until x.entities ≡ retained until y.entities
     → retained_subs until (retained until y.entities) x.subscriptions ≡ retained_subs until (retained until y.entities) y.subscriptions

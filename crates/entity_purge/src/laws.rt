@@ -1,38 +1,44 @@
-//! Laws of a sweep, each named by a function that does nothing.
+//! Laws of a purge. Each is the contract of a function that does nothing.
 ghost use Rattle.entity_purge.specs.PurgeItem.{GoneIsPurged};
 ghost use Rattle.entity_purge.specs.Purge.{EndedIsAll, ChunksMakePurges, PurgeIsExact, PurgeKeeps, PurgeKeepsNames, PurgesJoin, PurgedIsPartly};
 
-/// Volumes have ended by a moment exactly where each of them has.
+/// States that volumes have ended by a time exactly if each of them has.
 pub fn ended_when_all_volumes_ended()
     ensures { EndedIsAll }
 {}
 
-/// A sweep until a moment takes the intents and constraints that have ended, and the subscriptions
-/// that have and that no intent which stays names. All else it leaves as it was, the serial too.
+/// States what a purge up to a time removes.
+///
+/// It removes the entities that have ended, and the subscriptions that have ended and that no
+/// retained intent references. Everything else stays, including the serial.
 pub fn purge_is_exact()
     ensures { PurgeIsExact }
 {}
 
-/// A swept airspace may be kept. Where each intent named a subscription that was there, each that
-/// stays does.
+/// States that a purge keeps an airspace valid.
+///
+/// If each referenced subscription existed before the purge, each referenced one exists after it.
 pub fn purge_keeps()
     ensures airspace { PurgeKeeps }
     ensures names { PurgeKeepsNames }
 {}
 
-/// To sweep twice is to sweep until the later moment.
+/// States that two consecutive purges equal the later one.
 pub fn purges_join()
     ensures { PurgesJoin }
 {}
 
-/// A sweep may be made in pieces, and what was swept until an earlier moment is swept in part.
+/// States that a purge can be done in chunks.
+///
+/// A purge up to an earlier time is a part of it.
 pub fn chunks_make_purges()
     ensures chunks { ChunksMakePurges }
     ensures earlier { PurgedIsPartly }
 {}
 
-/// Where a sweep takes each of some things, one after the other, what is left is swept in part, and
-/// each can be let go of. What is left when some were let go of may be kept.
+/// States that purging items that are due, one after another, gives a partly purged airspace.
+///
+/// Each of them can be purged. Purging any items of a valid airspace gives a valid airspace.
 pub fn purged_items_are_partly_purged()
     ensures { GoneIsPurged }
 {}

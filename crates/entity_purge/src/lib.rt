@@ -1,4 +1,4 @@
-//! What has ended, and what a sweep of it leaves of an airspace.
+//! Tests of whether entities have ended, and the effect of a purge on an airspace.
 #![tactic(auto)]
 
 pub mod laws;

@@ -1,13 +1,13 @@
-//! What is let go of an airspace.
+//! The items of a purge.
 
 use entity_core::entity_id::EntityId;
 use entity_core::nature::Kind;
 
-/// One thing that is let go of.
+/// One item that is purged.
 #[derive(Clone, Copy, Debug, PartialEq, Eq)]
 pub enum PurgeItem {
-    /// The entity of a kind and an id.
+    /// The entity with this kind and id.
     Entity(Kind, EntityId),
-    /// The subscription of an id.
+    /// The subscription with this id.
     Subscription(EntityId),
 }

@@ -1,4 +1,4 @@
--- A cell is found from its number, and is the only one with it.
+-- Every valid number is the number of exactly one cell, and the cell is computed from it.
 use Rattle.std.specs.Prelude.{◌≡◌, ℕ, zero, suc, ◌+◌, ◌-◌, ◌*◌, ◌^◌, ◌/◌, ◌%◌, ◌≤◌, ◌<◌, List, [], ◌∷◌, ◌++◌, length, refl}
 use Rattle.std.specs.List.{AllByRecursion}
 use Rattle.std.specs.Int.{w64, trailing_zeros, bit_at}
@@ -16,7 +16,7 @@ pub small_digits : (l p : ℕ) → AllByRecursion (λ d. d < 4) (digits l p)
 small_digits zero p = tt
 small_digits (suc l) p = (mod_below (p / 4 ^ l) 4 (omega arith), small_digits l p)
 
--- paths are all different
+-- Paths of equal length are equal only if their faces and digits are equal.
 pub one_path : (f g : ℕ) → (xs ys : List ℕ) → AllByRecursion (λ d. d < 4) xs → AllByRecursion (λ d. d < 4) ys → length xs ≡ length ys → path f xs ≡ path g ys → (f ≡ g) × (xs ≡ ys)
 one_path f g [] [] a b l e = (e, refl)
 one_path f g [] (y ∷ ys) a b l e = absurd (omega arith)
@@ -50,7 +50,7 @@ IsCell-cell_of n v =
 
 -- ---- the number of a cell is valid
 
--- where the lowest 1 stands
+-- The lowest 1 bit of an odd number times 2 ^ j is bit j.
 pub lowest : (n p j : ℕ) → j < 64 → n < 2 ^ 64 → n ≡ (2 * p + 1) * 2 ^ j → trailing_zeros w64 n ≡ j
 lowest n p j below fits is =
     let pos : 0 < 2 ^ j = pow_pos j in
@@ -70,7 +70,7 @@ lowest n p j below fits is =
       ]
     ]
 
--- a path lies below its face
+-- Dividing a path by 4 for each digit gives its face.
 pub path-face : (f : ℕ) → (ds : List ℕ) → AllByRecursion (λ d. d < 4) ds → path f ds / 4 ^ length ds ≡ f
 path-face f [] a = div-one f
 path-face f (d ∷ ds) a =
@@ -79,7 +79,7 @@ path-face f (d ∷ ds) a =
     let e : path (4 * f + d) ds / 4 ^ length ds / 4 ≡ path (4 * f + d) ds / 4 ^ suc (length ds) = div-div-eq-div-mul (path (4 * f + d) ds) (4 ^ length ds) 4 ∙ ap (λ (x : ℕ). path (4 * f + d) ds / x) (sym (pow-suc 4 (length ds))) in
     sym e ∙ (ap (λ (x : ℕ). x / 4) ih ∙ (let q : (4 * f + d) / 4 ≡ f = omega arith in q))
 
--- what is known of the number of a cell: the path, and the levels that are left
+-- The number of a cell, written with its path and the count of levels below the cell.
 pub record NumberOf (c : Cell) : Type 0 where
   pub left : ℕ
   pub all : length c.digits + left ≡ 30
@@ -143,13 +143,13 @@ face-cell_of n v =
     let l : 30 - t / 2 ≡ a.levels = let x = a.all in let y = a.place in let z = v.even in omega arith in
     ap (λ (x : ℕ). n / 2 ^ (t + 1) / 4 ^ x) l ∙ a.top
 
--- of 0 no bit is set, and its lowest 1 would be at 64
+-- A number with at most 60 trailing zeros is not 0. The number 0 would have 64.
 pub some_by_place : (n : ℕ) → trailing_zeros w64 n ≤ 60 → 0 < n
 unfolding count_trailing_zeros
 some_by_place zero h = absurd (omega (arith, h))
 some_by_place (suc n) h = omega arith
 
--- the lowest 1 of a cell's number
+-- The lowest 1 bit of a cell's number.
 pub record LowestOne (c : Cell) : Type 0 where
   pub size : 1 * 2 ^ trailing_zeros w64 (number_of c) % 2 ^ 64 ≡ 4 ^ (30 - length c.digits)
   pub low : 4 ^ (30 - length c.digits) ≤ number_of c
@@ -178,7 +178,7 @@ lowest_one_of c v =
       high = omega (arith, is, f, wide, whole, room);
     }
 
--- a cell is found again from its number, so no two cells have one number
+-- A cell is computed back from its number, so no two cells have the same number.
 pub cell_of-number_of : (c : Cell) → IsCell c → cell_of (number_of c) ≡ c
 unfolding cell_of cell_at
 cell_of-number_of c v =

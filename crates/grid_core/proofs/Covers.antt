@@ -1,4 +1,4 @@
--- How much a cell covers, and how many cells there may be.
+-- The number of level-13 cells that a cell covers, and the maximum number of cells.
 use Rattle.std.specs.Prelude.{◌≡◌, ℕ, ◌-◌, ◌*◌, ◌^◌, ◌%◌, ◌≤◌, ◌<◌, Bool, true, false, length, Option, Some, None, nat_lt, cond, refl}
 use Rattle.std.proofs.Common.{arith, sym, ap, ◌∙◌}
 use Rattle.std.proofs.Math.Nat.{pow-le-pow_right}
@@ -26,6 +26,6 @@ few n rest h = elim (nat_lt n 1) as (λ (a : Bool). cond a (Some Empty) (cond (n
   ] refl e
 ] h
 
--- a region without a fault has at most 512 cells
+-- A region without a fault has at most 512 cells.
 pub few_cells : (r : Region) → region_fault r ≡ None → length r.cells ≤ 512
 few_cells r h = few (length r.cells) _ h

@@ -1,4 +1,4 @@
--- The digits, the parents and the children of a cell, by its number.
+-- The digits, parents and children of a cell, computed from its number.
 use Rattle.std.specs.Prelude.{◌≡◌, ℕ, zero, suc, ◌+◌, ◌-◌, ◌*◌, ◌^◌, ◌/◌, ◌%◌, ◌≤◌, ◌<◌, List, [], ◌∷◌, ◌++◌, length, take, drop, refl, slice_index}
 use Rattle.std.specs.List.{AllByRecursion}
 use Rattle.std.proofs.Common.{arith, sym, ap, ◌∙◌, subst, length-append, length-take, length-drop}
@@ -10,7 +10,7 @@ use Rattle.grid_core.specs.CellNumberLaw.{four, odd_product}
 use Rattle.grid_core.proofs.CellNumber.{path-face, path-append, number_of_cell, IsNumber-number_of, cell_of-number_of, same_cell}
 use Rattle.grid_core.proofs.Intervals.{all_take, all_drop}
 
--- a number that is a cell's
+-- The facts that make a number the number of a cell.
 pub record Makes (n : ℕ) (c : Cell) : Type 0 where
   pub number : IsNumber n
   pub cell : cell_of n ≡ c
@@ -18,7 +18,7 @@ pub record Makes (n : ℕ) (c : Cell) : Type 0 where
 pub makes : (n : ℕ) (c : Cell) → IsCell c → n ≡ number_of c → Makes n c
 makes n c v e = record { number = subst IsNumber (sym e) (IsNumber-number_of c v); cell = ap cell_of e ∙ cell_of-number_of c v }
 
--- the path of the first digits
+-- Shifting a cell's number right leaves the path of its first digits.
 pub front_path : (c : Cell) → IsCell c → (k : ℕ) → k ≤ length c.digits → number_of c / 2 ^ (61 - 2 * k) ≡ path c.face (take k c.digits)
 front_path c v k le =
     let a = number_of_cell c v in
@@ -57,7 +57,7 @@ parent_number c v k n le is =
     let fits : q * 2 ^ (s + 1) + 1 * 2 ^ s < 2 ^ 64 = subst (λ (x : ℕ). x < 2 ^ 64) sum p.fits in
     ap (λ (x : ℕ). x * 2 ^ (s + 1) % 18446744073709551616 + 1 * 2 ^ s % 18446744073709551616) top ∙ (below_word (q * 2 ^ (s + 1)) (1 * 2 ^ s) fits ∙ sym sum)
 
--- the digit of a place
+-- Each digit is less than 4.
 small_at : (xs : List ℕ) (i : ℕ) → AllByRecursion (λ d. d < 4) xs → i < length xs → slice_index xs i < 4
 small_at [] i all lt = absurd (omega (arith, lt))
 small_at (x ∷ xs) zero all lt = all.0
@@ -74,7 +74,7 @@ digit_number c v i n some le is =
     let walk : path c.face (take i c.digits) ≡ 4 * path c.face (take m c.digits) + d = ap (path c.face) front ∙ path-append c.face (take m c.digits) (d ∷ []) in
     ap (λ (x : ℕ). x / 2 ^ (61 - 2 * i) % 4) is ∙ (ap (λ (x : ℕ). x % 4) (front_path c v i le ∙ walk) ∙ omega arith)
 
--- the child
+-- A child of a cell is a cell.
 pub IsCell-child_of : (c : Cell) → IsCell c → (d : ℕ) → length c.digits < 30 → d ≤ 3 → IsCell (child_of c d)
 IsCell-child_of c v d room small =
     let lt : d < 4 = omega arith in
@@ -109,7 +109,7 @@ child_number c v d n w room small is lowest =
     ∙ (ap (λ (x : ℕ). (2 * x + 1) * 2 ^ (2 * b.left)) walk ∙ ap (λ (x : ℕ). (2 * (4 * path c.face c.digits + d) + 1) * x) (sym (four b.left))) in
     child_sum (path c.face c.digits) d q w n (number_of (child_of c d)) scale own below
 
--- containment by parents
+-- ---- containment by parents
 take_front : (xs ys : List ℕ) → take (length xs) (xs ++ ys) ≡ xs
 take_front [] ys = refl
 take_front (x ∷ xs) ys = ap (λ zs. x ∷ zs) (take_front xs ys)

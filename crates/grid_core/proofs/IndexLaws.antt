@@ -1,4 +1,4 @@
--- How the intervals of cells lie to one another.
+-- Two intervals of cells are apart or nested.
 use Rattle.std.specs.Prelude.{◌≡◌, ℕ, zero, suc, ◌+◌, ◌*◌, ◌^◌, ◌/◌, ◌%◌, ◌≤◌, ◌<◌, ◌⊎◌, List, [], ◌∷◌, ◌++◌, length, take, drop, refl}
 use Rattle.std.proofs.Common.{arith, sym, ap, ◌∙◌, inl, inr, length-append, length-take}
 use Rattle.std.proofs.Math.Nat.{mul-le-mul_right, div-add-mod', mul_assoc}
@@ -33,7 +33,7 @@ touch_by_interval_lem c d vc vd = (
   λ t. overlap_share c d vc vd (overlap_from_touch c d vc vd t),
 )
 
--- the interval of a cell lies in that of one that holds it
+-- The interval of a cell lies in the interval of any cell that contains it.
 nested : (p q big small j : ℕ) → 0 < j → big ≡ j * small → q / j ≡ p → (p * big ≤ q * small) × (q * small + small ≤ p * big + big)
 nested p q big small j posj e h =
     let d : q / j * j + q % j ≡ q = div-add-mod' q j in
@@ -73,7 +73,7 @@ apart_or_nested_lem c d vc vd = elim (cases_lt (hi_of c) (lo_of d)) [
   ]
 ]
 
--- equal cells at level 13 have one interval
+-- Cells that are equal at level 13 have the same interval.
 same_interval : (a b : Cell) → IsCell a → IsCell b → a.face ≡ b.face → take 13 a.digits ≡ take 13 b.digits → (lo_of a ≡ lo_of b) × (hi_of a ≡ hi_of b)
 same_interval a b va vb f e =
     let same_ab : Contains (cut a) (cut b) = record { face = f; prefix = ([], append_nothing (take 13 a.digits) ∙ e) } in
@@ -92,7 +92,7 @@ take_take (suc k) zero xs le = absurd (omega (arith, le))
 take_take (suc k) (suc n) [] le = refl
 take_take (suc k) (suc n) (x ∷ xs) le = ap (λ ys. x ∷ ys) (take_take k n xs (omega (arith, le)))
 
--- the first 13 digits, by their first k
+-- The first 13 digits are the first k digits followed by the rest of the 13.
 parts : (k : ℕ) (xs : List ℕ) → k < 13 → take 13 (take k xs) ++ drop k (take 13 xs) ≡ take 13 xs
 parts k xs lt =
     let front : take 13 (take k xs) ≡ take k (take 13 xs) = take_all 13 (take k xs) (omega (arith, length-take k xs, lt)) ∙ sym (take_take k 13 xs (omega (arith, lt))) in

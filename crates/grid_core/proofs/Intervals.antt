@@ -1,4 +1,4 @@
--- The interval of a cell at level 13, and that two intervals share a number exactly where the cells touch.
+-- The interval of a cell at level 13. Two intervals share a number exactly if the cells touch.
 use Rattle.std.specs.Prelude.{◌≡◌, ℕ, zero, suc, ◌+◌, ◌-◌, ◌*◌, ◌^◌, ◌/◌, ◌%◌, ◌≤◌, ◌<◌, List, [], ◌∷◌, ◌++◌, length, take, drop, refl}
 use Rattle.std.specs.List.{AllByRecursion}
 use Rattle.std.proofs.Common.{arith, sym, ap, ◌∙◌, subst, inl, inr, length-append}
@@ -12,7 +12,7 @@ use Rattle.grid_core.specs.CellNumber.{path}
 use Rattle.grid_core.specs.CellNumberLaw.{four}
 use Rattle.grid_core.proofs.CellNumber.{path-face, path-append, one_path, number_of_cell}
 
--- all of a front and of a rest
+-- What holds for all digits holds for all of a prefix and all of a suffix.
 pub all_take : (P : ℕ → Type 0) → (n : ℕ) → (xs : List ℕ) → AllByRecursion P xs → AllByRecursion P (take n xs)
 all_take P zero xs a = tt
 all_take P (suc n) [] a = tt
@@ -36,18 +36,18 @@ take_all zero (x ∷ xs) h = absurd (omega (arith, h))
 take_all (suc n) [] h = refl
 take_all (suc n) (x ∷ xs) h = ap (λ ys. x ∷ ys) (take_all n xs (omega (arith, h)))
 
--- the path of the cut cell
+-- The path of the cell after `cut`.
 abbrev pub cut_path : Cell → ℕ
 cut_path c = path c.face (take 13 c.digits)
 
--- the interval of a cell, by the path of the cut cell and the levels that it lacks to 13
+-- The interval of a cell, written with the path of the cut cell and the levels that it lacks to 13.
 pub record Interval (c : Cell) : Type 0 where
   pub lacks : ℕ
   pub levels : length (take 13 c.digits) + lacks ≡ 13
   pub lo : lo_of c ≡ cut_path c * 4 ^ lacks
   pub hi : hi_of c + 1 ≡ cut_path c * 4 ^ lacks + 4 ^ lacks
 
--- a finer cell, by the levels past 13
+-- The interval of a cell at level 13 or finer.
 fine : (c : Cell) → IsCell c → (j : ℕ) → length c.digits ≡ 13 + j → Interval c
 fine c v j l =
     let a = number_of_cell c v in
@@ -78,7 +78,7 @@ fine c v j l =
       hi = omega (arith, hi2);
     }
 
--- a coarser one, by the levels that it lacks
+-- The interval of a cell at level 13 or coarser.
 coarse : (c : Cell) → IsCell c → (j : ℕ) → length c.digits + j ≡ 13 → Interval c
 coarse c v j l =
     let a = number_of_cell c v in
@@ -116,7 +116,8 @@ interval c v = elim (cases_lt 13 (length c.digits)) [
 abbrev pub Overlap : Cell → Cell → Type 0
 Overlap a b = (lo_of a ≤ hi_of b) × (lo_of b ≤ hi_of a)
 
--- the first holds the second: the path of the second, so many levels up, is that of the first
+-- If the first cell contains the second, the path of the second, shortened to that level, is the
+-- path of the first.
 pub held_path : (a b : Cell) → IsCell b → Contains (cut a) (cut b) → (j : ℕ) × (length (take 13 a.digits) + j ≡ length (take 13 b.digits)) × (cut_path b / 4 ^ j ≡ cut_path a)
 held_path a b vb h =
     let rest = h.prefix.0 in
@@ -131,7 +132,7 @@ held_path a b vb h =
           ∙ path-face (cut_path a) rest small_rest)),
     )
 
--- and only then
+-- The converse: equal paths at that level imply containment.
 holds_by_path : (a b : Cell) → IsCell a → IsCell b → (j : ℕ) → length (take 13 a.digits) + j ≡ length (take 13 b.digits) → cut_path b / 4 ^ j ≡ cut_path a → Contains (cut a) (cut b)
 holds_by_path a b va vb j l e =
     let m = length (take 13 a.digits) in
@@ -149,7 +150,7 @@ holds_by_path a b va vb j l e =
     let one = one_path a.face b.face da (take m db) (all_take _ 13 a.digits va.digits) (all_take _ m db small_b) (sym lt) (sym e ∙ up) in
     record { face = one.0; prefix = (drop m db, ap (λ (x : List ℕ). x ++ drop m db) one.1 ∙ split) }
 
--- two numbers at different scales
+-- If q / j is p, each of the two intervals begins before the other ends.
 nested_below : (p q big small j : ℕ) → 0 < small → 0 < j → big ≡ j * small → q / j ≡ p → (p * big + 1 ≤ q * small + small) × (q * small + 1 ≤ p * big + big)
 nested_below p q big small j pos posj e h =
     let d : q / j * j + q % j ≡ q = div-add-mod' q j in

@@ -1,4 +1,4 @@
--- Intervals are joined one after another, in the order of their first places.
+-- The merge of sorted intervals into intervals that are apart.
 use Rattle.std.proofs.Common.{◌≡◌, ◌∙◌, sym, ap, subst, ℕ, ◌+◌, ◌≤◌, ◌<◌, ◌⊎◌, ◌||◌, ◌&&◌, Bool, List, [], ◌∷◌, ◌++◌, length, take, get_or, arith, inl, inr, add-one, true, false, true≢false}
 use Prim.Native.Nat.{max}
 use Rattle.std.proofs.lemmas.Bool.{cases_lt}
@@ -14,7 +14,8 @@ use Rattle.std.proofs.lemmas.List.Quantifiers.{all_pairs_push}
 use Rattle.grid_core.specs.SortedArea.{AreApart, HaveSamePlaces, IsOrdered, lies_in}
 use Rattle.grid_core.specs.declared.sorted_area.Interval.{Interval}
 
--- the first k + 1 of some intervals are joined: the last of what they give is not yet put with the others
+-- Holds if the first k + 1 intervals are merged into `done` and `last`. `last` is not yet part of
+-- `done`.
 pub record Joins (is done : List Interval) (last : Interval) (k : ℕ) : Type 0 where
   pub same : (n : ℕ) → (list_any (lies_in n) done || lies_in n last) ≡ list_any (lies_in n) (take (k + 1) is)
   pub apart : AreApart done
@@ -42,7 +43,7 @@ low_next is last k lt up low d =
     let here : last.lo ≤ (get_or is k d).lo = low d in
     omega (arith, step, here)
 
--- an interval that begins in the last one, or right after it, becomes a part of it
+-- An interval that begins in `last` or right after it extends `last`.
 pub joins_merged : (is done : List Interval) (last next : Interval) (m k : ℕ) → Joins is done last k → k + 1 < length is → next ≡ get_or is (k + 1) next → All IsOrdered is → IsNonDecreasingBy (λ (i : Interval). i.lo) is
     → next.lo ≤ last.hi + 1 → last.hi ≤ m → next.hi ≤ m → (m ≡ last.hi) ⊎ (m ≡ next.hi) → Joins is done (record { lo = last.lo; hi = m }) (k + 1)
 joins_merged is done last next m k j lt at o up near big big' one =
@@ -67,14 +68,14 @@ joins_merged is done last next m k j lt at o up near big big' one =
 pushed : (done : List Interval) (last : Interval) (n : ℕ) → list_any (lies_in n) (done ++ last ∷ []) ≡ (list_any (lies_in n) done || lies_in n last)
 pushed done last n = list_any-append (lies_in n) done (last ∷ []) ∙ ap (λ (b : Bool). list_any (lies_in n) done || b) (or-false (lies_in n last))
 
--- all before a push, and what is pushed
+-- Pushing `last` keeps the intervals apart.
 pub apart_pushed : (is done : List Interval) (last : Interval) (k : ℕ) → Joins is done last k → AreApart (done ++ last ∷ [])
 apart_pushed is done last k j = all_pairs_push (λ (a b : Interval). a.hi < b.lo) done last j.apart j.before
 
 pub ordered_pushed : (is done : List Interval) (last : Interval) (k : ℕ) → Joins is done last k → All IsOrdered (done ++ last ∷ [])
 ordered_pushed is done last k j = All-push IsOrdered done last j.ordered j.own
 
--- one that begins later leaves the last one as it is
+-- If the next interval begins later, `last` is pushed unchanged.
 pub joins_pushed : (is done : List Interval) (last next : Interval) (k : ℕ) → Joins is done last k → k + 1 < length is → next ≡ get_or is (k + 1) next → All IsOrdered is
     → last.hi < next.lo → Joins is (done ++ last ∷ []) next (k + 1)
 joins_pushed is done last next k j lt at o far =
@@ -91,13 +92,13 @@ joins_pushed is done last next k j lt at o far =
       low = λ d. subst (λ (i : Interval). next.lo ≤ i.lo) (at ∙ get_or_default is (k + 1) next d lt) (omega arith);
     }
 
--- all are joined
+-- After the last interval, the result has the same positions as all intervals.
 pub joins_all : (is done : List Interval) (last : Interval) (k : ℕ) → Joins is done last k → length is ≤ k + 1 → HaveSamePlaces (done ++ last ∷ []) is
 joins_all is done last k j all n = pushed done last n ∙ (j.same n ∙ ap (list_any (lies_in n)) (take_all (k + 1) is all))
 
--- ---- as the code has it
+-- ---- as in the code
 
--- an element after the first
+-- Element k of the tail is element k + 1 of the list.
 pub at_rest : (is : List Interval) (i : Interval) (rest : List Interval) → is ≡ i ∷ rest → (k : ℕ) (d : Interval) → k < length rest → get_or rest k d ≡ get_or is (k + 1) (get_or rest k d)
 at_rest is i rest e k d lt =
     get_or_default rest k d (get_or rest k d) lt
@@ -110,7 +111,7 @@ greater_of a b m e = elim (cases_lt a b) [
   | inr ge ↦ (omega arith, omega arith, inl (omega arith))
 ]
 
--- what is not next to the last one begins later
+-- An interval that is not next to `last` begins after it.
 pub is_far : (b : Bool) (low high : ℕ) → (low ≤ high + 1 → b ≡ true) → b ≡ false → high < low
 is_far b low high h e = elim (cases_lt high low) [
   | inl lt ↦ lt

@@ -1,4 +1,4 @@
--- The tests of meetings agree with the relations.
+-- The tests of whether areas meet agree with the relations.
 use Rattle.std.proofs.Common.{◌≡◌, ℕ, Bool, true, false, ◌&&◌, ◌||◌, ◌≤◌, ◌⊎◌, ◌↔◌, inl, inr, List, [], ◌∷◌, ◌++◌, T, ℤ, pos, ◌≤ℤ◌, Option, Some, None, nat_eq, nat_le, int_le, IsTrue, refl, sym, ap, ◌∙◌, subst, arith, Any, le_refl, true≢false}
 use Rattle.std.specs.List.{list_any}
 use Rattle.std.specs.Int.Signed.{≤ℤ_refl, le_z_yes}
@@ -19,7 +19,7 @@ pub both : (a b : Bool) → a ≡ true → b ≡ true → (a && b) ≡ true
 both true b p q = q
 both false b p q = p
 
--- two tests of one relation give one answer
+-- Two tests of the same relation return the same value.
 pub one_test : (a b : Bool) (P : Type 0) → (IsTrue a ↔ P) → (IsTrue b ↔ P) → a ≡ b
 one_test true b P p q = sym (q.1 (p.0 refl))
 one_test false true P p q = p.1 (q.0 refl)
@@ -27,7 +27,7 @@ one_test false false P p q = refl
 
 -- ---- ranges
 
--- an order and its test
+-- An order and its test.
 pub record IsOrder {K : Type 0} (le : K → K → Bool) (Le : K → K → Type 0) : Type 0 where
   pub from : (x y : K) → le x y ≡ true → Le x y
   pub to : (x y : K) → Le x y → le x y ≡ true

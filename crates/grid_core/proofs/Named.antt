@@ -1,4 +1,4 @@
--- The cell that a text names is the one that it reads as.
+-- The cell that a token names is the cell that parsing it returns.
 use Rattle.std.specs.Prelude.{◌≡◌, if◌then◌else◌, ℕ, ◌-◌, ◌*◌, ◌^◌, ◌+◌, ◌≤◌, ◌<◌, ◌&&◌, nat_lt, List, [], ◌∷◌, length, Bool, true, refl, Option, Some, None, Ok, Err}
 use Rattle.std.specs.List.{list_all}
 use Rattle.std.specs.Char.{digit_value}
@@ -26,7 +26,7 @@ test_digits : (text : List ℕ) → AllDigits 16 text → list_all (λ b. nat_lt
 test_digits [] h = refl
 test_digits (b ∷ bs) h = and_from _ _ (lt-ltb (digit_value b) 16 h.0) (test_digits bs h.1)
 
--- a token's number has 64 bits
+-- The number of a token has at most 64 bits.
 number_fits : (text : List ℕ) → length text ≤ 16 → AllDigits 16 text → token_number text < 2 ^ 64
 number_fits text most digits =
     let rest = 16 - length text in
@@ -36,7 +36,7 @@ number_fits text most digits =
     let below : (digits_value 16 text + 1) * 16 ^ rest ≤ 16 ^ length text * 16 ^ rest = mul-le-mul_right (16 ^ rest) (let e : digits_value 16 text + 1 ≤ 16 ^ length text = omega (arith, lt) in e) in
     omega (arith, below, all, pos)
 
--- the number of a text that passes both tests is that of a cell
+-- If a text passes both tests, its number is the number of a cell.
 valid : (text : List ℕ) → has_token_form text ≡ true → is_number (token_number text) ≡ true → IsNumber (token_number text)
 valid text form number =
     let f = and_parts _ _ form in
@@ -86,7 +86,7 @@ naming text c v token =
 pub names_cell_lem : NamesCell
 names_cell_lem text c = (named text c, λ h. naming text c h.0 h.1)
 
--- ---- what reading says of it
+-- ---- the result of parsing
 
 pub named_when_read : (text : List ℕ) (c : Cell) → Parses text (Ok c) → cell_named text ≡ Some c
 named_when_read text c h = naming text c h.0 h.1

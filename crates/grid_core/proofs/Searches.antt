@@ -1,4 +1,4 @@
--- What a search among sorted intervals finds.
+-- A search among sorted intervals finds the only one that can overlap.
 use Rattle.std.proofs.Common.{◌≡◌, ◌∙◌, sym, ap, subst, refl, ℕ, ◌≤◌, ◌<◌, inl, inr, Bool, true, false, ◌||◌, List, [], ◌∷◌, length, map, get_or, arith}
 use Rattle.std.specs.Prelude.{nat_le}
 use Rattle.std.specs.List.{All, Any, list_any}
@@ -15,7 +15,7 @@ use Rattle.grid_core.specs.declared.sorted_area.Interval.{Interval}
 use Rattle.grid_core.proofs.IndexLaws.{ordered, touch_by_interval_lem}
 use Rattle.grid_core.proofs.Meets.{any_from, any_to, both, first, second, nat_order, one_test, touch_from, touch_to}
 
--- ---- intervals that are apart rise
+-- ---- intervals that are apart are sorted
 
 pub lows_rise : (is : List Interval) → All IsOrdered is → AreApart is → IsNonDecreasingBy (λ (i : Interval). i.lo) is
 lows_rise is o apart i j d le lt = elim (cases_lt i j) [
@@ -35,9 +35,9 @@ highs_rise is o apart i j d le lt = elim (cases_lt i j) [
   | inr ge ↦ let e : i ≡ j = omega arith in subst (λ (k : ℕ). (get_or is i d).hi ≤ (get_or is k d).hi) e (omega arith)
 ]
 
--- ---- the first that does not end before an interval begins
+-- ---- the first interval that does not end before another begins
 
--- none of those before it overlaps
+-- No interval before it overlaps.
 before : (own i : Interval) → i.hi < own.lo → overlap own i ≡ false
 before own i h = grind (arith, nat_tests)
 
@@ -50,7 +50,7 @@ here own i h k = grind (arith, nat_tests)
 abbrev pub Point : Interval → List Interval → ℕ → Type 0
 Point own is place = IsPartitionPoint (λ (i : Interval). i.hi < own.lo) (λ (i : Interval). own.lo ≤ i.hi) is place
 
--- it is the only one to look at
+-- Only the found interval can overlap.
 pub found_at : (own : Interval) (is : List Interval) (place : ℕ) (i : Interval) → All IsOrdered is → AreApart is → Point own is place → place < length is → i ≡ get_or is place i
     → nat_le i.lo own.hi ≡ list_any (overlap own) is
 found_at own is place i o apart point lt at = by_test (nat_le i.lo own.hi) refl
@@ -72,7 +72,7 @@ found_at own is place i o apart point lt at = by_test (nat_le i.lo own.hi) refl
 pub found_none : (own : Interval) (is : List Interval) (place : ℕ) → Point own is place → length is ≤ place → false ≡ list_any (overlap own) is
 found_none own is place point le = sym (list_any_none (overlap own) is (λ k d lt. before own (get_or is k d) (point.0 k d (omega arith) (omega arith))))
 
--- ---- an interval overlaps one of those of an area exactly where the cell touches one of its cells
+-- ---- an interval overlaps one of an area's intervals exactly if the cell touches one of its cells
 
 both_in : (n : ℕ) (i : Interval) → i.lo ≤ n → n ≤ i.hi → lies_in n i ≡ true
 both_in n i a b = both (nat_le i.lo n) (nat_le n i.hi) (nat_order.to i.lo n a) (nat_order.to n i.hi b)
@@ -84,7 +84,7 @@ any_mapped : (p : Interval → Bool) (ds : List Cell) → list_any p (map interv
 any_mapped p [] = refl
 any_mapped p (d ∷ ds) = ap (λ (b : Bool). p (interval_of d) || b) (any_mapped p ds)
 
--- a place in two intervals
+-- Two intervals that overlap share a position.
 shared : (own i : Interval) → own.lo ≤ own.hi → i.lo ≤ i.hi → overlap own i ≡ true → (n : ℕ) × (own.lo ≤ n) × (n ≤ own.hi) × (lies_in n i ≡ true)
 shared own i p q e =
     let a = nat_order.from own.lo i.hi (first (nat_le own.lo i.hi) (nat_le i.lo own.hi) e) in

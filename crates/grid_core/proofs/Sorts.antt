@@ -1,4 +1,4 @@
--- The intervals of cells, sorted and joined.
+-- The intervals of cells, sorted and merged.
 use Rattle.std.proofs.Common.{◌≡◌, ◌∙◌, sym, ap, subst, ℕ, ◌+◌, ◌<◌, List, [], ◌∷◌, ◌++◌, length, map, take, get_or}
 use Rattle.std.specs.List.{All}
 use Rattle.std.specs.List.Sorted.{IsPermutation}
@@ -10,7 +10,7 @@ use Rattle.grid_core.specs.SortedArea.{AreApart, HaveSamePlaces, IsOrdered, IsSo
 use Rattle.grid_core.specs.declared.sorted_area.Interval.{Interval}
 use Rattle.grid_core.proofs.IndexLaws.{ordered}
 
--- the intervals of cells in some order
+-- Holds if the intervals are those of the cells, in some order.
 pub record Sorts (ds : List Cell) (js : List Interval) : Type 0 where
   pub valid : All IsCell ds
   pub moved : IsPermutation (map interval_of ds) js
@@ -29,7 +29,7 @@ sorts_joined cells ds seen joined e s o a same = subst (λ (cs : List Cell). IsS
   same = λ n. same n ∙ sym (list_any-IsPermutation (lies_in n) (map interval_of ds) seen s.moved);
 })
 
--- the interval of one cell more
+-- Pushing the interval of the next cell gives the intervals of one more cell.
 pub intervals_more : (ds : List Cell) (k : ℕ) (d : Cell) (i : Interval) (before after : List Interval) → k < length ds → d ≡ get_or ds k d → i ≡ interval_of d → after ≡ before ++ i ∷ [] → before ≡ map interval_of (take k ds)
     → after ≡ map interval_of (take (k + 1) ds)
 intervals_more ds k d i before after lt at is e h =

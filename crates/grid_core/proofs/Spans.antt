@@ -1,4 +1,4 @@
--- The times of volumes.
+-- The time spans of volumes.
 use Rattle.std.proofs.Common.{◌≡◌, ◌∙◌, sym, subst, ℕ, suc, ◌≤◌, ◌⊎◌, List, [], ◌∷◌, length, Bool, true, false, refl, arith, inl, inr, if◌then◌else◌}
 use Rattle.std.specs.Prelude.{nat_le}
 use Rattle.std.specs.List.{Any, AllByRecursion, fold}
@@ -11,13 +11,13 @@ any_here P x xs p = (0, x, omega arith, refl, p)
 any_later : {X : Type 0} (P : X → Type 0) (x : X) (xs : List X) → Any P xs → Any P (x ∷ xs)
 any_later P x xs a = (suc a.0, a.1, (let h = a.2 in omega (arith, h)), a.3, a.4)
 
--- one of two numbers, and no greater than both
+-- Holds if m is one of two numbers and at most both.
 record IsLeast (a b m : ℕ) : Type 0 where
   pub left : m ≤ a
   pub right : m ≤ b
   pub one : (m ≡ a) ⊎ (m ≡ b)
 
--- one of two numbers, and no less than both
+-- Holds if m is one of two numbers and at least both.
 record IsMost (a b m : ℕ) : Type 0 where
   pub left : a ≤ m
   pub right : b ≤ m
@@ -31,7 +31,7 @@ most_by : (a b : ℕ) (t : Bool) → nat_le a b ≡ t → IsMost a b (if t then 
 most_by a b true e = record { left = grind arith; right = omega arith; one = inr refl }
 most_by a b false e = record { left = omega arith; right = grind arith; one = inl refl }
 
--- what is known of the times from one span over more volumes
+-- The facts about a time span that is widened by more volumes.
 record Spans (s : ℕ × ℕ) (es : List Extent) (span : ℕ × ℕ) : Type 0 where
   pub low : span.0 ≤ s.0
   pub high : s.1 ≤ span.1

@@ -1,4 +1,4 @@
--- Hexadecimal digits and the numbers that they write.
+-- Hexadecimal digits and the numbers that they represent.
 use Rattle.std.specs.Prelude.{◌≡◌, ℕ, zero, suc, ◌+◌, ◌-◌, ◌*◌, ◌^◌, ◌/◌, ◌%◌, ◌≤◌, ◌<◌, List, [], ◌∷◌, ◌++◌, length, refl, IsTrue, true, false, Bool, ◌&&◌}
 use Rattle.std.specs.List.{list_all}
 use Rattle.std.specs.Char.{digit_value}
@@ -21,19 +21,19 @@ sixteen (suc k) =
     let next : 4 * suc k ≡ 4 * k + 4 = omega arith in
     pow-suc 16 k ∙ (ap (λ (x : ℕ). x * 16) (sixteen k) ∙ (sym (pow-add 2 (4 * k) 4) ∙ ap (λ (x : ℕ). 2 ^ x) (sym next)))
 
--- the digit of a place is one
+-- Each digit is less than 16.
 pub digit_at : (text : List ℕ) (i : ℕ) → AllDigits 16 text → i < length text → digit_value (get_or text i 0) < 16
 digit_at [] i all lt = absurd (omega (arith, lt))
 digit_at (x ∷ xs) zero all lt = all.0
 digit_at (x ∷ xs) (suc i) all lt = digit_at xs i all.1 (omega (arith, lt))
 
--- fewer than 16 digits leave room for one more
+-- A number of fewer than 16 hexadecimal digits leaves room for one more digit.
 pub room : (value i : ℕ) → value < 16 ^ i → i < 16 → value < 2 ^ 60
 room value i lt few =
     let most : 16 ^ i ≤ 16 ^ 15 = pow-le-pow_right {n = 16} (omega arith) {i = i} {j = 15} (omega arith) in
     omega (arith, lt, most)
 
--- filled up with zeros, a number of so many digits has 16
+-- Padding a number of `count` hexadecimal digits with zeros to 16 digits does not overflow.
 pub filled : (value count : ℕ) → count ≤ 16 → value < 16 ^ count → value * 2 ^ (4 * (16 - count)) % 18446744073709551616 ≡ value * 16 ^ (16 - count)
 filled value count le lt =
     let rest = 16 - count in
@@ -43,7 +43,7 @@ filled value count le lt =
     let fits : value * 16 ^ rest < 18446744073709551616 = omega (arith, below, all, pos) in
     ap (λ (x : ℕ). value * x % 18446744073709551616) (sym (sixteen rest)) ∙ (omega (arith, fits))
 
--- one more digit of a number
+-- The first zero digits of a number are the empty text.
 pub written_none : (n : ℕ) → n < 2 ^ 64 → Written n 0 []
 written_none n lt = record { size = refl; digits = tt; value = (let e : 0 ≡ n / 2 ^ 64 = omega (arith, lt) in e); lower = refl }
 
@@ -67,13 +67,13 @@ written_more n count text glyph few so digit lower =
       lower = list_all-append is_lower_digit text (glyph ∷ []) ∙ both_true (list_all is_lower_digit text) (list_all is_lower_digit (glyph ∷ [])) so.lower (both_true (is_lower_digit glyph) true lower refl);
     }
 
--- a number that is odd times a power of two
+-- An odd number times 2 ^ e, divided by 2 ^ e, is that odd number.
 odd_half : (p e : ℕ) → (2 * p + 1) * 2 ^ e / 2 ^ e ≡ 2 * p + 1
 odd_half p e =
     let pos : 0 < 2 ^ e = pow_pos e in
     ap (λ (x : ℕ). x / 2 ^ e) (let s : (2 * p + 1) * 2 ^ e ≡ (2 * p + 1) * 2 ^ e + 0 = omega arith in s) ∙ shr_high (2 * p + 1) e 0 pos
 
--- it is no multiple of a greater power
+-- An odd number times 2 ^ e is not a multiple of a larger power of two.
 not_multiple : (n p e v f : ℕ) → n ≡ (2 * p + 1) * 2 ^ e → n ≡ v * 2 ^ f → e < f → ⊥
 not_multiple n p e v f odd multiple lt =
     let g = f - e - 1 in
@@ -84,7 +84,7 @@ not_multiple n p e v f odd multiple lt =
     let other : n / 2 ^ e ≡ 2 * p + 1 = ap (λ (x : ℕ). x / 2 ^ e) odd ∙ odd_half p e in
     omega (arith, half, other)
 
--- and it is one of each smaller one
+-- It is a multiple of each smaller power of two.
 is_multiple : (n p e f : ℕ) → n ≡ (2 * p + 1) * 2 ^ e → f ≤ e → n / 2 ^ f * 2 ^ f ≡ n
 is_multiple n p e f odd le =
     let g = e - f in
@@ -93,7 +93,7 @@ is_multiple n p e f odd le =
     let front : n / 2 ^ f ≡ (2 * p + 1) * 2 ^ g = ap (λ (x : ℕ). x / 2 ^ f) whole ∙ shr_high ((2 * p + 1) * 2 ^ g) f 0 (pow_pos f) in
     ap (λ (x : ℕ). x * 2 ^ f) front ∙ (let s : (2 * p + 1) * 2 ^ g * 2 ^ f ≡ n = omega (arith, whole) in s)
 
--- the first digits of a cell's number, as many as are needed
+-- The significant digits of a cell's number are its shortest token.
 pub shortest_token : (c : Cell) → IsCell c → (n count : ℕ) (text : List ℕ) → n ≡ number_of c → count ≡ 16 - trailing_zeros w64 n / 4 → Written n count text → IsShortest text c
 shortest_token c v n count text is so w =
     let a = number_of_cell c v in
@@ -128,7 +128,7 @@ shortest_token c v n count text is so w =
       ];
     }
 
--- a lower-case digit is ASCII
+-- Lower-case hexadecimal digits are ASCII.
 pub lower_is_ascii : (b : ℕ) → IsTrue (is_lower_digit b) → b < 128
 lower_is_ascii b h = elim (cases_lt b 128) [
   | inl lt ↦ lt

@@ -1,5 +1,5 @@
--- A valid number is that of the cell with this number.
--- Nothing here needs belief: it is all proved. It stands in specs, and not in proofs, since `CellId` cites it.
+-- Every valid number is the number of the cell that `cell_of` returns. All of it is proved. It is
+-- in `specs/` because `CellId` cites it.
 use Rattle.std.specs.Prelude.{◌≡◌, ℕ, zero, suc, ◌+◌, ◌-◌, ◌*◌, ◌^◌, ◌/◌, ◌%◌, ◌≤◌, ◌<◌, List, [], ◌∷◌, length, refl}
 use Rattle.std.specs.Int.{w64, trailing_zeros, bit_at}
 use Rattle.std.proofs.lemmas.Nat.Bits.{bit_at_lowest, bit_at-suc, bit_at-trailing_zeros}
@@ -19,7 +19,7 @@ four (suc r) = let a = pow-suc 4 r in let b = pow-suc 2 (2 * r) in let c = pow-s
     let i : 2 * suc r ≡ suc (suc (2 * r)) = omega arith in
     rw i (pow-suc 4 r ∙ (let d : 2 ^ suc (suc (2 * r)) ≡ 2 ^ suc (2 * r) * 2 = pow-suc 2 (suc (2 * r)) in omega (arith, ih, b, d)))
 
--- one level up
+-- A path is four times the path one level up, plus its last digit.
 pub path_step : (l p : ℕ) → 4 * (p / 4 ^ suc l) + p / 4 ^ l % 4 ≡ p / 4 ^ l
 path_step l p =
     let e : p / 4 ^ l / 4 ≡ p / 4 ^ suc l = div-div-eq-div-mul p (4 ^ l) 4 ∙ ap (λ (x : ℕ). p / x) (sym (pow-suc 4 l)) in
@@ -30,14 +30,13 @@ pub path-digits : (l p : ℕ) → path (p / 4 ^ l) (digits l p) ≡ p
 path-digits zero p = div-one p
 path-digits (suc l) p = ap (λ (x : ℕ). path x (digits l p)) (path_step l p) ∙ path-digits l p
 
--- (2 p + 1) x is p (2 x) + x
 pub odd_product : (p x y : ℕ) → y ≡ x * 2 → (2 * p + 1) * x ≡ p * y + x
 odd_product p x y e = rw e (omega arith)
 
 four_product : (f d x y s : ℕ) → y ≡ x * 4 → f * y + (d * x + s) ≡ (4 * f + d) * x + s
 four_product f d x y s e = rw e (omega arith)
 
--- what the digits from a level on and the bit behind them come to, below a path
+-- A face, its digits from a level on and the bit behind them, as one number computed from the path.
 pub number_by_path : (f i k : ℕ) → (ds : List ℕ) → i + length ds + k ≡ 30 → f * 2 ^ (61 - 2 * i) + digits_sum i ds ≡ (2 * path f ds + 1) * 4 ^ k
 number_by_path f i k [] e =
     let bit : 60 - 2 * i ≡ 2 * k = omega arith in
@@ -52,7 +51,7 @@ number_by_path f i k (d ∷ ds) e =
 turn : (a b : ℕ) → 2 * (a * b) ≡ a * (b * 2)
 turn a b = omega arith
 
--- a number from its lowest 1 up
+-- A number is odd times the power of two of its lowest 1 bit.
 pub odd_times : (n t : ℕ) → bit_at n t ≡ 1 → ((i : ℕ) → i < t → bit_at n i ≡ 0) → n ≡ (2 * (n / 2 ^ (t + 1)) + 1) * 2 ^ t
 odd_times n zero one none =
     let m : n / 2 ^ 1 * 2 + n % 2 ≡ n = div-add-mod' n 2 in
@@ -70,7 +69,7 @@ odd_times n (suc t) one none =
     let e : n ≡ 2 * (n / 2) = omega (arith, m, z) in
     e ∙ (ap (λ (x : ℕ). 2 * x) ih' ∙ (turn (2 * (n / 2 ^ (suc t + 1)) + 1) (2 ^ t) ∙ sym s'))
 
--- the levels of a valid number, and the path there
+-- The level of a valid number, and the path at that level.
 pub record Located (n : ℕ) : Type 0 where
   pub levels : ℕ
   pub left : ℕ
@@ -98,7 +97,7 @@ located n v =
       top = ap (λ (x : ℕ). n / 2 ^ (t + 1) / x) (four (30 - k)) ∙ (shr-shr n (t + 1) (2 * (30 - k)) ∙ ap (λ (x : ℕ). n / 2 ^ x) (let e : t + 1 + 2 * (30 - k) ≡ 61 = omega arith in e));
     }
 
--- a valid number is that of its cell
+-- Every valid number is the number of its cell.
 pub number-cell_of : (n : ℕ) → IsNumber n → number_of (cell_of n) ≡ n
 unfolding number_of cell_of cell_at
 number-cell_of n v =

@@ -1,17 +1,17 @@
--- Where and when an operation is.
+-- The position and time of an operation.
 use Rattle.std.specs.Prelude.{ℕ, List, [], ◌∷◌, ℤ, ◌≤◌, ◌≤ℤ◌, Bool, true, false, ◌&&◌, ◌||◌, nat_eq, nat_le, nat_lt, int_le, Option, Some, None, pos, negsuc, length, sum_by, ◌^◌, ◌-◌, if◌then◌else◌}
 use Rattle.grid_core.specs.Cell.{Cell, Touch, cut}
 use Rattle.std.specs.List.{Any, list_any}
 use Rattle.grid_core.specs.declared.volume_fault.VolumeFault.{VolumeFault}
 use Rattle.grid_core.specs.declared.volume_fault.VolumeFault.TheVariants.{Empty, TooMany, Altitude, Time}
 
--- cells, altitudes and times of a volume, both ends included
+-- The cells, altitudes and times of a volume. Both ends are included.
 pub record Extent : Type 0 where
   pub cells : List Cell
   pub altitude : ℤ × ℤ
   pub time : ℕ × ℕ
 
--- the same of an area, in which a bound that is absent is no bound
+-- The cells, altitudes and times of an area. An absent bound does not restrict.
 pub record Region : Type 0 where
   pub cells : List Cell
   pub lowest : Option ℤ
@@ -31,7 +31,7 @@ region_with cells altitude time = record {
   last = time.1;
 }
 
--- an extent as an area, all of whose bounds are there
+-- An extent as a region whose bounds are all present.
 abbrev pub region_of : Extent → Region
 region_of e = record {
   cells = e.cells;
@@ -41,7 +41,7 @@ region_of e = record {
   last = Some e.time.1;
 }
 
--- not below the one bound, and not above the other
+-- Hold if x is not below the lower bound, and if it is not above the upper bound.
 abbrev pub IsFrom : {K : Type 0} → (K → K → Type 0) → Option K → K → Type 0
 IsFrom Le None x = Unit {0}
 IsFrom Le (Some low) x = Le low x
@@ -50,13 +50,14 @@ abbrev pub IsUpTo : {K : Type 0} → (K → K → Type 0) → Option K → K →
 IsUpTo Le None x = Unit {0}
 IsUpTo Le (Some high) x = Le x high
 
--- something lies between both pairs of bounds
+-- Holds if some value lies between both pairs of bounds.
 abbrev pub Share : {K : Type 0} → (K → K → Type 0) → Option K → Option K → Option K → Option K
     → Type 0
 Share {K} Le low high low' high' = (x : K) × IsFrom Le low x × IsUpTo Le high x × IsFrom Le low' x
     × IsUpTo Le high' x
 
--- a cell of the one touches a cell of the other, and they share an altitude and a moment
+-- Holds if a cell of one region touches a cell of the other, and the two share an altitude and a
+-- time.
 pub record Meet (a b : Region) : Type 0 where
   pub cells : Any (λ c. Any (λ d. Touch c d) b.cells) a.cells
   pub altitude : Share ◌≤ℤ◌ a.lowest a.highest b.lowest b.highest
@@ -78,7 +79,7 @@ touches a b = contains (cut a) (cut b) || contains (cut b) (cut a)
 abbrev pub any_touch : List Cell → List Cell → Bool
 any_touch cs ds = list_any (λ c. list_any (λ d. touches c d) ds) cs
 
--- the one bound is not above the other
+-- True if the lower bound is not above the upper bound.
 abbrev pub reaches : {K : Type 0} → (K → K → Bool) → Option K → Option K → Bool
 reaches le None high = true
 reaches le (Some l) None = true
@@ -95,16 +96,16 @@ meets a b =
     && (shares int_le a.lowest a.highest b.lowest b.highest
     && shares nat_le a.first a.last b.first b.last)
 
--- some volume meets some area
+-- True if some volume meets some area.
 abbrev pub any_meet : List Extent → List Region → Bool
 any_meet es rs = list_any (λ e. list_any (λ r. meets (region_of e) r) rs) es
 
 abbrev pub AnyMeet : List Extent → List Region → Type 0
 AnyMeet es rs = Any (λ e. Any (λ r. Meet (region_of e) r) rs) es
 
--- ---- limits, and what is covered
+-- ---- limits and covered cells
 
--- the bounds that are there lie within the limits, and the lower is not above the upper
+-- True if a bound is absent or within the limits.
 abbrev pub is_within : {K : Type 0} → (K → K → Bool) → K → K → Option K → Bool
 is_within le least most None = true
 is_within le least most (Some x) = le least x && le x most
@@ -113,15 +114,15 @@ abbrev pub are_bounds : {K : Type 0} → (K → K → Bool) → K → K → Opti
 are_bounds le least most low high =
     is_within le least most low && (is_within le least most high && reaches le low high)
 
--- altitudes from -100,000 to 1,000,000 decimetres, times from 0 to 253,402,300,799 seconds since
--- 1970
+-- True if altitudes are from -100,000 to 1,000,000 decimetres, and times from 0 to 253,402,300,799
+-- seconds since 1970. The lower bound is not above the upper.
 abbrev pub are_altitudes : Option ℤ → Option ℤ → Bool
 are_altitudes low high = are_bounds int_le (negsuc 99999) (pos 1000000) low high
 
 abbrev pub are_times : Option ℕ → Option ℕ → Bool
 are_times first last = are_bounds nat_le 0 253402300799 first last
 
--- the first fault of an area: 1 to 512 cells, then the altitudes, then the times
+-- The first fault of a region: 1 to 512 cells, then the altitudes, then the times.
 abbrev pub region_fault : Region → Option VolumeFault
 region_fault r =
     if nat_lt (length r.cells) 1 then Some Empty
@@ -130,10 +131,10 @@ region_fault r =
     then (if are_times r.first r.last then None else Some Time)
     else Some Altitude
 
--- how many cells of level 13 a cell counts for
+-- The number of level-13 cells that a cell counts for.
 abbrev pub covers : Cell → ℕ
 covers c = if nat_le 13 (length c.digits) then 1 else 4 ^ (13 - length c.digits)
 
--- and all cells of a list, each counted
+-- The sum over all cells of a list, each cell counted.
 abbrev pub covered_by : List Cell → ℕ
 covered_by cs = sum_by covers cs

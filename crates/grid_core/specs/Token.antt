@@ -1,4 +1,4 @@
--- Tokens: texts of hexadecimal digits that are the number of a cell.
+-- Tokens: hexadecimal texts that represent the number of a cell.
 use Rattle.std.specs.Prelude.{◌≡◌, ◌≢◌, ◌↔◌, ℕ, ◌-◌, ◌*◌, ◌^◌, ◌/◌, ◌%◌, ◌≤◌, ◌&&◌, ◌||◌, nat_le, nat_lt, nat_eq, if◌then◌else◌, Bool, List, length, codes, Result, Ok, Err, Option, Some, None, IsTrue}
 use Rattle.std.specs.List.{list_all}
 use Rattle.std.specs.Char.{digit_value}
@@ -22,17 +22,17 @@ fault_name Invalid = codes "Invalid"
 abbrev pub HasTokenLength : List ℕ → Type 0
 HasTokenLength text = (1 ≤ length text) × (length text ≤ 16)
 
--- the number that a text writes, zeros filling it up to 16 digits on the right
+-- The number that a text represents, padded with zeros on the right to 16 digits.
 abbrev pub token_number : List ℕ → ℕ
 token_number text = digits_value 16 text * 16 ^ (16 - length text)
 
--- the text reads as the cell
+-- Holds if the text represents the cell.
 pub record IsTokenOf (text : List ℕ) (c : Cell) : Type 0 where
   pub size : HasTokenLength text
   pub digits : AllDigits 16 text
   pub number : number_of c ≡ token_number text
 
--- what reading a text gives
+-- Holds if parsing a text can have this result: the cell that it represents, or its first fault.
 abbrev pub Parses : List ℕ → Result Cell TokenFault → Type 0
 Parses text (Ok c) = IsCell c × IsTokenOf text c
 Parses text (Err Length) = HasTokenLength text → ⊥
@@ -42,41 +42,41 @@ Parses text (Err Invalid) = HasTokenLength text × AllDigits 16 text
 
 -- ---- the same, computed
 
--- 1 to 16 hexadecimal digits
+-- True if the text has 1 to 16 hexadecimal digits.
 abbrev pub has_token_form : List ℕ → Bool
 has_token_form text =
     (nat_le 1 (length text) && nat_le (length text) 16)
     && list_all (λ b. nat_lt (digit_value b) 16) text
 
--- the number of a cell: a face up to 5, and the lowest 1 at an even place up to 60
+-- True if a number has a face up to 5 and its lowest 1 bit at an even position up to 60.
 abbrev pub is_number : ℕ → Bool
 is_number n =
     nat_le (trailing_zeros w64 n) 60
     && (nat_eq (trailing_zeros w64 n % 2) 0 && nat_le (n / 2 ^ 61) 5)
 
--- the cell that a text reads as, if there is one
+-- The cell that a text represents, if any.
 unfoldable pub cell_named : List ℕ → Option Cell
 cell_named text =
     if has_token_form text && is_number (token_number text)
     then Some (cell_of (token_number text)) else None
 
--- a text reads as the cell that it is said to name, and as no other
+-- States that `cell_named` returns the cell that a text represents, and no other.
 abbrev pub NamesCell : Type 0
 NamesCell = (text : List ℕ) (c : Cell) → (cell_named text ≡ Some c) ↔ (IsCell c × IsTokenOf text c)
 
 -- ---- printed tokens
 
--- '0' to '9' or 'a' to 'f'
+-- True for '0' to '9' and 'a' to 'f'.
 abbrev pub is_lower_digit : ℕ → Bool
 is_lower_digit b = (nat_le 48 b && nat_le b 57) || (nat_le 97 b && nat_le b 102)
 
--- the shortest text in lower case that reads as the cell
+-- Holds if the text is the shortest lower-case text that represents the cell.
 pub record IsShortest (text : List ℕ) (c : Cell) : Type 0 where
   pub reads : IsTokenOf text c
   pub lower : IsTrue (list_all is_lower_digit text)
   pub shortest : (other : List ℕ) → IsTokenOf other c → length text ≤ length other
 
--- the first digits of a number of 16, in lower case
+-- Holds if the text is the first digits of a 16-digit number, in lower case.
 pub record Written (n count : ℕ) (text : List ℕ) : Type 0 where
   pub size : length text ≡ count
   pub digits : AllDigits 16 text

@@ -1,4 +1,4 @@
--- The faults of volumes and areas, by number and name.
+-- The faults of volumes and areas: their numbers and names.
 use Rattle.std.specs.Prelude.{ℕ, List, codes}
 use Rattle.grid_core.specs.declared.volume_fault.VolumeFault.{VolumeFault}
 use Rattle.grid_core.specs.declared.volume_fault.VolumeFault.TheVariants.{Empty, TooMany, Altitude, Time}

@@ -1,13 +1,14 @@
-//! Cells of the grid, after the cell ids of S2 Geometry.
+//! Cells of the grid: the cell ids of S2 Geometry.
 
 ghost use Rattle.std.specs.Prelude.{◌≡◌, ◌≢◌, ◌↔◌, ℕ, ◌+◌, ◌-◌, ◌^◌, ◌≤◌, ◌<◌, length, slice_index, IsTrue, IfSome, IfNone};
 ghost use Rattle.grid_core.specs.Cell.{Cell, IsCell, number_of, range_min, range_max, lo_of, hi_of, parent_of, child_of, Contains, Touch};
 
 use std::marker::Model;
 
-/// A cell of the grid: a face from 0 to 5, and at most 30 digits from 0 to 3, one for each level
-/// below it. It is kept as its number, a cell id of S2 Geometry. Contracts see the face and the
-/// digits.
+/// A cell of the grid: a face from 0 to 5 and at most 30 digits from 0 to 3, one for each level
+/// below the face.
+///
+/// It is stored as its number, a cell id of S2 Geometry. Contracts see the face and the digits.
 #[derive(Clone, Copy, Debug)]
 pub struct CellId {
     raw: u64,
@@ -31,8 +32,10 @@ impl Model for CellId {
 }
 
 impl CellId {
-    /// The cell with this number: its face in the top three bits, then two bits for each digit, a
-    /// single 1 bit, and zeros (S2 Geometry). Other numbers are of no cell.
+    /// Returns the cell with this number.
+    ///
+    /// The number has the face in its top three bits, two bits for each digit, a single 1 bit, and
+    /// zeros (S2 Geometry). Returns `None` if it is the number of no cell.
     pub fn from_raw(raw: u64) -> Option<CellId>
         ensures number { IfSome result (λ c. number_of c ≡ raw) }
         ensures valid { IfSome result IsCell }
@@ -46,7 +49,7 @@ impl CellId {
         }
     }
 
-    /// Its number.
+    /// Returns the number of the cell (its S2 cell id).
     pub fn raw(self) -> u64
         ensures number { result ≡ number_of self }
         ensures valid { IsCell self }
@@ -54,7 +57,7 @@ impl CellId {
         self.raw
     }
 
-    /// Its face, from 0 to 5.
+    /// Returns the face, from 0 to 5.
     pub fn face(self) -> u8
         ensures face { result ≡ self.face }
         ensures range { result ≤ 5 }
@@ -62,7 +65,7 @@ impl CellId {
         (self.raw >> 61) as u8
     }
 
-    /// Its level: how many digits it has, from 0 to 30.
+    /// Returns the level: the number of digits, from 0 to 30.
     pub fn level(self) -> u8
         ensures level { result ≡ length self.digits }
         ensures range { result ≤ 30 }
@@ -70,7 +73,7 @@ impl CellId {
         30 - (self.raw.trailing_zeros() / 2) as u8
     }
 
-    /// The digit of a level, from 0 to 3.
+    /// Returns the digit of a level, from 0 to 3.
     pub fn digit(self, level: u8) -> u8
         requires first { 1 ≤ level }
         requires last { level ≤ length self.digits }
@@ -81,7 +84,8 @@ impl CellId {
         ((self.raw >> (61 - 2 * level)) % 4) as u8
     }
 
-    /// The cell of a coarser level that holds it, or the cell itself at its own level.
+    /// Returns the cell at a coarser level that contains this cell, or the cell itself at its own
+    /// level.
     pub fn parent(self, level: u8) -> CellId
         requires { level ≤ length self.digits }
         ensures { result ≡ parent_of self level }
@@ -93,7 +97,7 @@ impl CellId {
         }
     }
 
-    /// The cell one level below with one more digit.
+    /// Returns the child with this digit, one level below.
     pub fn child(self, digit: u8) -> CellId
         requires level { length self.digits < 30 }
         requires digit { digit ≤ 3 }
@@ -106,15 +110,15 @@ impl CellId {
         }
     }
 
-    /// Whether it holds the other: the faces are equal, and its digits are the first digits of the
-    /// other.
+    /// Returns true if this cell contains the other: the faces are equal, and its digits are the
+    /// first digits of the other.
     pub fn contains(self, other: CellId) -> bool
         ensures { IsTrue result ↔ Contains self other }
     {
         self.level() <= other.level() && other.parent(self.level()).raw() == self.raw()
     }
 
-    /// Its lowest 1.
+    /// Returns the lowest 1 bit of the number.
     fn lowest_one(self) -> u64
         ensures size { result ≡ 4 ^ (30 - length self.digits) }
         ensures low { result ≤ number_of self }
@@ -124,37 +128,40 @@ impl CellId {
         1 << self.raw.trailing_zeros()
     }
 
-    /// The least number of a cell of the finest level inside it.
+    /// Returns the lowest number of a cell of the finest level inside this cell.
     pub fn range_min(self) -> u64
         ensures { result ≡ range_min self }
     {
         self.raw() - (self.lowest_one() - 1)
     }
 
-    /// The greatest number of a cell of the finest level inside it.
+    /// Returns the highest number of a cell of the finest level inside this cell.
     pub fn range_max(self) -> u64
         ensures { result ≡ range_max self }
     {
         self.raw() + (self.lowest_one() - 1)
     }
 
-    /// The place of the first cell of level 13 inside it among all of that level (this project's
-    /// profile). A finer cell counts as the one of level 13 that holds it.
+    /// Returns the index of the first level-13 cell inside this cell, among all cells of that level
+    /// (this project's profile).
+    ///
+    /// A finer cell counts as the level-13 cell that contains it.
     pub fn lo(self) -> u32
         ensures { result ≡ lo_of self }
     {
         (self.range_min() >> 35) as u32
     }
 
-    /// The place of the last cell of level 13 inside it.
+    /// Returns the index of the last level-13 cell inside this cell.
     pub fn hi(self) -> u32
         ensures { result ≡ hi_of self }
     {
         (self.range_max() >> 35) as u32
     }
 
-    /// Whether the two are one at level 13, or one of them holds the other there. That is so
-    /// exactly where `lo..=hi` of the two share a number.
+    /// Returns true if the two cells, cut to level 13, are equal or one contains the other.
+    ///
+    /// This is so exactly if their ranges `lo..=hi` share a number.
     pub fn touches(self, other: CellId) -> bool
         ensures { IsTrue result ↔ Touch self other }
     {

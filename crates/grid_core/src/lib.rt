@@ -1,4 +1,4 @@
-//! Cells of the S2 grid, volumes and areas, and when two of them meet.
+//! Cells of the S2 grid, volumes and areas, and tests of whether they meet.
 #![tactic(auto)]
 
 pub mod cell;

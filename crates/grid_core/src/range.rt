@@ -1,14 +1,14 @@
-//! Ranges of altitudes and of times, both ends included; an absent bound is no bound.
+//! Ranges of altitudes and times. Both ends are included; an absent bound does not restrict.
 ghost use Rattle.std.specs.Prelude.{◌≡◌, int_le, nat_le, pos, negsuc};
 ghost use Rattle.grid_core.specs.Extent.{reaches, shares, is_within, are_altitudes, are_times};
 
-/// The least altitude of a volume, in decimetres (this project's profile).
+/// The minimum altitude of a volume, in decimetres (this project's profile).
 pub const MIN_ALTITUDE: i64 = -100_000;
 
-/// The greatest altitude of a volume, in decimetres (this project's profile).
+/// The maximum altitude of a volume, in decimetres (this project's profile).
 pub const MAX_ALTITUDE: i64 = 1_000_000;
 
-/// The last time of a volume, in seconds since 1970: the end of the year 9999 (this project's
+/// The maximum time of a volume, in Unix seconds: the end of the year 9999 (this project's
 /// profile).
 pub const MAX_TIME: u64 = 253_402_300_799;
 
@@ -42,7 +42,7 @@ fn reaches_time(low: Option<u64>, high: Option<u64>) -> bool
     }
 }
 
-/// Whether some altitude lies in both ranges, and the ranges are not empty.
+/// Returns true if some altitude lies in both ranges and neither range is empty.
 pub(crate) fn share_altitude(
     low: Option<i64>,
     high: Option<i64>,
@@ -55,7 +55,7 @@ pub(crate) fn share_altitude(
         && (reaches_altitude(other_low, high) && reaches_altitude(other_low, other_high))
 }
 
-/// Whether some time lies in both ranges, and the ranges are not empty.
+/// Returns true if some time lies in both ranges and neither range is empty.
 pub(crate) fn share_time(
     low: Option<u64>,
     high: Option<u64>,
@@ -86,14 +86,14 @@ fn is_time(bound: Option<u64>) -> bool
     }
 }
 
-/// Whether the bounds are altitudes within their limits, the lower not above the upper.
+/// Returns true if the altitudes are within their limits and the lower is not above the upper.
 pub(crate) fn are_altitudes(low: Option<i64>, high: Option<i64>) -> bool
     ensures { result ≡ are_altitudes low high }
 {
     is_altitude(low) && (is_altitude(high) && reaches_altitude(low, high))
 }
 
-/// Whether the bounds are times within their limits, the first not after the last.
+/// Returns true if the times are within their limits and the first is not after the last.
 pub(crate) fn are_times(first: Option<u64>, last: Option<u64>) -> bool
     ensures { result ≡ are_times first last }
 {

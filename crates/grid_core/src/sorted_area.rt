@@ -1,4 +1,4 @@
-//! Areas as they are searched for.
+//! Areas prepared for searching.
 ghost use Rattle.std.specs.Prelude.{◌≡◌, ◌↔◌, ◌+◌, ◌<◌, ◌≤◌, length, map, IsTrue, IfOk};
 ghost use Rattle.std.specs.List.{All, list_any};
 ghost use Rattle.std.specs.List.Sorted.{IsNonDecreasingBy, IsPartitionPoint, IsPermutation};
@@ -14,16 +14,17 @@ use crate::volumes::Volumes;
 use std::alloc::{AllocError, Global};
 use std::marker::Model;
 
-// The places of a first and of a last cell of level 13, among all of that level.
+// The indexes of the first and the last cell of a range of level-13 cells.
 #[derive(Clone, Copy, Debug)]
 struct Interval {
     lo: u32,
     hi: u32,
 }
 
-/// An area as it is searched for: beside its cells there are their intervals at level 13, sorted
-/// and joined, so that a cell is compared with few of them. Contracts see a `Region`, as of an
-/// `Area`.
+/// An area prepared for searching.
+///
+/// Besides its cells it has their intervals at level 13, sorted and merged, so that a cell is
+/// compared with few of them. Contracts see a `Region`, as of an `Area`.
 #[derive(Debug, Drop)]
 pub struct SortedArea {
     cells: Vec<CellId>,
@@ -55,7 +56,7 @@ fn interval_of(cell: CellId) -> Interval
     }
 }
 
-// The intervals of cells, in their order.
+// Returns the intervals of cells, in their order.
 fn intervals_of(alloc: Global, cells: &[CellId]) -> Result<Vec<Interval>, AllocError>
     ensures items { IfOk result (λ v. v.items ≡ map interval_of cells.now) }
     ensures valid { IfOk result (λ _. All IsCell cells.now) }
@@ -74,14 +75,15 @@ fn sort(intervals: &mut Vec<Interval>)
     intervals.sort_unstable_by_key(|interval| interval.lo);
 }
 
-// Whether no place lies between an interval and one that begins no sooner.
+// Returns true if `next`, which begins no sooner than `interval`, overlaps it or follows it without
+// a gap.
 fn is_next(interval: Interval, next: Interval) -> bool
     ensures { IsTrue result ↔ next.lo ≤ interval.hi + 1 }
 {
     next.lo.saturating_sub(interval.hi) <= 1
 }
 
-// The same places in intervals of which none touch.
+// Merges sorted intervals. The result has the same positions, and no two of its intervals touch.
 fn joined(alloc: Global, intervals: &[Interval]) -> Result<Vec<Interval>, AllocError>
     requires ordered { All IsOrdered intervals.now }
     requires sorted { IsNonDecreasingBy (λ i. i.lo) intervals.now }
@@ -106,7 +108,7 @@ fn joined(alloc: Global, intervals: &[Interval]) -> Result<Vec<Interval>, AllocE
     Ok(joined)
 }
 
-// The place of the first that does not end before another begins.
+// Returns the index of the first interval that does not end before `lo`.
 fn first_from(intervals: &[Interval], lo: u32) -> usize
     requires ordered { All IsOrdered intervals.now }
     requires apart { AreApart intervals.now }
@@ -127,7 +129,9 @@ fn overlaps_one_of(own: Interval, intervals: &[Interval]) -> bool
 }
 
 impl SortedArea {
-    /// An area, sorted.
+    /// Prepares an area for searching.
+    ///
+    /// Returns `AllocError` if memory runs out.
     pub fn new(alloc: Global, area: &Area) -> Result<SortedArea, AllocError>
         ensures { IfOk result (λ s. s ≡ area.now) }
     {
@@ -141,7 +145,7 @@ impl SortedArea {
         })
     }
 
-    /// The cells, as they were given.
+    /// Returns the cells, in the order in which they were given.
     pub fn cells(&self) -> &[CellId]
         ensures { result.now ≡ self.now.cells }
     {
@@ -161,7 +165,7 @@ impl SortedArea {
     }
 }
 
-/// Areas, each sorted, in their order.
+/// Prepares each area for searching, in their order.
 pub fn sorted(alloc: Global, areas: &[Area]) -> Result<Vec<SortedArea>, AllocError>
     ensures { IfOk result (λ s. s.items ≡ areas.now) }
 {
@@ -173,8 +177,9 @@ pub fn sorted(alloc: Global, areas: &[Area]) -> Result<Vec<SortedArea>, AllocErr
 }
 
 impl Volume {
-    /// Whether it meets an area that is sorted, as `meets`: each of its cells is looked for among
-    /// the area's. It takes no memory.
+    /// Returns true if this volume meets the area, as `meets` does.
+    ///
+    /// Searches each cell of the volume among the area's intervals. Allocates nothing.
     pub fn meets_sorted(&self, area: &SortedArea) -> bool
         ensures { result ≡ meets (region_of self.now) area.now }
     {
@@ -186,12 +191,12 @@ impl Volume {
             area.altitude.0,
             area.altitude.1,
         ) && share_time(Some(time.0), Some(time.1), area.time.0, area.time.1);
-        // last, since there may be many
+        // The cells are compared last, since there can be many.
         shares_bounds && area.touches_some(self.cells())
     }
 }
 
-/// Whether a volume meets some area.
+/// Returns true if a volume meets some area.
 pub fn meets_some_sorted(volume: &Volume, areas: &[SortedArea]) -> bool
     ensures { result ≡ meets_some volume.now areas.now }
 {
@@ -207,7 +212,7 @@ fn any_meet_sorted(volumes: &[Volume], areas: &[SortedArea]) -> bool
 }
 
 impl Volumes {
-    /// Whether some volume meets some area, as `meet`.
+    /// Returns true if some volume meets some area, as `meets_any` does.
     pub fn meets_any_sorted(&self, areas: &[SortedArea]) -> bool
         ensures { result ≡ any_meet self.now areas.now }
     {

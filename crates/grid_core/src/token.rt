@@ -1,4 +1,4 @@
-//! Tokens: cells as short texts.
+//! Tokens: short texts that represent cells.
 ghost use Rattle.std.specs.Prelude.{◌≡◌, ◌≤◌, ◌<◌, ◌+◌, ◌*◌, ◌/◌, ◌-◌, ◌^◌, IfOk, OnErr, Some, None, IsTrue, MatchOption, length, string_bytes};
 ghost use Rattle.std.specs.Str.Parse.{AllDigits, digits_value};
 ghost use Rattle.std.specs.Char.{digit_value};
@@ -8,21 +8,21 @@ ghost use Rattle.grid_core.specs.Token.{Parses, cell_named, IsShortest, is_lower
 use crate::cell::CellId;
 use std::alloc::{AllocError, Global};
 
-/// The first fault of a text that should be a token.
+/// The first fault of a text that is not a token.
 #[derive(Clone, Copy, Debug, PartialEq, Eq)]
 pub enum TokenFault {
     /// The text is empty or has over 16 bytes.
     Length,
-    /// A byte is no hexadecimal digit.
+    /// A byte is not a hexadecimal digit.
     Digit,
-    /// The digits are the number of no cell.
+    /// The digits are not the number of a cell.
     Invalid,
 }
 
 impl TokenFault {
     ghost use Rattle.grid_core.specs.Token.{fault_number, fault_name};
 
-    /// Its number, from 1 to 3.
+    /// Returns the number of the fault, from 1 to 3.
     pub fn number(self) -> u8
         ensures { result ≡ fault_number self }
     {
@@ -33,7 +33,7 @@ impl TokenFault {
         }
     }
 
-    /// Its name.
+    /// Returns the name of the fault.
     pub fn name(self) -> &'static str
         ensures { result.now ≡ fault_name self }
     {
@@ -54,7 +54,7 @@ fn digit_of(byte: u8) -> Option<u64>
     }
 }
 
-// The number that hexadecimal digits write.
+// Returns the number that hexadecimal digits represent, or `None` if a byte is not such a digit.
 fn value_of(text: &[u8]) -> Option<u64>
     requires { length text.now ≤ 16 }
     ensures { MatchOption result (AllDigits 16 text.now → ⊥)
@@ -70,7 +70,7 @@ fn value_of(text: &[u8]) -> Option<u64>
     Some(value)
 }
 
-// The number with zeros to 16 digits on its right.
+// Returns the number padded with zeros on the right to 16 digits.
 fn padded(value: u64, count: usize) -> u64
     requires count { count ≤ 16 }
     requires some { 1 ≤ count }
@@ -80,9 +80,11 @@ fn padded(value: u64, count: usize) -> u64
     value << (4 * (16 - count) as u32)
 }
 
-/// The cell of a token: 1 to 16 hexadecimal digits of either case, which are the cell's number once
-/// zeros fill it up on the right (S2 Geometry; that the zeros may be there is this project's
-/// profile). The faults are tested in the order of their numbers. It takes no memory.
+/// Returns the cell that a token represents.
+///
+/// A token has 1 to 16 hexadecimal digits of either case. Padded with zeros on the right, they are
+/// the cell's number (S2 Geometry). A token with trailing zeros is accepted (this project's
+/// profile). Returns the first fault, checked in the order of their numbers. Allocates nothing.
 pub fn parse_token(text: &str) -> Result<CellId, TokenFault>
     ensures reads { Parses text.now result }
     ensures named { IfOk result (λ c. cell_named text.now ≡ Some c) }
@@ -100,7 +102,7 @@ pub fn parse_token(text: &str) -> Result<CellId, TokenFault>
     }
 }
 
-// The hexadecimal digit at a place of a number, the first being that of the highest four bits.
+// Returns the hexadecimal digit at an index of a number. Index 0 is the highest four bits.
 fn glyph_at(raw: u64, place: u32) -> char
     requires { place < 16 }
     ensures value { digit_value result ≡ raw / 2 ^ (60 - 4 * place) - raw / 2 ^
@@ -113,7 +115,9 @@ fn glyph_at(raw: u64, place: u32) -> char
     }
 }
 
-/// The token of a cell: the shortest text in lower case that reads as the cell.
+/// Returns the token of a cell: the shortest lower-case text that represents it.
+///
+/// Returns `AllocError` if memory runs out.
 pub fn token(alloc: Global, cell: CellId) -> Result<String, AllocError>
     ensures { IfOk result (λ text. IsShortest (string_bytes text) cell) }
 {
@@ -122,7 +126,7 @@ pub fn token(alloc: Global, cell: CellId) -> Result<String, AllocError>
     written(alloc, raw, count)
 }
 
-// The first digits of a number.
+// Returns the first digits of a number.
 fn written(alloc: Global, raw: u64, count: u32) -> Result<String, AllocError>
     requires { count ≤ 16 }
     ensures { IfOk result (λ text. Written raw count (string_bytes text)) }

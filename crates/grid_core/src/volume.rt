@@ -1,4 +1,4 @@
-//! Volumes and areas: where and when something is, and when two of them meet.
+//! Volumes and areas: positions and times, and tests of whether two of them meet.
 ghost use Rattle.std.specs.Prelude.{◌≡◌, ◌↔◌, ◌≤◌, ◌*◌, ℕ, int_le, nat_le, length, IsTrue, IfOk, MatchResult, Option, Some, None};
 ghost use Rattle.std.specs.List.{list_any};
 ghost use Rattle.grid_core.specs.Cell.{Cell};
@@ -10,8 +10,10 @@ use crate::volume_fault::VolumeFault;
 use std::alloc::AllocError;
 use std::marker::Model;
 
-/// A part of the space at a time: 1 to 512 cells, altitudes in decimetres, times in seconds since
-/// 1970; all ranges are closed (this project's profile). Contracts see an `Extent`.
+/// A part of the space during a time: 1 to 512 cells, altitudes in decimetres, times in Unix
+/// seconds.
+///
+/// All ranges are closed (this project's profile). Contracts see an `Extent`.
 #[derive(Debug, Drop)]
 pub struct Volume {
     cells: Vec<CellId>,
@@ -31,8 +33,9 @@ impl Model for Volume {
         ≡ None };
 }
 
-/// Where and when something is looked for: as a volume, but each of the four bounds may be absent,
-/// which means no bound. Contracts see a `Region`.
+/// An area to search: like a volume, but each of the four bounds can be absent.
+///
+/// An absent bound does not restrict. Contracts see a `Region`.
 #[derive(Debug, Drop)]
 pub struct Area {
     cells: Vec<CellId>,
@@ -51,7 +54,7 @@ impl Model for Area {
     ghost invariant = { λ a. region_fault (region_with a.cells.items a.altitude a.time) ≡ None };
 }
 
-// The first fault of so many cells with these bounds.
+// Returns the first fault of these cells and bounds, or `None`.
 fn fault_of(
     cells: &[CellId],
     altitude: (Option<i64>, Option<i64>),
@@ -122,8 +125,10 @@ fn covered_by(cells: &[CellId]) -> u64
 }
 
 impl Volume {
-    /// A volume of these cells between these bounds. The faults are tested in the order of their
-    /// numbers; on a fault the cells are dropped. It takes no memory.
+    /// Creates a volume of these cells and bounds.
+    ///
+    /// Returns the first fault, checked in the order of their numbers, and drops the cells.
+    /// Allocates nothing.
     pub fn new(
         cells: Vec<CellId>,
         altitude: (i64, i64),
@@ -144,14 +149,14 @@ impl Volume {
         }
     }
 
-    /// The cells, as they were given.
+    /// Returns the cells, in the order in which they were given.
     pub fn cells(&self) -> &[CellId]
         ensures { result.now ≡ self.now.cells }
     {
         self.cells.as_slice()
     }
 
-    /// The lower and the upper altitude, in decimetres.
+    /// Returns the lower and the upper altitude, in decimetres.
     pub fn altitude(&self) -> (i64, i64)
         ensures bounds { result ≡ self.now.altitude }
         ensures limits { region_fault (region_of self.now) ≡ None }
@@ -159,14 +164,16 @@ impl Volume {
         self.altitude
     }
 
-    /// The first and the last time, in seconds since 1970.
+    /// Returns the first and the last time, in Unix seconds.
     pub fn time(&self) -> (u64, u64)
         ensures { result ≡ self.now.time }
     {
         self.time
     }
 
-    /// How many cells of level 13 its cells cover, each of its cells counted. It takes no memory.
+    /// Returns the number of level-13 cells that its cells cover, each cell counted.
+    ///
+    /// Allocates nothing.
     pub fn covered(&self) -> u64
         ensures count { result ≡ covered_by self.now.cells }
         ensures most { result ≤ 34359738368 }
@@ -174,7 +181,9 @@ impl Volume {
         covered_by(&self.cells)
     }
 
-    /// The area of the same cells and bounds.
+    /// Returns an area with the same cells and bounds.
+    ///
+    /// Returns `AllocError` if memory runs out.
     pub fn as_area(&self) -> Result<Area, AllocError>
         ensures { IfOk result (λ area. area ≡ region_of self.now) }
     {
@@ -185,7 +194,9 @@ impl Volume {
         })
     }
 
-    /// An equal volume.
+    /// Returns a copy of the volume.
+    ///
+    /// Returns `AllocError` if memory runs out.
     pub fn clone(&self) -> Result<Volume, AllocError>
         ensures { IfOk result (λ v. v ≡ self.now) }
     {
@@ -196,8 +207,10 @@ impl Volume {
         })
     }
 
-    /// Whether a cell of the one touches a cell of the other, and they share an altitude and a
-    /// time. It takes no memory.
+    /// Returns true if a cell of the volume touches a cell of the area, and they share an altitude
+    /// and a time.
+    ///
+    /// Allocates nothing.
     pub fn meets(&self, area: &Area) -> bool
         ensures test { result ≡ meets (region_of self.now) area.now }
         ensures relation { IsTrue result ↔ Meet (region_of self.now) area.now }
@@ -219,14 +232,16 @@ impl Volume {
             area.time.0,
             area.time.1,
         );
-        // last, since there may be many
+        // The cells are compared last, since there can be many.
         shares_bounds && are_touching(&self.cells, &area.cells)
     }
 }
 
 impl Area {
-    /// An area of these cells between these bounds. The faults are tested in the order of their
-    /// numbers; on a fault the cells are dropped. It takes no memory.
+    /// Creates an area of these cells and bounds.
+    ///
+    /// Returns the first fault, checked in the order of their numbers, and drops the cells.
+    /// Allocates nothing.
     pub fn new(
         cells: Vec<CellId>,
         altitude: (Option<i64>, Option<i64>),
@@ -246,14 +261,14 @@ impl Area {
         }
     }
 
-    /// The cells, as they were given.
+    /// Returns the cells, in the order in which they were given.
     pub fn cells(&self) -> &[CellId]
         ensures { result.now ≡ self.now.cells }
     {
         self.cells.as_slice()
     }
 
-    /// The lower and the upper altitude, in decimetres.
+    /// Returns the lower and the upper altitude, in decimetres.
     pub fn altitude(&self) -> (Option<i64>, Option<i64>)
         ensures lower { result.0 ≡ self.now.lowest }
         ensures upper { result.1 ≡ self.now.highest }
@@ -262,7 +277,7 @@ impl Area {
         self.altitude
     }
 
-    /// The first and the last time, in seconds since 1970.
+    /// Returns the first and the last time, in Unix seconds.
     pub fn time(&self) -> (Option<u64>, Option<u64>)
         ensures first { result.0 ≡ self.now.first }
         ensures last { result.1 ≡ self.now.last }
@@ -270,7 +285,9 @@ impl Area {
         self.time
     }
 
-    /// How many cells of level 13 its cells cover, each of its cells counted. It takes no memory.
+    /// Returns the number of level-13 cells that its cells cover, each cell counted.
+    ///
+    /// Allocates nothing.
     pub fn covered(&self) -> u64
         ensures count { result ≡ covered_by self.now.cells }
         ensures most { result ≤ 34359738368 }
@@ -278,8 +295,10 @@ impl Area {
         covered_by(&self.cells)
     }
 
-    /// Whether a cell of the one touches a cell of the other, and they share an altitude and a
-    /// time. It takes no memory.
+    /// Returns true if a cell of one area touches a cell of the other, and they share an altitude
+    /// and a time.
+    ///
+    /// Allocates nothing.
     pub fn meets(&self, area: &Area) -> bool
         ensures test { result ≡ meets self.now area.now }
         ensures relation { IsTrue result ↔ Meet self.now area.now }
@@ -296,7 +315,7 @@ impl Area {
             area.altitude.0,
             area.altitude.1,
         ) && share_time(self.time.0, self.time.1, area.time.0, area.time.1);
-        // last, since there may be many
+        // The cells are compared last, since there can be many.
         shares_bounds && are_touching(&self.cells, &area.cells)
     }
 }

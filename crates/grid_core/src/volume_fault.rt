@@ -1,15 +1,15 @@
-//! Why a volume or an area was refused.
+//! The faults of volumes and areas.
 
-/// The first fault of what should be a volume or an area.
+/// The first fault of a volume or an area.
 #[derive(Clone, Copy, Debug, PartialEq, Eq)]
 pub enum VolumeFault {
-    /// There is no cell.
+    /// There are no cells.
     Empty,
-    /// There are over 512 cells.
+    /// There are more than 512 cells.
     TooMany,
     /// An altitude is outside -100,000 to 1,000,000 decimetres, or the lower is above the upper.
     Altitude,
-    /// A time is outside 0 to 253,402,300,799 seconds since 1970, or the first is after the last.
+    /// A time is after 253,402,300,799 seconds since 1970, or the first is after the last.
     Time,
 }
 
@@ -17,7 +17,7 @@ impl VolumeFault {
     ghost use Rattle.std.specs.Prelude.{◌≡◌};
     ghost use Rattle.grid_core.specs.VolumeFault.{fault_number, fault_name};
 
-    /// Its number, from 1 to 4.
+    /// Returns the number of the fault, from 1 to 4.
     pub fn number(self) -> u8
         ensures { result ≡ fault_number self }
     {
@@ -29,7 +29,7 @@ impl VolumeFault {
         }
     }
 
-    /// Its name.
+    /// Returns the name of the fault.
     pub fn name(self) -> &'static str
         ensures { result.now ≡ fault_name self }
     {

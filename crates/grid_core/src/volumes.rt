@@ -9,7 +9,8 @@ use std::alloc::{AllocError, Global};
 use std::marker::Model;
 use std::rc::Rc;
 
-/// The volumes of an entity, from 1 to 32 (this project's profile), which its copies share.
+/// The volumes of an entity, 1 to 32 of them (this project's profile). Clones share them.
+///
 /// Contracts see their list.
 #[derive(Debug, Drop)]
 pub struct Volumes {
@@ -28,7 +29,7 @@ impl Model for Volumes {
         × (length a.items.value.items ≤ 32) };
 }
 
-/// Whether a volume meets some area.
+/// Returns true if a volume meets some area.
 pub fn meets_some(volume: &Volume, areas: &[Area]) -> bool
     ensures { result ≡ meets_some volume.now areas.now }
 {
@@ -41,7 +42,7 @@ fn any_meet(volumes: &[Volume], areas: &[Area]) -> bool
     volumes.iter().any(|volume| meets_some(volume, areas))
 }
 
-// The times from the one's first to the last of both.
+// Returns the earlier start and the later end.
 fn wider(span: (u64, u64), time: (u64, u64)) -> (u64, u64)
     ensures { result ≡ wider span time }
 {
@@ -94,8 +95,10 @@ fn covered_sum(volumes: &[Volume]) -> u64
 }
 
 impl Volumes {
-    /// These volumes; none where there are none or over 32, and they are dropped then, as they are
-    /// where memory is wanting.
+    /// Creates the volumes of an entity.
+    ///
+    /// Returns `None` if there are no volumes or more than 32. Drops them then, and if memory runs
+    /// out.
     pub fn from_vec(alloc: Global, items: Vec<Volume>) -> Result<Option<Volumes>, AllocError>
         ensures some { IfOk result (λ made. IfSome made (λ v. v ≡ items.items)) }
         ensures none { IfOk result (λ made. IfNone made
@@ -109,7 +112,7 @@ impl Volumes {
         }
     }
 
-    /// The volumes, as they were given.
+    /// Returns the volumes, in the order in which they were given.
     pub fn items(&self) -> &[Volume]
         ensures same { result.now ≡ self.now }
         ensures least { 1 ≤ length self.now }
@@ -118,7 +121,9 @@ impl Volumes {
         self.items.as_ref().as_slice()
     }
 
-    /// Whether some volume meets some area. Each is tested alone, and none are merged.
+    /// Returns true if some volume meets some area.
+    ///
+    /// Each volume is tested separately; volumes are not merged.
     pub fn meets_any(&self, areas: &[Area]) -> bool
         ensures test { result ≡ any_meet self.now areas.now }
         ensures relation { IsTrue result ↔ AnyMeet self.now areas.now }
@@ -126,7 +131,7 @@ impl Volumes {
         any_meet(self.items(), areas)
     }
 
-    /// The least first time and the greatest last time, in seconds since 1970.
+    /// Returns the earliest start and the latest end, in Unix seconds.
     pub fn times(&self) -> (u64, u64)
         ensures value { result ≡ span_of self.now }
         ensures relation { IsSpan self.now result }
@@ -141,22 +146,26 @@ impl Volumes {
         span_of(self.items())
     }
 
-    /// How many cells of level 13 they count for, volume by volume and cell by cell (this project's
-    /// profile).
+    /// Returns the number of level-13 cells that the volumes count for, summed over volumes and
+    /// cells (this project's profile).
     pub fn covered(&self) -> u64
         ensures { result ≡ covered_sum self.now }
     {
         covered_sum(self.items())
     }
 
-    /// The volumes as areas, all of whose bounds are there.
+    /// Returns the volumes as areas whose bounds are all present.
+    ///
+    /// Returns `AllocError` if memory runs out.
     pub fn areas(&self, alloc: Global) -> Result<Vec<Area>, AllocError>
         ensures { IfOk result (λ areas. areas.items ≡ map region_of self.now) }
     {
         areas_of(alloc, self.items())
     }
 
-    /// Equal volumes, which are shared. It takes no memory.
+    /// Returns a clone that shares the same volumes.
+    ///
+    /// Allocates nothing.
     pub fn clone(&self) -> Result<Volumes, AllocError>
         ensures { IfOk result (λ v. v ≡ self.now) }
     {

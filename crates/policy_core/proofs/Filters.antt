@@ -1,8 +1,8 @@
--- One filter after another.
+-- Two filters in sequence.
 use Rattle.std.specs.Prelude.{◌≡◌, ◌&&◌, Bool, true, false, List, [], ◌∷◌, map, filter, cond, refl}
 use Rattle.std.proofs.Common.{ap}
 
--- what passes two tests in turn passes both at once
+-- Filtering twice equals filtering once with both tests.
 pub both_at_once : {X Y : Type 0} (f : X → Y) (p : Y → Bool) (q : X → Bool) (xs : List X) → filter p (map f (filter q xs)) ≡ map f (filter (λ x. q x && p (f x)) xs)
 both_at_once f p q [] = refl
 both_at_once {X} {Y} f p q (x ∷ xs) =

@@ -1,4 +1,4 @@
--- The first of a list that passes a test.
+-- The first element of a list that passes a test.
 use Rattle.std.specs.Prelude.{◌≡◌, Bool, true, false, List, [], ◌∷◌, ◌++◌, Option, Some, None, cond, find, refl}
 use Rattle.std.proofs.Common.{sym, ap, ◌∙◌, subst}
 use Rattle.std.proofs.lemmas.Option.{same_Some}
@@ -16,7 +16,7 @@ find-append p (x ∷ xs) ys =
       | false ↦ find-append p xs ys
     ]
 
--- what all members of a list have, the found one has
+-- What holds for all elements of a list holds for the one found.
 pub find_has : {X : Type 0} (Q : X → Type 0) (p : X → Bool) (xs : List X) (x : X) → AllByRecursion Q xs → find p xs ≡ Some x → Q x
 find_has Q p [] x all h = cc
 find_has {X} Q p (y ∷ xs) x all h =
@@ -33,7 +33,7 @@ find_rest p (y ∷ xs) ys h =
       | false ↦ λ e. find_rest p xs ys e
     ] h
 
--- the found one passes
+-- The element found passes the test.
 pub find_true : {X : Type 0} (p : X → Bool) (xs : List X) (x : X) → find p xs ≡ Some x → p x ≡ true
 find_true p [] x h = cc
 find_true p (y ∷ xs) x h =
@@ -49,6 +49,6 @@ head_fails p x ys h =
       | false ↦ λ e. refl
     ] h
 
--- where none passes, each fails
+-- If the search finds nothing, each element fails the test.
 pub none_passes : {X : Type 0} (p : X → Bool) (xs ys : List X) (x : X) → find p (xs ++ x ∷ ys) ≡ None → p x ≡ false
 none_passes p xs ys x h = head_fails p x ys (find_rest p xs (x ∷ ys) h)

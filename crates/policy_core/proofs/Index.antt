@@ -1,4 +1,4 @@
--- A search among texts in order, by what it says of their list.
+-- A binary search in a sorted list of texts.
 use Rattle.std.specs.Prelude.{◌≡◌, ℕ, Bool, List, [], ◌∷◌, map, length, Result, Ok, Err, refl}
 use Rattle.std.specs.List.{list_any}
 use Rattle.std.specs.List.Sorted.{IsSorted, IsBinarySearchResult, IsSearchInRange}
@@ -15,16 +15,16 @@ use Rattle.std.proofs.lemmas.List.Sorted.{searchable_from_sorted}
 use Rattle.entity_core.specs.IdTexts.{same_text}
 use Rattle.policy_core.specs.Missing.{in_key}
 
--- the order of the two says whether they are the same
+-- Two texts are the same exactly if they compare as equal.
 same_by : (text sought : List ℕ) (o : Ordering) → slice_cmp nat_cmp text sought ≡ o → same_text sought text ≡ is_eq (ordering_reverse o)
 same_by text sought o e = texts_ties sought text ∙ (ap is_eq (nat_list_cmp_total.antisymm sought text) ∙ ap (λ (x : Ordering). is_eq (ordering_reverse x)) e)
 
--- a test of what is read of each
+-- Testing what is read from each element equals testing the list of what is read.
 any_read : {X Y : Type 0} (test : Y → Bool) (read : X → Y) (xs : List X) → list_any (λ x. test (read x)) xs ≡ list_any test (map read xs)
 any_read test read [] = refl
 any_read test read (x ∷ xs) = ap (λ b. test (read x) || b) (any_read test read xs)
 
--- the search finds a text exactly if the list has it
+-- The search finds a text exactly if the list has it.
 pub searched : (texts : List (Bor (List ℕ))) (sought : Bor (List ℕ)) (r : Result ℕ ℕ) → IsSorted (λ x y. slice_cmp nat_cmp x.now y.now) texts → IsSearchInRange r (length texts)
     → IsBinarySearchResult (λ t. slice_cmp nat_cmp t.now sought.now) texts r → is_ok r ≡ in_key (map (λ t. t.now) texts) sought.now
 searched texts sought (Ok i) up within found =

@@ -1,4 +1,4 @@
--- Members of lists.
+-- Membership in lists.
 use Rattle.std.specs.Prelude.{◌≡◌, zero, suc, Bool, true, false, List, [], ◌∷◌, map, filter, cond, Contains, ◌⊎◌}
 use Rattle.std.proofs.Common.{arith, sym, ap, ◌∙◌, subst, inl, inr}
 

@@ -1,4 +1,4 @@
--- The places of what passes a test.
+-- The indexes of the elements that pass a test.
 use Rattle.std.specs.Prelude.{◌≡◌, ℕ, ◌+◌, ◌<◌, Bool, true, false, List, [], ◌∷◌, ◌++◌, length, take, filter, cond, if◌then◌else◌, Option, Some, refl}
 use Rattle.std.specs.List.{filter_map, slice_get, AllByRecursion, All, cons_option, range_with_len}
 use Rattle.std.proofs.Common.{arith, subst, sym, ap, ◌∙◌, get_or, suc, map}
@@ -7,7 +7,7 @@ use Rattle.std.proofs.lemmas.List.Elements.{All-from_recursion, filter_map-appen
 use Rattle.entity_core.specs.declared.entity.Entity.{Entity}
 use Rattle.policy_core.specs.Missing.{passes_at, places_where, is_missing_from, missing_from}
 
--- the same by a walk that counts the places
+-- The same indexes, by a walk that counts.
 abbrev places_from : {X : Type 0} → (X → Bool) → ℕ → List X → List ℕ
 places_from test k [] = []
 places_from test k (x ∷ xs) = if test x then k ∷ places_from test (k + 1) xs else places_from test (k + 1) xs
@@ -50,7 +50,7 @@ picked_by {X} p f k (x ∷ xs) h =
       | false ↦ e
     ]
 
--- what stands at those places
+-- The elements at these indexes are those that pass the test.
 pub picked : {X : Type 0} (p : X → Bool) (xs : List X) → filter_map (slice_get xs) (places_where p xs) ≡ filter p xs
 picked p xs = ap (filter_map (slice_get xs)) (walked p xs) ∙ picked_by p (slice_get xs) 0 xs (λ i. ap (slice_get xs) (omega arith))
 
@@ -67,7 +67,7 @@ pub places_inside : {X : Type 0} (p : X → Bool) (xs : List X) → All (λ i. i
 places_inside p xs =
     subst (All (λ i. i < length xs)) (sym (walked p xs)) (All-from_recursion (λ i. i < length xs) (places_from p 0 xs) (subst (λ (n : ℕ). AllByRecursion (λ i. i < n) (places_from p 0 xs)) (omega arith) (places_within p 0 xs)))
 
--- one more place
+-- One more index gives one more element.
 pub pick_more : {E R : Type 0} (f : E → R) (es : List E) (places : List ℕ) (i d : ℕ) (x : E) → i < length places → slice_get es (get_or places i d) ≡ Some x
     → map f (filter_map (slice_get es) (take (i + 1) places)) ≡ map f (filter_map (slice_get es) (take i places)) ++ f x ∷ []
 pick_more {E} f es places i d x h is =

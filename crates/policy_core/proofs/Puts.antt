@@ -1,4 +1,4 @@
--- What puts know, and what they are told.
+-- What a put knows, and what is missing from its key.
 use Rattle.std.specs.Prelude.{◌≡◌, ℕ, ◌≤◌, ◌&&◌, ◌||◌, not, nat_eq, Bool, true, false, List, [], ◌∷◌, ◌++◌, map, filter, Option, Some, None, cond, find, refl, Contains}
 use Rattle.std.proofs.Common.{arith, sym, ap, ◌∙◌, subst, inl, inr}
 use Rattle.std.proofs.lemmas.Option.{same_Some}
@@ -38,7 +38,7 @@ use Rattle.policy_core.proofs.Members.{no_member, later, passing, mapped}
 
 -- ---- without a caller
 
--- P1, P2 or P3 is broken
+-- A call without a caller breaks P1, P2 or P3.
 none_asks : (a : Airspace) (t : ℕ) (op : Operation) → (p : Rule) × (first_broken a t (record { caller = None; op = op }) ≡ Some p) × (number_of p ≤ 3)
 unfolding first_broken
 none_asks a t NoRoute = (Route, refl, omega arith)
@@ -57,13 +57,13 @@ none_asks a t (CreateSub id put) = (Token, refl, omega arith)
 none_asks a t (UpdateSub id version put) = (Token, refl, omega arith)
 none_asks a t (DeleteSub id version) = (Token, refl, omega arith)
 
--- ---- a put of whose key nothing is missing
+-- ---- a put whose key misses nothing
 
 both_true : (a b : Bool) → a && b ≡ true → (a ≡ true) × (b ≡ true)
 both_true true b h = (refl, h)
 both_true false b h = cc
 
--- where nothing that is sought is missing, the key has the OVN of each
+-- If no entity found is missing, the key has the OVN of each.
 none_missing : (v : Entity → Reference) (key : List (List ℕ)) (test : EntityKey × Entity → Bool) (es : List (EntityKey × Entity)) (q : EntityKey) (y : Entity)
     → is_none_of (map v (filter (is_missing_from key) (map (λ e. e.1) (filter test es)))) ≡ true → maps.find key_cmp q es ≡ Some y → test (q, y) ≡ true → in_key key y.ovn ≡ true
 none_missing v key test [] q y n f s = cc
@@ -96,23 +96,23 @@ none_met a v key test q y n f s = none_missing v key test (entries a.entities) q
 other_id : (n id : ℕ) → eq_by_cmp key_cmp (kinds.Intent, n) (kinds.Intent, id) ≡ false → not (nat_eq n id) ≡ true
 other_id n id h = ap not (sym (unsigned_tied n id) ∙ h)
 
--- of two intents with one kind and different keys, the ids differ
+-- Two intents with different keys have different ids.
 other_intent : (n id : ℕ) (nature : Nature) → needs_key nature ≡ true → eq_by_cmp key_cmp (kinds.Intent, n) (kind_of nature, id) ≡ false → not (nat_eq n id) ≡ true
 other_intent n id (Intent state named) needs h = other_id n id h
 other_intent n id Constraint needs h = cc
 
--- where nothing is missing of what is met and not spared, the key has the OVN of each
+-- If no entity that is met and not exempt is missing, the key has the OVN of each.
 none_unspared : (a : Airspace) (v : Entity → Reference) (key : List (List ℕ)) (test : EntityKey × Entity → Bool) (q : EntityKey) (y : Entity)
     → is_none_of (map v (filter (is_missing_from key) (filter (λ e. not (is_spared a e)) (map (λ e. e.1) (filter test (entries a.entities)))))) ≡ true → get a.entities q ≡ Some y → test (q, y) ≡ true → is_spared a y ≡ false → in_key key y.ovn ≡ true
 none_unspared a v key test q y n f s owed =
     none_met a v key (λ e. test e && not (is_spared a e.1)) q y
     (subst (λ (es : List Entity). is_none_of (map v (filter (is_missing_from key) es)) ≡ true) (both_at_once (λ (e : EntityKey × Entity). e.1) (λ e. not (is_spared a e)) test (entries a.entities)) n) f (λ i. s i && not (owed i))
 
--- whether a put needs to know such an entity
+-- True if a put needs to know entities of this nature.
 abbrev needed_by : Airspace → Caller → Put → Nature → Bool
 needed_by a caller put nature = needs_kind (kind_of nature) (Some caller) (subscription_of put.nature) (sub_under a (subscription_of put.nature))
 
--- where nothing is missing, the key of a put has the OVN of each other entity that it needs to know
+-- If nothing is missing, the key of a put has the OVN of each other entity that it needs to know.
 put_knows : (a : Airspace) (caller : Caller) (id : ℕ) (put : Put) (y : Entity) → is_nothing (missing_put a caller id put) ≡ true → get a.entities (key_of y) ≡ Some y
     → eq_by_cmp key_cmp (key_of y) (kind_of put.nature, id) ≡ false → needs_key put.nature ≡ true → any_meet y.volumes (map region_of put.volumes) ≡ true → needed_by a caller put y.nature ≡ true → is_spared a y ≡ false
     → in_key put.key y.ovn ≡ true
@@ -138,13 +138,13 @@ not_not : (b : Bool) → not (not b) ≡ true → b ≡ true
 not_not true h = refl
 not_not false h = h
 
--- where no rule is broken, nothing is missing
+-- If a call breaks no rule, nothing is missing.
 misses_nothing : (a : Airspace) (t : ℕ) (c : Call) → first_broken a t c ≡ None → is_nothing (missing_for a c.caller c.op) ≡ true
 unfolding first_broken
 misses_nothing a t c h =
     not_not (is_nothing (missing_for a c.caller c.op)) (no_key (breaks a t c Key) (breaks a t c Limit) (find_rest (breaks a t c) standing_rules last_rules (find_rest (breaks a t c) early_rules (standing_rules ++ last_rules) h)))
 
--- what is in a key is a member of it
+-- An OVN for which `in_key` is true is a member of the key.
 in_list : (key : List (List ℕ)) (ovn : List ℕ) → in_key key ovn ≡ true → Contains key ovn
 in_list [] ovn h = cc
 in_list (k ∷ ks) ovn h =
@@ -181,7 +181,7 @@ puts_know a t (Some caller) (CreateSub n p) id put y is h = cc
 puts_know a t (Some caller) (UpdateSub n version p) id put y is h = cc
 puts_know a t (Some caller) (DeleteSub n version) id put y is h = cc
 
--- ---- what is needed and not in the key
+-- ---- entities that are needed but not in the key
 
 some_told : (v : Entity → Reference) (xs : List Entity) (y : Entity) → Contains xs y → is_none_of (map v xs) ≡ false
 some_told v [] y h = absurd (no_member y h)
@@ -212,16 +212,16 @@ put_misses kinds.Constraint a caller id put y h k =
     let c = told_missing_from put.key es y h k in
     (nor (is_none_of (missing_put a caller id put).intents) (is_none_of (missing_put a caller id put).constraints) (some_told v (missing_from put.key es) y c), mapped v (missing_from put.key es) y c)
 
--- ---- the call is denied for it
+-- ---- the call is denied
 
--- a rule that may deny a call for what is missing, but not by listing it
+-- Holds for a rule that denies a call without listing what is missing.
 abbrev Before : Rule → Type 0
 Before rule = MayDeny rule × (rule ≡ Key → ⊥)
 
 before : (rule : Rule) → number_of rule ≤ 13 → Before rule
 before rule low = (inl (omega (arith, low)), λ is. let same : number_of rule ≡ 14 = ap number_of is in absurd (omega (arith, low, same)))
 
--- P1 to P13 and P16 are no P14, and P17 is not broken by what needs anything
+-- P1 to P13 and P16 are not P14. A call that needs to know an entity does not break P17.
 earlier_rule : (a : Airspace) (t : ℕ) (c : Call) (p : Rule) → breaks a t c Depended ≡ false → find (breaks a t c) (early_rules ++ standing_rules) ≡ Some p → Before p
 earlier_rule a t c p never h =
     let early = λ (r : Rule) (low : number_of r ≤ 13) (b : breaks a t c r ≡ true). before r low in
@@ -266,7 +266,7 @@ earlier_rule a t c p never h =
       ),
     ) h (find_true (breaks a t c) (early_rules ++ standing_rules) p h)
 
--- what needs anything deletes no subscription
+-- A call that needs to know an entity does not delete a subscription.
 not_depended : (kind : Kind) (a : Airspace) (caller : Option Caller) (op : Operation) (y : Entity) → Contains (needed kind a caller op) y → breaks_depended op (depended_of a op) ≡ false
 not_depended kind a caller NoRoute y h = refl
 not_depended kind a caller NoMethod y h = refl

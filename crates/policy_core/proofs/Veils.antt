@@ -1,4 +1,4 @@
--- What is the same behind a veil.
+-- The policy gives the same results on redacted airspaces.
 use Rattle.std.specs.Prelude.{◌≡◌, ℕ, not, Bool, true, false, List, [], ◌∷◌, ◌++◌, map, filter, Option, Some, None, cond, find, refl, option_map}
 use Rattle.std.proofs.Common.{sym, ap, ◌∙◌, subst}
 use Rattle.std.specs.Cmp.Lexicographic.{same_text as one_text}
@@ -23,11 +23,11 @@ use Rattle.policy_core.specs.Call.{subject_of}
 use Rattle.policy_core.specs.Blind.{redacted, redacted_entry, redacted_sub, redacted_sub_entry, IsLike, is_uss}
 use Rattle.policy_core.proofs.Finds.{or_else, find-append}
 
--- a supplier by its text
+-- A USS is identified by its text.
 pub one_uss : (m : List ℕ) (caller : Caller) → is_uss m (Some caller) ≡ true → caller.uss ≡ m
 one_uss m caller h = one_text caller.uss m (sym h)
 
--- ---- what is found
+-- ---- lookups
 
 find-veiled : (m : List ℕ) (k : EntityKey) (es : List (EntityKey × Entity)) → option_map (redacted m) (maps.find key_cmp k es) ≡ maps.find key_cmp k (map (redacted_entry m) es)
 find-veiled m k [] = refl
@@ -97,7 +97,7 @@ pub under_like : (m : List ℕ) (a b : Airspace) (named : Option ℕ) → IsLike
 under_like m a b None l = refl
 under_like m a b (Some id) l = get_sub_like m a b id l
 
--- an OVN has no part in what names a subscription
+-- The intents that reference a subscription do not depend on OVNs.
 dependents-veiled : (m : List ℕ) (id : ℕ) (es : List (EntityKey × Entity)) → map (λ e. e.id) (map (λ e. e.1) (filter (is_naming id) es)) ≡ map (λ e. e.id) (map (λ e. e.1) (filter (is_naming id) (map (redacted_entry m) es)))
 dependents-veiled m id [] = refl
 dependents-veiled m id (e ∷ es) =
@@ -134,7 +134,7 @@ depended_like m a b (DeleteSub id version) l = ap is_some_of (dependents_like m 
 
 -- ---- P7 to P13, P16 and P17
 
--- whose it is comes before the OVN, so the OVN of another's entity is not looked at
+-- The manager is checked before the OVN, so the OVN of another USS's entity does not matter.
 manager_first : (own : Bool) (ovn present : List ℕ) (rest : Option Rule) → cond (not own) (Some Manager) (cond (not (same_text ovn present)) (Some Version) rest) ≡ cond (not own) (Some Manager) (cond (not (same_text ovn (cond own present []))) (Some Version) rest)
 manager_first true ovn present rest = refl
 manager_first false ovn present rest = refl
@@ -179,7 +179,7 @@ veiled_subject caller found stated serial t (Some s) depended (CreateSub id put)
 veiled_subject caller found stated serial t (Some s) depended (UpdateSub id version put) = manager_first (same_text s.manager caller.uss) version s.version _
 veiled_subject caller found stated serial t (Some s) depended (DeleteSub id version) = manager_first (same_text s.manager caller.uss) version s.version _
 
--- the facts with what is behind the veil
+-- The facts with redacted entities and subscriptions.
 abbrev veiled_facts : List ℕ → Facts → Facts
 veiled_facts m f = record f { found = option_map (redacted m) f.found; sub = option_map (redacted_sub m) f.sub }
 
@@ -205,7 +205,8 @@ standing_by caller a b t op l =
     ∙ (ap (λ (f : Facts). find (breaks_given f t c) standing_rules) (facts_like caller.uss a b op l)
     ∙ sym (standing_veiled caller (facts_of b op) t op))
 
--- the first of P1 to P13, by who calls
+-- The first broken rule of P1 to P13, P16 and P17 is the same for airspaces that are alike to the
+-- caller.
 pub rules_like : (m : List ℕ) (a b : Airspace) (t : ℕ) (caller : Option Caller) (op : Operation) → IsLike m a b → is_uss m caller ≡ true
     → find (breaks a t (record { caller = caller; op = op })) (early_rules ++ standing_rules) ≡ find (breaks b t (record { caller = caller; op = op })) (early_rules ++ standing_rules)
 rules_like m a b t None op l is = cc

@@ -1,4 +1,4 @@
--- What a supplier cannot tell apart: the OVNs and versions of what others manage.
+-- What a USS cannot distinguish: the OVNs and versions of what other USSs manage.
 use Rattle.std.specs.Prelude.{◌≡◌, ℕ, ◌||◌, Bool, true, false, List, [], ◌++◌, map, Option, Some, None, find, if◌then◌else◌}
 use Rattle.std.specs.FinMap.{entries}
 use Rattle.entity_core.specs.IdTexts.{same_text}
@@ -15,22 +15,22 @@ use Rattle.policy_core.specs.View.{view_of}
 
 -- ---- airspaces
 
--- an entity without its OVN, unless the supplier manages it
+-- The entity without its OVN, unless the USS manages it.
 abbrev pub redacted : List ℕ → Entity → Entity
 redacted m e = record e { ovn = if same_text e.manager m then e.ovn else [] }
 
 abbrev pub redacted_entry : List ℕ → EntityKey × Entity → EntityKey × Entity
 redacted_entry m e = (e.0, redacted m e.1)
 
--- a subscription without its version, unless the supplier manages it
+-- The subscription without its version, unless the USS manages it.
 abbrev pub redacted_sub : List ℕ → Sub → Sub
 redacted_sub m s = record s { version = if same_text s.manager m then s.version else [] }
 
 abbrev pub redacted_sub_entry : List ℕ → ℕ × Sub → ℕ × Sub
 redacted_sub_entry m s = (s.0, redacted_sub m s.1)
 
--- Two airspaces are alike to a supplier: they differ in nothing but the OVNs of the
--- entities and the versions of the subscriptions that it does not manage.
+-- Holds if two airspaces are alike to a USS: they differ only in the OVNs of entities and the
+-- versions of subscriptions that it does not manage.
 pub record IsLike (m : List ℕ) (a b : Airspace) : Type 0 where
   pub entities :
       map (redacted_entry m) (entries a.entities) ≡ map (redacted_entry m) (entries b.entities)
@@ -45,43 +45,43 @@ abbrev pub is_uss : List ℕ → Option Caller → Bool
 is_uss m (Some caller) = same_text caller.uss m
 is_uss m None = false
 
--- whether the supplier makes the call
+-- True if the USS makes the call.
 abbrev pub is_by : List ℕ → Call → Bool
 is_by m c = is_uss m c.caller
 
--- whether the path has this OVN
+-- True if the path has this OVN.
 abbrev pub is_path : Operation → List ℕ → Bool
 is_path (Update id ovn put) present = same_text ovn present
 is_path (Delete kind id ovn) present = same_text ovn present
 is_path op present = false
 
--- whether the path has this version of a subscription
+-- True if the path has this version of a subscription.
 abbrev pub is_sub_path : Operation → List ℕ → Bool
 is_sub_path (UpdateSub id version put) present = same_text version present
 is_sub_path (DeleteSub id version) present = same_text version present
 is_sub_path op present = false
 
--- of each entity by its kind and id, whether the supplier manages it or the key has its OVN
+-- For each entity, by kind and id: true if the USS manages it or the key has its OVN.
 abbrev pub known : List ℕ → Operation → Airspace → List Bool
 known m op a =
     map (λ e. same_text e.1.manager m || in_key (key_shown op) e.1.ovn) (entries a.entities)
 
--- and whether the supplier manages it or its OVN is in the path
+-- For each entity, by kind and id: true if the USS manages it or the path has its OVN.
 abbrev pub named : List ℕ → Operation → Airspace → List Bool
 named m op a = map (λ e. same_text e.1.manager m || is_path op e.1.ovn) (entries a.entities)
 
--- of each subscription by its id, whether the supplier manages it or its version is in the path
+-- For each subscription, by id: true if the USS manages it or the path has its version.
 abbrev pub named_sub : List ℕ → Operation → Airspace → List Bool
 named_sub m op a =
     map (λ s. same_text s.1.manager m || is_sub_path op s.1.version) (entries a.subscriptions)
 
--- Of each entity that the supplier does not manage, the OVN in the one airspace is in the
--- call's key exactly where that in the other is.
+-- Holds if the call's key has the OVN of each entity that the USS does not manage either in both
+-- airspaces or in neither.
 abbrev pub KnowsTheSame : List ℕ → Call → Airspace → Airspace → Type 0
 KnowsTheSame m c a b = known m c.op a ≡ known m c.op b
 
--- And it is in the call's path exactly where that in the other is; so is the version of each
--- subscription that the supplier does not manage.
+-- Holds if the same is also true for the OVN in the call's path, and for the versions of
+-- subscriptions that the USS does not manage.
 pub record ToldTheSame (m : List ℕ) (c : Call) (a b : Airspace) : Type 0 where
   pub known : known m c.op a ≡ known m c.op b
   pub named : named m c.op a ≡ named m c.op b
@@ -89,13 +89,13 @@ pub record ToldTheSame (m : List ℕ) (c : Call) (a b : Airspace) : Type 0 where
 
 -- ---- laws
 
--- What a supplier sees of an entity that it does not manage is the same for every OVN.
+-- States that a USS's view of an entity that it does not manage does not depend on the OVN.
 abbrev pub ViewIsBlind : Type 0
 ViewIsBlind = (a : Airspace) (uss : List ℕ) (e : Entity) (ovn : List ℕ)
     → same_text e.manager uss ≡ false → view_of a uss (record e { ovn = ovn }) ≡ view_of a uss e
 
--- Which of P1 to P13, P16 and P17 a supplier's call breaks first is the same in airspaces that are
--- alike to it.
+-- States that, in airspaces that are alike to a USS, its call breaks the same rule of P1 to P13,
+-- P16 and P17 first.
 abbrev pub RulesAreBlind : Type 0
 RulesAreBlind = (m : List ℕ) (a b : Airspace) (now : ℕ) (c : Call) → IsLike m a b → is_by m c ≡ true
     → find (breaks a now c) (early_rules ++ standing_rules)

@@ -1,4 +1,4 @@
--- What a call asks for.
+-- The operation of a call and the data derived from it.
 use Rattle.std.specs.Prelude.{ℕ, Bool, true, false, Option, Some, None}
 use Rattle.grid_core.specs.Extent.{covered_by}
 use Rattle.grid_core.specs.Volumes.{covered_sum}
@@ -8,7 +8,7 @@ use Rattle.policy_core.specs.declared.call.OpKind.TheVariants as kinds
 use Rattle.policy_core.specs.declared.call.Operation.{Operation}
 use Rattle.policy_core.specs.declared.call.Operation.TheVariants.{NoRoute, NoMethod, Malformed, Query, Read, Create, Update, Delete, ReadAvail, SetAvail, QuerySub, ReadSub, CreateSub, UpdateSub, DeleteSub}
 
--- the kind of an operation; without a route and a method there is none
+-- The kind of an operation. Without a route and a method there is none.
 abbrev pub kind_of : Operation → Option OpKind
 kind_of NoRoute = None
 kind_of NoMethod = None
@@ -26,7 +26,7 @@ kind_of (CreateSub id put) = Some kinds.CreateSub
 kind_of (UpdateSub id version put) = Some kinds.UpdateSub
 kind_of (DeleteSub id version) = Some kinds.DeleteSub
 
--- whether the operation changes the airspace, where no rule is broken
+-- True if the operation changes the airspace unless a rule denies it.
 abbrev pub is_change : Operation → Bool
 is_change (Create id put) = true
 is_change (Update id ovn put) = true
@@ -37,7 +37,7 @@ is_change (UpdateSub id version put) = true
 is_change (DeleteSub id version) = true
 is_change op = false
 
--- how many cells of level 13 the areas of an operation count for
+-- The number of level-13 cells that the areas of an operation count for.
 abbrev pub covered_of : Operation → ℕ
 covered_of (Query kind area) = covered_by area.cells
 covered_of (Create id put) = covered_sum put.volumes
@@ -47,13 +47,13 @@ covered_of (CreateSub id put) = covered_by put.volume.cells
 covered_of (UpdateSub id version put) = covered_by put.volume.cells
 covered_of op = 0
 
--- the subscription that a put of an entity names
+-- The subscription that the put of an entity references, if any.
 abbrev pub named_by : Operation → Option ℕ
 named_by (Create id put) = entities.subscription_of put.nature
 named_by (Update id ovn put) = entities.subscription_of put.nature
 named_by op = None
 
--- the subscription that an operation is about, or that its put names
+-- The subscription that an operation is about or that its put references, if any.
 abbrev pub subject_of : Operation → Option ℕ
 subject_of (ReadSub id) = Some id
 subject_of (CreateSub id put) = Some id
@@ -61,7 +61,7 @@ subject_of (UpdateSub id version put) = Some id
 subject_of (DeleteSub id version) = Some id
 subject_of op = named_by op
 
--- whether an operation is about a subscription, or about the caller's
+-- True if the operation is about a subscription or about the caller's subscriptions.
 abbrev pub is_about_sub : Operation → Bool
 is_about_sub (QuerySub area) = true
 is_about_sub (ReadSub id) = true

@@ -1,4 +1,5 @@
--- What a put that breaks no rule knew, and what one that does not know is told.
+-- What the key of a put that breaks no rule has, and what is listed to a call whose key misses
+-- something.
 use Rattle.std.specs.Prelude.{◌≡◌, ℕ, ◌≤◌, Bool, true, false, List, map, Option, Some, None, Contains, ◌⊎◌}
 use Rattle.std.specs.Ordering.{eq_by_cmp}
 use Rattle.std.specs.FinMap.{get}
@@ -25,21 +26,23 @@ use Rattle.policy_core.specs.Rule.{number_of}
 use Rattle.policy_core.specs.Standing.{sub_of}
 use Rattle.policy_core.specs.View.{view_of}
 
--- ---- what a put knew
+-- ---- what the key of a put has
 
--- the id and the put of a creation or an update
+-- The id and the put of a creation or an update.
 abbrev pub put_of : Operation → Option (ℕ × Put)
 put_of (Create id put) = Some (id, put)
 put_of (Update id ovn put) = Some (id, put)
 put_of op = None
 
--- whether a call in an airspace needs to know such an entity: each intent, and constraints if it
--- names a subscription that is for them, or names none and its caller processes them
+-- True if a call needs to know entities of this nature. It needs all intents. It needs constraints
+-- if the subscription that it references is for them. If it references none, it needs them if its
+-- caller processes constraints.
 abbrev pub call_needs : Airspace → Call → Nature → Bool
 call_needs a c nature = needs_kind (kind_of nature) c.caller (named_by c.op) (sub_of a c.op)
 
--- Where the put of an intent that is planned or flown as planned breaks no rule, its key has the
--- present OVN of each other entity that it meets, that it needs to know and that is not spared.
+-- States what the key of a put that breaks no rule has, if the intent is `Accepted` or `Activated`.
+-- It has the current OVN of each other entity that it meets, that it needs to know and that is not
+-- exempt.
 abbrev pub PutsKnow : Type 0
 PutsKnow = (a : Airspace) (now : ℕ) (c : Call) (id : ℕ) (put : Put) (y : Entity)
     → put_of c.op ≡ Some (id, put) → first_broken a now c ≡ None → needs_key put.nature ≡ true
@@ -48,29 +51,30 @@ PutsKnow = (a : Airspace) (now : ℕ) (c : Call) (id : ℕ) (put : Put) (y : Ent
     → any_meet y.volumes (map region_of put.volumes) ≡ true → call_needs a c y.nature ≡ true
     → is_spared a y ≡ false → Contains put.key y.ovn
 
--- ---- what a put is told
+-- ---- what is listed to a put
 
 abbrev pub listed : Kind → Missing → List Reference
 listed kinds.Intent m = m.intents
 listed kinds.Constraint m = m.constraints
 
--- an entity is in the list of its kind, as the caller sees it
+-- Holds if an entity is in the list of its kind, in the caller's view.
 abbrev pub IsListed : Kind → Airspace → Option Caller → Entity → Missing → Type 0
 IsListed kind a (Some caller) y m = Contains (listed kind m) (view_of a caller.uss y)
 IsListed kind a None y m = ⊥
 
--- P1 to P14 or P16: neither the limits nor what keeps a subscription from being deleted
+-- Holds for P1 to P14 and P16: the rules except the limits and P17.
 abbrev pub MayDeny : Rule → Type 0
 MayDeny rule = (number_of rule ≤ 14) ⊎ (rule ≡ Subscription)
 
--- One of P1 to P14 or P16 is the first that is broken, and where it is P14, an entity is listed.
+-- Holds if one of P1 to P14 and P16 is the first broken rule. If it is P14, the entity is listed.
 pub record IsDeniedFor (kind : Kind) (a : Airspace) (now : ℕ) (c : Call) (y : Entity) : Type 0 where
   pub rule : Rule
   pub first : first_broken a now c ≡ Some rule
   pub number : MayDeny rule
   pub listed : rule ≡ Key → IsListed kind a c.caller y (missing_for a c.caller c.op)
 
--- A call is denied for what it needs to know and whose present OVN its key does not have.
+-- States that a call is denied if its key does not have the current OVN of an entity that it needs
+-- to know.
 abbrev pub MissingIsDenied : Type 0
 MissingIsDenied = (a : Airspace) (now : ℕ) (c : Call) (kind : Kind) (y : Entity)
     → Contains (needed kind a c.caller c.op) y → in_key (key_shown c.op) y.ovn ≡ false

@@ -29,13 +29,13 @@ use Rattle.policy_core.specs.View.{view_of}
 
 -- ---- what is needed
 
--- a key is asked of an intent that is planned or flown as planned
+-- True if a put of this nature needs a key: an `Accepted` or `Activated` intent.
 abbrev pub needs_key : Nature → Bool
 needs_key (Intent Accepted named) = true
 needs_key (Intent Activated named) = true
 needs_key nature = false
 
--- whether a subscription is there that is for constraints
+-- True if there is a subscription and it is for constraints.
 abbrev pub is_for_constraints : Option Sub → Bool
 is_for_constraints (Some s) = wants s.interest kinds.Constraint
 is_for_constraints None = false
@@ -44,28 +44,29 @@ abbrev pub processes_constraints : Option Caller → Bool
 processes_constraints (Some caller) = has_scope caller.scopes ConstraintProcessing
 processes_constraints None = false
 
--- Whether a caller that names a subscription, or none, needs to know constraints: one that names a
--- subscription, exactly where that one is for them; one that names none, where it processes them.
+-- True if a caller needs to know constraints. If it references a subscription, that one must be for
+-- constraints. Otherwise the caller must have the scope to process constraints.
 abbrev pub needs_constraints : Option Caller → Option ℕ → Option Sub → Bool
 needs_constraints caller (Some id) sub = is_for_constraints sub
 needs_constraints caller None sub = processes_constraints caller
 
--- whether it needs to know entities of a kind
+-- True if the caller needs to know entities of a kind.
 abbrev pub needs_kind : Kind → Option Caller → Option ℕ → Option Sub → Bool
 needs_kind kinds.Intent caller named sub = true
 needs_kind kinds.Constraint caller named sub = needs_constraints caller named sub
 
--- whether a put needs to know entities of a kind, where this is the subscription that it names
+-- True if a put that references this subscription needs to know entities of a kind.
 abbrev pub put_needs : Kind → Option Caller → Put → Option Sub → Bool
 put_needs kind caller put sub =
     needs_key put.nature && needs_kind kind caller (subscription_of put.nature) sub
 
--- the id that is excepted: an intent does not need itself, but a constraint of the same id
+-- The excluded id. An intent does not need to know itself, but can need to know a constraint with
+-- the same id.
 abbrev pub excepted : Kind → ℕ → Option ℕ
 excepted kinds.Intent id = Some id
 excepted kinds.Constraint id = None
 
--- an intent that is planned and not flown yet
+-- True for an `Accepted` intent.
 abbrev pub is_planned : Nature → Bool
 is_planned (Intent Accepted named) = true
 is_planned nature = false
@@ -74,21 +75,21 @@ abbrev pub is_down : Availability → Bool
 is_down Down = true
 is_down availability = false
 
--- whether an entity is spared, where its manager has this availability: what a supplier that is
--- down has planned, which nobody needs to know
+-- True if an entity is exempt, given the availability of its manager. An `Accepted` intent of a USS
+-- that is down is exempt: no call needs to know it.
 abbrev pub spared : Entity → Availability → Bool
 spared e availability = is_planned e.nature && is_down availability
 
--- where its manager has the availability that it has in an airspace
+-- True if an entity is exempt, given the availability of its manager in the airspace.
 abbrev pub is_spared : Airspace → Entity → Bool
 is_spared a e = spared e (availability_of a e.manager).0
 
--- those that are not spared
+-- The entities that are not exempt.
 abbrev pub unspared : Airspace → List Entity → List Entity
 unspared a es = filter (λ e. not (is_spared a e)) es
 
--- what meets a volume of a put and is not spared, whoever manages it, where this is the
--- subscription that the put names
+-- The entities that a put with this subscription needs to know: those that meet one of its volumes
+-- and are not exempt. Their manager does not matter.
 abbrev pub needed_with : Kind → Airspace → Option Caller → Option Sub → ℕ → Put → List Entity
 needed_with kind a caller sub id put =
     if put_needs kind caller put sub
@@ -99,8 +100,8 @@ abbrev pub needed_put : Kind → Airspace → Option Caller → ℕ → Put → 
 needed_put kind a caller id put =
     needed_with kind a caller (sub_under a (subscription_of put.nature)) id put
 
--- What a call needs to know of a kind, by rising ids: whoever makes it, and of other operations
--- than puts nothing.
+-- The entities of a kind that a call needs to know, by ascending id. The caller's USS does not
+-- matter. Only puts need to know entities.
 abbrev pub needed : Kind → Airspace → Option Caller → Operation → List Entity
 needed kind a caller (Create id put) = needed_put kind a caller id put
 needed kind a caller (Update id ovn put) = needed_put kind a caller id put
@@ -108,7 +109,7 @@ needed kind a caller op = []
 
 -- ---- what is missing
 
--- the key that comes with an operation
+-- The key of an operation.
 abbrev pub key_shown : Operation → List (List ℕ)
 key_shown (Create id put) = put.key
 key_shown (Update id ovn put) = put.key
@@ -120,29 +121,30 @@ in_key key ovn = list_any (same_text ovn) key
 abbrev pub is_missing_from : List (List ℕ) → Entity → Bool
 is_missing_from key e = not (in_key key e.ovn)
 
--- those whose present OVN is not in the key
+-- The entities whose current OVN is not in the key.
 unfoldable pub missing_from : List (List ℕ) → List Entity → List Entity
 missing_from key es = filter (is_missing_from key) es
 
--- whether what stands at a place passes a test
+-- True if there is an element at the index and it passes the test.
 abbrev pub passes_at : {X : Type 0} → (X → Bool) → List X → ℕ → Bool
 passes_at test xs place = unwrap_or (option_map test (slice_get xs place)) false
 
--- the places of what passes a test, rising
+-- The indexes of the elements that pass a test, ascending.
 abbrev pub places_where : {X : Type 0} → (X → Bool) → List X → List ℕ
 places_where test xs = filter (passes_at test xs) (range_with_len 0 (length xs))
 
 abbrev pub nothing_missing : Missing
 nothing_missing = record { intents = []; constraints = [] }
 
--- what a key does not have of what is needed of each kind, as the caller may see it
+-- The needed entities of each kind that are missing from a key, in the caller's view.
 abbrev pub missing_of : Airspace → Caller → List (List ℕ) → (Kind → List Entity) → Missing
 missing_of a caller key needs = record {
   intents = map (view_of a caller.uss) (missing_from key (needs kinds.Intent));
   constraints = map (view_of a caller.uss) (missing_from key (needs kinds.Constraint));
 }
 
--- of a put under an id, where this is the subscription that it names
+-- The entities that are missing from the key of a put under an id, if this is the subscription that
+-- it references.
 abbrev pub missing_with : Airspace → Caller → Option Sub → ℕ → Put → Missing
 missing_with a caller sub id put =
     missing_of a caller put.key (λ kind. needed_with kind a (Some caller) sub id put)
@@ -151,8 +153,8 @@ abbrev pub missing_put : Airspace → Caller → ℕ → Put → Missing
 missing_put a caller id put =
     missing_with a caller (sub_under a (subscription_of put.nature)) id put
 
--- What a call needs to know and its key does not have: intents and constraints, each by rising ids.
--- Where there is no caller, nobody is to see it.
+-- The entities that a call needs to know and that are missing from its key: intents and
+-- constraints, each by ascending id. Without a caller nothing is listed.
 abbrev pub missing_for : Airspace → Option Caller → Operation → Missing
 missing_for a (Some caller) op =
     missing_of a caller (key_shown op) (λ kind. needed kind a (Some caller) op)

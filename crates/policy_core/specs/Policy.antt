@@ -1,4 +1,4 @@
--- The written policy: which rules a call breaks, and which of them is the first.
+-- The policy: which rules a call breaks, and which of them is the first.
 use Rattle.std.specs.Prelude.{ℕ, ◌&&◌, ◌||◌, not, nat_eq, nat_le, nat_lt, Bool, true, false, List, [], ◌∷◌, ◌++◌, Option, Some, None, is_none, is_some, find, unwrap_or}
 use Rattle.std.specs.List.{list_any}
 use Rattle.grid_core.specs.Volumes.{span_of}
@@ -30,33 +30,33 @@ use Rattle.policy_core.specs.Call.{kind_of, is_change, covered_of}
 use Rattle.policy_core.specs.Standing.{Facts, depended_of, found_of, stated_of, sub_of}
 use Rattle.policy_core.specs.Missing.{is_nothing, missing_for}
 
--- Each rule in a section of its own. One that speaks of an entity or of a caller is not broken
--- where there is none: `found` is the entity that a call names, `stated` what is stated of the
--- supplier, `sub` the subscription that it is about or that its put names.
+-- Each rule has its own section. A rule about an entity or a caller is not broken if there is none.
+-- `found` is the entity that a call names. `stated` is the stored availability of the USS. `sub` is
+-- the subscription that the call is about or that its put references.
 
 -- P1 ROUTE
 
--- the path is no route
+-- Broken if no route has the path.
 abbrev pub breaks_route : Operation → Bool
 breaks_route NoRoute = true
 breaks_route op = false
 
 -- P2 METHOD
 
--- the route does not take the method
+-- Broken if the route does not allow the method.
 abbrev pub breaks_method : Operation → Bool
 breaks_method NoMethod = true
 breaks_method op = false
 
 -- P3 TOKEN
 
--- there is no caller
+-- Broken if there is no caller.
 abbrev pub breaks_token : Option Caller → Bool
 breaks_token caller = is_none caller
 
 -- P4 SCOPE
 
--- there is a caller and a kind of operation, and none of the caller's scopes opens it
+-- Broken if there is a caller and a kind of operation, but none of the caller's scopes permits it.
 abbrev pub breaks_scope : Option Caller → Option OpKind → Bool
 breaks_scope (Some caller) (Some kind) = not (is_permitted kind caller.scopes)
 breaks_scope (Some caller) None = false
@@ -64,14 +64,14 @@ breaks_scope None kind = false
 
 -- P5 FORM
 
--- a word of the path or the body has a wrong form
+-- Broken if a path parameter or the body has a wrong form.
 abbrev pub breaks_form : Operation → Bool
 breaks_form (Malformed kind) = true
 breaks_form op = false
 
 -- P6 AREA
 
--- how many cells of level 13 a call may count for
+-- The maximum number of level-13 cells that a call may count for.
 abbrev pub max_covered_cells : ℕ
 max_covered_cells = 16384
 
@@ -80,7 +80,7 @@ breaks_area op = nat_lt max_covered_cells (covered_of op)
 
 -- P7 FOUND
 
--- a reading, an update or a deletion of what is not there
+-- Broken if an entity or subscription that is read, updated or deleted does not exist.
 abbrev pub breaks_found : Operation → Option Entity → Option Sub → Bool
 breaks_found (Read kind id) found sub = is_none found
 breaks_found (Update id ovn put) found sub = is_none found
@@ -92,7 +92,7 @@ breaks_found op found sub = false
 
 -- P8 FRESH
 
--- a creation of what is there
+-- Broken if an entity or subscription that is created exists already.
 abbrev pub breaks_fresh : Operation → Option Entity → Option Sub → Bool
 breaks_fresh (Create id put) found sub = is_some found
 breaks_fresh (CreateSub id put) found sub = is_some sub
@@ -110,8 +110,8 @@ is_sub_of_another (Some caller) (Some s) = not (same_text s.manager caller.uss)
 is_sub_of_another (Some caller) None = false
 is_sub_of_another None sub = false
 
--- an update or a deletion of what another supplier manages, or the reading of a subscription that
--- another one does
+-- Broken if another USS manages the entity that is updated or deleted, or the subscription that is
+-- read, updated or deleted.
 abbrev pub breaks_manager : Option Caller → Operation → Option Entity → Option Sub → Bool
 breaks_manager caller (Update id ovn put) found sub = is_of_another caller found
 breaks_manager caller (Delete kind id ovn) found sub = is_of_another caller found
@@ -126,7 +126,7 @@ abbrev pub has_another_ovn : Option Entity → List ℕ → Bool
 has_another_ovn (Some e) ovn = not (same_text ovn e.ovn)
 has_another_ovn None ovn = false
 
--- the version of a supplier's availability
+-- The version of a USS's availability.
 abbrev pub availability_version : Option VersionedAvailability → List ℕ
 availability_version stated = (unwrap_or stated (Unknown, [])).1
 
@@ -134,8 +134,8 @@ abbrev pub has_another_version : Option Sub → List ℕ → Bool
 has_another_version (Some s) version = not (same_text version s.version)
 has_another_version None version = false
 
--- an update or a deletion by another OVN or version than the present one, a setting by another
--- version
+-- Broken if an update or a deletion gives an OVN or version that is not current, or if setting an
+-- availability does.
 abbrev pub breaks_version : Operation → Option Entity → Option VersionedAvailability → Option Sub → Bool
 breaks_version (Update id ovn put) found stated sub = has_another_ovn found ovn
 breaks_version (Delete kind id ovn) found stated sub = has_another_ovn found ovn
@@ -147,7 +147,7 @@ breaks_version op found stated sub = false
 
 -- P11 ROLE
 
--- the scopes lack the one that the state asks for
+-- True if the scopes lack the one that the state needs.
 abbrev pub lacks_role : Scopes → Nature → Bool
 lacks_role s (Intent Accepted named) = not (has_scope s StrategicCoordination)
 lacks_role s (Intent Activated named) = not (has_scope s StrategicCoordination)
@@ -159,7 +159,7 @@ abbrev pub is_barred_from : Option Caller → Nature → Bool
 is_barred_from (Some caller) nature = lacks_role caller.scopes nature
 is_barred_from None nature = false
 
--- the scopes lack one that goes with the interest
+-- True if the scopes lack one that the interest needs.
 abbrev pub lacks_interest : Scopes → Interest → Bool
 lacks_interest s interest =
     (wants interest kinds.Intent && not (has_scope s StrategicCoordination))
@@ -169,7 +169,7 @@ abbrev pub is_barred_for : Option Caller → Interest → Bool
 is_barred_for (Some caller) interest = lacks_interest caller.scopes interest
 is_barred_for None interest = false
 
--- a put in a state, or of a subscription with an interest, that the caller's scopes do not allow
+-- Broken if the caller's scopes do not allow the state of a put, or the interest of a subscription.
 abbrev pub breaks_role : Option Caller → Operation → Bool
 breaks_role caller (Create id put) = is_barred_from caller put.nature
 breaks_role caller (Update id ovn put) = is_barred_from caller put.nature
@@ -188,7 +188,7 @@ state_index Contingent = 3
 abbrev pub same_state : State → State → Bool
 same_state a b = nat_eq (state_index a) (state_index b)
 
--- the states that may follow a state
+-- The states that may follow a state.
 abbrev pub next_states : State → List State
 next_states Accepted = Accepted ∷ Activated ∷ Nonconforming ∷ Contingent ∷ []
 next_states Activated = Activated ∷ Nonconforming ∷ Contingent ∷ []
@@ -206,14 +206,14 @@ abbrev pub turns_wrongly : Option Entity → Nature → Bool
 turns_wrongly (Some e) next = not (may_turn e.nature next)
 turns_wrongly None next = false
 
--- an update to a state that may not follow
+-- Broken if an update changes to a state that may not follow.
 abbrev pub breaks_change : Operation → Option Entity → Bool
 breaks_change (Update id ovn put) found = turns_wrongly found put.nature
 breaks_change op found = false
 
 -- P13 ENDED
 
--- a put whose volumes have all ended
+-- Broken if all volumes of a put have ended.
 abbrev pub breaks_ended : ℕ → Operation → Bool
 breaks_ended now (Create id put) = nat_le (span_of put.volumes).1 now
 breaks_ended now (Update id ovn put) = nat_le (span_of put.volumes).1 now
@@ -223,13 +223,13 @@ breaks_ended now op = false
 
 -- P16 SUBSCRIPTION
 
--- a name is of a subscription that is not there, or that another supplier manages
+-- True if the referenced subscription does not exist or another USS manages it.
 abbrev pub names_wrongly : Option Caller → Option ℕ → Option Sub → Bool
 names_wrongly (Some caller) named sub =
     is_some named && (is_none sub || is_sub_of_another (Some caller) sub)
 names_wrongly None named sub = false
 
--- a put of an intent that names such a subscription
+-- Broken if the put of an intent references such a subscription.
 abbrev pub breaks_subscription : Option Caller → Operation → Option Sub → Bool
 breaks_subscription caller (Create id put) sub = names_wrongly caller (subscription_of put.nature) sub
 breaks_subscription caller (Update id ovn put) sub =
@@ -238,14 +238,14 @@ breaks_subscription caller op sub = false
 
 -- P17 DEPENDED
 
--- a deletion of a subscription that some intent names
+-- Broken if some intent references the subscription that is deleted.
 abbrev pub breaks_depended : Operation → Bool → Bool
 breaks_depended (DeleteSub id version) depended = depended
 breaks_depended op depended = false
 
 -- P14 KEY
 
--- the key lacks something needed
+-- Broken if something needed is missing from the key.
 abbrev pub breaks_key : Airspace → Option Caller → Operation → Bool
 breaks_key a caller op = not (is_nothing (missing_for a caller op))
 
@@ -255,18 +255,18 @@ abbrev pub has_last_version : Option Entity → Bool
 has_last_version (Some e) = nat_le max_version e.version
 has_last_version None = false
 
--- an update of what has the greatest version
+-- True if an update is of an entity with the maximum version.
 abbrev pub is_spent : Operation → Option Entity → Bool
 is_spent (Update id ovn put) found = has_last_version found
 is_spent op found = false
 
--- a change at the greatest serial, or of what has the greatest version
+-- Broken by a change at the maximum serial, or of an entity with the maximum version.
 abbrev pub breaks_limit : Operation → Option Entity → ℕ → Bool
 breaks_limit op found serial = (is_change op && nat_le max_serial serial) || is_spent op found
 
 -- ---- the rules
 
--- Whether a call at a moment breaks a rule: one line a rule, over the whole airspace.
+-- True if a call at a time breaks a rule, given the whole airspace.
 abbrev pub breaks : Airspace → ℕ → Call → Rule → Bool
 breaks a now c Route = breaks_route c.op
 breaks a now c Method = breaks_method c.op
@@ -286,7 +286,8 @@ breaks a now c Limit = breaks_limit c.op (found_of a c.op) a.serial
 breaks a now c Subscription = breaks_subscription c.caller c.op (sub_of a c.op)
 breaks a now c Depended = breaks_depended c.op (depended_of a c.op)
 
--- The same of P7 to P13 and of P15 to P17, over what was looked up in place of the airspace.
+-- True if a call at a time breaks one of P7 to P13 and P15 to P17, given the facts that were looked
+-- up.
 abbrev pub breaks_given : Facts → ℕ → Call → Rule → Bool
 breaks_given f now c Found = breaks_found c.op f.found f.sub
 breaks_given f now c Fresh = breaks_fresh c.op f.found f.sub
@@ -300,8 +301,8 @@ breaks_given f now c Subscription = breaks_subscription c.caller c.op f.sub
 breaks_given f now c Depended = breaks_depended c.op f.depended
 breaks_given f now c p = false
 
--- The rules in their order: those that look at the call alone, those that look at what is kept, and
--- those that come last.
+-- The rules in the order in which they are checked: the stateless rules, the stateful rules, and
+-- the rules that come last.
 abbrev pub early_rules : List Rule
 early_rules = Route ∷ Method ∷ Token ∷ Scope ∷ Form ∷ Area ∷ []
 
@@ -315,6 +316,6 @@ last_rules = Key ∷ Limit ∷ []
 abbrev pub rules_in_order : List Rule
 rules_in_order = early_rules ++ (standing_rules ++ last_rules)
 
--- the first rule that a call at a moment breaks
+-- The first rule that a call at a time breaks, if any.
 unfoldable pub first_broken : Airspace → ℕ → Call → Option Rule
 first_broken a now c = find (breaks a now c) rules_in_order

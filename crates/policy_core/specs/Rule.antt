@@ -1,4 +1,4 @@
--- The rules by number, name and status.
+-- The numbers, names and HTTP statuses of the rules.
 use Rattle.std.specs.Prelude.{ℕ, List, codes}
 use Rattle.policy_core.specs.declared.rule.Rule.{Rule}
 use Rattle.policy_core.specs.declared.rule.Rule.TheVariants.{Route, Method, Token, Scope, Form, Area, Found, Fresh, Manager, Version, Role, Change, Ended, Key, Limit, Subscription, Depended}
@@ -41,7 +41,7 @@ name_of Limit = codes "LIMIT"
 name_of Subscription = codes "SUBSCRIPTION"
 name_of Depended = codes "DEPENDED"
 
--- the HTTP status of a denial by the rule
+-- The HTTP status of a denial by the rule.
 abbrev pub status_of : Rule → ℕ
 status_of Route = 404
 status_of Method = 405

@@ -1,4 +1,4 @@
--- Scopes, their names, and what they open.
+-- Scopes, their names, and the operations that they permit.
 use Rattle.std.specs.Prelude.{ℕ, ◌||◌, nat_eq, Bool, false, List, [], ◌∷◌, codes}
 use Rattle.std.specs.List.{list_any}
 use Rattle.policy_core.specs.declared.scope.Scope.{Scope}
@@ -7,7 +7,7 @@ use Rattle.policy_core.specs.declared.call.OpKind.{OpKind}
 use Rattle.policy_core.specs.declared.call.OpKind.TheVariants.{Query, Read, Create, Update, Delete, ReadAvail, SetAvail, QuerySub, ReadSub, CreateSub, UpdateSub, DeleteSub}
 use Rattle.entity_core.specs.declared.nature.Kind.TheVariants.{Intent, Constraint}
 
--- the name of a scope in a token file
+-- The name of a scope in a token file.
 abbrev pub scope_name : Scope → List ℕ
 scope_name StrategicCoordination = codes "utm.strategic_coordination"
 scope_name ConformanceMonitoring = codes "utm.conformance_monitoring_sa"
@@ -15,7 +15,7 @@ scope_name ConstraintProcessing = codes "utm.constraint_processing"
 scope_name ConstraintManagement = codes "utm.constraint_management"
 scope_name AvailabilityArbitration = codes "utm.availability_arbitration"
 
--- a set of scopes: of each scope, whether it is in the set
+-- A set of scopes: for each scope, whether it is in the set.
 pub record Scopes : Type 0 where
   pub strategic_coordination : Bool
   pub conformance_monitoring : Bool
@@ -23,7 +23,7 @@ pub record Scopes : Type 0 where
   pub constraint_management : Bool
   pub availability_arbitration : Bool
 
--- whether a set has a scope
+-- True if the set has the scope.
 abbrev pub has_scope : Scopes → Scope → Bool
 has_scope s StrategicCoordination = s.strategic_coordination
 has_scope s ConformanceMonitoring = s.conformance_monitoring
@@ -31,7 +31,7 @@ has_scope s ConstraintProcessing = s.constraint_processing
 has_scope s ConstraintManagement = s.constraint_management
 has_scope s AvailabilityArbitration = s.availability_arbitration
 
--- the set of the scopes that pass a test
+-- The set of the scopes that pass a test.
 abbrev pub scopes_where : (Scope → Bool) → Scopes
 scopes_where test = record {
   strategic_coordination = test StrategicCoordination;
@@ -54,11 +54,11 @@ scope_index AvailabilityArbitration = 4
 abbrev pub same_scope : Scope → Scope → Bool
 same_scope a b = nat_eq (scope_index a) (scope_index b)
 
--- the set with one more scope
+-- The set with one more scope.
 abbrev pub with_scope : Scopes → Scope → Scopes
 with_scope s added = scopes_where (λ scope. same_scope scope added || has_scope s scope)
 
--- The table of scopes: a kind of operation is open to whoever has one of these.
+-- The scopes that permit a kind of operation. One of them is enough.
 abbrev pub permitting_scopes : OpKind → List Scope
 permitting_scopes (Query Intent) = StrategicCoordination ∷ ConformanceMonitoring ∷ []
 permitting_scopes (Read Intent) = StrategicCoordination ∷ ConformanceMonitoring ∷ []
@@ -78,6 +78,6 @@ permitting_scopes CreateSub = StrategicCoordination ∷ ConstraintProcessing ∷
 permitting_scopes UpdateSub = StrategicCoordination ∷ ConstraintProcessing ∷ []
 permitting_scopes DeleteSub = StrategicCoordination ∷ ConstraintProcessing ∷ []
 
--- whether one of the scopes opens a kind of operation
+-- True if one of the scopes permits the kind of operation.
 abbrev pub is_permitted : OpKind → Scopes → Bool
 is_permitted kind s = list_any (has_scope s) (permitting_scopes kind)

@@ -1,4 +1,4 @@
--- What is looked up for an operation.
+-- The facts that are looked up for an operation.
 use Rattle.std.specs.Prelude.{◌≡◌, ℕ, Bool, true, false, List, [], ◌∷◌, Option, Some, None, option_map}
 use Rattle.std.specs.Borrow.{Bor}
 use Rattle.std.specs.FinMap.{get}
@@ -13,7 +13,7 @@ use Rattle.policy_core.specs.declared.call.Operation.TheVariants.{Read, Create, 
 use Rattle.policy_core.specs.declared.standing.FactsRef.{FactsRef}
 use Rattle.policy_core.specs.Call.{subject_of}
 
--- what is kept under the kind and the id that the operation names
+-- The stored entity with the kind and id that the operation names, if any.
 abbrev pub found_of : Airspace → Operation → Option Entity
 found_of a (Read kind id) = get a.entities (kind, id)
 found_of a (Create id put) = get a.entities (kind_of put.nature, id)
@@ -21,18 +21,18 @@ found_of a (Update id ovn put) = get a.entities (kind_of put.nature, id)
 found_of a (Delete kind id ovn) = get a.entities (kind, id)
 found_of a op = None
 
--- what is stated of the supplier whose availability is read or set
+-- The stored availability of the USS whose availability is read or set, if any.
 abbrev pub stated_of : Airspace → Operation → Option VersionedAvailability
 stated_of a (ReadAvail uss) = get a.availabilities uss
 stated_of a (SetAvail uss old availability) = get a.availabilities uss
 stated_of a op = None
 
--- the subscription of an id
+-- The subscription with this id, if any.
 abbrev pub sub_under : Airspace → Option ℕ → Option Sub
 sub_under a None = None
 sub_under a (Some id) = get a.subscriptions id
 
--- the subscription that the operation is about, or that its put names
+-- The subscription that the operation is about or that its put references, if any.
 abbrev pub sub_of : Airspace → Operation → Option Sub
 sub_of a op = sub_under a (subject_of op)
 
@@ -40,12 +40,12 @@ abbrev pub is_some_of : List ℕ → Bool
 is_some_of [] = false
 is_some_of (id ∷ ids) = true
 
--- whether some intent names the subscription that is to be deleted
+-- True if some intent references the subscription that is to be deleted.
 abbrev pub depended_of : Airspace → Operation → Bool
 depended_of a (DeleteSub id version) = is_some_of (dependents_in a.entities id)
 depended_of a op = false
 
--- all that is looked up
+-- All facts that are looked up.
 pub record Facts : Type 0 where
   pub found : Option Entity
   pub stated : Option VersionedAvailability
@@ -62,11 +62,11 @@ facts_of a op = record {
   depended = depended_of a op;
 }
 
--- What was looked up is what the airspace has for the operation.
+-- Holds if the facts are those of the airspace for the operation.
 abbrev pub Regards : Airspace → Operation → Facts → Type 0
 Regards a op facts = facts ≡ facts_of a op
 
--- ---- what is lent
+-- ---- borrowed facts
 
 abbrev pub lent_entity : Option (Bor Entity) → Option Entity
 lent_entity found = option_map (λ e. e.now) found

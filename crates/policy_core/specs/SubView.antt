@@ -1,9 +1,9 @@
--- What a supplier sees of a subscription.
+-- A USS's view of a subscription.
 use Rattle.std.specs.Prelude.{ℕ, List}
 use Rattle.entity_core.specs.declared.subscription.Sub.{Sub}
 use Rattle.policy_core.specs.declared.sub_view.SubView.{SubView}
 
--- a subscription, with the ids of the intents that name it
+-- The view of a subscription that the intents with these ids reference.
 abbrev pub sub_view_of : Sub → List ℕ → SubView
 sub_view_of s dependents = record {
   id = s.id;

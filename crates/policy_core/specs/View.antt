@@ -1,4 +1,4 @@
--- What a supplier sees of an entity.
+-- A USS's view of an entity.
 use Rattle.std.specs.Prelude.{ℕ, List, Option, Some, None, if◌then◌else◌}
 use Rattle.grid_core.specs.Volumes.{span_of}
 use Rattle.entity_core.specs.IdTexts.{same_text}
@@ -7,11 +7,11 @@ use Rattle.entity_core.specs.declared.availability.Availability.{Availability}
 use Rattle.entity_core.specs.declared.entity.Entity.{Entity}
 use Rattle.policy_core.specs.declared.reference.Reference.{Reference}
 
--- its OVN, which its manager alone sees
+-- The OVN of an entity. Only its manager sees it.
 abbrev pub shown_ovn : List ℕ → Entity → Option (List ℕ)
 shown_ovn uss e = if same_text e.manager uss then Some e.ovn else None
 
--- the reference of an entity, as a supplier sees it where the manager has this availability
+-- The reference of an entity in a USS's view, given the availability of its manager.
 abbrev pub view_with : List ℕ → Entity → Availability → Reference
 view_with uss e availability = record {
   nature = e.nature;
@@ -25,6 +25,7 @@ view_with uss e availability = record {
   url = e.url;
 }
 
--- as a supplier sees it in an airspace, with the availability that the manager has there
+-- The reference of an entity in a USS's view, with the availability that its manager has in the
+-- airspace.
 unfoldable pub view_of : Airspace → List ℕ → Entity → Reference
 view_of a uss e = view_with uss e (availability_of a e.manager).0

@@ -1,4 +1,4 @@
-//! Calls: what is asked, and by whom.
+//! Calls: operations and their callers.
 use crate::key::Key;
 use crate::scope::Caller;
 use entity_core::availability::Availability;
@@ -12,47 +12,47 @@ use entity_core::uss_id::UssId;
 use grid_core::volume::{Area, Volume};
 use grid_core::volumes::Volumes;
 
-/// A kind of operation, to which scopes are given.
+/// A kind of operation. Scopes permit kinds of operations.
 #[derive(Clone, Copy, Debug, PartialEq, Eq)]
 pub enum OpKind {
-    /// The query of an area for entities of a kind.
+    /// A query of an area for entities of a kind.
     Query(Kind),
-    /// The reading of an entity of a kind.
+    /// A read of an entity of a kind.
     Read(Kind),
-    /// The creation of one.
+    /// The creation of an entity of a kind.
     Create(Kind),
-    /// The update of one.
+    /// The update of an entity of a kind.
     Update(Kind),
-    /// The deletion of one.
+    /// The deletion of an entity of a kind.
     Delete(Kind),
-    /// The reading of a supplier's availability.
+    /// A read of a USS's availability.
     ReadAvail,
-    /// The setting of a supplier's availability.
+    /// The setting of a USS's availability.
     SetAvail,
-    /// The query of an area for the caller's subscriptions.
+    /// A query of an area for the caller's subscriptions.
     QuerySub,
-    /// The reading of a subscription.
+    /// A read of a subscription.
     ReadSub,
-    /// The creation of one.
+    /// The creation of a subscription.
     CreateSub,
-    /// The update of one.
+    /// The update of a subscription.
     UpdateSub,
-    /// The deletion of one.
+    /// The deletion of a subscription.
     DeleteSub,
 }
 
-/// What an entity is to be: what its supplier says of it.
+/// The content of an entity that a USS puts.
 #[derive(Debug, Drop)]
 pub struct Put {
-    /// Its kind, and of an intent its state and the subscription that it names.
+    /// Its kind. For an intent, also its state and the subscription that it references.
     pub nature: Nature,
     pub volumes: Volumes,
-    /// The OVNs of what its supplier knows.
+    /// The OVNs of the entities that the USS knows.
     pub key: Key,
     pub url: BaseUrl,
 }
 
-/// What a subscription is to be: what its supplier says of it.
+/// The content of a subscription that a USS puts.
 #[derive(Debug, Drop)]
 pub struct SubPut {
     pub volume: Volume,
@@ -60,42 +60,42 @@ pub struct SubPut {
     pub interest: Interest,
 }
 
-/// What is asked.
+/// The operation of a call.
 #[derive(Debug, Drop)]
 pub enum Operation {
-    /// The path is no route.
+    /// No route has the path.
     NoRoute,
-    /// The route does not take the method.
+    /// The route does not allow the method.
     NoMethod,
-    /// A path word or the body has not the form of this kind.
+    /// A path parameter or the body has a wrong form for this kind.
     Malformed(OpKind),
-    /// Which entities of the kind meet the area?
+    /// Find the entities of the kind that meet the area.
     Query(Kind, Area),
-    /// What is the entity of the kind and the id?
+    /// Read the entity with this kind and id.
     Read(Kind, EntityId),
-    /// Create this entity under the id.
+    /// Create this entity with the id.
     Create(EntityId, Put),
-    /// Update the entity that has this id and OVN.
+    /// Update the entity with this id and OVN.
     Update(EntityId, Ovn, Put),
-    /// Delete the entity of the kind that has this id and OVN.
+    /// Delete the entity with this kind, id and OVN.
     Delete(Kind, EntityId, Ovn),
-    /// What is the availability of the supplier?
+    /// Read the availability of the USS.
     ReadAvail(UssId),
-    /// Set the supplier's availability, whose availability version is the text.
+    /// Set the availability of the USS. The text is its current availability version.
     SetAvail(UssId, Text, Availability),
-    /// Which of the caller's subscriptions meet the area?
+    /// Find the caller's subscriptions that meet the area.
     QuerySub(Area),
-    /// What is the subscription of the id?
+    /// Read the subscription with this id.
     ReadSub(EntityId),
-    /// Create this subscription under the id.
+    /// Create this subscription with the id.
     CreateSub(EntityId, SubPut),
-    /// Update the subscription that has this id and version.
+    /// Update the subscription with this id and version.
     UpdateSub(EntityId, Ovn, SubPut),
-    /// Delete the subscription that has this id and version.
+    /// Delete the subscription with this id and version.
     DeleteSub(EntityId, Ovn),
 }
 
-/// An operation, and who asks for it, if a token says so.
+/// An operation and its caller, if a token identifies one.
 #[derive(Debug, Drop)]
 pub struct Call {
     pub caller: Option<Caller>,

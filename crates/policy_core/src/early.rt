@@ -1,4 +1,4 @@
-//! The rules that look at the call alone.
+//! The stateless rules: those that depend only on the call.
 ghost use Rattle.std.specs.Prelude.{◌≡◌, ℕ, find};
 ghost use Rattle.entity_core.specs.Airspace.{Airspace};
 ghost use Rattle.policy_core.specs.Scope.{is_permitted, permitting_scopes};
@@ -10,7 +10,8 @@ use crate::rule::Rule;
 use crate::scope::{Caller, Scope, ScopeSet};
 use entity_core::nature::Kind;
 
-/// How many cells of level 13 the areas of a call may count for (this project's profile).
+/// The maximum number of level-13 cells that the areas of a call may count for (this project's
+/// profile).
 pub const MAX_COVERED_CELLS: u64 = 16_384;
 
 // P1 ROUTE
@@ -66,7 +67,7 @@ fn kind_of(op: &Operation) -> Option<OpKind>
     }
 }
 
-// The scopes of which any one opens an operation.
+// Returns the scopes that permit an operation. One of them is enough.
 fn permitting_scopes(kind: OpKind) -> &'static [Scope]
     ensures { result.now ≡ permitting_scopes kind }
 {
@@ -134,8 +135,9 @@ fn covered_of(op: &Operation) -> u64
     }
 }
 
-/// The first broken rule of P1 to P6, which are the same in every airspace and at every moment. It
-/// takes no memory.
+/// Returns the first broken rule of P1 to P6, if any.
+///
+/// These rules depend neither on the airspace nor on the time. Allocates nothing.
 pub fn early(call: &Call) -> Option<Rule>
     ensures { (a : Airspace) (now : ℕ) → result ≡ find (breaks a now call.now) early_rules }
 {

@@ -4,7 +4,9 @@ ghost use Rattle.std.specs.Prelude.{◌≡◌};
 use entity_core::ovn::Ovn;
 use std::marker::Model;
 
-/// The key of a put: the OVNs by which a supplier shows what it knows. Contracts see their list.
+/// The key of a put: the OVNs of the entities that a USS knows.
+///
+/// Contracts see their list.
 #[derive(Debug, Drop)]
 pub struct Key {
     items: Vec<Ovn>,
@@ -19,21 +21,25 @@ impl Model for Key {
 }
 
 impl Key {
-    /// The key of these OVNs. It takes no memory.
+    /// Creates a key of these OVNs.
+    ///
+    /// Allocates nothing.
     pub fn from_vec(items: Vec<Ovn>) -> Key
         ensures { result ≡ items.items }
     {
         Key { items }
     }
 
-    /// The OVNs, as they were given.
+    /// Returns the OVNs, in the order in which they were given.
     pub fn items(&self) -> &[Ovn]
         ensures { result.now ≡ self.now }
     {
         self.items.as_slice()
     }
 
-    /// The OVNs themselves. It takes no memory.
+    /// Converts the key into a vector of its OVNs.
+    ///
+    /// Allocates nothing.
     pub fn into_vec(self) -> Vec<Ovn>
         ensures { result.items ≡ self }
     {

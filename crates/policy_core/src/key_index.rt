@@ -1,4 +1,4 @@
-//! Keys, to look OVNs up in.
+//! An index for looking up OVNs in a key.
 ghost use Rattle.std.specs.Prelude.{◌≡◌, IfOk};
 ghost use Rattle.std.specs.List.Sorted.{IsPermutation};
 ghost use Rattle.policy_core.specs.Missing.{in_key};
@@ -7,7 +7,8 @@ use entity_core::ovn::Ovn;
 use std::alloc::{AllocError, Global};
 use std::marker::Model;
 
-/// The OVNs of a key, in the order of their texts, so that one is found by a binary search.
+/// The OVNs of a key, sorted by their texts for binary search.
+///
 /// Contracts see their list.
 #[derive(Debug, Drop)]
 pub struct KeyIndex<'a> {
@@ -28,8 +29,10 @@ impl<'a> Model for KeyIndex<'a> {
 }
 
 impl<'a> KeyIndex<'a> {
-    /// The index of a key. Where the key has k OVNs, this takes O(k log k) comparisons. An empty
-    /// key takes no memory.
+    /// Creates the index of a key.
+    ///
+    /// Takes O(k log k) comparisons for k OVNs. Returns `AllocError` if memory runs out. Allocates
+    /// nothing for an empty key.
     pub fn new(alloc: Global, key: &'a [Ovn]) -> Result<KeyIndex<'a>, AllocError>
         ensures { IfOk result (λ index. IsPermutation key.now index) }
     {
@@ -38,7 +41,9 @@ impl<'a> KeyIndex<'a> {
         Ok(KeyIndex { texts })
     }
 
-    /// Whether the key has an OVN. This takes O(log k) comparisons.
+    /// Returns true if the key has the OVN.
+    ///
+    /// Takes O(log k) comparisons.
     pub fn has(&self, ovn: &Ovn) -> bool
         ensures { result ≡ in_key self.now ovn.now }
     {

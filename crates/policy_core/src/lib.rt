@@ -1,4 +1,4 @@
-//! The policy: who may do what, and which rule a call breaks first.
+//! The policy: which rules a call breaks, and which of them is the first.
 #![tactic(auto)]
 
 pub mod call;

@@ -1,4 +1,4 @@
-//! What is missing from a key.
+//! Entities that are missing from a key.
 ghost use Rattle.std.specs.Prelude.{◌≡◌, IfOk};
 ghost use Rattle.policy_core.specs.Missing.{is_missing_from, needs_key, places_where, spared};
 
@@ -9,7 +9,7 @@ use entity_core::nature::{Nature, State};
 use entity_core::ovn::Ovn;
 use std::alloc::{AllocError, Global};
 
-/// Whether a key is asked of a put of that nature.
+/// Returns true if a put of this nature needs a key.
 pub fn needs_key(nature: Nature) -> bool
     ensures { result ≡ needs_key nature }
 {
@@ -19,8 +19,10 @@ pub fn needs_key(nature: Nature) -> bool
     }
 }
 
-/// Whether nobody needs to know an entity, where its manager has this availability: an intent that
-/// is planned, of a supplier that is down. It takes no memory.
+/// Returns true if the entity is exempt, given the availability of its manager.
+///
+/// An `Accepted` intent of a USS that is down is exempt: no call needs to know it. Allocates
+/// nothing.
 pub fn spared(entity: &Entity, availability: Availability) -> bool
     ensures { result ≡ spared entity.now availability }
 {
@@ -30,8 +32,10 @@ pub fn spared(entity: &Entity, availability: Availability) -> bool
     }
 }
 
-/// The places of the entities whose OVNs are not in the key, rising. Where the key has k OVNs, this
-/// takes O(k log k) comparisons, and O(log k) more for each entity.
+/// Returns the indexes of the entities whose OVNs are not in the key, ascending.
+///
+/// Takes O(k log k) comparisons for k OVNs, and O(log k) more for each entity. Returns `AllocError`
+/// if memory runs out.
 pub fn missing(alloc: Global, key: &[Ovn], needed: &[Entity]) -> Result<Vec<usize>, AllocError>
     ensures { IfOk result (λ places. places.items
         ≡ places_where (is_missing_from key.now) needed.now) }

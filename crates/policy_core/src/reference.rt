@@ -1,4 +1,4 @@
-//! References: what a supplier sees of entities.
+//! References: a USS's view of entities.
 ghost use Rattle.std.specs.Prelude.{◌≡◌, IfOk, []};
 ghost use Rattle.entity_core.specs.Airspace.{Airspace, availability_of};
 ghost use Rattle.policy_core.specs.Missing.{is_none_of};
@@ -15,20 +15,20 @@ use entity_core::version::Version;
 use std::alloc::{AllocError, Global};
 use std::marker::Model;
 
-/// What a supplier sees of an entity.
+/// A USS's view of an entity.
 #[derive(Debug, Drop)]
 pub struct Reference {
     pub nature: Nature,
     pub id: EntityId,
     pub manager: UssId,
-    /// The manager's availability at that time.
+    /// The manager's current availability.
     pub availability: Availability,
     pub version: Version,
-    /// The OVN, which the manager alone sees.
+    /// The OVN. Only the manager sees it.
     pub ovn: Option<Ovn>,
-    /// When the first of its volumes begins, in seconds since 1970.
+    /// The earliest start of its volumes, in Unix seconds.
     pub time_start: u64,
-    /// When the last of its volumes ends.
+    /// The latest end of its volumes, in Unix seconds.
     pub time_end: u64,
     pub url: BaseUrl,
 }
@@ -43,7 +43,9 @@ fn shown_ovn(uss: &UssId, entity: &Entity) -> Result<Option<Ovn>, AllocError>
     }
 }
 
-/// The reference of an entity as a supplier sees it, where the manager has this availability.
+/// Returns the reference of an entity in a USS's view, given the availability of its manager.
+///
+/// Returns `AllocError` if memory runs out.
 #[tactic(auto, unfolding(crate::specs::View::view_of))]
 pub fn view(
     uss: &UssId,
@@ -69,7 +71,9 @@ pub fn view(
     })
 }
 
-/// References in their order. Contracts see their list.
+/// References, in their order.
+///
+/// Contracts see their list.
 #[derive(Debug, Drop)]
 pub struct References {
     items: Vec<Reference>,
@@ -85,7 +89,9 @@ impl Model for References {
 }
 
 impl References {
-    /// No references. It takes no memory.
+    /// Returns an empty list.
+    ///
+    /// Allocates nothing.
     pub fn new(alloc: Global) -> References
         ensures { result ≡ [] }
     {
@@ -94,28 +100,32 @@ impl References {
         }
     }
 
-    /// These references. It takes no memory.
+    /// Creates a list of these references.
+    ///
+    /// Allocates nothing.
     pub fn from_vec(items: Vec<Reference>) -> References
         ensures { result ≡ items.items }
     {
         References { items }
     }
 
-    /// Whether there are none.
+    /// Returns true if there are no references.
     pub fn is_empty(&self) -> bool
         ensures { result ≡ is_none_of self.now }
     {
         self.items.is_empty()
     }
 
-    /// The references, in their order.
+    /// Returns the references, in their order.
     pub fn items(&self) -> &[Reference]
         ensures { result.now ≡ self.now }
     {
         self.items.as_slice()
     }
 
-    /// The references themselves. It takes no memory.
+    /// Converts the list into a vector of its references.
+    ///
+    /// Allocates nothing.
     pub fn into_vec(self) -> Vec<Reference>
         ensures { result.items ≡ self }
     {
@@ -124,8 +134,8 @@ impl References {
     }
 }
 
-/// What a key lacks: references that the caller may see, intents and constraints each by rising
-/// ids.
+/// The entities that are missing from a key, in the caller's view: intents and constraints, each by
+/// ascending id.
 #[derive(Debug, Drop)]
 pub struct Missing {
     pub intents: References,
@@ -135,7 +145,9 @@ pub struct Missing {
 impl Missing {
     ghost use Rattle.policy_core.specs.Missing.{is_nothing, nothing_missing};
 
-    /// Nothing is missing. It takes no memory.
+    /// Returns the value in which nothing is missing.
+    ///
+    /// Allocates nothing.
     pub fn empty(alloc: Global) -> Missing
         ensures { result ≡ nothing_missing }
     {
@@ -145,7 +157,7 @@ impl Missing {
         }
     }
 
-    /// Whether nothing is missing.
+    /// Returns true if nothing is missing.
     pub fn is_empty(&self) -> bool
         ensures { result ≡ is_nothing self.now }
     {

@@ -1,51 +1,52 @@
-//! The rules, by number, name and HTTP status.
+//! The numbers, names and HTTP statuses of the rules.
 ghost use Rattle.std.specs.Prelude.{◌≡◌};
 ghost use Rattle.policy_core.specs.Rule.{number_of, name_of, status_of};
 
-/// A rule of the policy, P1 to P17. A call is denied by the first rule that it breaks, in the order
-/// P1 to P13, P16, P17, P14, P15.
+/// A rule of the policy, P1 to P17.
+///
+/// A call is denied by the first rule that it breaks, in the order P1 to P13, P16, P17, P14, P15.
 #[derive(Clone, Copy, Debug, PartialEq, Eq)]
 pub enum Rule {
-    /// P1: the path is no route.
+    /// P1: no route has the path.
     Route,
-    /// P2: the route does not take the method.
+    /// P2: the route does not allow the method.
     Method,
     /// P3: there is no caller.
     Token,
-    /// P4: the caller has none of the scopes that open the operation.
+    /// P4: none of the caller's scopes permits the operation.
     Scope,
-    /// P5: a path word or the body has a wrong form.
+    /// P5: a path parameter or the body has a wrong form.
     Form,
     /// P6: the cells of all volumes cover too much.
     Area,
-    /// P7: what is to be read, updated or deleted is not there.
+    /// P7: the entity or subscription to read, update or delete does not exist.
     Found,
-    /// P8: what is to be created is there.
+    /// P8: the entity or subscription to create exists already.
     Fresh,
     /// P9: the caller is not the manager.
     Manager,
-    /// P10: the OVN or the availability version is not the present one.
+    /// P10: the OVN or the version is not the current one.
     Version,
     /// P11: the caller's scopes do not allow the state, or the interest of a subscription.
     Role,
-    /// P12: the state may not become this one.
+    /// P12: the state may not follow the current one.
     Change,
     /// P13: all volumes have ended.
     Ended,
-    /// P14: the key lacks something needed.
+    /// P14: something needed is missing from the key.
     Key,
-    /// P15: a serial or a version is the greatest.
+    /// P15: a serial or a version is at its maximum.
     Limit,
-    /// P16: the subscription that is named is not there, or is another's.
+    /// P16: the referenced subscription does not exist or another USS manages it.
     Subscription,
-    /// P17: some intent names the subscription that is to be deleted.
+    /// P17: some intent references the subscription to delete.
     Depended,
 }
 
 impl Rule {
     ghost use Rattle.policy_core.specs.Rule.{number_of, name_of, status_of};
 
-    /// The rule's number, 1 to 17.
+    /// Returns the number of the rule, 1 to 17.
     pub fn number(self) -> u8
         ensures { result ≡ number_of self }
     {
@@ -70,7 +71,7 @@ impl Rule {
         }
     }
 
-    /// The rule's name, in capital letters.
+    /// Returns the name of the rule, in capital letters.
     pub fn name(self) -> &'static str
         ensures { result.now ≡ name_of self }
     {
@@ -95,7 +96,7 @@ impl Rule {
         }
     }
 
-    /// The HTTP status of a denial by the rule (RFC 9110).
+    /// Returns the HTTP status of a denial by the rule (RFC 9110).
     pub fn status(self) -> u16
         ensures { result ≡ status_of self }
     {

@@ -1,12 +1,13 @@
-//! Scopes: what a token allows.
+//! Scopes of tokens.
 ghost use Rattle.std.specs.Prelude.{◌≡◌, MatchOption};
 ghost use Rattle.policy_core.specs.Scope.{scope_name, has_scope, no_scopes, with_scope};
 
 use entity_core::uss_id::UssId;
 use std::marker::Model;
 
-/// What a token allows its holder to do. The names are those of ASTM F3548's scopes as this
-/// project's profile has them.
+/// A permission of a token.
+///
+/// The names are those of ASTM F3548's scopes in this project's profile.
 #[derive(Clone, Copy, Debug, PartialEq, Eq)]
 pub enum Scope {
     StrategicCoordination,
@@ -19,7 +20,9 @@ pub enum Scope {
 impl Scope {
     ghost use Rattle.policy_core.specs.Scope.{scope_name};
 
-    /// The scope of that name, with case. No other text is a scope's name.
+    /// Returns the scope with this name, or `None` if no scope has it.
+    ///
+    /// Names are case-sensitive.
     pub fn named(name: &str) -> Option<Scope>
         ensures { MatchOption result ((s : Scope) → scope_name s ≡ name.now → ⊥)
             (λ s. scope_name s ≡ name.now) }
@@ -35,7 +38,9 @@ impl Scope {
     }
 }
 
-/// A set of scopes. Contracts see of each scope whether it is in the set.
+/// A set of scopes.
+///
+/// Contracts see for each scope whether it is in the set.
 #[derive(Clone, Copy, Debug, PartialEq, Eq)]
 pub struct ScopeSet {
     strategic_coordination: bool,
@@ -70,7 +75,7 @@ impl Model for ScopeSet {
 impl ScopeSet {
     ghost use Rattle.policy_core.specs.Scope.{has_scope, no_scopes, with_scope};
 
-    /// The set without a scope.
+    /// Returns the empty set.
     pub fn empty() -> ScopeSet
         ensures { result ≡ no_scopes }
     {
@@ -83,7 +88,7 @@ impl ScopeSet {
         }
     }
 
-    /// The set with one more scope.
+    /// Returns the set with one more scope.
     pub fn with(self, scope: Scope) -> ScopeSet
         ensures { result ≡ with_scope self scope }
     {
@@ -98,7 +103,7 @@ impl ScopeSet {
         scopes
     }
 
-    /// Whether the scope is in the set.
+    /// Returns true if the set has the scope.
     pub fn has(self, scope: Scope) -> bool
         ensures { result ≡ has_scope self scope }
     {
@@ -112,7 +117,7 @@ impl ScopeSet {
     }
 }
 
-/// Who makes a call: a supplier, with what its token allows.
+/// The caller of an operation: a USS, with the scopes of its token.
 #[derive(Debug, Drop)]
 pub struct Caller {
     pub uss: UssId,

@@ -1,4 +1,4 @@
-//! The rules that look at what is kept.
+//! The stateful rules: those that depend on the airspace.
 ghost use Rattle.std.specs.Prelude.{◌≡◌, find};
 ghost use Rattle.entity_core.specs.IdTexts.{same_text};
 ghost use Rattle.entity_core.specs.Airspace.{Airspace};
@@ -19,22 +19,22 @@ use entity_core::subscription::Sub;
 use entity_core::text::Text;
 use entity_core::version::MAX_VERSION;
 
-/// What is looked up for a call, lent.
+/// The facts that were looked up for a call, borrowed.
 #[derive(Clone, Copy, Debug)]
 pub struct FactsRef<'a> {
-    /// What is kept under the kind and the id that the call names.
+    /// The stored entity with the kind and id that the call names.
     pub found: Option<&'a Entity>,
-    /// What is stated of the supplier whose availability is read or set.
+    /// The stored availability of the USS whose availability is read or set.
     pub stated: Option<(Availability, &'a Ovn)>,
-    /// How many changes there were.
+    /// The number of changes so far.
     pub serial: u64,
-    /// The subscription that the call is about, or that its put names.
+    /// The subscription that the call is about or that its put references.
     pub sub: Option<&'a Sub>,
-    /// Whether some intent names the subscription that is to be deleted.
+    /// Whether some intent references the subscription to delete.
     pub depended: bool,
 }
 
-/// What is broken of the rules that look at what is kept.
+/// The result of checking the stateful rules.
 #[derive(Clone, Copy, Debug, PartialEq, Eq)]
 pub struct Findings {
     /// The first broken rule of P7 to P13, P16 and P17, in this order.
@@ -214,7 +214,7 @@ fn breaks_change(op: &Operation, found: Option<&Entity>) -> bool
     }
 }
 
-// The states that may follow a state.
+// Returns the states that may follow a state.
 fn next_states(state: State) -> &'static [State]
     ensures { result.now ≡ next_states state }
 {
@@ -315,7 +315,7 @@ fn has_last_version(found: Option<&Entity>) -> bool
     }
 }
 
-// The first broken rule of P7 to P13, P16 and P17.
+// Returns the first broken rule of P7 to P13, P16 and P17.
 fn first_standing(now: u64, call: &Call, facts: &FactsRef<'_>) -> Option<Rule>
     ensures { result ≡ find (breaks_given (lent_facts facts.now) now call.now) standing_rules }
 {
@@ -349,8 +349,10 @@ fn first_standing(now: u64, call: &Call, facts: &FactsRef<'_>) -> Option<Rule>
     None
 }
 
-/// What a call at a moment (in seconds since 1970) breaks, where these facts were looked up for it.
-/// It takes no memory.
+/// Returns the stateful rules that a call at a time breaks, given the facts that were looked up for
+/// it.
+///
+/// The time is in Unix seconds. Allocates nothing.
 pub fn standing(now: u64, call: &Call, facts: &FactsRef<'_>) -> Findings
     ensures first { result.first
         ≡ find (breaks_given (lent_facts facts.now) now call.now) standing_rules }

@@ -1,4 +1,4 @@
-//! What a supplier sees of its subscriptions.
+//! A USS's view of its subscriptions.
 ghost use Rattle.std.specs.Prelude.{◌≡◌, IfOk, []};
 ghost use Rattle.policy_core.specs.SubView.{sub_view_of};
 
@@ -11,7 +11,9 @@ use entity_core::subscription::Sub;
 use std::alloc::{AllocError, Global};
 use std::marker::Model;
 
-/// Ids of entities in their order. Contracts see their list.
+/// Ids of entities, in their order.
+///
+/// Contracts see their list.
 #[derive(Debug, Drop)]
 pub struct EntityIds {
     items: Vec<EntityId>,
@@ -26,21 +28,25 @@ impl Model for EntityIds {
 }
 
 impl EntityIds {
-    /// These ids. It takes no memory.
+    /// Creates a list of these ids.
+    ///
+    /// Allocates nothing.
     pub fn from_vec(items: Vec<EntityId>) -> EntityIds
         ensures { result ≡ items.items }
     {
         EntityIds { items }
     }
 
-    /// The ids, in their order.
+    /// Returns the ids, in their order.
     pub fn items(&self) -> &[EntityId]
         ensures { result.now ≡ self.now }
     {
         self.items.as_slice()
     }
 
-    /// A copy of these ids.
+    /// Copies these ids.
+    ///
+    /// Returns `AllocError` if memory runs out.
     pub fn copied(alloc: Global, ids: &[EntityId]) -> Result<EntityIds, AllocError>
         ensures { IfOk result (λ copy. copy ≡ ids.now) }
     {
@@ -50,23 +56,25 @@ impl EntityIds {
     }
 }
 
-/// What a supplier sees of a subscription. None is implicit.
+/// A USS's view of a subscription. No subscription is implicit.
 #[derive(Debug, Drop)]
 pub struct SubView {
     pub id: EntityId,
     pub version: Ovn,
     pub index: NotificationIndex,
     pub interest: Interest,
-    /// When its volume begins, in seconds since 1970.
+    /// The start of its volume, in Unix seconds.
     pub time_start: u64,
-    /// When its volume ends.
+    /// The end of its volume, in Unix seconds.
     pub time_end: u64,
     pub url: BaseUrl,
-    /// The ids of the intents that name it, rising.
+    /// The ids of the intents that reference it, ascending.
     pub dependents: EntityIds,
 }
 
-/// What is seen of a subscription that intents of these ids name.
+/// Returns the view of a subscription that the intents with these ids reference.
+///
+/// Returns `AllocError` if memory runs out.
 pub fn sub_view(alloc: Global, sub: &Sub, dependents: &[EntityId]) -> Result<SubView, AllocError>
     ensures { IfOk result (λ view. view ≡ sub_view_of sub.now dependents.now) }
 {
@@ -83,7 +91,9 @@ pub fn sub_view(alloc: Global, sub: &Sub, dependents: &[EntityId]) -> Result<Sub
     })
 }
 
-/// Subscriptions as they are seen, in their order. Contracts see their list.
+/// Views of subscriptions, in their order.
+///
+/// Contracts see their list.
 #[derive(Debug, Drop)]
 pub struct SubViews {
     items: Vec<SubView>,
@@ -99,14 +109,16 @@ impl Model for SubViews {
 }
 
 impl SubViews {
-    /// These. It takes no memory.
+    /// Creates a list of these views.
+    ///
+    /// Allocates nothing.
     pub fn from_vec(items: Vec<SubView>) -> SubViews
         ensures { result ≡ items.items }
     {
         SubViews { items }
     }
 
-    /// They, in their order.
+    /// Returns the views, in their order.
     pub fn items(&self) -> &[SubView]
         ensures { result.now ≡ self.now }
     {

@@ -1,4 +1,4 @@
--- What is found among the entities and the subscriptions of an airspace comes by rising ids.
+-- Searches of the entities and subscriptions of an airspace return ascending ids.
 use Rattle.std.specs.Prelude.{◌≡◌, ℕ, nat_eq, ◌&&◌, Bool, true, false, cond, T, List, [], ◌∷◌, map, filter, Some, None, refl}
 use Rattle.std.proofs.Common.{sym, ap, ◌∙◌}
 use Rattle.std.specs.List.{AllByRecursion}
@@ -24,7 +24,7 @@ use Rattle.entity_core.specs.Search.{FoundInOrder, all_in, dependents_in, has_ki
 use Rattle.entity_core.proofs.Keys.{key_total, one_key}
 use Rattle.entity_core.proofs.Entries.{first, second, less, sorted_kept}
 
--- an entry bears its own key
+-- Holds if an entry is stored under its own key.
 abbrev Own : EntityKey × Entity → Type 0
 Own e = key_of e.1 ≡ e.0
 
@@ -71,7 +71,7 @@ rising kind [] s own kinds = tt
 rising kind (e ∷ es) s own kinds =
     (ids_below kind e es (first _ _ s) own.0 kinds.0 own.1 kinds.1, rising kind es (second (below_all key_cmp e.0 es) _ s) own.1 kinds.1)
 
--- those that pass a test
+-- What holds for all entries holds for those that pass a test.
 all_kept : (P : EntityKey × Entity → Type 0) (test : EntityKey × Entity → Bool) (es : List (EntityKey × Entity)) → AllByRecursion P es → AllByRecursion P (filter test es)
 all_kept P test [] all = tt
 all_kept P test (e ∷ es) all =
@@ -81,13 +81,14 @@ first_true : (a b : Bool) → (a && b) ≡ true → a ≡ true
 first_true true b h = refl
 first_true false b h = cc
 
--- those that pass a test, where all bear their own keys
+-- If all entries are stored under their own keys, P holds for each entry that passes the test.
 all_own_pass : (P : EntityKey × Entity → Type 0) (test : EntityKey × Entity → Bool) → ((e : EntityKey × Entity) → Own e → test e ≡ true → P e) → (es : List (EntityKey × Entity)) → AllByRecursion Own es → AllByRecursion P (filter test es)
 all_own_pass P test f [] own = tt
 all_own_pass P test f (e ∷ es) own =
     elim (test e) as (λ b. test e ≡ b → AllByRecursion P (cond b (e ∷ filter test es) (filter test es))) [ true ↦ λ t. (f e own.0 t, all_own_pass P test f es own.1) | false ↦ λ t. all_own_pass P test f es own.1 ] refl
 
--- of entries that bear their own keys, those of a kind that pass a test come by rising ids
+-- If all entries are stored under their own keys, those of a kind that pass a test have ascending
+-- ids.
 filtered : (kind : Kind) (test : EntityKey × Entity → Bool) → ((e : EntityKey × Entity) → Own e → test e ≡ true → has_kind kind e.0 ≡ true) → (a : Airspace) → IsAirspace a
     → IsStrictlySortedBy nat_cmp (map (λ e. e.id) (map (λ e. e.1) (filter test (entries a.entities))))
 filtered kind test f a proper =
@@ -98,18 +99,18 @@ filtered kind test f a proper =
     (all_kept Own test es own)
     (all_own_pass (λ e. has_kind kind e.0 ≡ true) test f es own)
 
--- what names a subscription is an intent
+-- An entity that references a subscription is an intent.
 naming_intent : (id : ℕ) (k : EntityKey) (nature : Nature) → kind_of nature ≡ k.0 → is_id id (subscription_of nature) ≡ true → has_kind Intent k ≡ true
 naming_intent id k (natures.Intent state named) is h = ap (λ (kind : Kind). nat_eq (kind_index kind) 0) (sym is)
 naming_intent id k natures.Constraint is h = cc
 
 -- ---- subscriptions
 
--- an entry bears its own id
+-- Holds if an entry is stored under its own id.
 abbrev pub OwnId : ℕ × Sub → Type 0
 OwnId s = s.1.id ≡ s.0
 
--- what holds of each that is found holds of each entry
+-- What holds for each subscription found holds for each entry.
 pub each_sub : (P : ℕ × Sub → Type 0) (ss : List (ℕ × Sub)) → T (is_sorted nat_cmp ss) → ((k : ℕ) (x : Sub) → maps.find nat_cmp k ss ≡ Some x → P (k, x)) → AllByRecursion P ss
 each_sub P [] s h = tt
 each_sub P (e ∷ ss) s h =

@@ -1,4 +1,4 @@
-//! Where an airspace is kept: the trait of spaces.
+//! Storage backends: the trait `Space` and its extensions.
 #![tactic(auto)]
 
 pub mod batch;

@@ -1,9 +1,9 @@
-//! What a search of a space finds.
+//! Results of a search of a space.
 
 use entity_core::availability::Availability;
 use entity_core::entity::Entity;
 
-/// An entity that was found, and the present availability of its manager.
+/// An entity that a search found, and the current availability of its manager.
 #[derive(Debug, Drop)]
 pub struct Met {
     pub entity: Entity,

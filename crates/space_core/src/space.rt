@@ -1,4 +1,4 @@
-//! The trait of spaces: what its calls tell, read and change.
+//! The trait of storage backends: results, reads and changes of its calls.
 ghost use Rattle.std.specs.Prelude.{◌≡◌, ℕ, Bool, false, IfOk};
 ghost use Rattle.entity_core.specs.Airspace.{Airspace, IsAirspace};
 ghost use Rattle.entity_core.specs.Search.{all_in, dependents_in, subscribers_in, subscriptions_in};
@@ -17,34 +17,36 @@ use entity_core::uss_id::UssId;
 use grid_core::volume::Area;
 use std::alloc::{AllocError, Global};
 
-/// Why a space did not do what it was asked.
+/// The reason why a call of a space failed.
 #[derive(Clone, Copy, Debug, PartialEq, Eq)]
 pub enum SpaceFault {
-    /// Nothing was changed, and the space goes on.
+    /// Nothing was changed. The space remains usable.
     Unchanged,
-    /// It cannot be told what the space holds: from now on every call answers this.
+    /// The content of the space is unknown. Every later call returns this fault.
     Broken,
 }
 
 /// A change of an airspace.
 #[derive(Debug, Drop)]
 pub enum Change {
-    /// The entity is kept, in the place of the one that has its kind and id. It bears the new
-    /// serial, and the subscription that it names is there.
+    /// Stores the entity, replacing the one with the same kind and id. It must have the next
+    /// serial, and the subscription that it references must exist.
     Put(Entity),
-    /// The entity of the kind and the id, which is there, is not kept any more.
+    /// Removes the entity with this kind and id, which must exist.
     Remove(Kind, EntityId),
-    /// The supplier has the availability, under the version.
+    /// Sets the availability of the USS, with this version.
     Avail(UssId, Availability, Ovn),
-    /// The subscription is kept, in the place of the one that has its id. It bears the new serial,
-    /// and its index is at most that.
+    /// Stores the subscription, replacing the one with the same id. It must have the next serial,
+    /// and its index must not exceed it.
     PutSub(Sub),
-    /// The subscription of the id, which is there and which no intent names, is not kept any more.
+    /// Removes the subscription with this id. It must exist, and no intent may reference it.
     RemoveSub(EntityId),
 }
 
 impl Change {
-    /// An equal change.
+    /// Returns a copy of the change.
+    ///
+    /// Returns `AllocError` if memory runs out.
     pub fn clone(&self, alloc: Global) -> Result<Change, AllocError>
         ensures { IfOk result (λ change. change ≡ self.now) }
     {
@@ -60,40 +62,44 @@ impl Change {
     }
 }
 
-/// A place where an airspace is kept.
+/// A storage backend, which holds an airspace (all state of the service).
 ///
-/// What a space holds, which its calls see, is a relation, since a fault may leave it open which of
-/// two airspaces that is. A constructor gives a space with one content (`IsContent`); each call
-/// says what becomes of it. A space that is broken before its first call has no one content. Unless
-/// it says otherwise, what it holds is also what a crash at this moment may leave.
+/// The visible airspace is a relation (`holds`), because a fault can leave open which of two
+/// airspaces is visible. A constructor returns a space with one content (`IsContent`), and each
+/// call states its effect. A space that is broken before its first call has no single content.
+/// Unless stated otherwise, a crash leaves the visible airspace.
 pub trait Space {
-    /// An airspace that it may turn out to hold. It is one, until the space is broken.
+    /// Relates the space to the airspaces that can be visible. There is only one until the space is
+    /// broken.
     ghost holds: { Self → Airspace → Type 0 };
 
-    /// Whether what is said of its content stands.
+    /// Whether the statements about the content apply.
     ghost is_sound: { Self → Type 0 };
 
-    /// Whether what it may turn out to hold is an airspace in each case.
+    /// Whether the space holds an airspace in every possible case.
     ghost is_whole: { Self → Type 0 };
 
-    /// How often it has answered `Unchanged`; the count stays at the greatest 64-bit number.
+    /// The number of times that the space returned `Unchanged`. It stops at the maximum 64-bit
+    /// number.
     ghost refusals: { Self → ℕ };
 
-    /// Whether it has answered `Broken`.
+    /// Whether the space has returned `Broken`.
     ghost is_broken: { Self → Bool };
 
-    /// What no call changes of it. Most spaces have nothing of the kind (`nothing_fixed`).
+    /// The part of the space that no call changes. Most spaces have none (`nothing_fixed`).
     ghost fixed: { Self → Code };
 
-    /// The entity of a kind and an id, if there is one.
+    /// Returns the entity with this kind and id, if any.
     fn entity(&mut self, kind: Kind, id: EntityId) -> Result<Option<Entity>, SpaceFault>
         ensures fixed { fixed self.new ≡ fixed self.old }
         ensures tells { ReportsFaultBy refusals is_broken self.old self.new result }
         ensures reads { Reads holds is_sound is_whole self.old self.new result
             (λ a found. found ≡ get a.entities (kind, id)) };
 
-    /// The entities of a kind, but the one of an id, of which some volume meets some area: each
-    /// once, by rising ids, with its manager's present availability.
+    /// Returns the entities of a kind of which some volume meets some area, except the one with the
+    /// excluded id.
+    ///
+    /// Each occurs once, by ascending id, with the current availability of its manager.
     fn meeting(
         &mut self,
         kind: Kind,
@@ -105,59 +111,63 @@ pub trait Space {
         ensures reads { Reads holds is_sound is_whole self.old self.new result
             (λ a found. found.items ≡ met_in a kind areas.now except) };
 
-    /// The entities of a kind: each once, by rising ids.
+    /// Returns the entities of a kind, each once, by ascending id.
     fn all(&mut self, kind: Kind) -> Result<Vec<Entity>, SpaceFault>
         ensures fixed { fixed self.new ≡ fixed self.old }
         ensures tells { ReportsFaultBy refusals is_broken self.old self.new result }
         ensures reads { Reads holds is_sound is_whole self.old self.new result
             (λ a found. found.items ≡ all_in a.entities kind) };
 
-    /// What is kept of a supplier, if it has set its availability.
+    /// Returns the availability and version that a USS has set, if any.
     fn availability(&mut self, uss: &UssId) -> Result<Option<(Availability, Ovn)>, SpaceFault>
         ensures fixed { fixed self.new ≡ fixed self.old }
         ensures tells { ReportsFaultBy refusals is_broken self.old self.new result }
         ensures reads { Reads holds is_sound is_whole self.old self.new result
             (λ a found. found ≡ get a.availabilities uss.now) };
 
-    /// The subscription of an id, if there is one.
+    /// Returns the subscription with this id, if any.
     fn subscription(&mut self, id: EntityId) -> Result<Option<Sub>, SpaceFault>
         ensures fixed { fixed self.new ≡ fixed self.old }
         ensures tells { ReportsFaultBy refusals is_broken self.old self.new result }
         ensures reads { Reads holds is_sound is_whole self.old self.new result
             (λ a found. found ≡ get a.subscriptions id) };
 
-    /// The subscriptions of a supplier whose volumes meet an area: each once, by rising ids.
+    /// Returns a USS's subscriptions whose volumes meet an area, each once, by ascending id.
     fn subscriptions_of(&mut self, uss: &UssId, area: &Area) -> Result<Vec<Sub>, SpaceFault>
         ensures fixed { fixed self.new ≡ fixed self.old }
         ensures tells { ReportsFaultBy refusals is_broken self.old self.new result }
         ensures reads { Reads holds is_sound is_whole self.old self.new result
             (λ a found. found.items ≡ subscriptions_in a.subscriptions uss.now area.now) };
 
-    /// The subscriptions that are for a kind and whose volumes meet some area, whoever manages
-    /// them: each once, by rising ids.
+    /// Returns the subscriptions that are for a kind and whose volumes meet some area, each once,
+    /// by ascending id.
+    ///
+    /// Their manager does not matter.
     fn subscribers(&mut self, kind: Kind, areas: &[Area]) -> Result<Vec<Sub>, SpaceFault>
         ensures fixed { fixed self.new ≡ fixed self.old }
         ensures tells { ReportsFaultBy refusals is_broken self.old self.new result }
         ensures reads { Reads holds is_sound is_whole self.old self.new result
             (λ a found. found.items ≡ subscribers_in a.subscriptions kind areas.now) };
 
-    /// The ids of the intents that name a subscription, rising.
+    /// Returns the ids of the intents that reference a subscription, ascending.
     fn dependents(&mut self, id: EntityId) -> Result<Vec<EntityId>, SpaceFault>
         ensures fixed { fixed self.new ≡ fixed self.old }
         ensures tells { ReportsFaultBy refusals is_broken self.old self.new result }
         ensures reads { Reads holds is_sound is_whole self.old self.new result
             (λ a found. found.items ≡ dependents_in a.entities id) };
 
-    /// How many changes there were.
+    /// Returns the number of changes so far.
     fn serial(&mut self) -> Result<u64, SpaceFault>
         ensures fixed { fixed self.new ≡ fixed self.old }
         ensures tells { ReportsFaultBy refusals is_broken self.old self.new result }
         ensures reads { Reads holds is_sound is_whole self.old self.new result
             (λ a serial. serial ≡ a.serial) };
 
-    /// Makes a change that fits, and the serial goes on by one. In the same change the index of
-    /// each subscription that is to be told rises by one: their ids rise and are there, and there
-    /// are none but for a change of an entity.
+    /// Applies a change that fits and increments the serial by one.
+    ///
+    /// In the same change, increments the notification index of each subscription to notify. Their
+    /// ids must be ascending and their subscriptions must exist. Only a change of an entity
+    /// notifies any.
     fn apply(&mut self, change: Change, notify: &[EntityId]) -> Result<(), SpaceFault>
         requires fits { is_sound self.old → (a : Airspace) → holds self.old a
             → Fits change notify.now a }
@@ -167,7 +177,7 @@ pub trait Space {
             (is_broken self.old) self.old self.new result
             (changed change notify.now) };
 
-    /// A sound space that is not broken holds no two airspaces.
+    /// A sound space that is not broken does not hold two different airspaces.
     ghost content_unique: { (s : Self) (a b : Airspace) → is_sound s → is_broken s ≡ false → holds s a
         → holds s b → a ≡ b };
 
@@ -175,9 +185,9 @@ pub trait Space {
     ghost content_whole: { (s : Self) (a : Airspace) → is_sound s → is_broken s ≡ false → holds s a
         → is_whole s };
 
-    /// A sound space that is whole, also a broken one, holds some airspace.
+    /// A sound space that is whole holds some airspace, even if it is broken.
     ghost content_exists: { (s : Self) → is_sound s → is_whole s → ∥ ((a : Airspace) × holds s a) ∥₁ };
 
-    /// What a sound space holds is an airspace that may be kept.
+    /// Every airspace that a sound space holds is valid.
     ghost content_valid: { (s : Self) (a : Airspace) → is_sound s → holds s a → IsAirspace a };
 }

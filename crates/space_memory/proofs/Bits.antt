@@ -1,4 +1,4 @@
--- Bits that stand under keys of a map.
+-- Bits stored under keys of a map.
 use Rattle.std.specs.Prelude.{◌≡◌, ℕ, ◌<◌, max, true, false, cond, List, Option, Some, unwrap_or, bit_or, refl}
 use Rattle.std.proofs.Common.{arith, sym, ap, ◌∙◌, subst}
 use Rattle.std.proofs.lemmas.Nat.Bits.{bit_at_or, bit_at-lt}
@@ -41,11 +41,11 @@ module _ (old new : BTreeMap Pair ℕ) (k : Pair) (own bits : ℕ) (is : own ≡
     | false ↦ λ e. subst (λ (o : Option ℕ). bit_at (unwrap_or o 0) b ≡ 1) (sym (u.0 q ∙ ap (λ t. cond t (Some (bit_or own bits)) (get pair_cmp old q)) e)) h
   ] refl
 
--- where all bits are there already
+-- If adding the bits changes nothing, the map has them already.
 pub had_bits : (m : BTreeMap Pair ℕ) (k : Pair) (own bits : ℕ) → own ≡ unwrap_or (get pair_cmp m k) 0 → bit_or own bits ≡ own → HasBits m k bits
 had_bits m k own bits is all = λ b h. subst (λ (n : ℕ). bit_at n b ≡ 1) (all ∙ is) (or_second own bits b h)
 
--- where these bits add none to others
+-- If a bitwise or adds no bits, all bits of the second number are in the first.
 pub all_among : (own bits : ℕ) → bit_or own bits ≡ own → (b : ℕ) → bit_at bits b ≡ 1 → bit_at own b ≡ 1
 all_among own bits all b h = subst (λ (n : ℕ). bit_at n b ≡ 1) all (or_second own bits b h)
 

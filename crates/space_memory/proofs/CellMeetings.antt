@@ -1,4 +1,4 @@
--- What an index finds near areas.
+-- The volumes that an index finds near areas.
 use Rattle.std.specs.Prelude.{◌≡◌, ℕ, ◌+◌, ◌*◌, ◌%◌, ◌^◌, ◌<◌, ◌≤◌, ◌⊎◌, List, Option, Some, None, unwrap_or, Result, Ok, Err, IfOk, refl}
 use Rattle.std.proofs.Common.{arith, sym, subst, inl, inr}
 use Rattle.std.proofs.lemmas.Nat.Bits.{bit_at-pow_same, bit_at-zero}
@@ -32,7 +32,7 @@ both P Q xs a n = (n.1, subst P n.3 (a n.0 n.1 n.2), n.4)
 
 -- ---- the entries of a map
 
--- a bit that is set under a key stands in an entry
+-- A bit that is set under a key is in an entry of the map.
 bit_there : (o : Option ℕ) (b : ℕ) → bit_at (unwrap_or o 0) b ≡ 1 → (n : ℕ) × (o ≡ Some n) × (bit_at n b ≡ 1)
 bit_there None b h = let none : bit_at 0 b ≡ 0 = bit_at-zero b in absurd (omega arith)
 bit_there (Some n) b h = (n, refl, h)
@@ -45,13 +45,13 @@ entry_of m P all k b h =
     let there : P e = subst P (get_or_from_slice_get m.entries p.0 e e p.2) (all p.0 e (slice_get_within m.entries p.0 e p.2)) in
     (t.0, t.2, subst (λ (q : Pair). P (q, t.0)) (sym (pair_exact k p.1 (equal_is (pair_cmp k p.1) p.3))) there)
 
--- where each entry of a map of spans has been gathered, all have
+-- If every entry of a map of spans is gathered, all spans are gathered.
 pub gathered_all : (marks : BTreeSet Mark) (spans : BTreeMap Span ℕ) (near : BTreeMap Part ℕ) → All (λ e. Gathers marks e.0 e.1 near) spans.entries → GathersAll marks spans near
 gathered_all marks spans near all = λ r b h q has low high.
     let e = entry_of spans (λ e. Gathers marks e.0 e.1 near) all r b h in
     e.2 q has low high b e.1
 
--- a span of which the rest has been gathered, where what lies before has been
+-- If the part of a span before an index position is covered, gathering the rest gathers the span.
 pub gathered_rest : (marks : BTreeSet Mark) (span done : Span) (bits done_bits start : ℕ) (old new : BTreeMap Part ℕ) → IsStart span bits done done_bits start → Gathers marks done done_bits old → Widens old new
     → Gathers marks (start, span.1) bits new → Gathers marks span bits new
 gathered_rest marks span done bits done_bits start old new is before w rest = λ q has low high b h. elim (cases_lt q.0 start) [
@@ -71,7 +71,7 @@ nothing_there marks near = λ q has low high b h. absurd (omega arith)
 pub gathers_more : (marks : BTreeSet Mark) (old new : BTreeMap Part ℕ) → Widens old new → (e : Span × ℕ) → Gathers marks e.0 e.1 old → Gathers marks e.0 e.1 new
 gathers_more marks old new w e g = λ q has low high b h. w (part_of q) b (g q has low high b h)
 
--- ---- one cell of a holder that touches one of an area
+-- ---- a cell of a holder that touches a cell of an area
 
 found_cell : (marks : BTreeSet Mark) (spans : BTreeMap Span ℕ) (near : BTreeMap Part ℕ) → GathersAll marks spans near → (e : Holder) (i : ℕ) (c d : Cell) (b : ℕ) → i < 32 → IsMarked marks e i c → HasSpansOf spans (2 ^ b) d → Touch c d → HasBit near (e.1, i) b
 found_cell marks spans near g e i c d b small m a t =

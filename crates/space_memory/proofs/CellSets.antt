@@ -1,4 +1,4 @@
--- Sets of marks: what an insertion or a removal leaves, and loops over them.
+-- Sets of marks: the effect of insertions and removals, and loops over them.
 use Rattle.std.specs.Prelude.{◌≡◌, ℕ, ◌+◌, ◌<◌, ◌≤◌, Bool, true, false, cond, not, ◌&&◌, ◌||◌, ◌⊎◌, List, [], ◌∷◌, ◌++◌, length, take, filter, refl}
 use Rattle.std.proofs.Common.{arith, sym, ap, ◌∙◌, subst, inl, inr, get_or}
 use Rattle.std.specs.List.{list_any, All}
@@ -39,7 +39,7 @@ mark_exact x y e =
     let g = both_equal (nat_cmp x.0 y.0) (nat_cmp x.1 y.1) h.0 in
     λ i. (exact_unsigned x.0 y.0 g.0 i, exact_unsigned x.1 y.1 g.1 i, exact_unsigned x.2 y.2 h.1 i)
 
--- what is not of a holder stays where a mark of it is taken out
+-- Removing a mark of a holder leaves the marks of other holders.
 pub removed_keeps : (e : Holder) (old mid new : BTreeSet Mark) (k : Mark) → k.1 ≡ e.0 → k.2 ≡ e.1 → KeepsOthers e old mid → Updates mark_cmp mid new k false → KeepsOthers e old new
 removed_keeps e old mid new k tag id h u = λ q other there.
     let apart : is_eq (mark_cmp k q) ≡ false = elim (is_eq (mark_cmp k q)) as (λ b. is_eq (mark_cmp k q) ≡ b → b ≡ false) [
@@ -48,7 +48,7 @@ removed_keeps e old mid new k tag id h u = λ q other there.
     ] refl in
     u.0 q ∙ (ap (λ b. cond b false (contains mark_cmp mid q)) apart ∙ h q other there)
 
--- ---- a loop over the keys of a set: each has been seen or is left
+-- ---- a loop over the keys of a set: each key was visited or remains
 
 abbrev pub Left : {K : Type 0} → (K → K → Ordering) → List K → List K → (K → Type 0) → Type 0
 Left {K} cmp all rest P = (q : K) → list_any (λ k. is_eq (cmp q k)) all ≡ true → (list_any (λ k. is_eq (cmp q k)) rest ≡ true) ⊎ P q
@@ -78,7 +78,7 @@ or_right : (a b : Bool) → b ≡ true → (a || b) ≡ true
 or_right true b h = refl
 or_right false b h = h
 
--- a key that passes a test is among the keys that pass
+-- A key that passes a test is among the keys that pass.
 pub any_kept : {K : Type 0} (cmp : K → K → Ordering) → CmpEqualImpliesEq cmp → (p : K → Bool) (q : K) (ks : List K) → p q ≡ true → list_any (λ k. is_eq (cmp q k)) ks ≡ true → list_any (λ k. is_eq (cmp q k)) (filter p ks) ≡ true
 any_kept cmp exact p q [] t h = h
 any_kept cmp exact p q (k ∷ ks) t h =
@@ -90,7 +90,7 @@ any_kept cmp exact p q (k ∷ ks) t h =
       ]
     ] refl h
 
--- ---- a loop over a list, of which all up to some place is done
+-- ---- a loop over a list: all elements before an index are done
 
 pub more_done : {X : Type 0} (P P' : X → Type 0) (xs : List X) (i : ℕ) (x : X) → i < length xs → x ≡ get_or xs i x → ((y : X) → P y → P' y) → P' x → All P (take i xs) → All P' (take (i + 1) xs)
 more_done P P' xs i x l is f p h = All-more P' xs i x l (All-weaker P P' f (take i xs) h) (subst P' is p)
@@ -98,7 +98,7 @@ more_done P P' xs i x l is f p h = All-more P' xs i x l (All-weaker P P' f (take
 pub all_done : {X : Type 0} (P : X → Type 0) (xs : List X) (i : ℕ) → length xs ≤ i → All P (take i xs) → All P xs
 all_done P xs i l h = subst (All P) (take_all i xs l) h
 
--- the same by places, where what is done names the place
+-- The same with indexes, if the statement depends on the index.
 pub each_more : {X : Type 0} (P P' : ℕ → X → Type 0) (xs : List X) (n : ℕ) (x : X) → n < length xs → x ≡ get_or xs n x → ((i : ℕ) (y : X) → P i y → P' i y) → P' n x → ((i : ℕ) (d : X) → i < n → P i (get_or xs i d)) → (i : ℕ) (d : X) → i < n + 1 → P' i (get_or xs i d)
 each_more P P' xs n x l is f p h i d lt = elim (cases_lt i n) [
   | inl below ↦ f i (get_or xs i d) (h i d below)
@@ -107,7 +107,7 @@ each_more P P' xs n x l is f p h i d lt = elim (cases_lt i n) [
       subst (λ (k : ℕ). P' k (get_or xs k d)) same (subst (P' n) (is ∙ get_or_default xs n x d l) p)
 ]
 
--- ---- a loop over what an iterator gives, of which some is left and all the rest is done
+-- ---- a loop over an iterator: some elements remain and all others are done
 
 pub record Seen {X : Type 0} (P : X → Type 0) (all left : List X) : Type 0 where
   pub seen : List X
@@ -148,7 +148,7 @@ not_above x y h = grind (arith, nat_tests)
 above : (x y : ℕ) → y < x → nat_cmp x y ≡ Greater
 above x y h = grind (arith, nat_tests)
 
--- a mark whose place is in a span stands in the range from one end to the other
+-- A mark whose position is in a span is in the range between the ends of the span.
 pub in_range : (span : Span) (q : Mark) → span.0 ≤ q.0 → q.0 < span.1 → range_contains mark_cmp (Included (span.0, 0, 0)) (Excluded (span.1, 0, 0)) q ≡ true
 in_range span q low high =
     ap (λ b. b && not (is_le (mark_cmp (span.1, 0, 0) q))) (then_le (ordering_then (nat_cmp span.0 q.0) (nat_cmp 0 q.1)) (nat_cmp 0 q.2) (then_le (nat_cmp span.0 q.0) (nat_cmp 0 q.1) (not_above span.0 q.0 low) (not_above 0 q.1 (omega arith))) (not_above 0 q.2 (omega arith)))

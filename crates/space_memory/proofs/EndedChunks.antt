@@ -1,4 +1,4 @@
--- What has ended, and the pieces of it that are found.
+-- The entities and subscriptions that have ended, and the chunks in which they are found.
 use Rattle.std.specs.Prelude.{◌≡◌, ◌==◌, ℕ, ◌<◌, ◌&&◌, not, Bool, true, false, cond, T, List, [], ◌∷◌, ◌++◌, length, map, filter, Some, None, refl}
 use Rattle.std.proofs.Common.{arith, sym, ap, ◌∙◌, subst}
 use Rattle.std.proofs.Math.Dec.{eqb-suc-zero}
@@ -32,7 +32,7 @@ use Rattle.entity_purge.proofs.Chunks.{chunks_make}
 use Rattle.space_memory.specs.Proper.{own_id}
 use Rattle.space_memory.specs.Purged.{AreFirst, IsChunkIfAny, ended_in, free_in, is_free}
 
--- ---- the first ones of some
+-- ---- the first elements of a list
 
 pub after_last : {X : Type 0} (xs : List X) (x : X) (ys : List X) → (xs ++ (x ∷ [])) ++ ys ≡ xs ++ (x ∷ ys)
 after_last [] x ys = refl
@@ -42,7 +42,7 @@ not_none : {X : Type 0} (xs : List X) (x : X) → xs ++ (x ∷ []) ≡ [] → �
 not_none [] x e = cc
 not_none (y ∷ xs) x e = cc
 
--- a piece that is full
+-- A chunk that is full is a prefix of all items.
 pub first_full : (most : ℕ) (before : List PurgeItem) (g : PurgeItem) (rest all : List PurgeItem) → before ++ (g ∷ rest) ≡ all → length before < most → AreFirst most (before ++ (g ∷ [])) all
 first_full most before g rest all split room = record {
   few = let n = length_push before g in omega (arith, n, room);
@@ -55,7 +55,7 @@ go_first : (until : ℕ) (xs ys : List PurgeItem) (a : Airspace) → AreDueForPu
 go_first until [] ys a go = tt
 go_first until (x ∷ xs) ys a go = (go.0, go_first until xs ys (without_item a x) go.1)
 
--- ---- what is found in a list in order
+-- ---- lookups in a sorted list
 
 module _ {K X : Type 0} (R : K → K → Ordering) (o : IsTotalOrder R) where
   apart_later : (k q : K) (x : X) (es : List (K × X)) → T (below_all R k es) → maps.find R q es ≡ Some x → eq_by_cmp R q k ≡ false
@@ -74,7 +74,7 @@ module _ {K X : Type 0} (R : K → K → Ordering) (o : IsTotalOrder R) where
   left_later : (m : FinMap R X) (e : K × X) (q : K) (x : X) (es : List (K × X)) → T (below_all R e.0 es) → maps.find R q es ≡ Some x → get m q ≡ Some x → get (remove m e.0) q ≡ Some x
   left_later m e q x es below h there = get-remove o m e.0 q ∙ (ap (λ b. cond b None (get m q)) (apart_later e.0 q x es below h) ∙ there)
 
--- some of a list in order
+-- A filtered sorted list.
 module _ {K X : Type 0} (R : K → K → Ordering) (o : IsTotalOrder R) (own : X → K) (among : X → Bool) where
   abbrev pair : X → K × X
   pair x = (own x, x)
@@ -119,7 +119,7 @@ ends until (e ∷ es) a rises there =
       | false ↦ λ t. ends until es a rest (λ k x h. there k x (found_later key_cmp key_total (pair_of e) k x (keyed pair_of es) below h))
     ] refl
 
--- where none has ended, none that is found has
+-- If no entity of the list has ended, none found has ended.
 none_ended : (until : ℕ) (es : List Entity) (k : EntityKey) (e : Entity) → ended_in until es ≡ [] → maps.find key_cmp k (keyed pair_of es) ≡ Some e → has_ended until e ≡ false
 none_ended until [] k e none h = cc
 none_ended until (x ∷ es) k e none h =
@@ -162,12 +162,12 @@ none_free until m (x ∷ ss) id s none h =
       ] h
     ] refl none
 
--- one that has ended and is not free is named
+-- A subscription that has ended and is not free is referenced.
 held_by : (ended named : Bool) → ended && not named ≡ false → ended ≡ true → named ≡ true
 held_by true named h t = turned_false named h
 held_by false named h t = cc
 
--- ---- pieces
+-- ---- chunks
 
 module _ (until most : ℕ) (es : List Entity) (ss : List Sub) (settings : List AvailabilityEntry) (serial : ℕ) where
   found_entity : (k : EntityKey) → get (entity_map es) k ≡ maps.find key_cmp k (keyed pair_of es)
@@ -176,7 +176,7 @@ module _ (until most : ℕ) (es : List Entity) (ss : List Sub) (settings : List 
   found_sub : (id : ℕ) → get (subscription_map ss) id ≡ maps.find nat_cmp id (keyed subs.pair_of ss)
   found_sub id = get-from_entries nat_cmp_total (keyed subs.pair_of ss) id
 
-  -- entities, or subscriptions, from some place on
+  -- Entities or subscriptions from a position on are a chunk, if any.
   pub entities_go : (among : Entity → Bool) (found : List PurgeItem) → InOrder es → AreFirst most found (ended_in until (filter among es)) → IsChunkIfAny until most found (airspace_of es ss settings serial)
   entities_go among found rises one some =
       let a : Airspace = airspace_of es ss settings serial in
@@ -199,7 +199,7 @@ module _ (until most : ℕ) (es : List Entity) (ss : List Sub) (settings : List 
         last = λ none room. absurd (some none);
       }
 
-  -- all subscriptions, where no entity has ended
+  -- If no entity has ended, the subscriptions found are a chunk.
   pub all_go : (before found : List PurgeItem) → AreFirst most before (ended_in until es) → before ≡ [] → 0 < most → subs.InOrder ss → AreFirst most found (free_in until (entity_map es) ss) → IsPurgeChunk until most found (airspace_of es ss settings serial)
   all_go before found one none room rises two =
       let a : Airspace = airspace_of es ss settings serial in
@@ -214,7 +214,7 @@ module _ (until most : ℕ) (es : List Entity) (ss : List Sub) (settings : List 
             subst (λ (n : ℕ). is_named_in (entity_map es) n ≡ true) (own_id ss id s h) held));
       }
 
--- all of some are some
+-- Filtering with a test that always passes returns the list.
 all_among : {X : Type 0} (xs : List X) → filter (λ (x : X). true) xs ≡ xs
 all_among [] = refl
 all_among (x ∷ xs) = ap (λ l. x ∷ l) (all_among xs)
@@ -222,7 +222,7 @@ all_among (x ∷ xs) = ap (λ l. x ∷ l) (all_among xs)
 pub of_all : {X : Type 0} (f : List X → List PurgeItem) (most : ℕ) (found : List PurgeItem) (xs ys : List X) → xs ≡ ys → AreFirst most found (f xs) → AreFirst most found (f (filter (λ (x : X). true) ys))
 of_all {X} f most found xs ys same h = subst (λ (l : List X). AreFirst most found (f l)) (same ∙ sym (all_among ys)) h
 
--- a piece of entities that is full with this one
+-- The chunk of entities is full with this entity.
 pub entities_full : (until most : ℕ) (before after : List PurgeItem) (e : Entity) (left rest all es : List Entity) → left ≡ e ∷ rest → has_ended until e ≡ true
     → before ++ ended_in until left ≡ ended_in until all → all ≡ es → length before < most → after ≡ before ++ (gone.Entity (kind_of e.nature) e.id ∷ []) → AreFirst most after (ended_in until es)
 entities_full until most before after e left rest all es is ended split same room pushed =
@@ -232,7 +232,7 @@ entities_full until most before after e left rest all es is ended split same roo
     subst (λ (gs : List PurgeItem). AreFirst most gs (ended_in until es)) (sym pushed)
     (first_full most before g (ended_in until rest) (ended_in until es) (ap (λ (gs : List PurgeItem). before ++ gs) (sym now ∙ ap (ended_in until) (sym is)) ∙ (split ∙ ap (ended_in until) same)) room)
 
--- and one of subscriptions
+-- The chunk of subscriptions is full with this subscription.
 pub free_full : (until most : ℕ) (m : Entities) (before after : List PurgeItem) (s : Sub) (left rest all ss : List Sub) → left ≡ s ∷ rest → is_free until m s ≡ true
     → before ++ free_in until m left ≡ free_in until m all → all ≡ ss → length before < most → after ≡ before ++ (gone.Subscription s.id ∷ []) → AreFirst most after (free_in until m ss)
 free_full until most m before after s left rest all ss is free split same room pushed =

@@ -1,4 +1,4 @@
--- Ids that are taken from what is near.
+-- The ids that are selected from the candidates.
 use Rattle.std.specs.Prelude.{◌≡◌, ℕ, ◌%◌, Bool, true, List, Option, Some}
 use Rattle.std.proofs.Common.{sym, subst, inl, inr}
 use Rattle.std.specs.Int.{bit_at}
@@ -12,7 +12,8 @@ use Rattle.space_memory.specs.Near.{IsAt, Part}
 use Rattle.space_memory.proofs.CellMeetings.{entry_of}
 
 module _ {X : Type 0} (look : ℕ → Option X) (volumes : X → List Extent) (test : ℕ × X → Bool) (areas : List Region) where
-  -- what passes and has this volume, which meets an area of these bits, is taken
+  -- Holds if an id is selected when its value passes the test and has this volume, which meets an
+  -- area with one of these bits.
   abbrev pub Taken : BTreeSet ℕ → Part × ℕ → Type 0
   Taken ids e = (x : X) (v : Extent) (j : ℕ) (a : Region) → look e.0.0 ≡ Some x → test (e.0.0, x) ≡ true → IsAt (volumes x) e.0.1 v → IsAt areas j a
       → bit_at e.1 (j % 64) ≡ 1 → meets (region_of v) a ≡ true → contains nat_cmp ids e.0.0 ≡ true

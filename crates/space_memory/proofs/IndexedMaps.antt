@@ -1,4 +1,4 @@
--- An index of the entities of a map, as entities come and go.
+-- An index of the entities of a map, as entities are added and removed.
 use Rattle.std.specs.Prelude.{◌≡◌, ℕ, ◌+◌, ◌*◌, ◌≤◌, true, false, cond, List, [], ◌∷◌, Option, Some, None, nat_eq, refl}
 use Rattle.std.proofs.Common.{arith, sym, ap, ◌∙◌, subst, get_or}
 use Rattle.std.proofs.lemmas.Bool.Decides.{nat_tests}
@@ -38,7 +38,7 @@ grown_index m old new g h = λ k x at. grown_marked old new g x (h k x at)
 pub none_there : (es : List Entity) → es ≡ [] → (k : EntityKey) (x : Entity) → get (entity_map es) k ≡ Some x → ⊥
 none_there es e k x at = let bad : None ≡ Some x = sym (ap (λ (l : List Entity). get (entity_map l) k) e ∙ get-from_entries key_total (keyed pair_of []) k) ∙ at in cc
 
--- ---- what holds of each entity of a map, as entities come and go
+-- ---- what holds for each entity of a map, as entities are added and removed
 
 module _ (P : Entity → Type 0) where
   abbrev pub Each : Entities → Type 0
@@ -63,7 +63,7 @@ module _ (P : Entity → Type 0) where
         | false ↦ λ g. h k x g
       ] now
 
-  -- what holds of a whole list holds of each that is found
+  -- What holds for all entities of a list holds for each one found.
   listed : (es : List Entity) (k : EntityKey) (x : Entity) → maps.find key_cmp k (keyed pair_of es) ≡ Some x → All P es → P x
   listed [] k x at h = cc
   listed (e ∷ es) k x at h =
@@ -75,7 +75,7 @@ module _ (P : Entity → Type 0) where
   pub all_each : (es : List Entity) → All P es → Each (entity_map es)
   all_each es h = λ k x at. listed es k x (sym (get-from_entries key_total (keyed pair_of es) k) ∙ at) h
 
--- ---- what is taken out
+-- ---- removals from the index
 
 small_kind : (k : Kind) → kind_index k ≤ 1
 small_kind Intent = omega arith
@@ -87,21 +87,21 @@ same_kind Intent Constraint e = cc
 same_kind Constraint Intent e = cc
 same_kind Constraint Constraint e = refl
 
--- the tag tells serials and kinds apart
+-- The tag distinguishes serials and kinds.
 same_tag : (s t i j : ℕ) → i ≤ 1 → j ≤ 1 → 2 * s + i ≡ 2 * t + j → (s ≡ t) × (i ≡ j)
 same_tag s t i j a b e = (omega (arith, e), omega (arith, e))
 
 same_number : (a b : ℕ) → a ≡ b → nat_eq a b ≡ true
 same_number a b e = grind (arith, nat_tests, e)
 
--- what was not put at a serial is no entity of that serial
+-- If the entity found was not put at a serial, it does not have that serial.
 not_put : (x : Entity) (serial : ℕ) (there : Option Entity) → was_put_at serial there ≡ false → there ≡ Some x → x.serial ≡ serial → ⊥
 not_put x serial there other at same =
     let put : was_put_at serial (Some x) ≡ true = same_number x.serial serial same in
     let not : was_put_at serial (Some x) ≡ false = ap (was_put_at serial) (sym at) ∙ other in
     let bad : true ≡ false = sym put ∙ not in cc
 
--- what is taken out is of no entity that is kept
+-- Removing the marks of an entity that is not stored leaves the index complete.
 pub forgotten_indexed : (es : List Entity) (g : Entity) (old new : BTreeSet Mark) → KeepsOthers (holder_of g) old new
     → was_put_at g.serial (get (entity_map es) (key_of g)) ≡ false → IsIndexOf (entity_map es) old → IsIndexOf (entity_map es) new
 forgotten_indexed es g old new keeps gone h = λ k x at.

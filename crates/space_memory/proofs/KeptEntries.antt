@@ -11,7 +11,7 @@ use Rattle.std.specs.FinMap.Entries.{below_all, is_sorted}
 use Rattle.entity_core.proofs.Entries.{first, second, less, sorted_kept}
 use Rattle.space_memory.proofs.CellSets.{equal_is}
 
--- two look-ups that find the same find the same
+-- Two lookups that find the same values are equal.
 pub one_answer : {X : Type 0} (a b : Option X) → ((x : X) → a ≡ Some x → b ≡ Some x) → ((x : X) → b ≡ Some x → a ≡ Some x) → a ≡ b
 one_answer None None f g = refl
 one_answer None (Some y) f g = g y refl
@@ -72,7 +72,8 @@ module _ {K X : Type 0} (R : K → K → Ordering) (o : IsTotalOrder R) (exact :
       let f = kept_found q x (entries m) (entries_sorted m) (sym (get-from_sorted R (filter p (entries m)) q (kept_sorted m)) ∙ at) in
       (get-entries m q ∙ f.0, f.1)
 
-  -- a map that has of another exactly what passes has those as its entries
+  -- If one map has exactly the entries of another that pass a test, its entries are the filtered
+  -- entries.
   pub entries_kept : (m n : FinMap R X) → ((q : K) (x : X) → get n q ≡ Some x → (get m q ≡ Some x) × (p (q, x) ≡ true))
       → ((q : K) (x : X) → get m q ≡ Some x → p (q, x) ≡ true → get n q ≡ Some x) → entries n ≡ filter p (entries m)
   entries_kept m n only all =
@@ -82,8 +83,8 @@ module _ {K X : Type 0} (R : K → K → Ordering) (o : IsTotalOrder R) (exact :
       (λ x at. let h = of_kept m q x at in all q x h.0 h.1)))
       ∙ entries-from_sorted R (filter p (entries m)) (kept_sorted m)
 
-  -- of two maps, what passes is the same where the one has only what the other has, and of that all
-  -- that passes
+  -- If one map has only entries of another, and all of them that pass a test, the filtered entries
+  -- of both are equal.
   pub same_kept : (m n : FinMap R X) → ((q : K) (x : X) → get n q ≡ Some x → get m q ≡ Some x)
       → ((q : K) (x : X) → get m q ≡ Some x → p (q, x) ≡ true → get n q ≡ Some x) → filter p (entries n) ≡ filter p (entries m)
   same_kept m n only all =

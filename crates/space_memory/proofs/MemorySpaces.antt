@@ -1,4 +1,4 @@
--- The empty space in memory, and what its indexes are after a change.
+-- The empty in-memory space, and the notification indexes after a change.
 use Rattle.std.specs.Prelude.{◌≡◌, ℕ, ◌<◌, ◌≤◌, List, [], Some, None}
 use Rattle.std.specs.Ordering.{nat_cmp}
 use Rattle.std.specs.FinMap.{get, get-empty}
@@ -30,12 +30,12 @@ empty_content es ss settings n p r q = λ i. record {
   serial = n;
 }
 
--- no subscription has an index over any serial
+-- Without subscriptions, no index exceeds any serial.
 pub none_told : (ss : List Sub) (n : ℕ) → ss ≡ [] → AllNotified ss n
 none_told ss n e id s h =
     let none : None ≡ Some s = sym (get-empty nat_cmp id) ∙ (ap (λ (m : Subscriptions). get m id) (sym (ap subscription_map e ∙ map_of_none nat_cmp sub_pair)) ∙ h) in cc
 
--- lists can follow a change that fits
+-- An in-memory space can replicate a change that fits.
 pub can_follow : (change : Change) (told : List ℕ) (a : Airspace) → Fits change told a → CanFollow change a
 can_follow (Put e) told a fits = record { room = fits.room; within = tt }
 can_follow (Remove kind id) told a fits = record { room = fits.room; within = tt }
@@ -43,7 +43,7 @@ can_follow (Avail uss availability version) told a fits = record { room = fits.r
 can_follow (PutSub s) told a fits = record { room = fits.room; within = fits.due.1 }
 can_follow (RemoveSub id) told a fits = record { room = fits.room; within = tt }
 
--- a change that lists can follow leaves an airspace that may be kept
+-- A change that can be replicated leaves a valid airspace.
 pub proper_changed : (change : Change) (told : List ℕ) (a : Airspace) → CanFollow change a → IsAirspace a → IsAirspace (changed change told a)
 proper_changed (Put e) told a can proper = proper_with_told a e (is_one_of told) proper
 proper_changed (Remove kind id) told a can proper = proper_without_told a (kind, id) (is_one_of told) proper
@@ -51,10 +51,10 @@ proper_changed (Avail uss availability version) told a can proper = proper_state
 proper_changed (PutSub s) told a can proper = proper_sub a s can.within proper
 proper_changed (RemoveSub id) told a can proper = proper_without_sub a id proper
 
--- and so the indexes of a space in memory stay within its serial
+-- The indexes of an in-memory space do not exceed its serial.
 pub told_after : (change : Change) (told : List ℕ) (a : Airspace) (es : List Entity) (ss : List Sub) (settings : List AvailabilityEntry) (n : ℕ) → CanFollow change a → IsAirspace a → airspace_of es ss settings n ≡ changed change told a → AllNotified ss n
 told_after change told a es ss settings n can proper is = (subst IsAirspace (sym is) (proper_changed change told a can proper)).told
 
--- below the greatest serial each index can rise
+-- Below the maximum serial each index can be incremented.
 pub can_rise : (ss : List Sub) (n : ℕ) → AllNotified ss n → n < max_serial → CanNotify ss
 can_rise ss n told room id s there = let within : s.index ≤ n = told id s there in omega (arith, within, room)

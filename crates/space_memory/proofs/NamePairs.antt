@@ -1,4 +1,5 @@
--- Pairs of what is named and what names it: an index of them, and what is found by it.
+-- An index of pairs of a subscription and an intent that references it, and the results of
+-- searching it.
 use Rattle.std.specs.Prelude.{◌≡◌, ℕ, ◌≤◌, ◌||◌, ◌&&◌, not, Bool, true, false, cond, List, [], ◌∷◌, map, filter, filter_map, Option, Some, None, is_some, ◌++◌, refl}
 use Rattle.std.proofs.Common.{arith, sym, ap, ◌∙◌, subst}
 use Rattle.std.proofs.lemmas.Bool.Decides.{nat_tests}
@@ -30,7 +31,7 @@ use Rattle.space_memory.proofs.SoughtMaps.{own_of, rising}
 pub naming_exact : CmpEqualImpliesEq naming_cmp
 naming_exact = exact_pairs nat_cmp nat_cmp exact_unsigned exact_unsigned
 
--- ---- an index of them, as entities come and go
+-- ---- the index, as entities are added and removed
 
 pub inserted_more : (old new : BTreeSet Naming) (k : Naming) → Updates naming_cmp old new k true → NamesMore old new
 inserted_more old new k u = λ q h. u.0 q ∙ either (is_eq (naming_cmp k q)) (contains naming_cmp old q) h
@@ -41,7 +42,7 @@ entered_more old new more e h = λ id at. record { small = (h id at).small; ther
 pub index_more : (m : Entities) (old new : BTreeSet Naming) → NamesMore old new → IsNameIndex m old → IsNameIndex m new
 index_more m old new more h = λ k x at. entered_more old new more x (h k x at)
 
--- what names a subscription is an intent
+-- An entity that references a subscription is an intent.
 naming_kind : (n : Nature) (id : ℕ) → subscription_of n ≡ Some id → kind_of n ≡ Intent
 naming_kind (nature.Intent state named) id h = refl
 naming_kind nature.Constraint id h = cc
@@ -56,7 +57,7 @@ id_is : (id : ℕ) (o : Option ℕ) → is_id id o ≡ true → o ≡ Some id
 id_is id None h = cc
 id_is id (Some n) h = ap Some (let e : n ≡ id = grind (arith, nat_tests, h) in e)
 
--- an intent that is there and names a subscription depends on it
+-- A stored intent that references a subscription depends on it.
 depends : (es : List Entity) (k : EntityKey) (x : Entity) (id : ℕ) → get (entity_map es) k ≡ Some x → subscription_of x.nature ≡ Some id → dependent_at (entity_map es) id x.id ≡ Some x.id
 depends es k x id at is =
     ap (id_if_naming id) (ap (get (entity_map es)) (naming_key es k x id at is) ∙ at)
@@ -141,7 +142,7 @@ pairs_found names id most pairs small is rise =
       all = λ n has. any_second id n (filter p names.keys) (any_kept naming_cmp naming_exact p (id, n) names.keys (in_pairs id n most (small n has)) has.there);
     })
 
--- ---- what names it
+-- ---- the intents that reference a subscription
 
 module _ (look : ℕ → Option Entity) (id : ℕ) where
   abbrev names_it : ℕ → Bool

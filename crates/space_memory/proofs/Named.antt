@@ -1,4 +1,4 @@
--- What a map has under rising ids.
+-- The values of a map under ascending ids.
 use Rattle.std.specs.Prelude.{◌≡◌, ℕ, ◌&&◌, ◌||◌, Bool, true, false, cond, T, List, [], ◌∷◌, map, filter, filter_map, Option, Some, None, refl}
 use Rattle.std.proofs.Common.{sym, ap, ◌∙◌, subst}
 use Rattle.std.proofs.lemmas.Cmp.{eq_by_cmp_equiv, nat_cmp_total}
@@ -22,7 +22,7 @@ both : (a b : Bool) → T a → T b → T (a && b)
 both true b p q = q
 both false b p q = p
 
--- each value stands under its own key, and the keys of rising ids rise
+-- Each value is stored under its own key, and ascending ids have ascending keys.
 module _ {K X : Type 0} (R : K → K → Ordering) (o : IsTotalOrder R) (exact : IsAntisymmetric R) (own : X → K) (key : ℕ → K) (rises : (i j : ℕ) → nat_cmp i j ≡ Less → R (key i) (key j) ≡ Less)
     (m : FinMap R X) (its_own : (k : K) (x : X) → get m k ≡ Some x → own x ≡ k) where
   abbrev pair : X → K × X
@@ -55,7 +55,7 @@ module _ {K X : Type 0} (R : K → K → Ordering) (o : IsTotalOrder R) (exact :
     | Some x ↦ λ e. both _ _ (subst (λ (k : K). T (below_all R k (keyed pair (named ids)))) (sym (its_own (key id) x e)) (named_below id ids (sorted_head nat_cmp id ids h))) (named_order ids (sorted_tail nat_cmp id ids h))
   ] refl
 
-  -- what is found among them the map has under one of the ids
+  -- Holds if the map has the value under the key of one of the ids.
   abbrev IsNamed : List ℕ → K → X → Type 0
   IsNamed ids q x = (get m q ≡ Some x) × (i : ℕ) × (among ids i ≡ true) × (key i ≡ q)
 
@@ -100,7 +100,8 @@ module _ {K X : Type 0} (R : K → K → Ordering) (o : IsTotalOrder R) (exact :
         ] refl
   ] refl h
 
-  -- where what they name passes a test, and they name all that does, that is all that passes
+  -- If all values under the ids pass a test, and the ids cover all values that pass, the values are
+  -- exactly those that pass.
   pub all_named : (p : K × X → Bool) (ids : List ℕ) → IsStrictlySortedBy nat_cmp ids
       → ((i : ℕ) (x : X) → among ids i ≡ true → get m (key i) ≡ Some x → p (key i, x) ≡ true)
       → ((q : K) (x : X) → get m q ≡ Some x → p (q, x) ≡ true → (i : ℕ) × (key i ≡ q) × (among ids i ≡ true))

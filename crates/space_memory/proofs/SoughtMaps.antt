@@ -1,4 +1,4 @@
--- What a search by an index finds is what is sought in the map.
+-- A search by index finds exactly the matching entries of the map.
 use Rattle.std.specs.Prelude.{◌≡◌, ℕ, zero, suc, ◌≤◌, ◌<◌, ◌%◌, ◌&&◌, ◌||◌, Bool, true, false, List, [], ◌∷◌, length, map, filter, filter_map, nat_eq, Option, Some, Result, Ok, Err, IfOk, refl}
 use Rattle.std.proofs.Common.{arith, sym, ap, ◌∙◌, subst}
 use Rattle.std.proofs.lemmas.Bool.Decides.{nat_tests}
@@ -69,7 +69,7 @@ pub own_of : (es : List Entity) (k : EntityKey) (x : Entity) → get (entity_map
 own_of es k x at = own_key es k x (sym (get-from_entries key_total (keyed pair_of es) k) ∙ at)
 
 module _ (es : List Entity) (kind : Kind) (areas : List Region) (except : Option ℕ) (part : Part) (bits : ℕ) (e : Entity) (at : get (entity_map es) (kind, part.0) ≡ Some e) where
-  -- whether it is left out goes by its own id
+  -- Whether an entity is excluded depends only on its own id.
   left_out : is_not except (kind, e.id) ≡ is_not except (kind, part.0)
   left_out = ap (λ (k : EntityKey). is_not except (kind, k.1)) (own_of es (kind, part.0) e at)
 
@@ -93,7 +93,7 @@ module _ (es : List Entity) (kind : Kind) (areas : List Region) (except : Option
 module _ (es : List Entity) (marks : BTreeSet Mark) (areas : List Region) (near : BTreeMap Part ℕ) (ids : BTreeSet ℕ) (index : entities.IsIndexOf (entity_map es) marks) (has : HasMeeting marks areas near)
     (kind : Kind) (except : Option ℕ) (rise : IsStrictlySortedBy nat_cmp ids.keys) (only : OnlyPassing (entity_of (entity_map es) kind) (is_sought_of kind areas except) ids)
     (all : AllPassing (entity_of (entity_map es) kind) (λ (e : Entity). e.volumes) (is_sought_of kind areas except) areas near ids) where
-  -- the id of what is sought is among them
+  -- The id of each matching entity is among the ids.
   sought_there : (k : EntityKey) (x : Entity) → get (entity_map es) k ≡ Some x → is_sought kind areas except (k, x) ≡ true → (i : ℕ) × ((kind, i) ≡ k) × (contains nat_cmp ids i ≡ true)
   sought_there k x at t =
       let own_k = own_of es k x at in
@@ -121,7 +121,7 @@ module _ (es : List Entity) (marks : BTreeSet Mark) (areas : List Region) (near 
 
 -- ---- subscriptions
 
--- its only volume is the one that it has
+-- A subscription has only one volume.
 only_volume : (v w : Extent) (i : ℕ) → IsAt (v ∷ []) i w → v ≡ w
 only_volume v w zero at = at.1
 only_volume v w (suc i) at = absurd (let l : suc i < 1 = at.0 in omega arith)
@@ -139,7 +139,7 @@ sub_judged m areas test part bits s answer at sound whole = record {
 
 module _ (ss : List Sub) (marks : BTreeSet Mark) (areas : List Region) (near : BTreeMap Part ℕ) (ids : BTreeSet ℕ) (index : subscriptions.IsIndexOf (subscription_map ss) marks) (has : HasMeeting marks areas near)
     (rise : IsStrictlySortedBy nat_cmp ids.keys) where
-  -- the id of one that passes and meets some area is among them
+  -- The id of each subscription that passes the test and meets some area is among the ids.
   sub_there : (test : ℕ × Sub → Bool) → AllPassing (get (subscription_map ss)) volumes_of test areas near ids → (id : ℕ) (s : Sub) → get (subscription_map ss) id ≡ Some s → test (id, s) ≡ true → meets_some s.volume areas ≡ true → contains nat_cmp ids id ≡ true
   sub_there test all id s at t meeting =
       let a = any_from (λ a. meets (region_of s.volume) a) (λ a. Meet (region_of s.volume) a) (λ a. meet_from (region_of s.volume) a) areas meeting in

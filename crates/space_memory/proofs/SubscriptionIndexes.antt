@@ -1,4 +1,4 @@
--- An index of the subscriptions of a map, as subscriptions come and go.
+-- An index of the subscriptions of a map, as subscriptions are added and removed.
 use Rattle.std.specs.Prelude.{◌≡◌, ℕ, Bool, true, false, cond, List, [], ◌∷◌, map, Option, Some, None, is_some, refl}
 use Rattle.std.proofs.Common.{sym, ap, ◌∙◌, subst}
 use Rattle.std.proofs.lemmas.Option.{same_Some}
@@ -30,18 +30,18 @@ same_id id other apart e =
 pub grown : (old new : BTreeSet Mark) → Grows old new → (s : Sub) → AllMarked old s → AllMarked new s
 grown old new g s h = All-weaker (IsMarked old (holder_of s) 0) (IsMarked new (holder_of s) 0) (marked_more (holder_of s) old new g 0) s.volume.cells h
 
--- the marks of other holders are those of other subscriptions
+-- The marks of other holders belong to other subscriptions.
 other_marks : (g s : Sub) (old new : BTreeSet Mark) → KeepsOthers (holder_of g) old new → (s.id ≡ g.id → ⊥) → AllMarked old s → AllMarked new s
 other_marks g s old new keeps other h =
     All-weaker (IsMarked old (holder_of s) 0) (IsMarked new (holder_of s) 0) (λ c m. record { cell = m.cell; narrow = m.narrow; mark = keeps (mark_of (holder_of s) 0 c) (λ put id. other id) m.mark }) s.volume.cells h
 
--- ---- the index as a whole
+-- ---- the whole index
 
 module _ (ss : List Sub) (id : ℕ) (old new : BTreeSet Mark) where
   pub grown_but : Grows old new → IsIndexBut id (subscription_map ss) (Some old) → IsIndexBut id (subscription_map ss) (Some new)
   grown_but g h = λ k s at other. grown old new g s (h k s at other)
 
-  -- and with the marks of the one it is whole
+  -- Adding the marks of the missing subscription completes the index.
   pub grown_whole : (x : Sub) → get (subscription_map ss) id ≡ Some x → Grows old new → AllMarked new x → IsIndexBut id (subscription_map ss) (Some old) → IsIndexOf (subscription_map ss) new
   grown_whole x there g marked h = λ k s at.
       elim (eq_by_cmp nat_cmp k id) as (λ b. eq_by_cmp nat_cmp k id ≡ b → AllMarked new s) [
@@ -80,7 +80,7 @@ removed_whole m n id (Some marks) is h = λ k s at.
       | false ↦ λ t g. h k s g (same_id k id t)
     ] refl now
 
--- telling changes no cell
+-- A notification changes no cell.
 told_marked : (marks : BTreeSet Mark) (b : Bool) (s : Sub) → AllMarked marks s → AllMarked marks (cond b (notified_again s) s)
 told_marked marks true s h = h
 told_marked marks false s h = h
@@ -95,7 +95,7 @@ pub none_indexed : (ss : List Sub) (marks : BTreeSet Mark) → ss ≡ [] → IsI
 none_indexed ss marks e = λ k s at.
     let bad : None ≡ Some s = sym (get-empty nat_cmp k) ∙ (ap (λ (m : Subscriptions). get m k) (sym (ap subscription_map e ∙ map_of_none nat_cmp pair_of)) ∙ at) in cc
 
--- what is marked of a whole list is marked of each that is found
+-- If all subscriptions of a list are marked, each one found is marked.
 listed : (marks : BTreeSet Mark) (ss : List Sub) (id : ℕ) (s : Sub) → maps.find nat_cmp id (keyed pair_of ss) ≡ Some s → All (AllMarked marks) ss → AllMarked marks s
 listed marks [] id s e h = cc
 listed marks (x ∷ ss) id s e h =
@@ -113,7 +113,7 @@ values_of : (ss : List Sub) → map (λ (s : ℕ × Sub). s.1) (keyed pair_of ss
 values_of [] = refl
 values_of (s ∷ ss) = ap (λ (l : List Sub). s ∷ l) (values_of ss)
 
--- lists in order that are one map are one list
+-- Sorted lists with the same map are equal.
 same_list : (ss ts : List Sub) → InOrder ss → InOrder ts → subscription_map ss ≡ subscription_map ts → ss ≡ ts
 same_list ss ts s t e =
     sym (values_of ss)
@@ -129,7 +129,7 @@ undone_map m id x none = same_map nat_cmp_total nat_cmp-IsAntisymmetric (remove 
       | false ↦ λ is. refl
     ] refl))
 
--- a subscription that was not there, put and removed again
+-- Putting a new subscription and removing it again restores the list.
 pub undone : (old mid new : List Sub) (id : ℕ) (x : Sub) → InOrder old → InOrder new → get (subscription_map old) id ≡ None
     → subscription_map mid ≡ insert (subscription_map old) id x → subscription_map new ≡ remove (subscription_map mid) id → new ≡ old
 undone old mid new id x s t none put gone = same_list new old t s (gone ∙ (ap (λ (m : Subscriptions). remove m id) put ∙ undone_map (subscription_map old) id x none))

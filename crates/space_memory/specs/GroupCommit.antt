@@ -1,5 +1,5 @@
--- No change waits in a space in memory. Proved, so nothing has to be believed here: a law of an
--- `impl` cites `specs/` alone.
+-- No change is pending in an in-memory space. All of it is proved. It is in `specs/` because a law
+-- of an `impl` can cite only `specs/`.
 use Rattle.std.specs.Prelude.{◌≡◌, false, true}
 
 pub never : {P : Type 0} → false ≡ true → P

@@ -8,29 +8,29 @@ use Rattle.entity_core.specs.declared.subscription.Sub.{Sub}
 use Rattle.grid_core.specs.Extent.{Extent}
 use Rattle.space_memory.specs.CellIndex.{Holder, Mark, IsMarked}
 
--- a subscription as a holder of cells; the number of its put is its serial
+-- A subscription as a holder. The number of its put is its serial.
 abbrev pub holder_of : Sub → Holder
 holder_of s = (s.serial, s.id)
 
--- each cell of a subscription stands in an index, as of the volume number 0
+-- Holds if each cell of a subscription is marked, with volume number 0.
 abbrev pub AllMarked : BTreeSet Mark → Sub → Type 0
 AllMarked marks s = All (IsMarked marks (holder_of s) 0) s.volume.cells
 
--- each subscription of a map stands in an index, which may have other marks, too
+-- Holds if each subscription of a map is marked. The index can have other marks, too.
 abbrev pub IsIndexOf : Subscriptions → BTreeSet Mark → Type 0
 IsIndexOf m marks = (id : ℕ) (s : Sub) → get m id ≡ Some s → AllMarked marks s
 
--- and so where there is an index
+-- Holds if there is no index, or it has the marks of each subscription.
 abbrev pub IsIndexIfAny : Subscriptions → Option (BTreeSet Mark) → Type 0
 IsIndexIfAny m None = Unit {0}
 IsIndexIfAny m (Some marks) = IsIndexOf m marks
 
--- the same of all but the one of an id
+-- Holds if there is no index, or it has the marks of each subscription except the one with this id.
 abbrev pub IsIndexBut : ℕ → Subscriptions → Option (BTreeSet Mark) → Type 0
 IsIndexBut but m None = Unit {0}
 IsIndexBut but m (Some marks) = (id : ℕ) (s : Sub) → get m id ≡ Some s → (id ≡ but → ⊥)
     → AllMarked marks s
 
--- the one volume of a subscription
+-- The volume of a subscription, as a list.
 abbrev pub volumes_of : Sub → List Extent
 volumes_of s = s.volume ∷ []

@@ -1,4 +1,4 @@
--- What a space in memory keeps.
+-- The content of an in-memory space.
 use Rattle.std.specs.Prelude.{ℕ, ◌+◌, ◌<◌, ◌≤◌, IsSome}
 use Rattle.std.specs.FinMap.{get}
 use Rattle.entity_core.specs.Airspace.{Airspace}
@@ -11,11 +11,11 @@ use Rattle.space_memory.specs.declared.memory.MemorySpace.{MemorySpace}
 abbrev pub content_of : MemorySpace → Airspace
 content_of s = airspace_of s.entities s.subscriptions s.availabilities s.serial
 
--- how often it has answered `Unchanged`
+-- The number of times that it returned `Unchanged`.
 abbrev pub refusals_of : MemorySpace → ℕ
 refusals_of s = s.refusals
 
--- a setting, or a put of a subscription, where there is one already
+-- Holds for an availability or a subscription that replaces an existing one.
 abbrev pub IsOver : Change → Airspace → Type 0
 IsOver (Put e) a = ⊥
 IsOver (Remove kind id) a = ⊥
@@ -23,7 +23,7 @@ IsOver (Avail uss availability version) a = IsSome (get a.availabilities uss)
 IsOver (PutSub s) a = IsSome (get a.subscriptions s.id)
 IsOver (RemoveSub id) a = ⊥
 
--- the index of a subscription that is put is at most this serial
+-- Holds if the index of a subscription that is put is at most the serial.
 abbrev pub IndexIsWithin : ℕ → Change → Type 0
 IndexIsWithin serial (Put e) = Unit {0}
 IndexIsWithin serial (Remove kind id) = Unit {0}
@@ -31,8 +31,8 @@ IndexIsWithin serial (Avail uss availability version) = Unit {0}
 IndexIsWithin serial (PutSub s) = s.index ≤ serial
 IndexIsWithin serial (RemoveSub id) = Unit {0}
 
--- what lists ask of a change that they make: their serial can go on, and no index comes to be over
--- it
+-- Holds if an in-memory space can replicate the change: its serial can be incremented, and no index
+-- exceeds it then.
 pub record CanFollow (change : Change) (a : Airspace) : Type 0 where
   pub room : a.serial < max_serial
   pub within : IndexIsWithin (a.serial + 1) change

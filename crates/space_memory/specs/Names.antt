@@ -1,4 +1,4 @@
--- An index by what intents name.
+-- An index of the subscriptions that intents reference.
 use Rattle.std.specs.Prelude.{◌≡◌, ℕ, ◌<◌, ◌^◌, true, cond, List, map, Option, Some, None}
 use Rattle.std.specs.BTreeSet.{BTreeSet, contains}
 use Rattle.std.specs.FinMap.{get}
@@ -12,41 +12,41 @@ use Rattle.entity_core.specs.Search.{is_id}
 use Rattle.entity_core.specs.declared.entity.Entity.{Entity}
 use Rattle.entity_core.specs.declared.nature.Kind.TheVariants.{Intent}
 
--- the id of a subscription, and that of an intent that names it
+-- The id of a subscription and the id of an intent that references it.
 abbrev pub Naming : Type 0
 Naming = ℕ × ℕ
 
 abbrev pub naming_cmp : Naming → Naming → Ordering
 naming_cmp a b = ordering_then (nat_cmp a.0 b.0) (nat_cmp a.1 b.1)
 
--- a pair stands in an index
+-- Holds if the index has the pair.
 pub record HasPair (names : BTreeSet Naming) (id intent : ℕ) : Type 0 where
   pub small : intent < 2 ^ 128
   pub there : contains naming_cmp names (id, intent) ≡ true
 
--- that of an entity does, if it names a subscription
+-- Holds if the index has the pair of the entity, if it references a subscription.
 abbrev pub IsEntered : BTreeSet Naming → Entity → Type 0
 IsEntered names e = (id : ℕ) → subscription_of e.nature ≡ Some id → HasPair names id e.id
 
--- each entity of a map is entered in an index, which may have other pairs, too
+-- Holds if the index has the pair of each entity of a map. It can have other pairs, too.
 abbrev pub IsNameIndex : Entities → BTreeSet Naming → Type 0
 IsNameIndex m names = (k : EntityKey) (x : Entity) → get m k ≡ Some x → IsEntered names x
 
--- a set has what another has
+-- Holds if the new set has all pairs of the old set.
 abbrev pub NamesMore : BTreeSet Naming → BTreeSet Naming → Type 0
 NamesMore old new = (q : Naming) → contains naming_cmp old q ≡ true
     → contains naming_cmp new q ≡ true
 
--- the id of what is there, if it names a subscription
+-- The id of the entity, if it references the subscription.
 abbrev pub id_if_naming : ℕ → Option Entity → Option ℕ
 id_if_naming id None = None
 id_if_naming id (Some e) = cond (is_id id (subscription_of e.nature)) (Some e.id) None
 
--- the id of the intent of a number, if there is one and it names a subscription
+-- The id of the intent with this number, if it exists and references the subscription.
 abbrev pub dependent_at : Entities → ℕ → ℕ → Option ℕ
 dependent_at m id intent = id_if_naming id (get m (Intent, intent))
 
--- All pairs of a subscription that stand in an index, by the rising ids of the intents.
+-- Holds if the list has all pairs of a subscription in the index, by ascending ids of the intents.
 pub record ArePairsOf (names : BTreeSet Naming) (id : ℕ) (pairs : List Naming) : Type 0 where
   pub rise : IsStrictlySortedBy nat_cmp (map (λ q. q.1) pairs)
   pub all : (intent : ℕ) → HasPair names id intent

@@ -1,4 +1,4 @@
--- What an index finds near the areas of a search.
+-- The volumes that an index finds near the areas of a search.
 use Rattle.std.specs.Prelude.{◌≡◌, ℕ, ◌+◌, ◌*◌, ◌%◌, ◌^◌, ◌<◌, ◌≤◌, true, List, length, slice_index_or, unwrap_or}
 use Rattle.std.specs.Int.{bit_at}
 use Rattle.std.specs.List.{All}
@@ -10,11 +10,11 @@ use Rattle.grid_core.specs.Cell.{Cell, IsCell, lo_of, hi_of, parent_of}
 use Rattle.grid_core.specs.Extent.{Extent, Region, Meet, region_of}
 use Rattle.space_memory.specs.CellIndex.{Holder, Mark, IsMarked, mark_cmp, place_of}
 
--- x stands in a list at a place
+-- Holds if x is the element at index i.
 abbrev pub IsAt : {X : Type 0} → List X → ℕ → X → Type 0
 IsAt xs i x = (i < length xs) × (slice_index_or xs i x ≡ x)
 
--- ---- bits that stand for areas, each for those whose places are it over some times 64
+-- ---- bits for areas: areas whose indexes are equal modulo 64 share a bit
 
 abbrev pub Pair : Type 0
 Pair = ℕ × ℕ
@@ -22,63 +22,64 @@ Pair = ℕ × ℕ
 abbrev pub pair_cmp : Pair → Pair → Ordering
 pair_cmp a b = ordering_then (nat_cmp a.0 b.0) (nat_cmp a.1 b.1)
 
--- a bit is set under a key
+-- Holds if a bit is set under a key.
 abbrev pub HasBit : BTreeMap Pair ℕ → Pair → ℕ → Type 0
 HasBit m k b = bit_at (unwrap_or (get pair_cmp m k) 0) b ≡ 1
 
--- these bits are set under a key
+-- Holds if all these bits are set under a key.
 abbrev pub HasBits : BTreeMap Pair ℕ → Pair → ℕ → Type 0
 HasBits m k bits = (b : ℕ) → bit_at bits b ≡ 1 → HasBit m k b
 
--- each bit that was set still is
+-- Holds if each bit that was set is still set.
 abbrev pub Widens : BTreeMap Pair ℕ → BTreeMap Pair ℕ → Type 0
 Widens old new = (k : Pair) (b : ℕ) → HasBit old k b → HasBit new k b
 
--- ---- where an index is searched: the range of a cell, and its ancestors
+-- ---- spans in which an index is searched: the range of a cell, and its ancestors
 
--- from a place on, up to but not with another
+-- A range of positions. The end is not included.
 abbrev pub Span : Type 0
 Span = Pair
 
--- where the cells begin that begin inside a cell
+-- The positions of all cells that begin inside a cell.
 abbrev pub range_of : Cell → Span
 range_of c = (lo_of c * 17179869184, (hi_of c + 1) * 17179869184)
 
--- the places of a cell alone
+-- The positions of one cell only.
 abbrev pub exact_of : Cell → Span
 exact_of c = (place_of c, place_of c + 32)
 
--- bits stand at the spans of the cells of coarser levels, below level 13, that hold a cell
+-- Holds if the bits are set for the spans of all cells at levels below 13 that contain the cell.
 abbrev pub HasAncestors : BTreeMap Span ℕ → ℕ → Cell → Type 0
 HasAncestors spans bits c = (k : ℕ) → k < length c.digits → k < 13
     → HasBits spans (exact_of (parent_of c k)) bits
 
--- and at the spans of all cells that touch it
+-- Holds if the bits are set for the spans of all cells that touch the cell.
 pub record HasSpansOf (spans : BTreeMap Span ℕ) (bits : ℕ) (c : Cell) : Type 0 where
   pub cell : IsCell c
   pub range : HasBits spans (range_of c) bits
   pub ancestors : HasAncestors spans bits c
 
--- the bit of each of some areas stands at the spans of its cells
+-- Holds if the bit of each area is set for the spans of its cells.
 abbrev pub HasAllSpans : BTreeMap Span ℕ → List Region → Type 0
 HasAllSpans spans areas = (j : ℕ) (d : Region) → j < length areas
     → All (HasSpansOf spans (2 ^ (j % 64))) (slice_index_or areas j d).cells
 
--- ---- what is near
+-- ---- candidates
 
--- the id of a holder, and the number of a volume of it
+-- The id of a holder and the number of one of its volumes.
 abbrev pub Part : Type 0
 Part = Pair
 
 abbrev pub part_of : Mark → Part
 part_of q = (q.2, q.0 % 32)
 
--- of the marks whose places are in a span, the volumes have these bits
+-- Holds if the volumes whose marks are in the span have these bits.
 abbrev pub Gathers : BTreeSet Mark → Span → ℕ → BTreeMap Part ℕ → Type 0
 Gathers marks span bits near = (q : Mark) → contains mark_cmp marks q ≡ true → span.0 ≤ q.0
     → q.0 < span.1 → HasBits near (part_of q) bits
 
--- What lies in a span before some place lies in another one, whose bits are these and maybe more.
+-- Holds if the part of a span before `start` lies in another span, which has at least the same
+-- bits.
 abbrev pub IsStart : Span → ℕ → Span → ℕ → ℕ → Type 0
 IsStart span bits done done_bits start = (q : ℕ) → span.0 ≤ q → q < start
     → (done.0 ≤ q) × (q < done.1)
@@ -89,7 +90,7 @@ GathersAll marks spans near = (r : Span) (b : ℕ) → HasBit spans r b
     → (q : Mark) → contains mark_cmp marks q ≡ true → r.0 ≤ q.0 → q.0 < r.1
     → HasBit near (part_of q) b
 
--- of each volume that stands in an index, the bits of the areas that it meets are there
+-- Holds if each volume in the index has the bits of the areas that it meets.
 abbrev pub HasMeeting : BTreeSet Mark → List Region → BTreeMap Part ℕ → Type 0
 HasMeeting marks areas near = (h : Holder) (i : ℕ) (v : Extent) → i < 32
     → All (IsMarked marks h i) v.cells → (j : ℕ) (a : Region) → IsAt areas j a

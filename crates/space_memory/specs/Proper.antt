@@ -1,5 +1,5 @@
--- What the lists of a space in memory are is an airspace that may be kept. Proved, so nothing has
--- to be believed here: a law of an `impl` cites `specs/` alone.
+-- The content of an in-memory space is a valid airspace. All of it is proved. It is in `specs/`
+-- because a law of an `impl` can cite only `specs/`.
 use Rattle.std.specs.Prelude.{◌≡◌, ℕ, true, false, List, [], ◌∷◌, Some, cond, refl}
 use Rattle.std.proofs.Common.{sym, ap, ◌∙◌}
 use Rattle.std.proofs.lemmas.Option.{same_Some}

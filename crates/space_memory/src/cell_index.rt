@@ -1,5 +1,4 @@
-//! An index by the cells of volumes: what goes in and what goes out. It is of entities or of
-//! subscriptions, its holders.
+//! An index by the cells of volumes. Its holders are entities or subscriptions.
 ghost use Rattle.std.specs.Prelude.{◌≡◌, ◌<◌, OnOk};
 ghost use Rattle.std.specs.List.{All};
 ghost use Rattle.grid_core.specs.Cell.{IsCell, lo_of, hi_of};
@@ -11,19 +10,20 @@ use grid_core::cell::CellId;
 use std::alloc::AllocError;
 use std::collections::BTreeSet;
 
-/// What has cells, as a number of its put and its id.
+/// A holder of cells: a number for its put, and its id.
 pub(crate) type Holder = (u64, u128);
 
-/// The place of a cell of a volume, and the holder of the volume.
+/// The position of a cell of a volume, and the holder of the volume.
 pub(crate) type Mark = (u64, u64, u128);
 
-/// As many places as an entity may have volumes.
+/// The number of positions of a cell: one for each volume that an entity can have.
 pub(crate) const WIDTH: u64 = 32;
 
-/// The places of cells that begin alike lie this far from those of the next.
+/// The distance between the positions of cells with consecutive first indexes.
 pub(crate) const STEP: u64 = 17_179_869_184;
 
-/// The places of the first and the last cell of level 13 inside, among all of that level.
+/// Returns the indexes of the first and the last level-13 cell inside a cell, among all cells of
+/// that level.
 pub(crate) fn interval_of(cell: CellId) -> (u64, u64)
     ensures valid { IsCell cell }
     ensures first { result.0 ≡ lo_of cell }
@@ -35,7 +35,9 @@ pub(crate) fn interval_of(cell: CellId) -> (u64, u64)
     (cell.range_min() >> 35, cell.range_max() >> 35)
 }
 
-/// The place of a cell of the volume number 0; that of the next volume follows.
+/// Returns the position of a cell for volume number 0.
+///
+/// The position for the next volume follows it.
 pub(crate) fn place_of(cell: CellId) -> u64
     ensures valid { IsCell cell }
     ensures place { result ≡ place_of cell }
@@ -54,8 +56,9 @@ fn mark(holder: Holder, volume: u8, cell: CellId) -> Mark
     (place_of(cell) + u64::from(volume), holder.0, holder.1)
 }
 
-/// Marks some cells of the volume of that number of a holder. On an error some of them may be
-/// marked.
+/// Marks cells of a volume of a holder.
+///
+/// Returns `AllocError` if memory runs out. Some cells can be marked then.
 pub(crate) fn mark_cells(
     marks: &mut BTreeSet<Mark>,
     holder: Holder,
@@ -71,7 +74,7 @@ pub(crate) fn mark_cells(
     Ok(())
 }
 
-/// Takes the marks of some cells of a volume of a holder out.
+/// Removes the marks of cells of a volume of a holder.
 pub(crate) fn unmark_cells(marks: &mut BTreeSet<Mark>, holder: Holder, volume: u8, cells: &[CellId])
     ensures { KeepsOthers holder marks.old marks.new }
 {
@@ -80,7 +83,7 @@ pub(crate) fn unmark_cells(marks: &mut BTreeSet<Mark>, holder: Holder, volume: u
     }
 }
 
-// The number is the serial and the kind.
+// Returns the entity as a holder. The number of its put combines its serial and its kind.
 fn entity_holder(entity: &Entity) -> Holder
     ensures { result ≡ holder_of entity.now }
 {
@@ -88,8 +91,9 @@ fn entity_holder(entity: &Entity) -> Holder
     (2 * entity.serial.number() + kind, entity.id.number())
 }
 
-/// Marks the cells of an entity, each with the place of its volume. On an error some of them may be
-/// marked.
+/// Marks the cells of an entity, each with the number of its volume.
+///
+/// Returns `AllocError` if memory runs out. Some cells can be marked then.
 pub(crate) fn mark_entity(marks: &mut BTreeSet<Mark>, entity: &Entity) -> Result<(), AllocError>
     ensures kept { Grows marks.old marks.new }
     ensures marked { OnOk result (AllMarked marks.new entity.now) }
@@ -100,7 +104,7 @@ pub(crate) fn mark_entity(marks: &mut BTreeSet<Mark>, entity: &Entity) -> Result
     Ok(())
 }
 
-/// Takes the marks of an entity out.
+/// Removes the marks of an entity.
 pub(crate) fn unmark_entity(marks: &mut BTreeSet<Mark>, entity: &Entity)
     ensures { KeepsOthers (holder_of entity.now) marks.old marks.new }
 {

@@ -1,4 +1,4 @@
-//! What is found of what an index has near areas: the ids of it, and of these the entities.
+//! Checking the candidates that an index finds near areas.
 ghost use Rattle.std.specs.Prelude.{◌≡◌, ℕ, ◌%◌, IfOk, IsTrue, OnOk, filter_map};
 ghost use Rattle.std.specs.Int.{bit_at};
 ghost use Rattle.std.specs.BTreeSet.{IsOrdered, keys};
@@ -17,7 +17,7 @@ use grid_core::sorted_area::SortedArea;
 use std::alloc::{AllocError, Global};
 use std::collections::BTreeSet;
 
-/// Adds an id at yes.
+/// Adds an id if the answer is true.
 pub(crate) fn add_at(ids: &mut BTreeSet<u128>, id: u128, answer: bool) -> Result<(), AllocError>
     ensures { OnOk result (AddsAt answer id ids.old ids.new) }
 {
@@ -27,7 +27,7 @@ pub(crate) fn add_at(ids: &mut BTreeSet<u128>, id: u128, answer: bool) -> Result
     Ok(())
 }
 
-// Whether the volume of that number of an entity meets an area that has its bit.
+// Returns true if the volume with this number meets an area whose bit is set.
 fn meets_at(entity: &Entity, volume: u8, bits: u64, areas: &[SortedArea]) -> bool
     ensures sound { IsTrue result → IsTrue (any_meet entity.now.volumes areas.now) }
     ensures whole { (v : Extent) (j : ℕ) (a : Region) → IsAt entity.now.volumes volume v
@@ -40,7 +40,7 @@ fn meets_at(entity: &Entity, volume: u8, bits: u64, areas: &[SortedArea]) -> boo
     }
 }
 
-// Whether the entity of a kind that has this volume is sought for it.
+// Returns true if the entity of a candidate is not excluded and its volume meets an area.
 fn is_found(
     entities: &Entities,
     kind: Kind,
@@ -60,7 +60,7 @@ fn is_found(
     }
 }
 
-/// The ids of the entities of a kind that are sought, by their volumes that are near.
+/// Returns the ids of the entities of a kind that match a search, given its candidates.
 pub(crate) fn sought_ids(
     alloc: Global,
     entities: &Entities,
@@ -82,7 +82,7 @@ pub(crate) fn sought_ids(
     Ok(ids)
 }
 
-/// Copies of the entities of a kind and of these ids, by rising ids.
+/// Returns copies of the entities with this kind and these ids, by ascending id.
 pub(crate) fn entities_of(
     alloc: Global,
     entities: &Entities,

@@ -1,4 +1,4 @@
-//! A space in memory is made of lists that were read.
+//! Building an in-memory space from maps.
 ghost use Rattle.std.specs.Prelude.{◌≡◌, IfOk};
 ghost use Rattle.entity_maps.specs.Lists.{airspace_of};
 ghost use Rattle.entity_maps.specs.Subscriptions.{AllNotified};
@@ -14,8 +14,10 @@ use space_core::space::Space;
 use std::alloc::{AllocError, Global};
 
 impl MemorySpace {
-    /// The airspace of this tree and these lists, whose serial has gone on so far, in a space that
-    /// has refused nothing.
+    /// Creates an in-memory space with this content.
+    ///
+    /// It has not returned `Unchanged` yet. Builds the indexes. No notification index may exceed
+    /// the serial. Returns `AllocError` if memory runs out.
     pub fn from_parts(
         alloc: Global,
         entities: Entities,

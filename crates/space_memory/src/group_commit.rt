@@ -1,4 +1,4 @@
-//! A space in memory keeps each change at once.
+//! Commits in an in-memory space. No change is ever pending.
 ghost use Rattle.std.specs.Prelude.{◌≡◌, false};
 ghost use Rattle.space_memory.specs.Memory.{content_of};
 

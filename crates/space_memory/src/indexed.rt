@@ -1,5 +1,7 @@
-//! Entities with an index by the cells of their volumes and one by what intents name, so that a
-//! search costs what it finds.
+//! Entities with two indexes: by the cells of their volumes, and by the subscriptions that intents
+//! reference.
+//!
+//! The cost of a search depends on what it finds.
 ghost use Rattle.std.specs.Prelude.{◌≡◌, [], OnOk, OnErr, IfOk, IsOk, IsNone};
 ghost use Rattle.std.specs.FinMap.{get, insert, remove};
 ghost use Rattle.entity_core.specs.Airspace.{key_of};
@@ -24,7 +26,8 @@ use std::alloc::{AllocError, Global};
 use std::collections::BTreeSet;
 use std::marker::Model;
 
-/// Entities in their order, each kind and id once, where their cells are, and what they name.
+/// Entities ordered by kind and id, with an index of their cells and an index of their references.
+///
 /// Contracts see their list.
 #[derive(Debug, Drop)]
 pub(crate) struct IndexedEntities {
@@ -49,7 +52,7 @@ impl Model for IndexedEntities {
         × IsNameIndex (entity_map a.entities) a.names };
 }
 
-// Takes an entity out of both indexes, but for what is of one that is kept.
+// Removes an entity from both indexes, except what belongs to a stored entity.
 fn forget_entity(
     marks: &mut BTreeSet<Mark>,
     names: &mut BTreeSet<Naming>,
@@ -67,7 +70,7 @@ fn forget_entity(
     }
 }
 
-// On an error some of it may be there.
+// Adds an entity to both indexes. On an error some of it can remain there.
 fn add_entity(
     marks: &mut BTreeSet<Mark>,
     names: &mut BTreeSet<Naming>,
@@ -82,7 +85,7 @@ fn add_entity(
     mark_entity(marks, entity)
 }
 
-// Adds an entity that will be put to both indexes. What was added before an error goes out again.
+// Adds an entity that is about to be put to both indexes. On an error it removes what it added.
 fn enter_entity(
     marks: &mut BTreeSet<Mark>,
     names: &mut BTreeSet<Naming>,
@@ -105,7 +108,7 @@ fn enter_entity(
     }
 }
 
-// The indexes come first, and are as they were where there is no memory for the entity.
+// Puts an entity. Updates the indexes first, and undoes that if memory runs out for the entity.
 fn put_entity(
     entities: &mut Entities,
     marks: &mut BTreeSet<Mark>,
@@ -152,7 +155,7 @@ fn remove_entity(
     }
 }
 
-// Looks at the volumes that have a cell near some area, and at no other.
+// Finds entities that meet areas. Checks only the volumes that have a cell near some area.
 fn meeting_in(
     alloc: Global,
     entities: &Entities,
@@ -172,7 +175,9 @@ fn meeting_in(
 }
 
 impl IndexedEntities {
-    /// No entities. It takes no memory.
+    /// Returns an empty map.
+    ///
+    /// Allocates nothing.
     pub(crate) fn new(alloc: Global) -> IndexedEntities
         ensures { result ≡ [] }
     {
@@ -184,7 +189,9 @@ impl IndexedEntities {
         }
     }
 
-    /// The entities of a tree, each with its marks and what it names.
+    /// Indexes the entities of a tree.
+    ///
+    /// Returns `AllocError` if memory runs out.
     pub(crate) fn of(alloc: Global, entities: Entities) -> Result<IndexedEntities, AllocError>
         ensures { IfOk result (λ indexed. indexed ≡ entities) }
     {
@@ -203,20 +210,21 @@ impl IndexedEntities {
         })
     }
 
-    /// The entities, in their order.
+    /// Returns the entities, in their order.
     pub(crate) fn entities(&self) -> &Entities
         ensures { result.now ≡ self.now }
     {
         &self.entities
     }
 
-    /// How many there are of each kind.
+    /// Returns the number of entities of each kind.
     pub(crate) fn counts(&self) -> EntityCounts {
         self.counts
     }
 
-    /// A copy of the entity of a kind and an id, if there is one. That there is none takes no
-    /// memory to tell.
+    /// Returns a copy of the entity with this kind and id, if any.
+    ///
+    /// Returns `AllocError` if memory runs out. Allocates nothing if there is none.
     pub(crate) fn entity(
         &self,
         alloc: Global,
@@ -229,8 +237,10 @@ impl IndexedEntities {
         self.entities.entity(alloc, kind, id)
     }
 
-    /// Copies of the entities of a kind, but the one of an id, of which some volume meets some
-    /// area, by rising ids.
+    /// Returns copies of the entities of a kind of which some volume meets some area, by ascending
+    /// id.
+    ///
+    /// Leaves out the entity with the excluded id. Returns `AllocError` if memory runs out.
     pub(crate) fn meeting(
         &self,
         alloc: Global,
@@ -244,14 +254,18 @@ impl IndexedEntities {
         meeting_in(alloc, &self.entities, &self.marks, kind, areas, except)
     }
 
-    /// Copies of the entities of a kind, by rising ids.
+    /// Returns copies of the entities of a kind, by ascending id.
+    ///
+    /// Returns `AllocError` if memory runs out.
     pub(crate) fn all(&self, alloc: Global, kind: Kind) -> Result<Vec<Entity>, AllocError>
         ensures { IfOk result (λ found. found.items ≡ all_in (entity_map self.now) kind) }
     {
         self.entities.all(alloc, kind)
     }
 
-    /// The ids of the intents that name a subscription, rising.
+    /// Returns the ids of the intents that reference a subscription, ascending.
+    ///
+    /// Returns `AllocError` if memory runs out.
     pub(crate) fn dependents(
         &self,
         alloc: Global,
@@ -262,20 +276,23 @@ impl IndexedEntities {
         dependents_of(alloc, &self.entities, &self.names, id)
     }
 
-    /// About how many intents name a subscription.
+    /// Returns the approximate number of intents that reference any subscription.
     pub(crate) fn namings(&self) -> usize {
         self.names.len()
     }
 
-    /// Whether some intent names a subscription. It takes no memory.
+    /// Returns true if some intent references the subscription.
+    ///
+    /// Allocates nothing.
     pub(crate) fn is_named(&self, id: EntityId) -> bool
         ensures { result ≡ is_named_in (entity_map self.now) id }
     {
         is_named(&self.entities, &self.names, id)
     }
 
-    /// Puts an entity in the place of the one that has its kind and id, or among the others where
-    /// its place is. On an error nothing is changed.
+    /// Puts an entity, replacing the one with the same kind and id.
+    ///
+    /// Returns `AllocError` and changes nothing if memory runs out.
     pub(crate) fn put(&mut self, entity: Entity) -> Result<(), AllocError>
         ensures ok { OnOk result (entity_map self.new
             ≡ insert (entity_map self.old) (key_of entity) entity) }
@@ -290,7 +307,9 @@ impl IndexedEntities {
         Ok(())
     }
 
-    /// Removes the entity of a kind and an id; where there is none, nothing is changed.
+    /// Removes the entity with this kind and id.
+    ///
+    /// Changes nothing if it does not exist.
     pub(crate) fn remove(&mut self, kind: Kind, id: EntityId)
         ensures { entity_map self.new ≡ remove (entity_map self.old) (kind, id) }
     {

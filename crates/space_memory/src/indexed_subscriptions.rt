@@ -1,4 +1,5 @@
-//! Subscriptions with an index by the cells of their volumes, so that a search costs what it finds.
+//! Subscriptions with an index by the cells of their volumes. The cost of a search depends on what
+//! it finds.
 ghost use Rattle.std.specs.Prelude.{◌≡◌, [], filter_map, is_some, OnOk, OnErr, IfOk, IsOk, IsNone, IsSome};
 ghost use Rattle.std.specs.FinMap.{get, insert, remove};
 ghost use Rattle.std.specs.BTreeSet.{IsOrdered, keys};
@@ -26,8 +27,9 @@ use std::collections::BTreeSet;
 use std::marker::Model;
 use std::slice::from_ref;
 
-/// Subscriptions in the order of their ids, each once, and where their cells are. There is no index
-/// where one found no memory for what could not be refused. Contracts see their list.
+/// Subscriptions ordered by id, with an index of their cells.
+///
+/// The index is dropped if memory runs out for a put that must not fail. Contracts see their list.
 #[derive(Debug, Drop)]
 pub(crate) struct IndexedSubscriptions {
     subscriptions: Subscriptions,
@@ -62,9 +64,9 @@ fn mark_sub(marks: &mut BTreeSet<Mark>, sub: &Sub) -> Result<(), AllocError>
     mark_cells(marks, sub_holder(sub), 0, sub.volume.cells())
 }
 
-// ---- what goes in and out
+// ---- additions and removals
 
-// Marks the subscription of an id, if there is one. On an error some of its cells may be marked.
+// Marks the subscription with this id, if it exists. On an error some of its cells can be marked.
 fn enter_sub(
     marks: &mut Option<BTreeSet<Mark>>,
     subscriptions: &Subscriptions,
@@ -84,7 +86,7 @@ fn enter_sub(
     }
 }
 
-// Takes the marks of the subscription of an id out, if there is one. Whether there is.
+// Removes the marks of the subscription with this id. Returns true if it exists.
 fn forget_sub(
     marks: &mut Option<BTreeSet<Mark>>,
     subscriptions: &Subscriptions,
@@ -117,8 +119,8 @@ fn remove_sub(subscriptions: &mut Subscriptions, marks: &mut Option<BTreeSet<Mar
     let _left = subscriptions.iter();
 }
 
-// The new marks are made of what was put, so that they can go out again. Where they find no memory,
-// a new subscription goes, too; over one that was there, which may not be refused, the index goes.
+// Puts a subscription and then marks it. If memory runs out for the marks, it removes a new
+// subscription again. A put that replaces one must not fail, so it drops the index instead.
 fn put_sub(
     subscriptions: &mut Subscriptions,
     marks: &mut Option<BTreeSet<Mark>>,
@@ -149,7 +151,7 @@ fn put_sub(
     }
 }
 
-// ---- what is found
+// ---- searches
 
 fn is_of(sub: &Sub, uss: &UssId) -> bool
     ensures { result ≡ same_text sub.now.manager uss.now }
@@ -157,7 +159,8 @@ fn is_of(sub: &Sub, uss: &UssId) -> bool
     sub.manager.text() == uss.text()
 }
 
-// Whether the subscription of a part is a supplier's, and meets an area near it.
+// Returns true if the subscription of a candidate belongs to the USS and meets an area whose bit is
+// set.
 fn is_own(
     subscriptions: &Subscriptions,
     uss: &UssId,
@@ -174,7 +177,7 @@ fn is_own(
     }
 }
 
-// The ids of a supplier's subscriptions that meet some area, by their volumes that are near.
+// Returns the ids of a USS's subscriptions that meet some area, given the candidates.
 fn own_ids(
     alloc: Global,
     subscriptions: &Subscriptions,
@@ -195,7 +198,8 @@ fn own_ids(
     Ok(ids)
 }
 
-// Whether it is for a kind, and meets an area near it.
+// Returns true if the subscription of a candidate is for the kind and meets an area whose bit is
+// set.
 fn is_wanted(
     subscriptions: &Subscriptions,
     kind: Kind,
@@ -212,7 +216,8 @@ fn is_wanted(
     }
 }
 
-// The ids of the subscriptions that are for a kind and meet some area.
+// Returns the ids of the subscriptions that are for a kind and meet some area, given the
+// candidates.
 fn wanted_ids(
     alloc: Global,
     subscriptions: &Subscriptions,
@@ -233,7 +238,7 @@ fn wanted_ids(
     Ok(ids)
 }
 
-// Copies of the subscriptions of these ids, by rising ids.
+// Returns copies of the subscriptions with these ids, by ascending id.
 fn all_of(
     alloc: Global,
     subscriptions: &Subscriptions,
@@ -252,7 +257,7 @@ fn all_of(
     Ok(found)
 }
 
-// Looks at the subscriptions that have a cell near the area, and at no other.
+// Finds a USS's subscriptions. Checks only those that have a cell near the area.
 fn own_by_index(
     alloc: Global,
     subscriptions: &Subscriptions,
@@ -288,7 +293,9 @@ fn wanted_by_index(
 }
 
 impl IndexedSubscriptions {
-    /// No subscriptions. It takes no memory.
+    /// Returns an empty map.
+    ///
+    /// Allocates nothing.
     pub(crate) fn new(alloc: Global) -> IndexedSubscriptions
         ensures { result ≡ [] }
     {
@@ -298,7 +305,9 @@ impl IndexedSubscriptions {
         }
     }
 
-    /// The subscriptions of a tree, each with its marks.
+    /// Indexes the subscriptions of a tree.
+    ///
+    /// Returns `AllocError` if memory runs out.
     pub(crate) fn of(
         alloc: Global,
         subscriptions: Subscriptions,
@@ -315,15 +324,16 @@ impl IndexedSubscriptions {
         })
     }
 
-    /// The subscriptions, in their order.
+    /// Returns the subscriptions, in their order.
     pub(crate) fn subscriptions(&self) -> &Subscriptions
         ensures { result.now ≡ self.now }
     {
         &self.subscriptions
     }
 
-    /// A copy of the subscription of an id, if there is one. That there is none takes no memory to
-    /// tell.
+    /// Returns a copy of the subscription with this id, if any.
+    ///
+    /// Returns `AllocError` if memory runs out. Allocates nothing if there is none.
     pub(crate) fn subscription(&self, id: EntityId) -> Result<Option<Sub>, AllocError>
         ensures found { IfOk result (λ found. found ≡ get (subscription_map self.now) id) }
         ensures none { IsNone (get (subscription_map self.now) id) → IsOk result }
@@ -331,7 +341,9 @@ impl IndexedSubscriptions {
         self.subscriptions.subscription(id)
     }
 
-    /// Copies of the subscriptions of a supplier whose volumes meet an area, by rising ids.
+    /// Returns copies of a USS's subscriptions whose volumes meet an area, by ascending id.
+    ///
+    /// Returns `AllocError` if memory runs out.
     pub(crate) fn own(
         &self,
         alloc: Global,
@@ -347,8 +359,10 @@ impl IndexedSubscriptions {
         }
     }
 
-    /// Copies of the subscriptions that are for a kind and whose volumes meet some area, by rising
-    /// ids.
+    /// Returns copies of the subscriptions that are for a kind and whose volumes meet some area, by
+    /// ascending id.
+    ///
+    /// Returns `AllocError` if memory runs out.
     pub(crate) fn for_kind(
         &self,
         alloc: Global,
@@ -364,8 +378,9 @@ impl IndexedSubscriptions {
         }
     }
 
-    /// Tells each subscription whose id is among these of one more change. It takes no memory. The
-    /// index of each can rise.
+    /// Notifies each subscription with one of these ids once: increments its notification index.
+    ///
+    /// Each index must be below its maximum. Allocates nothing.
     pub(crate) fn tell(&mut self, ids: &[EntityId])
         requires { CanNotify self.old }
         ensures { subscription_map self.new
@@ -374,8 +389,9 @@ impl IndexedSubscriptions {
         self.subscriptions.notify(ids)
     }
 
-    /// Puts a subscription in the place of the one that has its id, or among the others where its
-    /// place is. On an error nothing is changed; over one that has its id, none comes.
+    /// Puts a subscription, replacing the one with the same id.
+    ///
+    /// Returns `AllocError` and changes nothing if memory runs out. Replacing one does not fail.
     pub(crate) fn put(&mut self, sub: Sub) -> Result<(), AllocError>
         ensures ok { OnOk result (subscription_map self.new
             ≡ insert (subscription_map self.old) sub.id sub) }
@@ -385,7 +401,9 @@ impl IndexedSubscriptions {
         put_sub(&mut self.subscriptions, &mut self.marks, sub)
     }
 
-    /// Removes the subscription of an id; where there is none, nothing is changed.
+    /// Removes the subscription with this id.
+    ///
+    /// Changes nothing if it does not exist.
     pub(crate) fn remove(&mut self, id: EntityId)
         ensures { subscription_map self.new ≡ remove (subscription_map self.old) id }
     {

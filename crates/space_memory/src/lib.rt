@@ -1,5 +1,7 @@
-//! An airspace in memory: its entities and its subscriptions in trees, and a list, with an index of
-//! the entities and one of the subscriptions by their cells, and one of what intents name.
+//! An in-memory space: trees of entities and subscriptions, and a sorted vector of availabilities.
+//!
+//! It has an index of entities by cell, an index of subscriptions by cell, and an index of the
+//! subscriptions that intents reference.
 #![tactic(auto)]
 
 mod cell_index;

@@ -1,4 +1,4 @@
-//! The maps of a space in memory: what they are asked, and how they are changed.
+//! The maps of an in-memory space: searches and changes.
 ghost use Rattle.std.specs.Prelude.{◌≡◌, ◌+◌, ℕ, List, OnOk, OnErr, IfOk, IsOk, map};
 ghost use Rattle.entity_core.specs.Airspace.{Airspace};
 ghost use Rattle.entity_core.specs.declared.subscription.Sub.{Sub};
@@ -20,7 +20,7 @@ use space_core::met::Met;
 use space_core::space::Change;
 use std::alloc::{AllocError, Global};
 
-// Entities, each with the present availability of its manager.
+// Returns the entities, each with the current availability of its manager.
 fn with_availabilities(
     alloc: Global,
     availabilities: &Availabilities,
@@ -41,7 +41,7 @@ fn with_availabilities(
     Ok(met)
 }
 
-/// What is sought, with the availabilities of its managers.
+/// Returns the entities that match a search, with the availabilities of their managers.
 pub(crate) fn met_among(
     alloc: Global,
     entities: &IndexedEntities,
@@ -58,7 +58,9 @@ pub(crate) fn met_among(
     with_availabilities(alloc, availabilities, found)
 }
 
-/// Makes the change, but for the serial. What may fail comes before any is told.
+/// Applies a change, except for the serial.
+///
+/// Does everything that can fail before it notifies a subscription.
 pub(crate) fn make(
     entities: &mut IndexedEntities,
     subscriptions: &mut IndexedSubscriptions,

@@ -1,5 +1,7 @@
-//! A space in memory: a tree of the entities, one of the subscriptions, and a sorted list of what
-//! suppliers have set; entities and subscriptions are found by their cells.
+//! The in-memory space.
+//!
+//! It has a tree of entities, a tree of subscriptions and a sorted vector of availabilities.
+//! Entities and subscriptions are indexed by cell.
 ghost use Rattle.std.specs.Prelude.{◌≡◌, ◌≤◌, ℕ, false, ◌+◌, Ok, OnOk, OnErr, min, IfOk, IsOk, IsNone, IsTrue};
 ghost use Rattle.std.specs.FinMap.{get};
 ghost use Rattle.entity_core.specs.Airspace.{Airspace, IsAirspace, empty_at};
@@ -27,7 +29,9 @@ use space_core::met::Met;
 use space_core::space::{Change, Space, SpaceFault};
 use std::alloc::Global;
 
-/// An airspace in memory. It answers `Unchanged` for want of memory alone, and never `Broken`.
+/// An airspace in memory.
+///
+/// As a `Space`, it returns `Unchanged` only if memory runs out, and never `Broken`.
 #[derive(Debug, Drop)]
 pub struct MemorySpace {
     pub(crate) alloc: Global,
@@ -36,7 +40,7 @@ pub struct MemorySpace {
     pub(crate) availabilities: Availabilities,
     pub(crate) serial: u64,
     pub(crate) refusals: u64,
-    // what was let go of last: where the next that has ended is looked for
+    // The item that was purged last. The next search for items to purge starts there.
     pub(crate) last_gone: Option<PurgeItem>,
     ghost told: { AllNotified subscriptions serial },
 }
@@ -45,7 +49,7 @@ impl MemorySpace {
     ghost use Rattle.space_memory.specs.Memory.{CanFollow, IsOver, content_of, refusals_of};
     ghost use Rattle.space_core.specs.Space.{IsContent};
 
-    /// An empty airspace, in a space that has refused nothing.
+    /// Creates an empty space with serial 0. It has not returned `Unchanged` yet.
     pub fn new(alloc: Global) -> Self
         ensures content { IsContent ⟦<MemorySpace as Space>⟧.holds result (empty_at 0) }
         ensures fresh { ⟦<MemorySpace as Space>⟧.refusals result ≡ 0 }
@@ -53,7 +57,7 @@ impl MemorySpace {
         MemorySpace::at_serial(alloc, 0)
     }
 
-    /// An empty airspace whose serial has gone on so far, in a space that has refused nothing.
+    /// Creates an empty space with this serial. It has not returned `Unchanged` yet.
     pub fn at_serial(alloc: Global, serial: u64) -> Self
         requires { serial ≤ max_serial }
         ensures content { IsContent ⟦<MemorySpace as Space>⟧.holds result (empty_at serial) }
@@ -70,7 +74,7 @@ impl MemorySpace {
         }
     }
 
-    // Counts a refusal, and changes nothing else.
+    // Counts an `Unchanged` result and changes nothing else.
     fn refuse(&mut self) -> SpaceFault
         ensures fault { result ≡ Unchanged }
         ensures content { content_of self.new ≡ content_of self.old }
@@ -80,7 +84,7 @@ impl MemorySpace {
         SpaceFault::Unchanged
     }
 
-    // Whether the serial can go on, and no index would be over it.
+    // Returns true if the serial can be incremented and no index exceeds it then.
     fn can_follow(&self, change: &Change) -> bool
         ensures { IsTrue result → CanFollow change.now (content_of self.now) }
     {
@@ -93,7 +97,8 @@ impl MemorySpace {
         }
     }
 
-    // Makes a change, and the serial goes on by one; or counts a refusal for want of memory.
+    // Applies a change and increments the serial by one. If memory runs out, changes nothing and
+    // counts an `Unchanged` result.
     fn go_on(&mut self, change: Change, notify: &[EntityId]) -> Result<(), SpaceFault>
         requires { CanFollow change (content_of self.old) }
         ensures done { OnOk result
@@ -118,8 +123,10 @@ impl MemorySpace {
         }
     }
 
-    /// Makes a change that another space has made, which told these subscriptions of it. Where the
-    /// serial cannot go on, an index would be over it or memory lacks, it answers `Unchanged`.
+    /// Applies a change that another space has made, and notifies these subscriptions.
+    ///
+    /// Returns `Unchanged` if the serial is at its maximum, if an index would exceed it, or if
+    /// memory runs out.
     pub fn replicate(&mut self, change: Change, notify: &[EntityId]) -> Result<(), SpaceFault>
         ensures done { OnOk result
             (content_of self.new ≡ changed change notify.now (content_of self.old)) }

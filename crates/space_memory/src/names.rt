@@ -1,5 +1,6 @@
-//! An index by what intents name: the intents that name a subscription are found with no look at
-//! any other.
+//! An index of the subscriptions that intents reference.
+//!
+//! It finds the intents that reference a subscription without looking at others.
 ghost use Rattle.std.specs.Prelude.{◌≡◌, IfOk, OnOk};
 ghost use Rattle.entity_core.specs.Search.{dependents_in};
 ghost use Rattle.entity_maps.specs.Entities.{entity_map};
@@ -14,12 +15,14 @@ use std::alloc::{AllocError, Global};
 use std::collections::BTreeSet;
 use std::collections::btree_set::Range;
 
-/// The number of a subscription's id, and that of the id of an intent that names it.
+/// The number of a subscription's id, and the number of the id of an intent that references it.
 pub(crate) type Naming = (u128, u128);
 
-// ---- what goes in and out
+// ---- additions and removals
 
-/// Adds the pair of an entity, if it names a subscription. On an error nothing is changed.
+/// Adds the pair of an entity, if it references a subscription.
+///
+/// Returns `AllocError` and changes nothing if memory runs out.
 pub(crate) fn enter_name(names: &mut BTreeSet<Naming>, entity: &Entity) -> Result<(), AllocError>
     ensures kept { NamesMore names.old names.new }
     ensures entered { OnOk result (IsEntered names.new entity.now) }
@@ -30,7 +33,7 @@ pub(crate) fn enter_name(names: &mut BTreeSet<Naming>, entity: &Entity) -> Resul
     Ok(())
 }
 
-// The id of the intent of this number, if there is one and it names the subscription.
+// Returns the id of the intent with this number, if it exists and references the subscription.
 fn dependent_at(entities: &Entities, id: EntityId, intent: u128) -> Option<EntityId>
     ensures { result ≡ dependent_at (entity_map entities.now) id intent }
 {
@@ -43,7 +46,8 @@ fn dependent_at(entities: &Entities, id: EntityId, intent: u128) -> Option<Entit
     }
 }
 
-/// Takes the pair of an entity out, unless the intent of its id names the same subscription.
+/// Removes the pair of an entity, unless the stored intent with its id references the same
+/// subscription.
 pub(crate) fn forget_name(names: &mut BTreeSet<Naming>, entities: &Entities, gone: &Entity)
     ensures { IsNameIndex (entity_map entities.now) names.old
         → IsNameIndex (entity_map entities.now) names.new }
@@ -55,9 +59,9 @@ pub(crate) fn forget_name(names: &mut BTreeSet<Naming>, entities: &Entities, gon
     }
 }
 
-// ---- what is found
+// ---- searches
 
-// The pairs of a subscription, by the rising ids of the intents.
+// Returns the pairs of a subscription, by ascending ids of the intents.
 fn pairs_of(names: &BTreeSet<Naming>, id: EntityId) -> Range<'_, Naming>
     ensures { ArePairsOf names.now id result }
 {
@@ -65,7 +69,7 @@ fn pairs_of(names: &BTreeSet<Naming>, id: EntityId) -> Range<'_, Naming>
     names.range((number, 0)..=(number, u128::MAX))
 }
 
-/// The ids of the intents that name a subscription, rising.
+/// Returns the ids of the intents that reference a subscription, ascending.
 pub(crate) fn dependents_of(
     alloc: Global,
     entities: &Entities,
@@ -84,7 +88,9 @@ pub(crate) fn dependents_of(
     Ok(found)
 }
 
-/// Whether some intent names a subscription. It takes no memory.
+/// Returns true if some intent references the subscription.
+///
+/// Allocates nothing.
 pub(crate) fn is_named(entities: &Entities, names: &BTreeSet<Naming>, id: EntityId) -> bool
     requires { IsNameIndex (entity_map entities.now) names.now }
     ensures { result ≡ is_named_in (entity_map entities.now) id }

@@ -1,5 +1,7 @@
-//! What an index finds near the areas of a search: volumes, each with the areas of which some cell
-//! touches one of its own. So a volume is compared with these areas alone.
+//! Candidates of a search: volumes that have a cell near an area.
+//!
+//! Each candidate has bits for the areas of which some cell touches one of its own. It is compared
+//! only with the areas that have these bits.
 ghost use Rattle.std.specs.Prelude.{◌≡◌, ℕ, ◌⊎◌, ◌%◌, ◌^◌, nat_eq, IfOk, IsTrue, OnOk, unwrap_or};
 ghost use Rattle.std.specs.Int.{bit_at};
 ghost use Rattle.std.specs.List.{All};
@@ -16,21 +18,22 @@ use grid_core::volume::Volume;
 use std::alloc::{AllocError, Global};
 use std::collections::{BTreeMap, BTreeSet};
 
-/// The id of a holder, and the number of a volume of it.
+/// The id of a holder and the number of one of its volumes.
 pub(crate) type Part = (u128, u8);
 
-/// Volumes, each with bits that stand for areas.
+/// Candidate volumes, with bits for areas.
 pub(crate) type Near = BTreeMap<Part, u64>;
 
-// From a place on, up to but not with another.
+// A range of positions. The end is not included.
 type Span = (u64, u64);
 
-// Spans, each with bits that stand for areas.
+// Spans, with bits for areas.
 type Spans = BTreeMap<Span, u64>;
 
-// ---- bits that stand for areas
+// ---- bits for areas
 
-// Areas whose places lie 64 apart have one bit, so that a volume may be compared with more of them.
+// Returns the bit of an area. Areas whose indexes are 64 apart share a bit, so a volume can be
+// compared with more areas than necessary.
 fn bit_of(place: usize) -> u64
     ensures { result ≡ 2 ^ (place % 64) }
 {
@@ -43,7 +46,7 @@ fn has_bit(bits: u64, place: usize) -> bool
     (bits >> (place % 64)) & 1 == 1
 }
 
-/// Whether a volume meets an area that has its bit.
+/// Returns true if a volume meets an area whose bit is set.
 pub(crate) fn meets_one_of(volume: &Volume, bits: u64, areas: &[SortedArea]) -> bool
     ensures sound { IsTrue result → IsTrue (meets_some volume.now areas.now) }
     ensures whole { (j : ℕ) (a : Region) → IsAt areas.now j a → bit_at bits (j % 64) ≡ 1
@@ -57,7 +60,7 @@ pub(crate) fn meets_one_of(volume: &Volume, bits: u64, areas: &[SortedArea]) -> 
     false
 }
 
-// ---- the spans of the cells of areas and of those that hold them
+// ---- the spans of the cells of areas and of their ancestors
 
 fn add_span(spans: &mut Spans, span: Span, bits: u64) -> Result<(), AllocError>
     ensures kept { Widens spans.old spans.new }
@@ -117,7 +120,7 @@ fn add_all(spans: &mut Spans, bits: u64, cells: &[CellId]) -> Result<(), AllocEr
     Ok(())
 }
 
-// What may touch a cell of some area lies in these spans, each of which is there once.
+// Returns the spans of all cells that can touch a cell of some area, each span once.
 fn spans_of(alloc: Global, areas: &[SortedArea]) -> Result<Spans, AllocError>
     ensures { IfOk result (λ spans. HasAllSpans spans areas.now) }
 {
@@ -128,9 +131,10 @@ fn spans_of(alloc: Global, areas: &[SortedArea]) -> Result<Spans, AllocError>
     Ok(spans)
 }
 
-// ---- what is found
+// ---- searches
 
-// Most volumes have their bits from another cell already, and then nothing is changed.
+// Adds the bits to a candidate. Most candidates have them already from another cell, and then
+// nothing changes.
 fn add_part(near: &mut Near, part: Part, bits: u64) -> Result<(), AllocError>
     ensures kept { Widens near.old near.new }
     ensures there { OnOk result (HasBits near.new part bits) }
@@ -161,7 +165,8 @@ fn gather(near: &mut Near, marks: &BTreeSet<Mark>, span: Span, bits: u64) -> Res
     Ok(())
 }
 
-// Where a span begins that is not done: all in another one has these bits and maybe more.
+// Returns the first position of a span that is not covered yet. The covered span counts only if it
+// has at least the same bits.
 fn start_of(span: Span, bits: u64, done: Span, done_bits: u64) -> u64
     ensures { IsStart span bits done done_bits result }
 {
@@ -172,7 +177,7 @@ fn start_of(span: Span, bits: u64, done: Span, done_bits: u64) -> u64
     }
 }
 
-// Of two spans that which reaches further, with its bits.
+// Returns the span that reaches further, with its bits.
 fn further(span: Span, bits: u64, done: Span, done_bits: u64) -> (Span, u64)
     ensures { (result ≡ (span, bits)) ⊎ (result ≡ (done, done_bits)) }
 {
@@ -183,7 +188,8 @@ fn further(span: Span, bits: u64, done: Span, done_bits: u64) -> (Span, u64)
     }
 }
 
-// Spans come by where they begin, so what lies in one of the same bits is not gone through again.
+// Gathers the candidates of all spans. Spans are ordered by their start, so a part that is covered
+// with the same bits is not searched again.
 fn gather_all(alloc: Global, marks: &BTreeSet<Mark>, spans: &Spans) -> Result<Near, AllocError>
     ensures { IfOk result (λ near. GathersAll marks.now spans.now near) }
 {
@@ -197,8 +203,10 @@ fn gather_all(alloc: Global, marks: &BTreeSet<Mark>, spans: &Spans) -> Result<Ne
     Ok(near)
 }
 
-/// The volumes in an index that may meet some area, each with the bits of the areas of which a cell
-/// touches one of its own: of all that do, at whatever altitudes and times.
+/// Returns the volumes in an index that can meet some area.
+///
+/// Each volume has the bits of the areas of which a cell touches one of its own. Altitudes and
+/// times are not considered. Returns `AllocError` if memory runs out.
 pub(crate) fn near(
     alloc: Global,
     marks: &BTreeSet<Mark>,

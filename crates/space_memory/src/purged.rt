@@ -1,4 +1,4 @@
-//! What has ended is found in a space in memory, piece by piece, and goes.
+//! Finding and purging what has ended, in chunks.
 ghost use Rattle.std.specs.Prelude.{◌≡◌, ℕ, ◌<◌, IfOk, IsFalse, List, length};
 ghost use Rattle.std.specs.Map.{values_of};
 ghost use Rattle.entity_maps.specs.declared.availabilities.AvailabilityEntry.{AvailabilityEntry};
@@ -20,15 +20,16 @@ use entity_purge::purge_item::PurgeItem;
 use std::alloc::{AllocError, Global};
 use std::collections::btree_map::Range;
 
-/// A piece ends once what it lets go of has more cells than these together. Each cell is a row to
-/// be deleted, and no client should wait long for it.
+/// The number of cells after which a chunk ends.
+///
+/// Each cell is a row to delete, and no client should wait long for that.
 const MOST_CELLS: usize = 1024;
 
-// To delete a subscription takes a look at all that intents name, since tables have no index of it:
-// so many of these take as long as the row of a cell.
+// The number of references that cost as much to scan as one cell row to delete. Deleting a
+// subscription scans all references, because the database has no index of them.
 const NAMINGS_A_CELL: usize = 40;
 
-// ---- what has ended
+// ---- tests of what has ended
 
 fn has_ended(entity: &Entity, until: u64) -> bool
     ensures { result ≡ has_ended until entity.now }
@@ -42,14 +43,14 @@ fn sub_has_ended(sub: &Sub, until: u64) -> bool
     sub.volume.time().1 <= until
 }
 
-// Whether a subscription has ended, and no intent names it.
+// Returns true if a subscription has ended and no intent references it.
 fn is_free(sub: &Sub, entities: &IndexedEntities, until: u64) -> bool
     ensures { result ≡ is_free until (entity_map entities.now) sub.now }
 {
     sub_has_ended(sub, until) && !entities.is_named(sub.id)
 }
 
-// How many cells the volumes of an entity have.
+// Returns the number of cells of an entity's volumes.
 fn cells_of(entity: &Entity) -> usize {
     let mut cells = 0usize;
     for volume in entity.volumes.items() {
@@ -58,16 +59,16 @@ fn cells_of(entity: &Entity) -> usize {
     cells
 }
 
-// Whether a piece has as much as it may have.
+// Returns true if a chunk is full.
 fn is_full(gone: &Vec<PurgeItem>, cells: usize, most: usize) -> bool
     ensures { IsFalse result → length gone.now.items < most }
 {
     gone.len() >= most || cells > MOST_CELLS
 }
 
-// ---- what a piece has
+// ---- the items of a chunk
 
-// Of some entities those that have ended, the first ones.
+// Returns the first entities that have ended.
 fn first_ended(
     alloc: Global,
     entities: Range<'_, OrderKey, Entity>,
@@ -92,7 +93,7 @@ fn first_ended(
     Ok(gone)
 }
 
-// Of some subscriptions those that have ended and that no intent names, the first ones.
+// Returns the first subscriptions that have ended and that no intent references.
 fn first_free(
     alloc: Global,
     subscriptions: Range<'_, u128, Sub>,
@@ -120,7 +121,8 @@ fn first_free(
     Ok(gone)
 }
 
-// What is found from where one went on, entities alone or subscriptions alone.
+// Returns a chunk that starts at the item that was purged last. It has only entities or only
+// subscriptions.
 fn chunk_from(
     alloc: Global,
     entities: &IndexedEntities,
@@ -146,7 +148,7 @@ fn chunk_from(
     }
 }
 
-// The same of the last one, and nothing where none went.
+// Returns a chunk that starts at the item that was purged last, or nothing if none was purged.
 fn next_chunk(
     alloc: Global,
     entities: &IndexedEntities,
@@ -166,8 +168,9 @@ fn next_chunk(
     }
 }
 
-// It is looked first where the last one went, since each look from the start on passes all that
-// stays. From the start on, entities come before subscriptions: what names one may go, too.
+// Returns the next chunk. It continues where the last purge ended, because a search from the start
+// passes everything that is retained. A search from the start takes entities before subscriptions,
+// since purging an intent can free the subscription that it references.
 fn chunk_of(
     alloc: Global,
     entities: &IndexedEntities,
@@ -192,7 +195,7 @@ fn chunk_of(
     first_free(alloc, subscriptions.entries(), entities, until, most)
 }
 
-// ---- what goes
+// ---- purging
 
 fn let_one_go(
     entities: &mut IndexedEntities,
@@ -224,10 +227,12 @@ fn let_all_go(
 }
 
 impl MemorySpace {
-    /// Some of what a sweep until a moment takes, at most so many; none only where nothing is left
-    /// that goes. A piece has entities alone, or subscriptions alone, which no intent names then. It
-    /// ends early once what it has counts over 1,024 cells together, where a subscription counts
-    /// for one more for each 40 intents that name any. The error is want of memory.
+    /// Returns some items that a purge up to a time removes, at most `most` of them.
+    ///
+    /// Returns no item only if nothing remains to purge or `most` is 0. A chunk has only entities,
+    /// or only subscriptions that no intent references. It ends early once its items count for more
+    /// than 1,024 cells. A subscription counts for its own cells and for one more for every 40
+    /// intents that reference any subscription. Returns `AllocError` if memory runs out.
     pub fn find_ended(&self, until: u64, most: usize) -> Result<Vec<PurgeItem>, AllocError>
         ensures { IfOk result (λ gone. IsPurgeChunk until most gone.items (content_of self.now)) }
     {
@@ -244,8 +249,10 @@ impl MemorySpace {
         )
     }
 
-    /// Lets go of these, one after the other; of what is not there nothing goes. It is no change:
-    /// the serial stays, and nobody is told. It takes no memory.
+    /// Purges these items in order, and ignores those that do not exist.
+    ///
+    /// A purge is not a change: the serial stays, and no subscription is notified. Allocates
+    /// nothing.
     pub fn purge(&mut self, gone: &[PurgeItem])
         ensures content { content_of self.new ≡ without_items gone.now (content_of self.old) }
         ensures refusals { refusals_of self.new ≡ refusals_of self.old }

@@ -1,4 +1,4 @@
-//! What a space in memory shows.
+//! Snapshots of an in-memory space.
 ghost use Rattle.std.specs.Prelude.{◌≡◌};
 ghost use Rattle.entity_maps.specs.Lists.{airspace_of};
 ghost use Rattle.space_memory.specs.Memory.{content_of};
@@ -7,7 +7,9 @@ use crate::memory::MemorySpace;
 use space_snapshot::snapshot::Snapshot;
 
 impl MemorySpace {
-    /// All that it holds, lent. It takes no memory.
+    /// Returns a snapshot of the content, borrowed.
+    ///
+    /// Allocates nothing.
     pub fn snapshot(&self) -> Snapshot<'_>
         ensures { airspace_of result.entities.now result.subscriptions.now
             result.availabilities.now result.serial ≡ content_of self.now }

@@ -1,4 +1,4 @@
-//! The trait of spaces that can be read whole.
+//! The trait of storage backends that can be loaded into memory.
 ghost use Rattle.std.specs.Prelude.{◌≡◌};
 ghost use Rattle.space_core.specs.Space.{Reads, ReportsFault};
 ghost use Rattle.space_memory.specs.Memory.{content_of};
@@ -7,13 +7,13 @@ use crate::memory::MemorySpace;
 use space_core::space::{Space, SpaceFault};
 use std::alloc::Global;
 
-/// A space that can be read whole.
+/// A storage backend that can be loaded into memory.
 pub trait ToMemory: Space {
-    /// All that it holds now, as a space in memory that is made with this allocator. It reads as
-    /// any other call does, and changes nothing.
+    /// Returns a copy of the whole content as an in-memory space.
     ///
-    /// It answers `Unchanged` where it could not be read, or where memory lacks for what was read;
-    /// it may be asked again then. After `Broken` every call of the space answers `Broken`.
+    /// Reads as any other call does, and changes nothing. Returns `Unchanged` if the content cannot
+    /// be read or if memory runs out; a later call can succeed. After `Broken`, every call of the
+    /// space returns `Broken`.
     fn to_memory(&mut self, alloc: Global) -> Result<MemorySpace, SpaceFault>
         ensures fixed { Self.fixed self.new ≡ Self.fixed self.old }
         ensures tells { ReportsFault (Self.refusals self.old) (Self.refusals self.new)

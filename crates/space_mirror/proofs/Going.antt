@@ -1,4 +1,4 @@
--- A group lets go of what has ended while no change waits.
+-- A mirrored space purges what has ended while no change is pending.
 use Rattle.std.specs.Prelude.{◌≡◌, ℕ, nat_eq, length, Bool, true, false, List, [], ◌∷◌, Option, Some, None, Result, Ok, Err, IfOk, OnOk, IfErr, refl}
 use Rattle.std.proofs.Common.{arith, inl, inr, sym, ap, subst, ◌∙◌}
 use Rattle.std.proofs.lemmas.List.{nil_from_length}
@@ -20,13 +20,13 @@ use Rattle.space_mirror.proofs.Groups.{list_reads, reads_kept, store_answers_par
 use Rattle.space_mirror.proofs.Settled.{agrees_none, whole_sound}
 use Rattle.space_mirror.proofs.Waits.{one_changed}
 
--- what is told of a list that refuses for want of memory alone
+-- A mirror that returns no fault except `Unchanged` reports its faults.
 tells_unbroken : {T : Type 0} (r : Result T SpaceFault) → IfErr r (λ fault. fault ≡ Unchanged) → ReportsFault 0 (refusals_after 0 r) false false r
 tells_unbroken (Ok x) fault = record { counted = refl; breaks = refl; stays_broken = λ e. absurd (let f = e in cc) }
 tells_unbroken (Err Unchanged) fault = record { counted = refl; breaks = refl; stays_broken = λ e. absurd (let f = e in cc) }
 tells_unbroken (Err Broken) fault = absurd (let e = fault in cc)
 
--- what is answered of a reading that told no more than whether the store is broken
+-- The result of a call that reads the store only to see whether it is broken.
 abbrev pub untold_of : {X T : Type 0} → Result X SpaceFault → Result T SpaceFault
 untold_of (Ok x) = Err Unchanged
 untold_of (Err Unchanged) = Err Unchanged
@@ -36,20 +36,20 @@ calm_of : (l : Option MemorySpace) (batch : List BatchChange) → batch ≡ [] �
 calm_of None batch none = refl
 calm_of (Some l) batch none = ap some_pending none
 
--- a round that was found empty
+-- A batch of length 0 is empty.
 pub none_of : (batch : List BatchChange) (is_empty : Bool) → is_empty ≡ nat_eq (length batch) 0 → is_empty ≡ true → batch ≡ []
 none_of batch is_empty e is = nil_from_length batch (grind arith)
 
 module _ {S : Type 0} (g : Ghosts S) where
   -- ---- what has ended
 
-  -- the list tells it
+  -- A result of the mirror is the result of a read of the mirrored space.
   pub told_by_list : {T : Type 0} (s : S) (l : MemorySpace) (k k' : ℕ) (r r' : Result T SpaceFault) (P : Airspace → T → Type 0) → IfErr r (λ fault. fault ≡ Unchanged) → IfOk r (λ x. P (content_of l) x)
       → r' ≡ r → k' ≡ refusals_after k r → ReadsParts g s s (Some l) (Some l) k k' r' P
   told_by_list s l k k' r r' P fault found same counted =
       list_reads g s l l 0 (refusals_after 0 r) k k' r r' P (tells_unbroken r fault) (reads_kept l l r P refl found) same counted
 
-  -- the store is asked whether it is broken
+  -- A read of the store of which only the fault is used gives `CannotSay`.
   module _ {X T : Type 0} (s t : S) (n n' : ℕ) (P : Airspace → X → Type 0) where
     untold_read : (r : Result X SpaceFault) → ReportsFault n n' (g.is_broken s) (g.is_broken t) r → Reads g.holds g.is_sound g.is_whole s t r P → CannotSay {T = T} g s t (untold_of r)
     untold_read (Ok x) tells reads = record {
@@ -92,7 +92,7 @@ module _ {S : Type 0} (g : Ghosts S) where
   untold_by_store s t k k' r r' P u same counted =
       store_answers_parts g s t 0 (refusals_after 0 r) k k' r r' P (record { counted = refl; breaks = u.breaks; stays_broken = u.stays_broken }) (untold_reads s t r P u) same counted
 
-  -- ---- while no change waits, a group changes as its store does
+  -- ---- while no change is pending, a mirrored space changes as its store does
 
   module _ (o n : MirroredModel S) (change : Airspace → Airspace) (calm : is_pending_in o ≡ false) (calm' : is_pending_in n ≡ false) where
     done_calm : (r : Result (Unit {0}) SpaceFault) → OnOk r ((a : Airspace) → g.holds o.store a → IsContent g.holds n.store (change a)) → OnOk r ((b : Airspace) → holds_in g o b → IsContent (holds_in g) n (change b))
@@ -116,9 +116,9 @@ module _ {S : Type 0} (g : Ghosts S) where
       frozen = λ sound set b seen. (seen_is_kept g.holds o b calm).1 (c.frozen sound.store set b ((seen_is_kept g.holds n b calm').0 seen));
     }
 
-  -- ---- letting go
+  -- ---- purging
 
-  -- what a group can let go of, its store can
+  -- The store can purge the items that the mirrored space can purge.
   pub can_go : (s : S) (l : Option MemorySpace) (p : MirrorState) (batch : List BatchChange) (k : ℕ) (gone : List PurgeItem) → batch ≡ [] → MirrorAgrees g s l p batch
       → (IsSoundIn g (mirrored_model s (pending_if_mirrored l batch) k) → (a : Airspace) → holds_in g (mirrored_model s (pending_if_mirrored l batch) k) a → CanPurgeAll gone a) → g.is_sound s → (a : Airspace) → g.holds s a → CanPurgeAll gone a
   can_go s l p batch k gone none h can sound a held =
@@ -170,7 +170,7 @@ module _ {S : Type 0} (g : Ghosts S) where
           waits = calm' ∙ sym calm;
         })
 
-  -- ---- while changes wait
+  -- ---- while changes are pending
 
   works_waiting : (s : S) (l : Option MemorySpace) (p : MirrorState) (batch : List BatchChange) → (batch ≡ [] → ⊥) → MirrorAgrees g s l p batch → g.is_broken s ≡ false
   works_waiting s None p batch waits h = absurd (waits h.0)

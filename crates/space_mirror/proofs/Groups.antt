@@ -1,4 +1,4 @@
--- A list that is ahead of its space by a round.
+-- A mirror that is ahead of its store by a batch.
 use Rattle.std.specs.Prelude.{◌≡◌, ℕ, true, false, List, Some, None, Result, Ok, Err, IfOk, MatchResult, refl}
 use Rattle.std.proofs.Common.{sym, ap, subst, ◌∙◌}
 use Rattle.entity_core.specs.Airspace.{Airspace}
@@ -12,7 +12,7 @@ use Rattle.space_memory.specs.declared.memory.MemorySpace.{MemorySpace}
 use Rattle.space_memory.specs.Memory.{content_of}
 use Rattle.space_mirror.specs.Mirrored.{MirroredModel, HoldsOne, IsMirrorAhead, Reading, ReadsParts, mirrored_model, holds_in}
 
--- a list that is read keeps its airspace
+-- Reading a mirror does not change its airspace.
 list_same : {T : Type 0} (l m : MemorySpace) (n n' : ℕ) (r : Result T SpaceFault) (P : Airspace → T → Type 0)
     → ReportsFault n n' false false r → Reads (λ (s : MemorySpace) a. a ≡ content_of s) (λ _. Unit {0}) (λ _. Unit {0}) l m r P
     → content_of m ≡ content_of l
@@ -20,7 +20,7 @@ list_same l m n n' (Ok x) P t r = sym (r.stays tt (content_of l) refl)
 list_same l m n n' (Err Unchanged) P t r = sym (r.stays tt (content_of l) refl)
 list_same l m n n' (Err Broken) P t r = absurd (let e = t.breaks in cc)
 
--- what a list tells that stays as it is
+-- A call that leaves the mirror as it is reads it.
 pub reads_kept : {T : Type 0} (l m : MemorySpace) (r : Result T SpaceFault) (P : Airspace → T → Type 0) → content_of m ≡ content_of l → IfOk r (λ found. P (content_of l) found)
     → Reads (λ (s : MemorySpace) a. a ≡ content_of s) (λ _. Unit {0}) (λ _. Unit {0}) l m r P
 reads_kept l m (Ok x) P kept found = record {
@@ -46,23 +46,23 @@ reads_kept l m (Err Broken) P kept found = record {
 }
 
 module _ {S : Type 0} (g : Ghosts S) where
-  -- a list with the same airspace
+  -- A mirror with the same airspace is ahead by the same batch.
   pub ahead_same : (s : S) (l m : MemorySpace) (batch : List BatchChange) → content_of m ≡ content_of l → IsMirrorAhead g s l batch → IsMirrorAhead g s m batch
   ahead_same s l m batch same h = record { live = h.live; base = λ sound. let it = h.base sound in (it.0, it.1, it.2, same ∙ it.3) }
 
-  -- what is seen is what the list has
+  -- The visible airspace is that of the mirror.
   seen_listed : (s : S) (l : MemorySpace) (batch : List BatchChange) (n : ℕ) → IsMirrorAhead g s l batch → g.is_sound s → (b : Airspace) → holds_in g (mirrored_model s (Some batch) n) b → b ≡ content_of l
   seen_listed s l batch n h sound b seen =
       let it = h.base sound in
       seen.2 ∙ ap (changed_all batch) (it.1.only seen.0 seen.1) ∙ sym it.3
 
-  -- what a list shows is what is seen
+  -- A snapshot of the mirror is the visible airspace.
   pub list_shows : (s : S) (l : MemorySpace) (batch : List BatchChange) (a : Airspace) → IsMirrorAhead g s l batch → a ≡ content_of l → g.is_sound s → (b : Airspace) → holds_in g (mirrored_model s (Some batch) 0) b → b ≡ a
   list_shows s l batch a h same sound b seen = seen_listed s l batch 0 h sound b seen ∙ sym same
 
   -- ---- reading
 
-  -- a space that is read holds one airspace as before
+  -- After a read, a store still holds one airspace.
   pub one_read : {T : Type 0} (s t : S) (n n' : ℕ) (r : Result T SpaceFault) (P : Airspace → T → Type 0) → ReportsFault n n' (g.is_broken s) (g.is_broken t) r → Reads g.holds g.is_sound g.is_whole s t r P
       → HoldsOne g s → HoldsOne g t
   one_read s t n n' (Ok x) P tells reads one = λ works sound.
@@ -107,7 +107,7 @@ module _ {S : Type 0} (g : Ghosts S) where
       store_answers (Ok x) answer = λ b h. subst (λ c. P c x) (sym h.2) (answer h.0 h.1)
       store_answers (Err e) answer = tt
 
-  -- an answer from the list
+  -- A read from the mirror is a read of the mirrored space.
   pub list_reads : {T : Type 0} (s : S) (l m : MemorySpace) (n n' k k' : ℕ) (r r' : Result T SpaceFault) (P : Airspace → T → Type 0)
       → ReportsFault n n' false false r → Reads (λ (s : MemorySpace) a. a ≡ content_of s) (λ _. Unit {0}) (λ _. Unit {0}) l m r P
       → r' ≡ r → k' ≡ refusals_after k r → ReadsParts g s s (Some l) (Some m) k k' r' P
@@ -126,7 +126,8 @@ module _ {S : Type 0} (g : Ghosts S) where
     }),
   )
 
-  -- an answer of the space, however it counts its own
+  -- A read from the store is a read of the mirrored space, however the store counts its own
+  -- `Unchanged` results.
   pub store_answers_parts : {T : Type 0} (s t : S) (n n' k k' : ℕ) (r r' : Result T SpaceFault) (P : Airspace → T → Type 0)
       → ReportsFault n n' (g.is_broken s) (g.is_broken t) r → Reads g.holds g.is_sound g.is_whole s t r P
       → r' ≡ r → k' ≡ refusals_after k r → ReadsParts g s t None None k k' r' P
@@ -145,7 +146,7 @@ module _ {S : Type 0} (g : Ghosts S) where
     }),
   )
 
-  -- an answer of the space
+  -- A read from the store is a read of the mirrored space.
   pub store_reads : {T : Type 0} (s t : S) (k k' : ℕ) (r r' : Result T SpaceFault) (P : Airspace → T → Type 0)
       → ReportsFault (g.refusals s) (g.refusals t) (g.is_broken s) (g.is_broken t) r → Reads g.holds g.is_sound g.is_whole s t r P
       → r' ≡ r → k' ≡ refusals_after k r → ReadsParts g s t None None k k' r' P

@@ -1,4 +1,5 @@
--- Changes that wait are kept together; the list is dropped where they are not, and made anew later.
+-- Pending changes are committed together. If the commit fails, the mirror is dropped, and rebuilt
+-- later.
 use Rattle.std.specs.Prelude.{◌≡◌, ℕ, Bool, true, false, List, [], Option, Some, None, IsSome, Result, Ok, Err, OnOk, ◌⊎◌, refl}
 use Rattle.std.proofs.Common.{inl, inr, sym, ap, subst, ◌∙◌}
 use Rattle.entity_core.specs.Airspace.{Airspace}
@@ -18,17 +19,17 @@ use Rattle.space_mirror.specs.declared.mirror_state.MirrorState.{MirrorState}
 use Rattle.space_mirror.proofs.Groups.{one_read}
 
 module _ {S : Type 0} (g : Ghosts S) where
-  -- what the space has to make of a round fits
+  -- The batch that the store has to apply fits.
   pub batch_fits : (s : S) (l : Option MemorySpace) (p : MirrorState) (batch : List BatchChange) → MirrorAgrees g s l p batch → g.is_sound s → (a : Airspace) → g.holds s a → FitAll batch a
   batch_fits s None p batch none sound a held = subst (λ cs. FitAll cs a) (sym none.0) tt
   batch_fits s (Some l) p batch h sound a held = let it = h.base sound in subst (λ c. FitAll batch c) (sym (it.1.only a held)) it.2
 
-  -- the whole is sound where its store is
+  -- The mirrored space is sound if its store is.
   pub whole_sound : (s : S) (l : Option MemorySpace) (p : MirrorState) (batch : List BatchChange) (n : ℕ) → MirrorAgrees g s l p batch → g.is_sound s → IsSoundIn g (mirrored_model s (pending_if_mirrored l batch) n)
   whole_sound s None p batch n none sound = record { store = sound; fits = λ a held. tt; live = λ waits. absurd (let e = waits in cc) }
   whole_sound s (Some l) p batch n h sound = record { store = sound; fits = batch_fits s (Some l) p batch h sound; live = λ waits. h.live }
 
-  -- ---- the making of a round
+  -- ---- applying a batch
 
   made_or_not : (s t : S) (batch : List BatchChange) (a b : Airspace) → IsContent g.holds s a → g.holds s b ⊎ ((c : Airspace) → g.holds s c → b ≡ changed_all batch c)
       → g.holds s b ⊎ ((c : Airspace) × g.holds s c × (b ≡ changed_all batch c))
@@ -63,7 +64,7 @@ module _ {S : Type 0} (g : Ghosts S) where
   making_of_listed s t None p batch r h there tells c = absurd (let e = there in cc)
   making_of_listed s t (Some l) p batch r h there tells c = making_by_store s t l batch r h tells c
 
-  -- ---- the list after it
+  -- ---- the mirror after a batch
 
   ahead_after : (s t : S) (l : MemorySpace) (batch : List BatchChange) → IsMirrorAhead g s l batch → Making {T = Unit {0}} g s t batch (Ok tt) → IsMirrorAhead g t l []
   ahead_after s t l batch h made = record {
@@ -71,7 +72,7 @@ module _ {S : Type 0} (g : Ghosts S) where
     base = λ sound. let it = h.base (made.sound sound) in (changed_all batch it.0, made.done sound it.0 it.1.held, tt, it.3);
   }
 
-  -- after a round that was refused one airspace is held, as before
+  -- If the store fails the batch, it still holds one airspace.
   one_left : (s t : S) (l : MemorySpace) (batch : List BatchChange) → IsMirrorAhead g s l batch → Making {T = Unit {0}} g s t batch (Err Unchanged) → HoldsOne g t
   one_left s t l batch h made works sound =
       let it = h.base (made.sound sound) in
@@ -95,13 +96,13 @@ module _ {S : Type 0} (g : Ghosts S) where
   agrees_kept full s t None n p q batch r h there made mirror = absurd (let e = there in cc)
   agrees_kept full s t (Some l) n p q batch r h there made mirror = ahead_kept full s t l n q batch r h made mirror
 
-  -- ---- where there is no list
+  -- ---- without a mirror
 
   not_broken : (b : Bool) → (b ≡ true → ⊥) → b ≡ false
   not_broken true never = absurd (never refl)
   not_broken false never = refl
 
-  -- what is told of a reading that is not to fail
+  -- The result of a read of which only `Broken` is reported.
   abbrev pub told : {T : Type 0} → Result T SpaceFault → Result (Unit {0}) SpaceFault
   told (Ok x) = Ok tt
   told (Err Unchanged) = Ok tt
@@ -148,18 +149,18 @@ module _ {S : Type 0} (g : Ghosts S) where
         → Making g s t [] q
     made_by_reading r q tells reads is = subst (λ x. Making g s t [] x) (sym is) (making_read r tells reads)
 
-  -- where the list that was lost is not made anew
+  -- If the store is only checked and the mirror is not rebuilt, the parts still agree.
   pub agrees_checked : {T : Type 0} (s t : S) (n n' : ℕ) (P : Airspace → T → Type 0) (l : Option MemorySpace) (p : MirrorState) (r : Result T SpaceFault) → MirrorAgrees g s l p [] → l ≡ None
       → ReportsFault n n' (g.is_broken s) (g.is_broken t) r → Reads g.holds g.is_sound g.is_whole s t r P → MirrorAgrees g t l p []
   agrees_checked s t n n' P l p r h none tells reads =
       let before = subst (λ x. MirrorAgrees g s x p []) none h in
       agrees_none t l p none (λ lost. one_read g s t n n' r P tells reads (before.1 lost))
 
-  -- a list that was lost can be made anew
+  -- A mirror that was dropped can be rebuilt.
   pub one_where_lost : (s : S) (l : Option MemorySpace) (p : MirrorState) → MirrorAgrees g s l p [] → l ≡ None → is_dropped p ≡ true → HoldsOne g s
   one_where_lost s l p h none lost = (subst (λ x. MirrorAgrees g s x p []) none h).1 lost
 
-  -- what a store holds that was read whole
+  -- A mirror that is loaded from a store has its content.
   pub ahead_anew : (s t : S) (c : MemorySpace) (n n' : ℕ) → HoldsOne g s → ReportsFault {T = MemorySpace} n n' (g.is_broken s) (g.is_broken t) (Ok c)
       → Reads {T = MemorySpace} g.holds g.is_sound g.is_whole s t (Ok c) (λ a mirror. content_of mirror ≡ a) → IsMirrorAhead g t c []
   ahead_anew s t c n n' one tells reads =
@@ -171,11 +172,11 @@ module _ {S : Type 0} (g : Ghosts S) where
             (it.0, record { held = reads.stays sound it.0 it.1.held; only = λ b now. it.1.only b (reads.no_other sound b now) }, tt, reads.answer sound it.0 it.1.held);
       }
 
-  -- where there is no list, no change waits
+  -- Without a mirror, no change is pending.
   pub none_waits : (s : S) (l : Option MemorySpace) (p : MirrorState) (batch : List BatchChange) → l ≡ None → MirrorAgrees g s l p batch → batch ≡ []
   none_waits s l p batch none h = (subst (λ x. MirrorAgrees g s x p batch) none h).0
 
-  -- ---- what is seen then
+  -- ---- the visible airspace afterwards
 
   calm_after : (n : Option MemorySpace) → some_pending (pending (pending_if_mirrored n [])) ≡ false
   calm_after None = refl

@@ -1,4 +1,4 @@
--- Changes wait in a round, and are made together.
+-- Changes are pending in a batch and are applied together.
 use Rattle.std.specs.Prelude.{◌≡◌, ℕ, true, false, List, [], ◌∷◌, ◌++◌, Some, None, Result, Ok, Err, OnOk, OnErr, IfErr, refl}
 use Rattle.std.proofs.Common.{inl, inr, sym, ap, subst, ◌∙◌}
 use Rattle.std.proofs.lemmas.List.Sums.{fold-append}
@@ -16,7 +16,7 @@ use Rattle.space_mirror.specs.Mirrored.{MirrorAgrees, Changing, MirroredModel, H
 use Rattle.space_mirror.specs.declared.mirror_state.MirrorState.{MirrorState}
 use Rattle.space_mirror.proofs.Groups.{ahead_same}
 
--- ---- one more change of a round
+-- ---- one more change of a batch
 
 fits_more : (batch : List BatchChange) (w : BatchChange) (a : Airspace) → FitAll batch a → Fits w.change w.notify.items (changed_all batch a) → FitAll (batch ++ w ∷ []) a
 fits_more [] w a all one = (one, tt)
@@ -26,7 +26,7 @@ fits_less : (batch : List BatchChange) (w : BatchChange) (a : Airspace) → FitA
 fits_less [] w a all = tt
 fits_less (c ∷ cs) w a all = (all.0, fits_less cs w (changed_once c a) all.1)
 
--- a copy of the change and of whom it tells
+-- A copy of the change and of the ids of the subscriptions that it notifies.
 module _ (batch : List BatchChange) (w : BatchChange) (change : Change) (told : List ℕ) (same : w.change ≡ change) (telling : w.notify.items ≡ told) where
   changed_more : (a : Airspace) → changed_all (batch ++ w ∷ []) a ≡ changed change told (changed_all batch a)
   changed_more a =
@@ -37,7 +37,7 @@ module _ (batch : List BatchChange) (w : BatchChange) (change : Change) (told : 
   fits_copied a fits = subst (λ c. Fits c w.notify.items a) (sym same) (subst (λ t. Fits change t a) (sym telling) fits)
 
 module _ {S : Type 0} (g : Ghosts S) where
-  -- ---- a change that is seen, and waits
+  -- ---- a change that is visible and pending
 
   module _ (s : S) (l m : MemorySpace) (batch : List BatchChange) (k k' : ℕ) (change : Change) (told : List ℕ) (h : IsMirrorAhead g s l batch) where
     abbrev old : MirroredModel S
@@ -124,7 +124,7 @@ module _ {S : Type 0} (g : Ghosts S) where
       subst (λ q. Changing {T = Unit {0}} g (mirrored_model s (Some batch) k) (mirrored_model s (Some batch') k') q (changed change told)) (sym is)
       (answered s l m batch k k' change told h batch' r fits r fault more stays counted)
 
-  -- ---- a change that the space makes at once
+  -- ---- a change that the store applies at once
 
   module _ (s t : S) (k k' : ℕ) (change : Airspace → Airspace) where
     abbrev At : S → ℕ → MirroredModel S
@@ -160,7 +160,7 @@ module _ {S : Type 0} (g : Ghosts S) where
   store_changes s t k k' change r r' tells c is counted =
       subst (λ q. Changing {T = Unit {0}} g (mirrored_model s None k) (mirrored_model t None k') q change) (sym is) (alone s t k k' change r tells c counted)
 
-  -- after it the space holds one airspace as before
+  -- After the change, the store still holds one airspace.
   pub one_changed : (s t : S) (change : Airspace → Airspace) (r : Result (Unit {0}) SpaceFault) → ReportsFault (g.refusals s) (g.refusals t) (g.is_broken s) (g.is_broken t) r
       → Changes g.holds g.is_sound g.is_whole (g.is_broken s) s t r change → HoldsOne g s → HoldsOne g t
   one_changed s t change (Ok x) tells c one = λ works sound.
@@ -176,7 +176,7 @@ module _ {S : Type 0} (g : Ghosts S) where
       → MirrorAgrees g t None q batch
   alone_agrees s t p q batch change r h tells c same = (h.0, λ lost. one_changed s t change r tells c (h.1 (sym same ∙ lost)))
 
-  -- a change that the space makes at once fits what it holds
+  -- A change that the store applies at once fits what it holds.
   pub alone_fits : (s : S) (k : ℕ) (change : Change) (told : List ℕ)
       → (IsSoundIn g (mirrored_model s None k) → (a : Airspace) → holds_in g (mirrored_model s None k) a → Fits change told a) → g.is_sound s → (a : Airspace) → g.holds s a → Fits change told a
   alone_fits s k change told fits sound a held =

@@ -1,6 +1,6 @@
--- What is seen of a space whose changes wait is an airspace that may be kept; calls leave what is
--- kept while changes wait; and where none does, it is as its store. Proved, so nothing has to be
--- believed here: a law of an `impl` cites `specs/` alone.
+-- The laws of a mirrored space. Its visible airspace is valid. Calls do not change the durable
+-- airspace while changes are pending. Without pending changes the space is as its store. All of it
+-- is proved. It is in `specs/` because a law of an `impl` can cite only `specs/`.
 use Rattle.std.specs.Prelude.{◌≡◌, ◌||◌, Bool, true, false, List, [], ◌∷◌, Option, Some, None, ◌↔◌, refl}
 use Rattle.std.specs.Coded.{Coded, coded_option}
 use Rattle.std.proofs.Common.{sym, ap, subst, ◌∙◌}
@@ -21,7 +21,7 @@ proper_all (c ∷ cs) a fits proper =
     proper_all cs (changed_once c a) fits.1
     (proper_changed c.change c.notify.items a (can_follow c.change c.notify.items a fits.0) proper)
 
--- of what is held by what another space holds
+-- The visible airspace, given what the store holds.
 module _ (Held : Airspace → Type 0) (batch : List BatchChange) where
   abbrev Seen : Airspace → Type 0
   Seen b = (a : Airspace) × Held a × (b ≡ changed_all batch a)
@@ -38,7 +38,7 @@ module _ (Held : Airspace → Type 0) (batch : List BatchChange) where
   proper_seen b fits proper h =
       subst IsAirspace (sym h.2) (proper_all batch h.0 (fits h.0 h.1) (proper h.0 h.1))
 
--- ---- while changes wait, calls leave the store
+-- ---- while changes are pending, calls do not change the store
 
 same_store_by : {S : Type 0} (x y : S) (p q : Option (List BatchChange))
     → fixed_by y q ≡ fixed_by x p → (some_pending (pending p) || some_pending (pending q)) ≡ true
@@ -68,7 +68,7 @@ module _ {S : Type 0} (Held : S → Airspace → Type 0) where
       let store = same_store c s t same waits in
       ((λ held. subst (λ x. Held x a) (sym store) held), (λ held. subst (λ x. Held x a) store held))
 
-  -- where no change waits, what is seen is what is kept
+  -- If no change is pending, the visible airspace is durable.
   pub seen_is_kept : (k : MirroredModel S) (a : Airspace) → is_pending_in k ≡ false
       → Seen (Held k.store) (pending k.ahead) a ↔ Held k.store a
   seen_is_kept k a calm =
@@ -83,10 +83,10 @@ pub works_while_waiting : {S : Type 0} (is_broken : S → Bool) (c : Coded S) (s
     → is_broken t.store ≡ is_broken s.store
 works_while_waiting is_broken c s t same waits = ap is_broken (same_store c s t same waits)
 
--- ---- where no change waits
+-- ---- without pending changes
 
 module _ {S : Type 0} (g : Ghosts S) where
-  -- it is sound as its store
+  -- A mirrored space is sound if its store is.
   pub sound_as_its_store : (k : MirroredModel S) → is_pending_in k ≡ false → g.is_sound k.store → IsSoundIn g k
   sound_as_its_store k calm sound = record {
     store = sound;
@@ -94,7 +94,7 @@ module _ {S : Type 0} (g : Ghosts S) where
     live = λ waits. absurd (let e : true ≡ false = sym waits ∙ calm in cc);
   }
 
-  -- it holds what its store holds, and no other
+  -- A mirrored space holds what its store holds, and nothing else.
   pub content_of_its_store : (k : MirroredModel S) (a : Airspace) → is_pending_in k ≡ false
       → IsContent g.holds k.store a → IsContent (holds_in g) k a
   content_of_its_store k a calm content = record {

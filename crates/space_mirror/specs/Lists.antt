@@ -1,4 +1,4 @@
--- How a store makes a round, and what becomes of the list.
+-- The effect of a batch on the store and on the mirror.
 use Rattle.std.specs.Prelude.{◌≡◌, Bool, true, false, List, Option, None, Result, Ok, Err, OnOk, IsErrOf, ◌⊎◌, ◌↔◌}
 use Rattle.entity_core.specs.Airspace.{Airspace}
 use Rattle.space_core.specs.declared.batch.BatchChange.{BatchChange}
@@ -9,7 +9,7 @@ use Rattle.space_core.specs.Batch.{changed_all}
 use Rattle.space_core.specs.Space.{IsContent, is_broken_after}
 use Rattle.space_memory.specs.declared.memory.MemorySpace.{MemorySpace}
 
--- What the making of a round tells of a store and leaves of it: all of the round, or none.
+-- Holds if applying a batch has its effects on the store: all of the batch is applied, or nothing.
 pub record Making {S T : Type 0} (g : Ghosts S) (old new : S) (batch : List BatchChange)
     (result : Result T SpaceFault) : Type 0 where
   pub breaks : g.is_broken new ≡ is_broken_after (g.is_broken old) result
@@ -23,8 +23,9 @@ pub record Making {S T : Type 0} (g : Ghosts S) (old new : S) (batch : List Batc
   pub no_other : g.is_sound new → (b : Airspace) → g.holds new b
       → g.holds old b ⊎ ((a : Airspace) × g.holds old a × (b ≡ changed_all batch a))
 
--- What becomes of a list once its store has answered. It stays after `Ok` where it is not full;
--- else it goes, and counts as lost only where the store refused the round and it is not full.
+-- Holds if the mirror is right after the store's result. After `Ok` it stays unless it is full.
+-- Otherwise it is dropped. It can be rebuilt only if the store returned `Unchanged` and the mirror
+-- was not full.
 abbrev pub MirrorStays : {T : Type 0} → (full : Bool) → Result T SpaceFault
     → (mirror mirror' : Option MemorySpace) → (lost' : Bool) → Type 0
 MirrorStays true answer mirror mirror' lost' = (mirror' ≡ None) × (lost' ≡ false)

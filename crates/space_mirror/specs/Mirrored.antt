@@ -1,4 +1,4 @@
--- A space whose changes are seen at once, and made together later.
+-- A space whose changes are visible at once and applied to its store later.
 use Rattle.std.specs.Prelude.{◌≡◌, ℕ, Bool, true, false, List, [], ◌∷◌, Option, Some, None, Result, refl}
 use Rattle.std.specs.Coded.{Coded, code_by, coded×, coded_ℕ, coded_list, coded_option}
 use Rattle.entity_core.specs.Airspace.{Airspace}
@@ -14,11 +14,11 @@ use Rattle.space_memory.specs.Memory.{content_of}
 use Rattle.space_mirror.specs.declared.mirror_state.MirrorState.{MirrorState}
 use Rattle.space_mirror.specs.declared.mirror_state.MirrorState.TheVariants.{Steady, Full, Dropped, RebuildDue}
 
--- what contracts see of it
+-- The model of a mirrored space in contracts.
 pub record MirroredModel (S : Type 0) : Type 0 where
   pub store : S
-  -- Where there is a list: the changes that are seen and that the store has not made, the oldest
-  -- first. Where there is none, the store makes each change at once.
+  -- With a mirror: the changes that are visible and that the store has not applied, the oldest
+  -- first. Without a mirror, the store applies each change at once.
   pub ahead : Option (List BatchChange)
   pub refusals : ℕ
 
@@ -32,12 +32,12 @@ group_code {S} store =
     (λ k. (k.store, (k.ahead, k.refusals)))
     (λ p. record { store = p.0; ahead = p.1.0; refusals = p.1.1 }) (λ _. refl)
 
--- how far a list is ahead of its store
+-- The batch by which the mirror is ahead of its store.
 abbrev pub pending_if_mirrored : Option MemorySpace → List BatchChange → Option (List BatchChange)
 pending_if_mirrored None batch = None
 pending_if_mirrored (Some l) batch = Some batch
 
--- the changes that wait
+-- The pending changes.
 abbrev pub pending : Option (List BatchChange) → List BatchChange
 pending None = []
 pending (Some batch) = batch
@@ -49,7 +49,7 @@ some_pending (c ∷ cs) = true
 abbrev pub is_pending_in : {S : Type 0} → MirroredModel S → Bool
 is_pending_in k = some_pending (pending k.ahead)
 
--- What no call changes: that there is no list, or that there is one, and with it the store.
+-- The part that no call changes: whether there is a mirror, and if there is one, the store.
 abbrev pub fixed_by : {S : Type 0} → S → Option (List BatchChange) → Option S
 fixed_by store None = None
 fixed_by store (Some batch) = Some store
@@ -60,15 +60,16 @@ fixed_part k = fixed_by k.store k.ahead
 abbrev pub fixed_in : {S : Type 0} → Coded S → MirroredModel S → Code
 fixed_in store k = (coded_option store).code (fixed_part k)
 
--- what is kept: what its store holds
+-- Holds if the airspace is durable: the store holds it.
 abbrev pub persists_in : {S : Type 0} → Ghosts S → MirroredModel S → Airspace → Type 0
 persists_in g k a = g.holds k.store a
 
--- what is seen: the airspace that the changes that wait make of what is kept
+-- Holds if the airspace is visible: it is a durable airspace after the pending changes.
 abbrev pub holds_in : {S : Type 0} → Ghosts S → MirroredModel S → Airspace → Type 0
 holds_in g k b = (a : Airspace) × g.holds k.store a × (b ≡ changed_all (pending k.ahead) a)
 
--- its store is sound, and the changes that wait fit what that holds and wait for a store that works
+-- Holds if the store is sound and the pending changes fit what it holds. If changes are pending,
+-- the store is not broken.
 pub record IsSoundIn {S : Type 0} (g : Ghosts S) (k : MirroredModel S) : Type 0 where
   pub store : g.is_sound k.store
   pub fits : (a : Airspace) → g.holds k.store a → FitAll (pending k.ahead) a
@@ -77,7 +78,8 @@ pub record IsSoundIn {S : Type 0} (g : Ghosts S) (k : MirroredModel S) : Type 0 
 abbrev pub is_whole_in : {S : Type 0} → Ghosts S → MirroredModel S → Type 0
 is_whole_in g k = g.is_whole k.store
 
--- The space works, and holds one airspace that a round fits; the list has what comes of that.
+-- Holds if the store is not broken and holds one airspace, which the batch fits, and the mirror has
+-- the result of the batch.
 pub record IsMirrorAhead {S : Type 0} (g : Ghosts S) (s : S) (l : MemorySpace) (batch : List BatchChange)
     : Type 0 where
   pub live : g.is_broken s ≡ false
@@ -85,33 +87,33 @@ pub record IsMirrorAhead {S : Type 0} (g : Ghosts S) (s : S) (l : MemorySpace) (
       → (a : Airspace) × IsContent g.holds s a × FitAll batch a
       × (content_of l ≡ changed_all batch a)
 
--- whether a list had no memory for a change
+-- True if the mirror ran out of memory for a change.
 abbrev pub is_full : MirrorState → Bool
 is_full Steady = false
 is_full Full = true
 is_full Dropped = false
 is_full RebuildDue = false
 
--- whether a list was dropped with a round that was refused
+-- True if the mirror was dropped because its batch failed.
 abbrev pub is_dropped : MirrorState → Bool
 is_dropped Steady = false
 is_dropped Full = false
 is_dropped Dropped = true
 is_dropped RebuildDue = true
 
--- while it works, the space holds one airspace
+-- Holds if the store holds one airspace, unless it is broken.
 abbrev pub HoldsOne : {S : Type 0} → Ghosts S → S → Type 0
 HoldsOne g s =
     g.is_broken s ≡ false → g.is_sound s → (a : Airspace) × IsContent g.holds s a
 
--- Where there is a list, it is ahead of the space by a round. Where there is none, no change waits;
--- and where it was lost, it can be made anew of the one airspace that the space holds.
+-- Holds if a mirror is ahead of the store by the batch. Without a mirror, no change is pending. If
+-- the mirror was dropped, it can be rebuilt from the one airspace that the store holds.
 abbrev pub MirrorAgrees : {S : Type 0} → Ghosts S → S → Option MemorySpace → MirrorState → List BatchChange
     → Type 0
 MirrorAgrees g s None state batch = (batch ≡ []) × (is_dropped state ≡ true → HoldsOne g s)
 MirrorAgrees g s (Some l) state batch = IsMirrorAhead g s l batch
 
--- what a call that reads tells and leaves
+-- Holds if a call that reads has its results and effects.
 pub record Reading {S T : Type 0} (g : Ghosts S) (old new : MirroredModel S) (result : Result T SpaceFault)
     (P : Airspace → T → Type 0) : Type 0 where
   pub fixed : fixed_part new ≡ fixed_part old
@@ -119,7 +121,7 @@ pub record Reading {S T : Type 0} (g : Ghosts S) (old new : MirroredModel S) (re
       result
   pub reads : Reads (holds_in g) (IsSoundIn g) (is_whole_in g) old new result P
 
--- the same of a call by parts, whatever they agreed on, and they still agree
+-- The same for the parts of a mirrored space: if they agree before the call, they agree after it.
 abbrev pub ReadsParts : {S T : Type 0} → Ghosts S → (store store' : S)
     → (mirror mirror' : Option MemorySpace) → (refusals refusals' : ℕ) → Result T SpaceFault
     → (Airspace → T → Type 0) → Type 0
@@ -129,7 +131,7 @@ ReadsParts g store store' mirror mirror' refusals refusals' result P =
     × Reading g (mirrored_model store (pending_if_mirrored mirror batch) refusals)
     (mirrored_model store' (pending_if_mirrored mirror' batch) refusals') result P
 
--- what a call that changes tells and leaves
+-- Holds if a call that changes has its results and effects.
 pub record Changing {S T : Type 0} (g : Ghosts S) (old new : MirroredModel S) (result : Result T SpaceFault)
     (change : Airspace → Airspace) : Type 0 where
   pub fixed : fixed_part new ≡ fixed_part old
@@ -138,7 +140,7 @@ pub record Changing {S T : Type 0} (g : Ghosts S) (old new : MirroredModel S) (r
   pub changes : Changes (holds_in g) (IsSoundIn g) (is_whole_in g) (g.is_broken old.store)
       old new result change
 
--- what the keeping of the changes that wait tells and leaves
+-- Holds if a commit has its results and effects.
 pub record BatchCommit {S T : Type 0} (g : Ghosts S) (old new : MirroredModel S) (result : Result T SpaceFault)
     : Type 0 where
   pub tells : ReportsFault old.refusals new.refusals (g.is_broken old.store) (g.is_broken new.store)

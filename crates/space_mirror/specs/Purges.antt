@@ -1,4 +1,4 @@
--- How a group lets go of what has ended.
+-- The effect of a purge on a mirrored space.
 use Rattle.std.specs.Prelude.{◌≡◌, true, List, Option, Some, None, Result, Ok, Err, IsErrOf}
 use Rattle.entity_purge.specs.PurgeItem.{without_items}
 use Rattle.entity_purge.specs.declared.purge_item.PurgeItem.{PurgeItem}
@@ -10,7 +10,7 @@ use Rattle.space_memory.specs.declared.memory.MemorySpace.{MemorySpace}
 use Rattle.space_memory.specs.Memory.{content_of}
 use Rattle.space_mirror.specs.Mirrored.{MirroredModel, IsSoundIn, holds_in, is_whole_in, is_pending_in}
 
--- what a call that lets go tells and leaves
+-- Holds if a purge has its results and effects.
 pub record MirrorPurgeEffect {S T : Type 0} (g : Ghosts S) (old new : MirroredModel S) (result : Result T SpaceFault)
     (gone : List PurgeItem) : Type 0 where
   pub tells : ReportsFault old.refusals new.refusals (g.is_broken old.store) (g.is_broken new.store)
@@ -19,22 +19,21 @@ pub record MirrorPurgeEffect {S T : Type 0} (g : Ghosts S) (old new : MirroredMo
       old new result (without_items gone)
   pub waits : is_pending_in new ≡ is_pending_in old
 
--- A list, where there is one, has let go.
+-- Holds if the mirror, if any, has purged the items.
 abbrev pub HasPurged : List PurgeItem → (mirror mirror' : Option MemorySpace) → Type 0
 HasPurged gone None mirror' = mirror' ≡ None
 HasPurged gone (Some l) mirror' =
     (m : MemorySpace) × (mirror' ≡ Some m) × (content_of m ≡ without_items gone (content_of l))
 
--- What becomes of a list once its store has answered: it lets go after `Ok`, stays after
--- `Unchanged`, and goes after `Broken`.
+-- Holds if the mirror follows the store's result. After `Ok` it has purged the items, after
+-- `Unchanged` it stays, and after `Broken` it is dropped.
 abbrev pub MirrorFollows : {T : Type 0} → List PurgeItem → Result T SpaceFault
     → (mirror mirror' : Option MemorySpace) → Type 0
 MirrorFollows gone (Ok x) mirror mirror' = HasPurged gone mirror mirror'
 MirrorFollows gone (Err Unchanged) mirror mirror' = mirror' ≡ mirror
 MirrorFollows gone (Err Broken) mirror mirror' = mirror' ≡ None
 
--- What is left of a store that was only asked whether it is broken: the answer is that it is, or
--- that nothing can be told.
+-- Holds if a call only reads whether the store is broken: it returns `Broken` or `Unchanged`.
 pub record CannotSay {S T : Type 0} (g : Ghosts S) (old new : S) (result : Result T SpaceFault)
     : Type 0 where
   pub breaks : g.is_broken new ≡ is_broken_after (g.is_broken old) result

@@ -1,4 +1,4 @@
-//! A change is seen at once, and waits; and those that wait are made together.
+//! Applying changes to the mirror and committing them to the store.
 ghost use Rattle.std.specs.Prelude.{◌≡◌, ◌<◌, ◌||◌, [], ◌∷◌, ◌++◌, None, IsSome, IfErr, OnErr};
 ghost use Rattle.std.specs.Prelude.{IfOk, OnOk, is_err, vec_capacity, vec_len};
 ghost use Rattle.entity_core.specs.Airspace.{Airspace};
@@ -20,7 +20,7 @@ use space_memory::memory::MemorySpace;
 use space_memory::to_memory::ToMemory;
 use std::alloc::{AllocError, Global};
 
-// A copy of a change, for which the round has room.
+// Returns a copy of a change, and reserves room for it in the batch.
 fn copied_change(
     alloc: Global,
     batch: &mut Vec<BatchChange>,
@@ -39,7 +39,7 @@ fn copied_change(
     })
 }
 
-// The list makes a change that is to wait in the round; or neither is as for want of memory.
+// Applies a change to the mirror and appends it to the batch. Does neither if memory runs out.
 fn enqueue(
     alloc: Global,
     mirror: &mut MemorySpace,
@@ -67,7 +67,7 @@ fn enqueue(
     }
 }
 
-// A list that had no memory for a change is full.
+// Records that the mirror is full if it ran out of memory for a change.
 fn note_full(state: &mut MirrorState, answer: &Result<(), SpaceFault>)
     ensures { is_full state.new ≡ is_full state.old || is_err answer.now }
 {
@@ -76,7 +76,7 @@ fn note_full(state: &mut MirrorState, answer: &Result<(), SpaceFault>)
     }
 }
 
-// A list that was lost is due once the store has made a change.
+// Records that a dropped mirror is due to be rebuilt once the store has applied a change.
 fn note_made(state: &mut MirrorState, answer: &Result<(), SpaceFault>)
     ensures { is_dropped state.new ≡ is_dropped state.old }
 {
@@ -85,8 +85,11 @@ fn note_made(state: &mut MirrorState, answer: &Result<(), SpaceFault>)
     }
 }
 
-/// The change is seen, and waits where there is a list; else the store makes it. A list that has no
-/// memory for it is noted as full, and one that was lost as due where the store has made it.
+/// Applies a change to the mirror, where it is visible and pending. Without a mirror, the store
+/// applies it at once.
+///
+/// If memory runs out, records that the mirror is full. If the store applies a change, records that
+/// a dropped mirror is due to be rebuilt.
 pub(crate) fn apply<S: Space>(
     alloc: Global,
     store: &mut S,
@@ -121,8 +124,8 @@ pub(crate) fn apply<S: Space>(
     }
 }
 
-// A list is kept after `Ok` where it is not full. One that is ahead of a store that refused is
-// lost.
+// Keeps the mirror after `Ok`, unless it is full. If the store returned `Unchanged`, drops the
+// mirror so that it can be rebuilt.
 fn keep_or_drop_mirror(
     mirror: &mut Option<MemorySpace>,
     state: &mut MirrorState,
@@ -139,7 +142,7 @@ fn keep_or_drop_mirror(
     *mirror = None;
 }
 
-// The store makes all changes of the round, or none. The list stays where it is what the store
+// Makes the store apply all changes of the batch, or none. The mirror stays if it is what the store
 // holds then.
 fn commit_batch<S: ApplyBatch>(
     store: &mut S,
@@ -157,7 +160,7 @@ fn commit_batch<S: ApplyBatch>(
     answer
 }
 
-// Whether the store is broken, where there is no list.
+// Returns `Broken` if the store is broken, and `Ok` otherwise. There is no mirror.
 fn check_store<S: Space>(
     store: &mut S,
     mirror: &Option<MemorySpace>,
@@ -174,8 +177,7 @@ fn check_store<S: Space>(
     }
 }
 
-// What the store holds, in a list that is made anew where there is memory for it. It says no more
-// than whether the store is broken.
+// Rebuilds the mirror from the store if there is memory for it. Fails only if the store is broken.
 fn rebuild_mirror<S: ToMemory>(
     alloc: Global,
     store: &mut S,
@@ -196,7 +198,7 @@ fn rebuild_mirror<S: ToMemory>(
     }
 }
 
-// Where there is no list no change waits. A list that is due is made anew.
+// Rebuilds the mirror if that is due. Without a mirror, no change is pending.
 fn rebuild_if_due<S: ToMemory>(
     alloc: Global,
     store: &mut S,
@@ -217,8 +219,7 @@ fn rebuild_if_due<S: ToMemory>(
     }
 }
 
-// The changes that wait are made where there is a list, and what is lost is made anew where it is
-// due.
+// Commits the batch if there is a mirror, and otherwise rebuilds the mirror if that is due.
 fn commit_or_rebuild<S: ApplyBatch + ToMemory>(
     alloc: Global,
     store: &mut S,
@@ -237,10 +238,12 @@ fn commit_or_rebuild<S: ApplyBatch + ToMemory>(
     }
 }
 
-/// The store makes all changes that wait, or none of them, and none waits any more. A list that is
-/// full is given up, and one that is ahead of a store that refused is dropped. That one is made
-/// anew by the first `commit` after the store has made a change, so that it costs nothing while the
-/// store refuses all; where memory lacks for it, it is given up too.
+/// Commits all pending changes to the store, or none.
+///
+/// Drops a mirror that is full, for good. If the store returns `Unchanged` for the batch, drops the
+/// mirror, and rebuilds it in the first `commit` after the store has applied a change. So it costs
+/// nothing to rebuild while every change fails. If memory runs out for it, the mirror stays dropped
+/// for good.
 pub(crate) fn commit<S: ApplyBatch + ToMemory>(
     alloc: Global,
     store: &mut S,

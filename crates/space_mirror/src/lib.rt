@@ -1,4 +1,5 @@
-//! A space whose changes are seen at once in memory, and made together in its store.
+//! A space with an in-memory mirror. Changes are visible in the mirror at once and committed to its
+//! store in batches.
 #![tactic(auto)]
 
 mod changes;

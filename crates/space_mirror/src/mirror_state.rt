@@ -1,15 +1,15 @@
-//! What is known of the list beyond what it holds.
+//! The state of the mirror apart from its content.
 
-/// What the next `settle` has to see to, beside the changes that wait.
+/// The work that the next `commit` has to do besides the pending changes.
 #[derive(Clone, Copy, Debug)]
 pub(crate) enum MirrorState {
-    /// Nothing: the list stays, or there is none for good.
+    /// None: the mirror stays, or there is none for good.
     Steady,
-    /// The list had no memory for a change, and is given up.
+    /// The mirror ran out of memory for a change and is dropped for good.
     Full,
-    /// The list was dropped with a round that was refused, and no change was made since.
+    /// The mirror was dropped because its batch failed, and the store has applied no change since.
     Dropped,
-    /// The list was dropped with a round that was refused, and a change was made since: it is made
-    /// anew.
+    /// The mirror was dropped because its batch failed, and the store has applied a change since.
+    /// The next `commit` rebuilds the mirror.
     RebuildDue,
 }

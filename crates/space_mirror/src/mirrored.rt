@@ -1,4 +1,4 @@
-//! A space whose changes are seen at once, and made together when it is told to.
+//! A space with an in-memory mirror, which commits its changes in batches.
 ghost use Rattle.std.specs.Prelude.{◌≡◌, [], Some, None};
 ghost use Rattle.space_mirror.specs.Mirrored.{IsMirrorAhead, IsSoundIn, mirrored_model};
 
@@ -25,17 +25,18 @@ use space_snapshot::snapshot::{NoMirror, Snapshot, SnapshotSource};
 use std::alloc::Global;
 use std::marker::Model;
 
-/// A space, and a list in memory that is ahead of it by a round of changes, from which it is read.
+/// A storage backend (the store) with an in-memory mirror that is ahead of it by a batch of
+/// changes.
 ///
-/// Its calls see the list: a change is made there, and waits for `settle`, which has the space make
-/// all that wait as one. A crash before that leaves what the space holds, without them. Where the
-/// list has no memory for a call, that is refused as `Unchanged`; where that was a change, the next
-/// `settle` gives the list up, for good. Without a list, calls go to the space alone, each change
-/// at once.
+/// Calls use the mirror. It applies each change, which is pending until `commit` makes the store
+/// apply all pending changes as one. A crash loses pending changes and leaves what the store holds.
+/// If memory runs out in the mirror, the call returns `Unchanged`. If that call was a change, the
+/// next `commit` drops the mirror for good. Without a mirror, calls use only the store, which
+/// applies each change at once.
 ///
-/// Where the space refuses the changes that wait, as on a full disk, the list is dropped. Once the
-/// space has made a change again, the next `settle` reads it whole and makes the list anew; where
-/// memory lacks for that, it is given up for good.
+/// If the store fails to apply the pending changes, for example because the disk is full, the
+/// mirror is dropped. Once the store has applied a change again, the next `commit` loads the store
+/// and rebuilds the mirror. If memory runs out for that, the mirror stays dropped for good.
 #[derive(Drop)]
 pub struct Mirrored<S: ApplyBatch + ToMemory> {
     store: S,
@@ -63,7 +64,9 @@ impl<S: ApplyBatch + ToMemory> Model for Mirrored<S> {
 }
 
 impl<S: ApplyBatch + ToMemory + Drop> Mirrored<S> {
-    /// A space with a list that holds the same airspace. It has refused nothing, and nothing waits.
+    /// Creates a mirrored space. The mirror must hold the same airspace as the store.
+    ///
+    /// It has no pending changes and has not returned `Unchanged` yet.
     pub fn new(alloc: Global, store: S, mirror: MemorySpace) -> Self
         requires { IsMirrorAhead S.Space store mirror [] }
         ensures { result ≡ mirrored_model store (Some []) 0 }
@@ -78,7 +81,9 @@ impl<S: ApplyBatch + ToMemory + Drop> Mirrored<S> {
         }
     }
 
-    /// A space alone, which makes each change at once. It has refused nothing.
+    /// Creates a space without a mirror. The store applies each change at once.
+    ///
+    /// It has not returned `Unchanged` yet.
     pub fn without_mirror(alloc: Global, store: S) -> Self
         ensures { result ≡ mirrored_model store None 0 }
     {
@@ -92,8 +97,10 @@ impl<S: ApplyBatch + ToMemory + Drop> Mirrored<S> {
         }
     }
 
-    /// The space, without the changes that wait. Where it is sound, the whole was, since the
-    /// changes that wait fit whatever it holds.
+    /// Returns the store, without the pending changes.
+    ///
+    /// If the store is sound, the mirrored space was sound, since the pending changes fit whatever
+    /// the store holds.
     pub fn into_store(self) -> S
         ensures store { result ≡ self.store }
         ensures sound { S.is_sound result → IsSoundIn S.Space self }
@@ -257,14 +264,16 @@ impl<S: ApplyBatch + ToMemory + Drop> Space for Mirrored<S> {
 }
 
 impl<S: ApplyBatch + ToMemory + Drop> SnapshotSource for Mirrored<S> {
-    /// The list, where there is one: with the changes that wait.
+    /// Returns a snapshot of the mirror, if any. It includes the pending changes.
     fn snapshot(&self) -> Result<Snapshot<'_>, NoMirror> {
         snapshot::shown(&self.store, &self.mirror, self.state, &self.batch)
     }
 }
 
 impl<S: ApplyBatch + ToMemory + Purge + Drop> PurgeEnded for Mirrored<S> {
-    /// What the list tells; without one, `Unchanged`.
+    /// Returns what the mirror finds.
+    ///
+    /// Without a mirror, returns `Unchanged`, or `Broken` if the store is broken.
     fn find_ended(&mut self, until: u64, most: usize) -> Result<Vec<PurgeItem>, SpaceFault> {
         purges::ended(
             &mut self.store,

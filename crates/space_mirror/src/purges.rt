@@ -1,4 +1,4 @@
-//! What has ended is told by the list, and is let go of in the store and in the list.
+//! Finding what has ended in the mirror, and purging it in the store and in the mirror.
 ghost use Rattle.std.specs.Prelude.{◌≡◌, true, IfErr, IfOk};
 ghost use Rattle.entity_core.specs.Airspace.{Airspace};
 ghost use Rattle.entity_purge.specs.PurgeItem.{CanPurgeAll, IsPurgeChunk};
@@ -16,7 +16,7 @@ use space_core::space::{Space, SpaceFault};
 use space_memory::memory::MemorySpace;
 use space_purge::purge::Purge;
 
-// What a list tells, where it has memory for it.
+// Returns what the mirror finds. Fails if memory runs out.
 fn ended_in(mirror: &MemorySpace, until: u64, most: usize) -> Result<Vec<PurgeItem>, SpaceFault>
     ensures fault { IfErr result (λ fault. fault ≡ Unchanged) }
     ensures found { IfOk result (λ gone. IsPurgeChunk until most gone.items (content_of mirror.now)) }
@@ -27,7 +27,7 @@ fn ended_in(mirror: &MemorySpace, until: u64, most: usize) -> Result<Vec<PurgeIt
     }
 }
 
-// Without a list it cannot be told what has ended, but whether the store is broken.
+// Returns the fault without a mirror: `Broken` if the store is broken, and `Unchanged` otherwise.
 fn refuse_ended<S: Space>(store: &mut S) -> Result<Vec<PurgeItem>, SpaceFault>
     ensures { CannotSay S.Space store.old store.new result }
 {
@@ -37,8 +37,9 @@ fn refuse_ended<S: Space>(store: &mut S) -> Result<Vec<PurgeItem>, SpaceFault>
     }
 }
 
-/// Some of what has ended, at most so much, where there is a list. A want of memory for it, and
-/// that there is no list, is counted as a refusal.
+/// Returns some items that have ended, at most `most` of them, if there is a mirror.
+///
+/// Returns and counts `Unchanged` if memory runs out or there is no mirror.
 pub(crate) fn ended<S: Space>(
     store: &mut S,
     mirror: &Option<MemorySpace>,
@@ -55,7 +56,7 @@ pub(crate) fn ended<S: Space>(
     }
 }
 
-// The list follows a store that has let go. Where the store broke it is dropped.
+// Makes the mirror follow a purge of the store. Drops it if the store broke.
 fn follow(
     mirror: &mut Option<MemorySpace>,
     state: &mut MirrorState,
@@ -79,7 +80,8 @@ fn follow(
     }
 }
 
-/// The store lets go of these, and the list follows. Where changes wait, that is refused.
+/// Purges these items in the store and then in the mirror. Returns `Unchanged` if changes are
+/// pending.
 pub(crate) fn let_go<S: Purge>(
     store: &mut S,
     mirror: &mut Option<MemorySpace>,

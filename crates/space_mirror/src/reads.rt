@@ -1,4 +1,4 @@
-//! What is asked of the list, where there is one, and else of the store.
+//! Reads from the mirror, or from the store if there is no mirror.
 ghost use Rattle.std.specs.Prelude.{◌≡◌};
 ghost use Rattle.std.specs.FinMap.{get};
 ghost use Rattle.entity_core.specs.Search.{all_in, dependents_in, subscribers_in, subscriptions_in};
@@ -18,7 +18,7 @@ use space_core::met::Met;
 use space_core::space::{Space, SpaceFault};
 use space_memory::memory::MemorySpace;
 
-/// The same answer; where it is `Unchanged`, it is counted.
+/// Returns the result unchanged, and counts it if it is `Unchanged`.
 pub(crate) fn count_refusal<T>(
     refusals: &mut u64,
     answer: Result<T, SpaceFault>,

@@ -1,4 +1,4 @@
-//! What a space with a copy in memory shows.
+//! Snapshots of a mirrored space.
 ghost use Rattle.std.specs.Prelude.{◌≡◌, IfOk};
 ghost use Rattle.entity_core.specs.Airspace.{Airspace};
 ghost use Rattle.entity_maps.specs.Lists.{airspace_of};
@@ -10,7 +10,7 @@ use space_core::space::Space;
 use space_memory::memory::MemorySpace;
 use space_snapshot::snapshot::{NoMirror, Snapshot};
 
-// Why there is no list.
+// Returns the reason why there is no mirror.
 fn why_none(state: MirrorState) -> NoMirror {
     match state {
         MirrorState::Steady | MirrorState::Full => NoMirror::None,
@@ -18,7 +18,7 @@ fn why_none(state: MirrorState) -> NoMirror {
     }
 }
 
-/// The list, where there is one.
+/// Returns a snapshot of the mirror, if any.
 #[tactic(auto, using(crate::proofs::Groups::list_shows))]
 pub(crate) fn shown<'a, S: Space>(
     store: &S,

@@ -1,4 +1,4 @@
-//! The traits of spaces that let go of what has ended.
+//! Traits of storage backends that purge what has ended.
 #![tactic(auto)]
 
 pub mod purge;

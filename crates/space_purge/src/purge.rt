@@ -1,16 +1,19 @@
-//! The trait of spaces that let go of what is there.
+//! The trait of storage backends that purge items.
 ghost use Rattle.entity_purge.specs.PurgeItem.{CanPurgeAll, without_items};
 ghost use Rattle.space_core.specs.Calls.{CallChanges, CallReportsFault, ForEachHeld};
 
 use entity_purge::purge_item::PurgeItem;
 use space_core::space::{Space, SpaceFault};
 
-/// A space that lets go of what is there, without a change of the service: its serial stays, and
-/// nobody is told.
+/// A storage backend that purges items.
+///
+/// A purge is not a change of the service: the serial stays, and no subscription is notified.
 pub trait Purge: Space {
-    /// Lets go of these, one after the other, or of none of them: each is there in what those
-    /// before it leave, and no intent names it. What is held, also after a crash, is the airspace
-    /// before all of them went or the one after.
+    /// Purges all items in order, or none.
+    ///
+    /// Each item must exist in what the previous ones leave, and no intent may reference it. The
+    /// visible airspace, and the one that a crash leaves, is the airspace before the purge or after
+    /// it.
     fn purge(&mut self, gone: &[PurgeItem]) -> Result<(), SpaceFault>
         requires can { ForEachHeld Self.Space self.old (CanPurgeAll gone.now) }
         ensures tells { CallReportsFault Self.Space self.old self.new result }

@@ -1,4 +1,4 @@
-//! The trait of spaces that find what has ended and let go of it.
+//! The trait of storage backends that find and purge what has ended.
 ghost use Rattle.std.specs.Prelude.{◌≡◌};
 ghost use Rattle.entity_purge.specs.PurgeItem.{CanPurgeAll, IsPurgeChunk, without_items};
 ghost use Rattle.space_core.specs.Calls.{CallChanges, CallReads, CallReportsFault, ForEachHeld};
@@ -7,11 +7,13 @@ use entity_purge::purge_item::PurgeItem;
 use space_core::group_commit::GroupCommit;
 use space_core::space::SpaceFault;
 
-/// A space of which what has ended goes, piece by piece, while no change waits.
+/// A storage backend that purges what has ended in chunks, while no change is pending.
 pub trait PurgeEnded: GroupCommit {
-    /// Some of what a sweep until a moment takes, at most so many. There is none only where nothing
-    /// is left that goes. It reads as any other call does; where it cannot be told what has ended,
-    /// as where there is no copy in memory, it answers `Unchanged`.
+    /// Returns some items that a purge up to a time removes, at most `most` of them.
+    ///
+    /// Returns no item only if nothing remains to purge or `most` is 0. Reads as any other call
+    /// does. Returns `Unchanged` if the space cannot tell what has ended, for example without an
+    /// in-memory mirror.
     fn find_ended(&mut self, until: u64, most: usize) -> Result<Vec<PurgeItem>, SpaceFault>
         ensures fixed { Self.Space.fixed self.new ≡ Self.Space.fixed self.old }
         ensures tells { CallReportsFault Self.Space self.old self.new result }
@@ -19,9 +21,11 @@ pub trait PurgeEnded: GroupCommit {
             (λ a gone. IsPurgeChunk until most gone.items a) }
         ensures waits { Self.GroupCommit.is_pending self.new ≡ Self.GroupCommit.is_pending self.old };
 
-    /// Lets go of these, or of none of them: each is there in what those before it leave, and no
-    /// intent names it. The serial stays and nobody is told. Where changes wait it answers
-    /// `Unchanged`; else what is left is kept at once.
+    /// Purges all items in order, or none.
+    ///
+    /// Each item must exist in what the previous ones leave, and no intent may reference it. The
+    /// serial stays, and no subscription is notified. Returns `Unchanged` if changes are pending.
+    /// Otherwise the result is durable at once.
     fn purge(&mut self, gone: &[PurgeItem]) -> Result<(), SpaceFault>
         requires can { ForEachHeld Self.Space self.old (CanPurgeAll gone.now) }
         ensures tells { CallReportsFault Self.Space self.old self.new result }

@@ -1,4 +1,4 @@
--- What a bounded space tells and leaves.
+-- The results and effects of the calls of a space with quotas.
 use Rattle.std.proofs.Common.{inl, inr, ap, subst, ◌∙◌, arith}
 use Rattle.std.specs.Prelude.{◌≡◌, ◌+◌, ℕ, Bool, true, List, Result, Ok, Err, OnOk, min, refl}
 use Rattle.entity_core.specs.Airspace.{Airspace}
@@ -9,7 +9,7 @@ use Rattle.space_core.specs.declared.space.SpaceFault.TheVariants.{Unchanged, Br
 use Rattle.space_core.specs.Space.{Changes, Fits, IsContent, Reads, ReportsFault, changed, max_count, refusals_after}
 use Rattle.space_quota.specs.QuotaSpace.{Applying, QuotaModel, IsPut, quota_model, refusals_in}
 
--- one more, inside and in all
+-- Adding one to the inner count or to the total gives the same total.
 more_inside : (n k : ℕ) → min (min (n + 1) max_count + k) max_count ≡ min (min (n + k) max_count + 1) max_count
 more_inside n k = omega arith
 
@@ -17,7 +17,7 @@ pub more_over : (n k : ℕ) → min (n + min (k + 1) max_count) max_count ≡ mi
 more_over n k = omega arith
 
 module _ {S : Type 0} (g : Ghosts S) where
-  -- what a call of the space inside counts is counted in all
+  -- An `Unchanged` result that the inner space counts is counted in the total.
   pub counted_inside : {T : Type 0} (s t : S) (k : ℕ) (b c : Bool) (r : Result T SpaceFault) → g.refusals t ≡ refusals_after (g.refusals s) r
       → refusals_in g (quota_model t k c) ≡ refusals_after (refusals_in g (quota_model s k b)) r
   counted_inside s t k b c (Ok x) h = ap (λ n. min (n + k) max_count) h
@@ -49,7 +49,8 @@ module _ {S : Type 0} (g : Ghosts S) where
     made s t (Ok x) done = λ a held. record { held = (done a held).held; only = (done a held).only }
     made s t (Err e) done = tt
 
-    -- a change that the space inside is asked for at once
+    -- A change that the inner space applies at once has the results and effects of a change with
+    -- quotas.
     pub asked : (s t : S) (r : Result (Unit {0}) SpaceFault) → g.fixed t ≡ g.fixed s → ReportsFault (g.refusals s) (g.refusals t) (g.is_broken s) (g.is_broken t) r
         → Changes g.holds g.is_sound g.is_whole (g.is_broken s) s t r (changed change told) → Makes (At s) (At t) r
     asked s t r fixed tells c = record {
@@ -67,7 +68,7 @@ module _ {S : Type 0} (g : Ghosts S) where
       puts = λ e. refl;
     }
 
-    -- a reading before the change that is not answered
+    -- The same holds if reading the replaced item fails and the change is not applied.
     pub unread : {X : Type 0} (s m : S) (e : SpaceFault) → g.fixed m ≡ g.fixed s → ReportsFault {T = X} (g.refusals s) (g.refusals m) (g.is_broken s) (g.is_broken m) (Err e)
         → Reads {T = X} g.holds g.is_sound g.is_whole s m (Err e) (λ _ _. Unit {0}) → Makes (At s) (At m) (Err e)
     unread s m Unchanged fixed tells reads = record {
@@ -101,7 +102,7 @@ module _ {S : Type 0} (g : Ghosts S) where
 
     module _ {X : Type 0} (x : X) (s m : S) (same : g.fixed m ≡ g.fixed s) (told_so : ReportsFault {T = X} (g.refusals s) (g.refusals m) (g.is_broken s) (g.is_broken m) (Ok x))
         (reads : Reads {T = X} g.holds g.is_sound g.is_whole s m (Ok x) (λ _ _. Unit {0})) where
-      -- it was read, and the space inside is not asked for the change
+      -- The same holds if the replaced item was read and the put would exceed the quota.
       pub refused_over : b ≡ true → IsPut change → Makes (At s) (quota_model m (min (k + 1) max_count) b) (Err Unchanged)
       refused_over is_bounded is_put = record {
         fixed = same;
@@ -122,7 +123,7 @@ module _ {S : Type 0} (g : Ghosts S) where
         puts = λ not. absurd (not is_put);
       }
 
-      -- it was read, and the space inside is asked for the change
+      -- The same holds if the replaced item was read and the inner space applies the change.
       pub fits_read : (g.is_sound s → (a : Airspace) → g.holds s a → Fits change told a) → g.is_sound m → (a : Airspace) → g.holds m a → Fits change told a
       fits_read fits sound a held = fits (reads.sound sound) a (reads.no_other sound a held)
 

@@ -1,4 +1,4 @@
--- What a bounded space tells and leaves where it lets go.
+-- The results and effects of purges in a space with quotas.
 use Rattle.std.proofs.Common.{inl, ap, ◌∙◌}
 use Rattle.std.specs.Prelude.{◌≡◌, ◌+◌, ℕ, Bool, List, Result, Ok, Err, OnOk, min, refl}
 use Rattle.entity_core.specs.Airspace.{Airspace}
@@ -26,7 +26,7 @@ module _ {S : Type 0} (g : Ghosts S) (k : ℕ) (b : Bool) (gone : List PurgeItem
   left s t (Ok x) done = λ a held. record { held = (done a held).held; only = (done a held).only }
   left s t (Err e) done = tt
 
-  -- the space inside lets go
+  -- A purge that the inner space does has the results and effects of a purge with quotas.
   pub goes_inside : (s t : S) (r : Result (Unit {0}) SpaceFault) → ReportsFault (g.refusals s) (g.refusals t) (g.is_broken s) (g.is_broken t) r
       → Changes g.holds g.is_sound g.is_whole (g.is_broken s) s t r (without_items gone) → Goes (At s) (At t) r
   goes_inside s t r tells c = record {
@@ -41,7 +41,7 @@ module _ {S : Type 0} (g : Ghosts S) (k : ℕ) (b : Bool) (gone : List PurgeItem
     };
   }
 
-  -- it is asked what has ended, and does not answer
+  -- The same holds if the inner space fails to find what has ended and nothing is purged.
   pub stays_untold : {X : Type 0} (s m : S) (P : Airspace → X → Type 0) (e : SpaceFault) → ReportsFault {T = X} (g.refusals s) (g.refusals m) (g.is_broken s) (g.is_broken m) (Err e)
       → Reads {T = X} g.holds g.is_sound g.is_whole s m (Err e) P → Goes (At s) (At m) (Err e)
   stays_untold s m P Unchanged tells reads = record {
@@ -67,7 +67,7 @@ module _ {S : Type 0} (g : Ghosts S) (k : ℕ) (b : Bool) (gone : List PurgeItem
     };
   }
 
-  -- it answers, and is not asked to let go
+  -- The same holds if the inner space can find what has ended and nothing is purged.
   pub stays_told : {X : Type 0} (s m : S) (P : Airspace → X → Type 0) (x : X) (k' : ℕ) → k' ≡ min (k + 1) max_count → ReportsFault {T = X} (g.refusals s) (g.refusals m) (g.is_broken s) (g.is_broken m) (Ok x)
       → Reads {T = X} g.holds g.is_sound g.is_whole s m (Ok x) P → Goes (At s) (quota_model m k' b) (Err Unchanged)
   stays_told s m P x k' more tells reads = record {

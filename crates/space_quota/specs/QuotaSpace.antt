@@ -1,4 +1,4 @@
--- A space that keeps no more of a supplier than it may.
+-- A space that enforces a quota for each USS.
 use Rattle.std.specs.Prelude.{◌≡◌, ℕ, ◌+◌, ◌*◌, ◌≤◌, Bool, true, false, List, Option, Some, None, Result, min, ◌⊎◌, refl}
 use Rattle.std.specs.Coded.{Coded, code_by, coded×, coded_ℕ, coded_bool}
 use Rattle.entity_purge.specs.PurgeItem.{without_items}
@@ -10,27 +10,28 @@ use Rattle.space_core.specs.declared.space.SpaceFault.{SpaceFault}
 use Rattle.space_core.specs.Space.{Changes, ReportsFault, changed, max_count}
 use Rattle.space_quota.specs.declared.usage.Usage.{Usage}
 
--- ---- how much is kept
+-- ---- usage
 
--- so many cells go with so many entities and subscriptions
+-- The quota of cells, given the quota of entities and subscriptions.
 abbrev pub max_cells : ℕ → ℕ
 max_cells most = most * 64
 
--- a count is at most its bound, or no more than before
+-- Holds if a count is at most its quota or at most its previous value.
 abbrev pub IsWithinQuota : ℕ → ℕ → ℕ → Type 0
 IsWithinQuota most before after = (after ≤ most) ⊎ (after ≤ before)
 
--- neither count is over its bound and over what it was
+-- Holds if each count is at most its quota or at most its previous value.
 pub record IsWithin (most : ℕ) (before after : Usage) : Type 0 where
   pub things : IsWithinQuota most before.things after.things
   pub cells : IsWithinQuota (max_cells most) before.cells after.cells
 
 -- ---- the space
 
--- what contracts see of it
+-- The model of a space with quotas in contracts.
 pub record QuotaModel (S : Type 0) : Type 0 where
   pub space : S
-  -- how many changes it refused that the space inside was not asked for
+  -- The number of `Unchanged` results for changes and purges that were not passed to the inner
+  -- space.
   pub over : ℕ
   pub is_bounded : Bool
 
@@ -48,11 +49,11 @@ abbrev pub is_some : {X : Type 0} → Option X → Bool
 is_some (Some x) = true
 is_some None = false
 
--- the refusals of the space inside and its own
+-- The number of `Unchanged` results: those of the inner space plus its own.
 abbrev pub refusals_in : {S : Type 0} → Ghosts S → QuotaModel S → ℕ
 refusals_in g s = min (g.refusals s.space + s.over) max_count
 
--- a change that puts something
+-- Holds for changes that put an entity or a subscription.
 abbrev pub IsPut : Change → Type 0
 IsPut (Put e) = Unit {0}
 IsPut (Remove kind id) = ⊥
@@ -60,7 +61,7 @@ IsPut (Avail uss availability version) = ⊥
 IsPut (PutSub s) = Unit {0}
 IsPut (RemoveSub id) = ⊥
 
--- what a call that changes tells and leaves: it refuses puts alone by itself, where it is bounded
+-- Holds if a call that changes has its results and effects. The quota itself fails only puts.
 pub record Applying {S T : Type 0} (g : Ghosts S) (old new : QuotaModel S) (change : Change)
     (told : List ℕ) (result : Result T SpaceFault) : Type 0 where
   pub fixed : g.fixed new.space ≡ g.fixed old.space
@@ -71,7 +72,7 @@ pub record Applying {S T : Type 0} (g : Ghosts S) (old new : QuotaModel S) (chan
   pub unbounded : old.is_bounded ≡ false → new.over ≡ old.over
   pub puts : ¬ IsPut change → new.over ≡ old.over
 
--- what a call that lets go tells and leaves
+-- Holds if a purge has its results and effects.
 pub record QuotaPurgeEffect {S T : Type 0} (g : Ghosts S) (old new : QuotaModel S) (gone : List PurgeItem)
     (result : Result T SpaceFault) : Type 0 where
   pub tells : ReportsFault (refusals_in g old) (refusals_in g new)

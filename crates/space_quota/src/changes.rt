@@ -1,4 +1,4 @@
-//! A change is made where its supplier then has no more than it may.
+//! Applying changes within the quota of their USS.
 ghost use Rattle.std.specs.Prelude.{◌≡◌, true};
 ghost use Rattle.entity_core.specs.Airspace.{Airspace};
 ghost use Rattle.space_core.specs.Space.{Fits, changed};
@@ -35,7 +35,8 @@ fn apply_counted<S: GroupCommit>(
     Ok(())
 }
 
-/// Where nothing is counted, the space makes each change.
+/// Applies a change if its USS stays within its quota. Without a usage table, the space applies
+/// every change.
 pub(crate) fn apply<S: GroupCommit>(
     space: &mut S,
     tally: &mut Option<UsageTable>,

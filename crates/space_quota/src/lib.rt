@@ -1,4 +1,4 @@
-//! A bound on how much a space keeps of each supplier.
+//! Quotas: limits on what a space stores for each USS.
 #![tactic(auto)]
 
 mod changes;

@@ -1,4 +1,4 @@
-//! What is let go of is no longer counted.
+//! Purging items and reducing the usage of their USSs.
 ghost use Rattle.std.specs.Prelude.{◌≡◌, List, true};
 ghost use Rattle.entity_core.specs.Airspace.{Airspace};
 ghost use Rattle.entity_purge.specs.PurgeItem.{CanPurgeAll};
@@ -12,8 +12,8 @@ use space_core::space::SpaceFault;
 use space_purge::purge_ended::PurgeEnded;
 use space_snapshot::snapshot::{Snapshot, SnapshotSource};
 
-// Why nothing goes of a space that does not show what it holds: it is broken, or it cannot be told
-// of whom less would be kept.
+// Returns the fault of a purge if the space has no snapshot: it is broken, or the USSs of the items
+// are unknown.
 fn unseen<S: PurgeEnded>(space: &mut S, over: &mut u64) -> Result<(), SpaceFault>
     ensures going { (gone : List PurgeItem) → QuotaPurgeEffect S.Space (quota_model space.old over.old true)
         (quota_model space.new over.new true) gone result }
@@ -63,8 +63,10 @@ fn let_go_counted<S: PurgeEnded + SnapshotSource>(
     answer
 }
 
-/// The space lets go of these, and less is kept of their suppliers; where changes wait it refuses.
-/// With a tally, nothing goes of a space that does not show what it holds.
+/// Purges these items and reduces the usage of their USSs.
+///
+/// Returns `Unchanged` if changes are pending. With a usage table, purges nothing if the space has
+/// no snapshot.
 pub(crate) fn let_go<S: PurgeEnded + SnapshotSource>(
     space: &mut S,
     tally: &mut Option<UsageTable>,

@@ -1,4 +1,4 @@
-//! A space that keeps no more of a supplier than it may.
+//! A space that enforces a quota for each USS.
 ghost use Rattle.std.specs.Prelude.{◌≡◌, IfOk, false};
 ghost use Rattle.std.specs.FinMap.{get};
 ghost use Rattle.entity_core.specs.Airspace.{Airspace};
@@ -26,17 +26,18 @@ use space_purge::purge_ended::PurgeEnded;
 use space_snapshot::snapshot::{NoMirror, Snapshot, SnapshotSource};
 use std::marker::Model;
 
-/// A space inside, and a tally of what it keeps of each supplier.
+/// A space with an optional table of the usage of each USS.
 ///
-/// What it holds and keeps is what the space inside does. With a tally it refuses, as `Unchanged`,
-/// to put what makes more be kept of its supplier than may be, and more than before. So an update
-/// that keeps no more than before passes, and so does each removal. Without a tally it refuses
-/// nothing by itself.
+/// The visible and the durable airspace are those of the inner space. With a table, it returns
+/// `Unchanged` for a put that would raise the usage of its USS above the quota. An update that does
+/// not raise the usage passes, and so does each removal. Without a table, every change is passed to
+/// the inner space.
 #[derive(Drop)]
 pub struct QuotaSpace<S: GroupCommit> {
     space: S,
     tally: Option<UsageTable>,
-    // How many changes it refused that the space inside was not asked for.
+    // The number of `Unchanged` results for changes and purges that were not passed to the inner
+    // space.
     over: u64,
 }
 
@@ -51,7 +52,9 @@ impl<S: GroupCommit> Model for QuotaSpace<S> {
 }
 
 impl<S: GroupCommit + Drop> QuotaSpace<S> {
-    /// A space with a tally of what it keeps, or with none. It has refused nothing by itself.
+    /// Creates a space with a usage table of its content, or with none.
+    ///
+    /// It has not returned `Unchanged` itself yet.
     pub fn new(space: S, tally: Option<UsageTable>) -> Self
         ensures { result ≡ quota_model space 0 (is_some tally) }
     {
@@ -62,7 +65,7 @@ impl<S: GroupCommit + Drop> QuotaSpace<S> {
         }
     }
 
-    /// The space inside.
+    /// Returns the inner space.
     pub fn into_inner(self) -> S
         ensures { result ≡ self.space }
     {
@@ -166,8 +169,10 @@ impl<S: GroupCommit + Drop> Space for QuotaSpace<S> {
         self.space.serial()
     }
 
-    /// As the space inside, but where there is a tally, a change that puts something may be refused
-    /// without being asked of it.
+    /// Applies a change as the inner space does.
+    ///
+    /// With a usage table, returns `Unchanged` for a put that exceeds the quota and does not call
+    /// the inner space for it.
     fn apply(&mut self, change: Change, notify: &[EntityId]) -> Result<(), SpaceFault>
         requires fits { S.is_sound self.old.space → (a : Airspace) → S.holds self.old.space a
             → Fits change notify.now a }
@@ -191,7 +196,7 @@ impl<S: GroupCommit + Drop> Space for QuotaSpace<S> {
 }
 
 impl<S: GroupCommit + SnapshotSource + Drop> SnapshotSource for QuotaSpace<S> {
-    /// What the space inside shows.
+    /// Returns the snapshot of the inner space.
     fn snapshot(&self) -> Result<Snapshot<'_>, NoMirror> {
         self.space.snapshot()
     }
@@ -202,8 +207,10 @@ impl<S: PurgeEnded + SnapshotSource + Drop> PurgeEnded for QuotaSpace<S> {
         self.space.find_ended(until, most)
     }
 
-    /// As the space inside, and what goes is no longer counted; it is looked up in what the space
-    /// inside shows. Where there is a tally and that shows nothing, nothing goes.
+    /// Purges items as the inner space does, and reduces the usage of their USSs.
+    ///
+    /// Looks up the items in the snapshot of the inner space. With a usage table but without a
+    /// snapshot, purges nothing.
     fn purge(&mut self, gone: &[PurgeItem]) -> Result<(), SpaceFault> {
         purges::let_go(&mut self.space, &mut self.tally, &mut self.over, gone)
     }

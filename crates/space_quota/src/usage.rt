@@ -1,4 +1,4 @@
-//! How much is kept.
+//! Usage: the amount of stored data.
 ghost use Rattle.std.specs.Prelude.{◌↔◌, IsTrue};
 ghost use Rattle.space_quota.specs.QuotaSpace.{IsWithin, max_cells};
 
@@ -6,8 +6,9 @@ use entity_core::entity::Entity;
 use entity_core::subscription::Sub;
 use grid_core::volume::Volume;
 
-/// How much is kept: entities and subscriptions, and the cells of all their volumes. A cell that
-/// stands in two volumes counts twice, since it is kept twice. Counts stay at the greatest number.
+/// The amount of stored data: entities and subscriptions, and the cells of all their volumes.
+///
+/// A cell in two volumes counts twice, since it is stored twice. Counts stop at their maximum.
 #[derive(Clone, Copy, Debug)]
 pub(crate) struct Usage {
     pub things: u64,
@@ -58,8 +59,9 @@ impl Usage {
         }
     }
 
-    /// Whether neither count is over its bound and over what it was before: so many things, and 64
-    /// cells for each of them.
+    /// Returns true if each count is at most its quota or at most its previous value.
+    ///
+    /// The quota is `most` entities and subscriptions, and 64 cells for each of them.
     pub(crate) fn is_within(self, most: u32, before: Usage) -> bool
         ensures { IsTrue result ↔ IsWithin most before self }
     {

@@ -1,4 +1,4 @@
-//! How much is kept of each supplier.
+//! The usage of each USS.
 ghost use Rattle.std.specs.Prelude.{◌≡◌, IsSome};
 ghost use Rattle.space_quota.specs.QuotaSpace.{IsPut};
 
@@ -10,34 +10,36 @@ use entity_maps::subscriptions::Subscriptions;
 use space_core::space::Change;
 use std::alloc::{AllocError, Global};
 
-/// A supplier, and how much is kept of it.
+/// A USS and its usage.
 #[derive(Debug, Drop)]
 struct UssEntry {
     uss: UssId,
-    /// As the calls of the space see it.
+    /// The visible usage.
     now: Usage,
-    /// The same without the changes that wait.
+    /// The usage without the pending changes.
     settled: Usage,
 }
 
-/// How much is kept of each supplier, and how much may be: so many entities and subscriptions, and
-/// 64 cells for each of them. Where memory ran out as it was counted, nothing more is put.
+/// The usage of each USS, and the quota.
+///
+/// The quota is a number of entities and subscriptions, and 64 cells for each of them. If memory
+/// runs out while counting, every put fails.
 #[derive(Debug, Drop)]
 pub struct UsageTable {
     most: u32,
     suppliers: Vec<UssEntry>,
-    // All that is kept was counted.
+    // Whether everything stored was counted.
     is_whole: bool,
 }
 
-/// By how much a change alters what is kept of the suppliers at these places.
+/// The effect of a change on the usage of the USSs at these indexes.
 #[derive(Clone, Copy, Debug)]
 pub(crate) struct UsageDelta {
     taken: Option<(usize, Usage)>,
     given: Option<(usize, Usage)>,
 }
 
-// What is left at a place of what was there, of which some is taken at one.
+// Returns the usage at an index after a part is taken away.
 fn left_at(was: Usage, at: usize, taken: Option<(usize, Usage)>) -> Usage {
     match taken {
         Some((from, size)) => { if from == at { was.without(size) } else { was } }
@@ -46,7 +48,7 @@ fn left_at(was: Usage, at: usize, taken: Option<(usize, Usage)>) -> Usage {
 }
 
 impl UsageTable {
-    /// Nothing is kept, and so many entities and subscriptions may be of each supplier.
+    /// Creates an empty table with this quota of entities and subscriptions for each USS.
     pub fn new(alloc: Global, most: u32) -> UsageTable {
         UsageTable {
             most,
@@ -55,7 +57,7 @@ impl UsageTable {
         }
     }
 
-    /// All of this is kept, too.
+    /// Adds the usage of these entities and subscriptions.
     pub fn count(&mut self, entities: &Entities, subscriptions: &Subscriptions) {
         if self.count_all(entities, subscriptions).is_err() {
             self.disable();
@@ -63,7 +65,7 @@ impl UsageTable {
         self.commit();
     }
 
-    /// What is kept cannot be counted: nothing more is put.
+    /// Disables the table, because the stored data cannot be counted: every put fails from now on.
     pub fn disable(&mut self) {
         self.is_whole = false;
     }
@@ -90,7 +92,7 @@ impl UsageTable {
             .position(|supplier| supplier.uss.is(uss))
     }
 
-    // Where a supplier stands, which is made a place where it has none.
+    // Returns the index of a USS, and adds an entry if it has none.
     fn place(&mut self, uss: &UssId) -> Result<usize, AllocError> {
         if let Some(at) = self.find(uss) {
             return Ok(at);
@@ -123,9 +125,10 @@ impl UsageTable {
         }
     }
 
-    /// The step that a change makes, which takes away what it replaces. `None` where it puts
-    /// something, and its supplier had more than it may and more than before, or memory ran out
-    /// for it or before.
+    /// Returns the effect of a change on the usage, which takes away what the change replaces.
+    ///
+    /// Returns `None` for a put if its USS would exceed both its quota and its previous usage. Also
+    /// returns `None` for a put if memory runs out or the table is disabled.
     pub(crate) fn delta(
         &mut self,
         change: &Change,
@@ -161,7 +164,9 @@ impl UsageTable {
         }
     }
 
-    /// A change was made with this step, and waits or does not.
+    /// Applies the effect of a change that was made.
+    ///
+    /// Commits it unless the change is pending.
     pub(crate) fn apply(&mut self, step: UsageDelta, is_waiting: bool) {
         if let Some((at, size)) = step.taken {
             self.take(at, size);
@@ -174,21 +179,21 @@ impl UsageTable {
         }
     }
 
-    /// So much of a supplier goes.
+    /// Reduces the usage of a USS.
     pub(crate) fn subtract(&mut self, uss: &UssId, size: Usage) {
         if let Some(at) = self.find(uss) {
             self.take(at, size);
         }
     }
 
-    /// What is seen is kept: no change waits any more.
+    /// Commits the visible usage: no change is pending any more.
     pub(crate) fn commit(&mut self) {
         for supplier in self.suppliers.iter_mut() {
             supplier.settled = supplier.now;
         }
     }
 
-    /// The changes that waited were not made.
+    /// Restores the usage without the pending changes, which were not made.
     pub(crate) fn rollback(&mut self) {
         for supplier in self.suppliers.iter_mut() {
             supplier.now = supplier.settled;

@@ -1,4 +1,4 @@
-//! What a change adds to what is kept of a supplier, and what it takes away.
+//! The usage that a change adds and the usage that it takes away.
 ghost use Rattle.std.specs.Prelude.{◌≡◌, None};
 ghost use Rattle.space_core.specs.Space.{Reads, ReportsFault};
 ghost use Rattle.space_quota.specs.QuotaSpace.{IsPut};
@@ -13,7 +13,7 @@ use entity_purge::purge_item::PurgeItem;
 use space_core::space::{Change, Space, SpaceFault};
 use space_snapshot::snapshot::Snapshot;
 
-/// So much of a supplier.
+/// The usage of one item, and its USS.
 #[derive(Debug, Drop)]
 pub(crate) struct UssUsage {
     pub manager: UssId,
@@ -36,14 +36,14 @@ fn part_of_sub(sub: Sub) -> UssUsage {
     }
 }
 
-/// Where a change puts or removes something.
+/// The key of the item that a change puts or removes.
 #[derive(Clone, Copy, Debug)]
 pub(crate) enum ItemKey {
     Entity(Kind, EntityId),
     Sub(EntityId),
 }
 
-/// Where a change puts or removes something, if it does.
+/// Returns the key of the item that a change puts or removes, if any.
 pub(crate) fn item_of(change: &Change) -> Option<ItemKey> {
     match change {
         Change::Put(entity) => Some(ItemKey::Entity(entity.nature.kind(), entity.id)),
@@ -54,7 +54,7 @@ pub(crate) fn item_of(change: &Change) -> Option<ItemKey> {
     }
 }
 
-/// What is kept at a place, if something is.
+/// Returns the usage of the stored item with this key, if it exists.
 pub(crate) fn usage_at<S: Space>(
     space: &mut S,
     place: ItemKey,
@@ -71,7 +71,7 @@ pub(crate) fn usage_at<S: Space>(
     }
 }
 
-/// The supplier of what a change puts, and how much that is.
+/// Returns the USS of the item that a change puts, and its usage.
 pub(crate) fn usage_added(change: &Change) -> Option<(&UssId, Usage)>
     ensures { ¬ IsPut change.now → result ≡ None }
 {
@@ -82,7 +82,7 @@ pub(crate) fn usage_added(change: &Change) -> Option<(&UssId, Usage)>
     }
 }
 
-/// The supplier of what goes, and how much that is, where it is among what is shown.
+/// Returns the USS of an item that is purged, and its usage, if the snapshot has the item.
 pub(crate) fn usage_purged<'a>(
     shown: &Snapshot<'a>,
     thing: PurgeItem,

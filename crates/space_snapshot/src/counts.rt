@@ -1,8 +1,9 @@
-//! How many entities there are of each kind.
+//! The number of entities of each kind.
 use entity_core::nature::Kind;
 
-/// How many entities there are of each kind, counted as they come and go. Counts stay at the
-/// greatest number.
+/// The number of entities of each kind, updated as entities are added and removed.
+///
+/// Counts stop at their maximum.
 #[derive(Clone, Copy, Debug)]
 pub struct EntityCounts {
     intents: u64,
@@ -10,7 +11,7 @@ pub struct EntityCounts {
 }
 
 impl EntityCounts {
-    /// There are none.
+    /// Returns counts of zero.
     pub fn nothing() -> EntityCounts {
         EntityCounts {
             intents: 0,
@@ -18,7 +19,7 @@ impl EntityCounts {
         }
     }
 
-    /// How many there are of a kind.
+    /// Returns the number of entities of a kind.
     pub fn of(self, kind: Kind) -> u64 {
         match kind {
             Kind::Intent => self.intents,
@@ -26,7 +27,7 @@ impl EntityCounts {
         }
     }
 
-    /// One of a kind came.
+    /// Counts one more entity of a kind.
     pub fn add(&mut self, kind: Kind) {
         match kind {
             Kind::Intent => self.intents = self.intents.saturating_add(1),
@@ -34,7 +35,7 @@ impl EntityCounts {
         }
     }
 
-    /// One of a kind went.
+    /// Counts one entity less of a kind.
     pub fn take(&mut self, kind: Kind) {
         match kind {
             Kind::Intent => self.intents = self.intents.saturating_sub(1),

@@ -1,4 +1,4 @@
-//! What a space shows of what it holds, without being changed.
+//! Snapshots: read-only access to the content of a space.
 #![tactic(auto)]
 
 pub mod counts;

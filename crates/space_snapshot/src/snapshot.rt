@@ -1,4 +1,4 @@
-//! The trait of spaces that show what they hold.
+//! The trait of storage backends that offer snapshots.
 ghost use Rattle.std.specs.Prelude.{◌≡◌, IfOk};
 ghost use Rattle.entity_core.specs.Airspace.{Airspace};
 ghost use Rattle.entity_maps.specs.Lists.{airspace_of};
@@ -9,8 +9,8 @@ use entity_maps::entities::Entities;
 use entity_maps::subscriptions::Subscriptions;
 use space_core::space::Space;
 
-/// What is shown: the lists of a copy in memory, which are lent, its serial, and how many entities
-/// it has of each kind.
+/// A snapshot of an in-memory mirror: its maps, borrowed, its serial, and the number of entities of
+/// each kind.
 #[derive(Clone, Copy)]
 pub struct Snapshot<'a> {
     pub entities: &'a Entities,
@@ -20,19 +20,20 @@ pub struct Snapshot<'a> {
     pub counts: EntityCounts,
 }
 
-/// Why there is no copy in memory.
+/// The reason why there is no in-memory mirror.
 #[derive(Clone, Copy, Debug, PartialEq, Eq)]
 pub enum NoMirror {
-    /// There was no memory for one, or the space could not be read for one: none is made any more.
+    /// Memory ran out, or the space could not be read. The mirror is not built again.
     None,
-    /// It was lost with changes that were not kept, and may be made anew.
+    /// The mirror was dropped with changes that were not committed. It can be rebuilt.
     Dropped,
 }
 
-/// A space that shows what it holds.
+/// A storage backend that offers snapshots.
 pub trait SnapshotSource: Space {
-    /// All that calls see of it now, where it has a copy of that in memory. It takes no memory, and
-    /// by `&self` it changes nothing, not even a count of refusals.
+    /// Returns a snapshot of the visible airspace, if the space has an in-memory mirror of it.
+    ///
+    /// Allocates nothing and changes nothing, not even the count of refusals.
     fn snapshot(&self) -> Result<Snapshot<'_>, NoMirror>
         ensures { Self.is_sound self.now → IfOk result (λ shown. (a : Airspace)
             → Self.holds self.now a → a ≡ airspace_of shown.entities.now

@@ -1,13 +1,14 @@
-//! Prints what `grid_core` says of cells, a line for each line of input, to be compared with what
-//! the S2 Geometry library of Google says of them.
+//! Prints what `grid_core` computes for cells, one line for each line of input.
+//!
+//! A test compares the output with that of Google's S2 Geometry library.
 #![tactic(auto)]
 
 use anyhow::{Context, Result};
 use grid_core::cell::CellId;
 use grid_core::token::token;
 
-// What a line asks: of a cell, its parent of a level, its child of a digit, its digit of a level, and
-// whether it contains another.
+// The question of an input line: a cell, the level of a parent, the digit of a child, the level of
+// a digit, and another cell.
 #[derive(Drop)]
 struct Questions {
     cell: CellId,
@@ -36,7 +37,7 @@ fn read(line: &str) -> Option<Questions> {
     })
 }
 
-// A cell's token and place, and its parent.
+// Prints a cell's token, face and level, and its parent.
 fn report_cell(rt: &(impl Print + AllocGlobal), asked: &Questions) -> Result<()> {
     let cell = asked.cell;
     let name = token(rt.alloc(), cell)?;
@@ -47,7 +48,7 @@ fn report_cell(rt: &(impl Print + AllocGlobal), asked: &Questions) -> Result<()>
     Ok(())
 }
 
-// Its child, where there is one, and its first and last leaf.
+// Prints its child, if any, and its first and last leaf.
 fn report_below(rt: &impl Print, asked: &Questions) -> Result<()> {
     let cell = asked.cell;
     if cell.level() < 30 && asked.child <= 3 {
@@ -62,7 +63,7 @@ fn report_below(rt: &impl Print, asked: &Questions) -> Result<()> {
     Ok(())
 }
 
-// Its digit, where there is one, and whether it contains the other.
+// Prints its digit, if any, and whether it contains the other cell.
 fn report_above(rt: &impl Print, asked: &Questions) -> Result<()> {
     let cell = asked.cell;
     if 1 <= asked.place && asked.place <= cell.level() {

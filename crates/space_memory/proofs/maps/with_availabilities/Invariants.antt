@@ -9,7 +9,7 @@ use Rattle.entity_maps.specs.Availabilities.{availability_map}
 use Rattle.space_core.specs.declared.met.Met.{Met}
 use Rattle.space_memory.proofs.maps.with_availabilities.Given as goal
 
--- an entity with what a map has of its manager
+-- An entity with the availability of its manager in a map.
 abbrev met_by : Availabilities → Entity → Met
 met_by m e = record { entity = e; availability = (unwrap_or (get m e.manager) (Unknown, [])).0 }
 

@@ -6,7 +6,7 @@ use Rattle.grid_core.proofs.CellNumber.{IsCell-cell_of, number_of_cell}
 use Rattle.grid_core.proofs.Family.{child_number, IsCell-child_of, makes, Makes}
 use Rattle.grid_core.proofs.cell.CellId.child.Goals as goal
 
--- the parts of the number of a child
+-- The parts of the number of a child.
 record Child (c : Cell) (n w d : ℕ) : Type 0 where
   low : w ≤ n
   fits : n - w + (2 * d + 1) * (w / 4) < 2 ^ 64
