@@ -26,7 +26,7 @@ use Rattle.service_notify.specs.Notices.{alone, notice_at, notices_of, states_at
 use Rattle.service_notify.specs.Told.{IsNotifiedAt, is_url_of, notified_url_at}
 use Rattle.service_notify.specs.declared.notice.Notify.{Notify}
 
--- -- one subscription more
+-- ---- one subscription more
 
 -- The notice at a URL, with one state more.
 abbrev with_state : Notify → ℕ × ℕ → Notify
@@ -140,7 +140,7 @@ module _ (s : Sub) (url : List ℕ) (m n : Tree) (w : Notify) (same : url ≡ s.
       (sym (none_at ss s.url (no_notice ss s.url (ap (notified_url_at ss) (sym same) ∙ (sym (before url) ∙ sym absent))))))
       before
 
--- -- all notices
+-- ---- all notices
 
 abbrev Notes : Type 0
 Notes = List (List ℕ × Notify)
@@ -223,7 +223,7 @@ pub told_all : (ss : List Sub) (m : Tree) → tree.IsOrdered str_cmp m → IsNot
 unfolding urls_of
 told_all ss m o is = values_of_texts m.entries ∙ (ap values_of (told_entries ss m o is) ∙ values_of_notes ss (urls ss))
 
--- -- the list built from the map
+-- ---- the list built from the map
 
 pub none_left : (ns : List Notify) (rest all : List (Bor (List ℕ) × Notify)) → ns ++ values_of rest ≡ values_of all → rest ≡ [] → ns ≡ values_of all
 none_left ns rest all e gone = sym (append-nil ns) ∙ (ap (λ (es : List (Bor (List ℕ) × Notify)). ns ++ values_of es) (sym gone) ∙ e)

@@ -13,7 +13,7 @@ use Rattle.policy_core.specs.declared.call.Operation.{Operation}
 use Rattle.policy_core.specs.declared.call.Operation.TheVariants.{Create, Update, Delete}
 use Rattle.service_notify.specs.declared.notice.Notify.{Notify}
 
--- -- notified subscriptions
+-- ---- notified subscriptions
 
 -- The areas of the old and of the new volumes of an entity.
 abbrev pub touched : List Extent → List Extent → List Region
@@ -44,7 +44,7 @@ with_notified kind areas a = with_notified_subs a (is_for_near kind areas)
 abbrev pub notified_in : Airspace → Kind → List Region → List Sub
 notified_in a kind areas = map notified_again (subscribers_in a.subscriptions kind areas)
 
--- -- notices
+-- ---- notices
 
 -- A URL as a key, without a value.
 abbrev pub alone : List ℕ → List ℕ × Unit {0}

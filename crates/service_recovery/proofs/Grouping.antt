@@ -102,7 +102,7 @@ open_segment_in g c refusals = open_segment (bound_words g refusals (λ k. fixed
 })
 
 module _ {S : Type 0} (g : stores.Ghosts S) (space : Ghosts (MirroredModel (SqlSpaceModel S))) (over : IsOver (words_of g) space) (old new : Service (MirroredModel (SqlSpaceModel S))) where
-  -- -- a call
+  -- ---- a call
 
   -- The airspace of a crash's outcome is one that the space holds.
   seen_in : is_pending_in (space_of new) ≡ false → is_whole_of g (space_of new).store → (db : Trees) → may_leave_of g (space_of new).store db → (b : Airspace) × space.holds (space_of new) b × AreTablesOf db b
@@ -123,7 +123,7 @@ module _ {S : Type 0} (g : stores.Ghosts S) (space : Ghosts (MirroredModel (SqlS
     stays = is.stays.shut;
   }
 
-  -- -- the end of a batch
+  -- ---- the end of a batch
 
   module _ (kept seen : Airspace) (content : IsContent (holds_of g) (space_of old).store kept) (held : space.holds (space_of old) seen) (sound : space.is_sound (space_of new)) (db : Trees) (found : (b : Airspace) × space.holds (space_of new) b × AreTablesOf db b) where
     settled_by : (result : Result (Unit {0}) SpaceFault) → IsCommitted space (waiting_of (words_of g)) old new result → PersistsCommitted kept seen result db

@@ -43,7 +43,7 @@ due_unstopped salt a b (r ∷ rs) goes is =
     let rest : MayHavePersisted salt next rs b = subst (λ x. IfStopped x (MayHaveLeft salt a r b) (MayHavePersisted salt next rs b)) first is in
     due_unstopped salt next b rs (sym (stops_then (replies_delivered r) (all_delivered rs) first) ∙ goes) rest ∙ airspace_then salt a (timed_in r) (replies_delivered r) (all_timed rs) (all_delivered rs) (even_in r) first
 
--- -- segments
+-- ---- segments
 
 pub without_empty_purged : (salt : List ℕ) (a b : Airspace) (segments : List Segment) (batches : List Batch) → MayHavePersistedPurged salt a segments (batches ++ uncommitted [] ∷ []) b → MayHavePersistedPurged salt a segments batches b
 without_empty_purged salt a b [] batches may = without_empty salt a b batches may
@@ -55,8 +55,8 @@ without_empty_purged salt a b (s ∷ ss) batches may =
       | false ↦ λ more. (more.0, more.1, without_empty_purged salt more.0 b ss batches more.2)
     ] may
 
--- If no call of a segment returned `Stopped`, the airspace after it may be followed by the next
--- ones.
+-- If no call of a segment returned `Stopped`, the next segments continue from its airspace, partly
+-- purged.
 going_on : (salt : List ℕ) (a b : Airspace) (s : Segment) (ss : List Segment) (batches : List Batch) → has_stopped (all_delivered s.batches) ≡ false → MayHavePersistedPurged salt a (s ∷ ss) batches b
     → (c : Airspace) × IsPartlyPurged s.until (airspace_after_batches salt a s.batches) c × MayHavePersistedPurged salt c ss batches b
 going_on salt a b s ss batches goes may =
@@ -69,7 +69,7 @@ due_purged salt a b (s ∷ ss) batches goes is =
     let more = going_on salt a b s ss batches first is in
     (more.0, more.1, due_purged salt more.0 b ss batches (sym (stops_then (all_delivered s.batches) (all_delivered_in ss batches) first) ∙ goes) more.2)
 
--- -- batches without calls
+-- ---- batches without calls
 
 none_told : (batches : List Batch) → AreEmpty batches → all_delivered batches ≡ []
 none_told [] empty = refl

@@ -61,9 +61,9 @@ abbrev pub bound_waiting_of : {S : Type 0} → spaces.Ghosts S → settles.Ghost
 bound_waiting_of tables =
     record { persists = λ k a. persists_in tables k.space a; is_pending = λ k. is_pending_in k.space }
 
--- Holds if a crash after a call of a service whose changes can be pending leaves what the reply
--- says, when no change is pending before or after it. If one is, the tables are unchanged by the
--- call, and so is what a crash leaves of them.
+-- Holds if a crash after a call of a service whose changes can be pending leaves what it should. If
+-- no change is pending before and after the call, it leaves what the reply says. Otherwise the call
+-- does not change the tables, nor what a crash leaves of them.
 pub record CrashLeavesGrouped {S : Type 0} (g : Ghosts S) (salt : List ℕ) (now : ℕ)
     (call : Call) (old new : Service (MirroredModel (SqlSpaceModel S))) (reply : Reply) : Type 0 where
   pub alone : is_shut old ≡ false

@@ -45,7 +45,7 @@ module _ {D : Type 0} {g : disk.Ghosts D} (tables : spaces.Ghosts (SqlSpaceModel
     pub calm : is_pending_in (space_of old).space ≡ false
     pub goes : is_shut old ≡ false
 
-  -- Holds if the space is sound when the space over tables in it is, as the contract of
+  -- Holds if the space is sound whenever the space over tables in it is, as the contract of
   -- `Mirrored::into_store` provides.
   abbrev pub IsSoundByStore : QuotaModel (MirroredModel (SqlSpaceModel (FileStore D g))) → Type 0
   IsSoundByStore k = tables.is_sound k.space.store → space.is_sound k

@@ -84,8 +84,9 @@ abbrev pub Continues : Image → Run → Image → Type 0
 Continues before run after =
     (a : Airspace) → StandFor before a → ∥ ((b : Airspace) × MayCome a run b × StandFor after b) ∥₁
 
--- States that a run continues its files: a space was opened over files, a service over it received
--- calls in order, each once, it was abandoned, and a crash left what it may of the files.
+-- States that a run continues its files. A space was opened over files, and a service over it
+-- received calls in order, each once. Then it was abandoned, and a crash left what it may of the
+-- files.
 abbrev pub ContinuesServed : {D : Type 0} {g : disk.Ghosts D}
     → spaces.Ghosts (SqlSpaceModel (FileStore D g)) → Type 0
 ContinuesServed {D} {g} space =
@@ -144,7 +145,7 @@ LifeIsFound {T} again =
     → FindsSpelt after again next → again.is_sound next
     → ∥ ((b : Airspace) × MayComeOfAll a runs b × IsContent again.holds next b) ∥₁
 
--- States that exactly one airspace may follow from a run that purged nothing and in which no call
+-- States that only one airspace may follow from a run that purged nothing and in which no call
 -- returned `Stopped`: the policy's, after all calls that were answered.
 abbrev pub UnstoppedIsExpected : Type 0
 UnstoppedIsExpected =
@@ -160,7 +161,7 @@ IsExpectedAfter salt a (segment ∷ segments) batches b =
     (c : Airspace) × IsPartlyPurged segment.until (airspace_after_batches salt a segment.batches) c
     × IsExpectedAfter salt c segments batches b
 
--- States that such an airspace follows from a run in which no call returned `Stopped`.
+-- States that only such an airspace may follow from a run in which no call returned `Stopped`.
 abbrev pub UnstoppedIsDuePurged : Type 0
 UnstoppedIsDuePurged =
     (a b : Airspace) (run : Run) → has_stopped (all_delivered_in run.segments run.batches) ≡ false

@@ -24,9 +24,9 @@ pub fn crash_after_a_call<S: Alter>()
 
 /// States the same for a service over tables whose changes can be pending.
 ///
-/// If no change is pending after a call, a crash leaves what a call at once leaves. If one is, it
-/// leaves the tables as they were. It applies to any reply of `Service::call`, by its clause
-/// `reply`.
+/// If no change is pending before and after a call, a crash leaves what it leaves without pending
+/// changes. Otherwise it leaves the tables as they were before the call. It applies to any reply of
+/// `Service::call`, by its clause `reply`.
 pub fn crash_after_a_grouped_call<S: Alter + Drop>()
     ensures { CrashAfterGroupedCall S.Store ⟦<Mirrored<SqlSpace<S>> as Space>⟧ }
 {}
@@ -52,8 +52,8 @@ fn open_segment_of_tables<A: Alter + Drop>()
         (bound_waiting_of ⟦<SqlSpace<A> as Space>⟧) }
 {}
 
-/// States that a space opened over what the files hold after a call of a service over files and a
-/// crash has the airspace that is due, whatever the reply.
+/// States that, after a call of a service over files and a crash, a space opened over the files has
+/// the airspace that is due. The reply can be any.
 ///
 /// It applies to any reply of `Service::call`, to the store that `space_sql::laws::files_left`
 /// returns, and to what `SqlSpace::open` finds, by its clause `finds`.
@@ -73,8 +73,8 @@ pub fn run_continues<S: Start>()
     ensures { ContinuesServed ⟦<SqlSpace<FileStore<FileFrom<S>>> as Space>⟧ }
 {}
 
-/// States the same for a service whose changes can be pending, with or without a quota for each
-/// USS, and with or without purges between two batches.
+/// States the same for a service whose changes can be pending. It can have a quota for each USS,
+/// and can purge between two batches.
 ///
 /// It applies to the results of `Service::call`, `Service::commit` and `Service::purge`, to those
 /// of `QuotaSpace::into_inner` and `Mirrored::into_store`, and then to
@@ -120,14 +120,15 @@ pub fn life_is_found<T: Alter>()
     ensures { LifeIsFound ⟦<SqlSpace<T> as Space>⟧ }
 {}
 
-/// States that a run of a service over a space without pending changes is one batch, of which
-/// exactly what its calls may have made may be durable.
+/// States that a run of a service over a space without pending changes is one batch. Exactly what
+/// its calls may have made may be durable.
 pub fn alone_is_stepped()
     ensures { AloneIsStepped }
 {}
 
-/// States that, if no call of a run returned `Stopped`, the policy's airspace after all answered
-/// calls follows from it, with what its purges left.
+/// States that, if no call of a run returned `Stopped`, only the policy's airspace after all
+/// answered calls may follow from it. If the run purged, the steps continue from what its purges
+/// left.
 pub fn unstopped_is_due()
     ensures due { UnstoppedIsExpected }
     ensures purged { UnstoppedIsDuePurged }

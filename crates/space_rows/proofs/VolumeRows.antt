@@ -53,7 +53,7 @@ found_bounds num v row cells cs (Some e) at s f =
       kept = record { limits = f.limits; cells = all.valid };
     }
 
--- -- splitting related lists
+-- ---- splitting related lists
 
 pub split_zip : {A B : Type 0} (R : A → B → Type 0) (xs : List A) (ys zs : List B) → AllZip R xs (ys ++ zs) → (us : List A) × (bs : List A) × (xs ≡ us ++ bs) × AllZip R us ys × AllZip R bs zs
 split_zip R xs [] zs p = ([], xs, refl, tt, p)

@@ -31,7 +31,7 @@ state_number (nature.Intent Nonconforming named) = pos 2
 state_number (nature.Intent Contingent named) = pos 3
 state_number nature.Constraint = pos 4
 
--- -- positions
+-- ---- positions
 
 -- The elements of a list with their positions, counted from `k`.
 abbrev pub placed : {X : Type 0} → ℕ → List X → List (ℕ × X)
@@ -56,7 +56,7 @@ placed_cells v = cells_at v.0 0 v.1.cells
 abbrev pub all_cells : List Extent → List PlacedCell
 all_cells volumes = flat_map placed_cells (placed 0 volumes)
 
--- -- invariants of the types of an entity
+-- ---- invariants of the types of an entity
 
 pub record IsVolume (v : Extent) : Type 0 where
   pub limits : region_fault (region_of v) ≡ None

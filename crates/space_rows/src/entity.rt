@@ -58,9 +58,10 @@ pub fn entity_of(
 
 /// Returns the rows of an entity under a number.
 ///
-/// They are the row of `entity`, the rows of `volume` in the order of their positions, and those of
-/// `cell` in the order of their volumes, then of their positions. They represent the entity
-/// together with the subscription that it references. Its row of `naming` is not among them.
+/// They are the row of `entity`, the rows of `volume` and those of `cell`. Rows of `volume` are in
+/// the order of their positions, and rows of `cell` in the order of their volumes, then of their
+/// positions. They represent the entity together with the subscription that it references. Its row
+/// of `naming` is not among them.
 pub fn rows_of(
     alloc: Global,
     entity: &Entity,

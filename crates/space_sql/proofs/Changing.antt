@@ -110,7 +110,7 @@ changes_settled {S} g P {change} {old} {seen} {new} {mid} {told} {r} is kept wor
     let due = subst (λ (k : SqlSpaceModel S). is_sound_of g k → (a : Airspace) → holds_of g k a → P a) (sym is) fits in
     subst (λ (k : SqlSpaceModel S). Changes (holds_of g) (is_sound_of g) (is_whole_of g) k.broken k new r change) is (changes g P change old new mid works kept keeping due told r it to)
 
--- -- changes made together
+-- ---- changes made together
 
 -- The same for a nonempty list of changes.
 pub all_settled : {S X : Type 0} (g : Ghosts S) (P : List X → Airspace → Type 0) (change : List X → Airspace → Airspace) (all : List X) (first : X) (rest : List X) {old seen new : SqlSpaceModel S} {mid : Held S} {told : Result (Unit {0}) Error} {r : Result (Unit {0}) SpaceFault} → all ≡ first ∷ rest → old ≡ seen → IsKeeping (state g old.conn) old.broken → old.broken ≡ false

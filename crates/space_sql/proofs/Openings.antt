@@ -24,7 +24,7 @@ use Rattle.space_sql.specs.OpenResult.{MayBeOpened, MayBeTaken}
 pub ok_is_no_fault : {X : Type 0} (x : X) (fault : OpenFault) → ◌≢◌ {A = Result X OpenFault} (Ok x) (Err fault)
 ok_is_no_fault x fault = λ e. cc
 
--- -- the schema that was found
+-- ---- the schema that was found
 
 -- The presence of the tables in a schema is that in an equal one.
 pub stands_seen : {seen own : Schema} {presence : Presence} → seen ≡ own → presence ≡ presence_in seen.tables → presence_in own.tables ≡ presence
@@ -42,7 +42,7 @@ of_format schema P own stands f format e =
     let is : own ≡ format = cc in
     subst (λ (x : Format). schema ≡ schema_of x → P x) is f e
 
--- -- effects of a crash
+-- ---- effects of a crash
 
 module _ {X C : Type 0} (old : State) (shown : C → State) where
   -- After a fault, the trees are those that the fault allows.
@@ -55,7 +55,7 @@ module _ {X C : Type 0} (old : State) (shown : C → State) where
   left_made (Ok x) is store left = tt
   left_made (Err e) is store left = survives_weaker old (shown e.1) _ _ (λ clean db made. (store, subst (λ (s : Presence). MayBeTaken s old db) (sym is) made)) left
 
--- -- the airspace that is stored
+-- ---- the airspace that is stored
 
 pub one_airspace_as : (format : Format) (D E : Database) (a b : Airspace) → D.trees ≡ E.trees → SpellsAs format D a → SpellsAs format E b → a ≡ b
 one_airspace_as format D E a b same p q = one_airspace_of format D E a b same p q

@@ -45,7 +45,7 @@ module _ (s : State) (rests : Rests s) (is_open : IsTrue s.is_open) where
   pub whole_is_spelt : is_whole_in s → (a : Airspace) × Spells s.now a
   whole_is_spelt whole = let it = whole _ (rests.stays is_open) in (it.0, held_is_spelt it.0 (_, rests.stays is_open, it.1))
 
--- -- calls that commit nothing
+-- ---- calls that commit nothing
 
 module _ (old new : State) (went : Survives old new (λ _. ⊥)) (clean : HasCleanDisk new) where
   pub clean_before : HasCleanDisk old

@@ -28,7 +28,7 @@ use Rattle.space_sql.specs.declared.failed_open.FailedOpen.TheVariants as of
 use Rattle.space_sql.proofs.Crashes.{is_store}
 use Rattle.space_sql.proofs.Restarts.{next_fault}
 
--- -- newly opened files
+-- ---- newly opened files
 
 settled_leaves : (mixes : Bool) (start : List ℕ) (key : ℕ) (c : List ℕ) → (let m = replay start (settled key ∷ []) in MayLeave mixes m.seen m.synced m.steps c) → c ≡ start
 settled_leaves mixes start key c (inl same) = same
@@ -39,7 +39,7 @@ pub opened_leaves : (mixes : Bool) (log db : List ℕ) (is_log own : Bool) (even
 opened_leaves mixes log db is_log own events key which same c may =
     settled_leaves mixes (cond own log db) key c (subst₂ (λ b e. let m = replay (cond b log db) e in MayLeave mixes m.seen m.synced m.steps c) which same may)
 
--- -- faults
+-- ---- faults
 
 not_named : (kind : StoreError) → store_error kind ≡ SqliteFailure NotADatabase → ⊥
 not_named stored.OutOfMemory is = cc

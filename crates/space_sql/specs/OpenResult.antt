@@ -30,12 +30,12 @@ pub record IsFresh {S : Type 0} (g : stores.Ghosts S) (space : Ghosts (SqlSpaceM
   pub unrefused : space.refusals k ≡ 0
   pub works : space.is_broken k ≡ false
 
--- Holds if a space adopted without tables is an empty airspace.
+-- Holds if a space adopted over a database without tables holds an empty airspace, and no other.
 abbrev pub HoldsEmpty : {S : Type 0} → Ghosts (SqlSpaceModel S) → State → SqlSpaceModel S → Type 0
 HoldsEmpty space opened s =
     space.is_sound s → opened.now.schema ≡ no_schema → IsContent space.holds s (empty_at 0)
 
--- -- tables of one format
+-- ---- tables of one format
 
 -- Holds if the adopted space holds the airspace that the tables represent.
 abbrev pub HoldsSpeltAs : {S : Type 0} → Format → Ghosts (SqlSpaceModel S) → State → SqlSpaceModel S → Type 0
@@ -54,7 +54,7 @@ IsUnwrittenAs format opened back fault =
     HasCleanDisk back → opened.now.schema ≡ schema_of format → fault ≢ Store
     → IsAsFound opened back
 
--- -- tables of either format
+-- ---- tables of either format
 
 abbrev pub HoldsSpelt : {S : Type 0} → Ghosts (SqlSpaceModel S) → State → SqlSpaceModel S → Type 0
 HoldsSpelt space opened s = (format : Format) → HoldsSpeltAs format space opened s
@@ -65,7 +65,7 @@ IsDueFault opened back fault = (format : Format) → IsDueFaultAs format opened 
 abbrev pub IsUnwritten : State → State → OpenFault → Type 0
 IsUnwritten opened back fault = (format : Format) → IsUnwrittenAs format opened back fault
 
--- -- effects of a crash
+-- ---- effects of a crash
 
 -- Holds if opening may have committed the trees, given the presence of the tables. Without tables,
 -- they are those of an empty airspace. For format 1, they are those of format 2 with the same
@@ -82,7 +82,7 @@ abbrev pub MayBeOpened : State → OpenFault → Trees → Type 0
 MayBeOpened old fault trees =
     (fault ≡ Store) × MayBeTaken (presence_in old.now.schema.tables) old trees
 
--- -- the represented airspace
+-- ---- the represented airspace
 
 -- States that databases with the same rows represent at most one airspace in a format.
 abbrev pub OneAirspaceAs : Type 0

@@ -85,9 +85,9 @@ pub fn refused_open_keeps_airspace<S: Start>()
     ensures { NextRefused ⟦<FileFrom<S> as Disk>⟧ }
 {}
 
-/// States that what a crash leaves of files that represent an airspace in either format, after an
-/// opening of them ended with a fault and its connection, opens with exactly that airspace. An
-/// interrupted upgrade of format 1 is one case.
+/// States that a failed opening of files that represent an airspace in either format does not lose
+/// it. If the opening returned its connection, what a crash then leaves of the files opens with
+/// exactly that airspace. An interrupted upgrade of format 1 is one case.
 ///
 /// It applies to the faults of `SqlSpace::open`, by its clause `refuses`, to its results, by its
 /// clause `finds`, and to the store that `trees_left` returns.

@@ -15,7 +15,7 @@ use Rattle.space_sql_load.specs.declared.naming.Numbered.{Numbered}
 use Rattle.space_sql_load.specs.Gathering.{Gathers, IsNext, NamesBy, Parts, id_in, joined}
 use Rattle.space_sql_load.proofs.Fronts.{Front, less, later, one_front}
 
--- -- referenced subscriptions
+-- ---- referenced subscriptions
 
 pub own_namings : (numbers : List Numbered) (num : ℤ) (own : List NamingRow) (named : Option ℕ) → NamesBy numbers num own named → AllByRecursion (λ (n : NamingRow). n.entity ≡ num) own
 own_namings numbers num own None h = subst (AllByRecursion (λ (n : NamingRow). n.entity ≡ num)) (sym h) tt
@@ -121,14 +121,14 @@ module _ (serial : ℕ) (numbers : List Numbered) where
           (record { own = own; more = others; named = named; entity = e; parts_are = whole r.num left own others f; names = names; next = t }, subst (λ (k : Entities). Gathers serial numbers r.num more others k a) put w))),
     )
 
-    -- If no entity fits the rows and the referenced id, the rows are gathered as no entities.
+    -- If no entity fits the rows and the referenced id, nothing is gathered from the rows.
     pub gathers_none : (named : Option ℕ) → NamesBy numbers r.num own.namings named → ((e : Entity) → ¬ IsNext serial last r own.volumes own.cells named m e) → (n : Entities) → ¬ Gathers serial numbers (pos 0) rows parts empty n
     gathers_none named names none n w =
         let h = first_left n w in
         let called = one_id numbers r.num own.namings h.named named h.names names in
         none h.entity (subst (λ (k : Option ℕ). IsNext serial last r own.volumes own.cells k m h.entity) called h.next)
 
-    -- If the rows of `naming` fit no id, the rows are gathered as no entities.
+    -- If the rows of `naming` fit no reference, nothing is gathered from the rows.
     pub gathers_unnamed : ((named : Option ℕ) → ¬ NamesBy numbers r.num own.namings named) → (n : Entities) → ¬ Gathers serial numbers (pos 0) rows parts empty n
     gathers_unnamed none n w = let h = first_left n w in none h.named h.names
 

@@ -63,7 +63,7 @@ named_by subs up num None (Some id) h = absurd h
 named_by subs up num (Some at) None h = absurd h
 named_by subs up num (Some at) (Some id) h = (at, refl, is_found at id subs up h)
 
--- -- ascending numbers
+-- ---- ascending numbers
 
 both : (a b : Bool) → T a → T b → T (a && b)
 both true b p q = q

@@ -87,7 +87,7 @@ pub record ListsSubs (serial : ℕ) (t : SubTables) (all : Subs) : Type 0 where
   pub cells_are : t.cells.items ≡ map sub_cell_values cells
   pub gathered : GathersSubs serial (pos 0) rows cells (empty, []) all
 
--- -- references of entities
+-- ---- references of entities
 
 -- A number with its id.
 abbrev pub number_pair : Numbered → ℤ × ℕ

@@ -26,7 +26,7 @@ named_told db k fits heads found h of a s = go (head_shown db a s k fits heads h
     go (inl (p, none)) = (of a s).none p ∙ sym none
     go (inr (g, there, p, is)) = (of a s).own g there p ∙ sym is
 
--- -- at most one row
+-- ---- at most one row
 
 module _ (heads : List Row) (o : Option EntityRow) (none : heads ≡ [] → o ≡ None) (one : (x : EntityRow) → heads ≡ entity_values x ∷ [] → o ≡ Some x) where
   pub no_entity_told : o ≡ None → (db : Database) → FindsOfHead heads db None

@@ -35,7 +35,7 @@ use Rattle.space_sql_select.proofs.Selected.{selects_all}
 abbrev pub same : Term → Term → Term
 same a b = op2 (Compare Eq Binary) a b
 
--- -- entries with a key
+-- ---- entries with a key
 
 module _ {K X : Type 0} (R : K → K → Ordering) (o : IsTotalOrder R) (exact : IsAntisymmetric R) where
   abbrev pub entry_of : K → Option X → List (K × X)

@@ -80,7 +80,7 @@ module _ (gs : List Group) (apart : Differ (λ (g : Group). g.row.num) gs) where
         let moved = IsPermutation-map (id_by gs) _ _ same in
         subst (IsPermutation (map (λ (d : Group). d.entity.id) ds)) (sym (ids_are numbers ids zip all)) (subst (λ (l : List ℕ). IsPermutation l (map (id_by gs) numbers)) (ids_back ds among) moved)
 
--- -- entities that reference the subscription with an id
+-- ---- entities that reference the subscription with an id
 
 module _ (subs : List SubGroup) (apart : Differ (λ (t : SubGroup). t.row.num) subs) (id : ℕ) where
   names_same : (t : SubGroup) → Has subs t → t.sub.id ≡ id → ((u : SubGroup) → Has subs u → u.sub.id ≡ id → u ≡ t) → (o : Option ℤ) (named : Option ℕ) → Names subs o named → names_number t.row.num o ≡ is_id id named
@@ -114,7 +114,7 @@ module _ (subs : List SubGroup) (apart : Differ (λ (t : SubGroup). t.row.num) s
     same_filter [] each = refl
     same_filter (g ∷ gs) each = λ i. cond (names_same t there own only g.naming (subscription_of g.entity.nature) each.0.names i) (g ∷ same_filter gs each.1 i) (same_filter gs each.1 i)
 
--- -- their ids in ascending order
+-- ---- their ids in ascending order
 
 abbrev IsUnderItsKey : EntityKey × Entity → Type 0
 IsUnderItsKey p = key_of p.1 ≡ p.0

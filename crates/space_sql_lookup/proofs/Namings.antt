@@ -74,7 +74,7 @@ namers_are sub (g ∷ gs) = go g.naming (namers_are sub gs)
         elim (int_eq num sub) as (λ b. map (λ (p : ℤ × ℤ). p.0) (cond b ((g.row.num, num) ∷ filter (λ (p : ℤ × ℤ). int_eq p.1 sub) (flat_map pairs_of gs)) (filter (λ (p : ℤ × ℤ). int_eq p.1 sub) (flat_map pairs_of gs))) ≡ map (λ (g : Group). g.row.num) (cond b (g ∷ filter (λ (g : Group). names_number sub g.naming) gs) (filter (λ (g : Group). names_number sub g.naming) gs)))
         [ true ↦ ap (λ (l : List ℤ). g.row.num ∷ l) more | false ↦ more ]
 
--- -- the subscription that an entity references
+-- ---- the subscription that an entity references
 
 abbrev pub numbers_in : Option ℤ → List Row
 numbers_in None = []
@@ -107,7 +107,7 @@ module _ (db : Database) (a : Airspace) (s : Spells db a) where
       (λ r. refl) (λ r. refl) (λ t. last_term (at_ints false Eq t.row.num num)) s.subs s.sub_rows in
       one_shown (λ (t : SubGroup). t.row.num) num (λ t. Text t.row.id ∷ []) s.subs rows all (sub_numbers_differ s.subs s.subs_rising)
 
-  -- -- the entities that reference a subscription
+  -- ---- the entities that reference a subscription
 
   pub namers_shown : (sub : ℤ) (rows : List Row) → AnswersNamers sub db rows → IsPermutation (map number_values (map (λ (g : Group). g.row.num) (filter (λ (g : Group). names_number sub g.naming) s.groups))) rows
   namers_shown sub rows h =
@@ -118,7 +118,7 @@ module _ (db : Database) (a : Airspace) (s : Spells db a) where
       (λ r. refl) (λ r. refl) (λ p. last_term (at_ints false Eq p.1 sub)) (flat_map pairs_of s.groups) stored in
       subst (λ (l : List Row). IsPermutation l rows) (sym (map-map number_values (λ (p : ℤ × ℤ). p.0) own) ∙ ap (map number_values) (namers_are sub s.groups)) all
 
--- -- results
+-- ---- results
 
 none_named : (subs : List SubGroup) (o : Option ℤ) (named : Option ℕ) → Names subs o named → o ≡ None → None ≡ named
 none_named subs None None p e = refl

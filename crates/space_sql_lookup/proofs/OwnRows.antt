@@ -33,7 +33,7 @@ use Rattle.space_sql_lookup.proofs.Found.{same}
 use Rattle.space_sql_select.proofs.Shown.{then_equal}
 use Rattle.space_sql_select.proofs.Selected.{selects_one}
 
--- -- parts
+-- ---- parts
 
 filter_joined : {X : Type 0} (q : X → Bool) (xs ys : List X) → filter q (xs ++ ys) ≡ filter q xs ++ filter q ys
 filter_joined q [] ys = refl

@@ -16,7 +16,7 @@ use space_sql_select::select::query;
 use sqlite::{Alter, Connection, Error, Row, Transaction, params};
 use std::alloc::Global;
 
-// -- by kind and id
+// ---- by kind and id
 
 fn query_named<S: Alter>(
     alloc: Global,
@@ -90,7 +90,7 @@ pub fn read_entity<S: Alter>(
     Ok(found)
 }
 
-// -- by number
+// ---- by number
 
 fn query_numbered<S: Alter>(tx: &mut Transaction<'_, S>, num: i64) -> Result<Vec<Row>, Error>
     ensures same_reference { SameConnection tx.old tx.new }

@@ -14,7 +14,7 @@ use space_sql_select::select::query;
 use sqlite::{Alter, Connection, Error, Row, Transaction, params};
 use std::alloc::Global;
 
-// -- by id
+// ---- by id
 
 fn query_sub<S: Alter>(
     alloc: Global,
@@ -84,7 +84,7 @@ pub fn read_subscription<S: Alter>(
     Ok(found)
 }
 
-// -- by number
+// ---- by number
 
 fn query_sub_numbered<S: Alter>(tx: &mut Transaction<'_, S>, num: i64) -> Result<Vec<Row>, Error>
     ensures same_reference { SameConnection tx.old tx.new }

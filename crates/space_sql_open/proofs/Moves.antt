@@ -1,4 +1,4 @@
--- Proofs that tables of format 1 are accepted exactly if the upgraded tables are.
+-- Proofs that the check of the upgraded tables decides whether tables of format 1 are accepted.
 use Rattle.std.proofs.Common.{◌≡◌, ap, ℤ, Ok, Err, Result, OnOk, refl, sym, subst, ◌∙◌}
 use Rattle.sqlite.specs.Effect.{Database, IsDatabase}
 use Rattle.sqlite.specs.declared.error.Error.{Error}

@@ -29,15 +29,15 @@ abbrev pub ChecksTables : Database → Result LoadedAirspace OpenFault → Type 
 ChecksTables db (Ok listed) = Spells db (loaded_airspace listed)
 ChecksTables db (Err fault) = Refuses Two db fault
 
--- Holds if the result is right for tables of format 1. If they represent an airspace, the upgraded
--- tables represent it in format 2.
+-- Holds if the result is right for tables of format 1. After `Ok`, they represented an airspace,
+-- and the upgraded tables represent it in format 2.
 abbrev pub UpgradesFormat : Database → Database → Result (Unit {0}) OpenFault → Type 0
 UpgradesFormat old new (Ok x) =
     (a : Airspace) × SpellsAs One old a × Spells new a × IsDatabase new
 UpgradesFormat old new (Err fault) = Refuses One old fault
 
--- Holds if, when the tables were of format 1, the trees are those of tables of format 2 that
--- represent the same airspace. A commit may have left them.
+-- Holds if, when the tables were of format 1, they represented an airspace, and the trees are those
+-- of tables of format 2 that represent it. A commit may have left them.
 abbrev pub MayHaveUpgraded : State → Trees → Type 0
 MayHaveUpgraded old trees =
     old.now.schema ≡ first_schema → (a : Airspace) × SpellsAs One old.now a

@@ -85,7 +85,7 @@ fn move_tables<S: Alter>(alloc: Global, conn: &mut Connection<S>) -> Result<(), 
     }
 }
 
-// Returns the fault of rejected tables, if the store is alive. It writes nothing.
+// Returns the fault of rejected tables if the store is alive, otherwise `Store`. It writes nothing.
 fn still<S: Alter>(conn: &mut Connection<S>, fault: OpenFault) -> OpenFault
     requires { conn.old.in_transaction ≡ false }
     ensures outside { conn.new.in_transaction ≡ false }

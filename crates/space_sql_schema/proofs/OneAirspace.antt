@@ -39,7 +39,7 @@ use Rattle.space_sql_schema.specs.Laws.{OneAirspace}
 use Rattle.space_sql_schema.specs.Spelling.{SpellsAs, SubGroup, IsSubGroup, IsSubBefore, sub_pair_of, IsSubNumber, Names, Group, IsGroup, IsBefore, pair_of, naming_rows, naming_rows_of, meta_values, entity_values, volume_values, cell_values, availability_values, sub_values, sub_cell_values, entity_columns, six_columns, three_columns, meta_columns, sub_columns, five_columns, two_columns, later_rows}
 use Rattle.space_sql_schema.proofs.Rising.{rises_once, volume_cmp, cell_cmp, sub_cell_cmp, naming_cmp, volume_total, cell_total, sub_cell_total, naming_total, all_volumes_rise, all_cells_rise, all_sub_cells_rise, all_namings_rise, volumes_of, cells_of, sub_cells_of, named_in, namings_borne}
 
--- -- reading rows back from their values
+-- ---- reading rows back from their values
 
 int_of : Value → ℤ
 int_of (Int n) = n
@@ -115,7 +115,7 @@ one_table encode decode back xs ys l m e p q =
     let rows = IsPermutation-trans _ _ _ p (subst (λ k. IsPermutation k (map encode ys)) (sym e) (IsPermutation-sym _ _ q)) in
     subst₂ (λ a b. IsPermutation a b) (map_back encode decode back xs) (map_back encode decode back ys) (IsPermutation-map decode _ _ rows)
 
--- -- maps with the same entries
+-- ---- maps with the same entries
 
 less : (o : Ordering) → T (is_lt o) → o ≡ Less
 less Less p = refl
@@ -191,7 +191,7 @@ one_subs m n ss ts p q up rise rows cells =
     same_subs m n ss ts p q heads
     (one_flat (λ (c : SubCellRow). c.subscription) (λ (s : SubGroup). s.row.num) (λ s. s.cells) ss ts (same_sub_numbers ss ts heads) (sub_cells_borne m ss p) (sub_cells_borne n ts q) (sub_numbers_differ ss up) (sym c))
 
--- -- referenced subscriptions
+-- ---- referenced subscriptions
 
 not_among : (num : ℤ) (id : ℕ) (ss : List SubGroup) → AllByRecursion (λ s. ¬ (num ≡ s.row.num)) ss → ¬ IsSubNumber ss num id
 not_among num id [] other h = h

@@ -76,7 +76,7 @@ AreMadeFirst old new = (old.now.schema ≡ no_schema → SpellsEmptyAs One new.n
 abbrev pub MayBeMade : State → Trees → Type 0
 MayBeMade old trees = old.now.schema ≡ no_schema → AreOf SpellsEmpty trees
 
--- -- from format 1 to format 2
+-- ---- from format 1 to format 2
 
 -- The rows of the tables of format 1, with the later tables empty.
 abbrev pub first_rows : Trees → Trees
@@ -94,7 +94,7 @@ HasMeta format serial rows =
     map meta_columns rows ≡ (Int (pos 1) ∷ Int (pos format) ∷ Int serial ∷ []) ∷ []
 
 -- Holds if the tables of format 1 have the rows of these trees, except that the format in `meta` is
--- 2, and the other tables of format 2 are empty.
+-- 2. The other tables of format 2 are empty.
 pub record HasUpgraded (trees : Trees) (serial : ℤ) (db : Database) : Type 0 where
   pub schema : db.schema ≡ second_schema
   pub meta : HasMeta 2 serial (db.trees 0)

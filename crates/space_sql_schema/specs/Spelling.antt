@@ -28,7 +28,7 @@ use Rattle.space_sql_schema.specs.declared.format.Format.{Format}
 use Rattle.space_sql_schema.specs.declared.format.Format.TheVariants.{One, Two}
 use Rattle.space_sql_schema.specs.Tables.{schema_of, format_number}
 
--- -- the columns of rows, in the order in which the tables declare them
+-- ---- the columns of rows, in the order in which the tables declare them
 
 abbrev pub meta_values : ℕ → ℕ → Row
 meta_values format serial = Int (pos 1) ∷ Int (pos format) ∷ Int (pos serial) ∷ []
@@ -100,7 +100,7 @@ two_columns r = column r 0 ∷ column r 2 ∷ []
 abbrev pub three_columns : Row → Row
 three_columns r = column r 1 ∷ column r 2 ∷ column r 3 ∷ []
 
--- -- the airspace of the rows
+-- ---- the airspace of the rows
 
 -- A subscription and its rows in the two tables.
 pub record SubGroup : Type 0 where
@@ -151,8 +151,8 @@ Names subs None (Some id) = ⊥
 Names subs (Some num) None = ⊥
 Names subs (Some num) (Some id) = IsSubNumber subs num id
 
--- Holds if the rows represent the entity, its row of `naming` refers to the subscription that it
--- references, and its serial does not exceed that of the airspace.
+-- Holds if the rows represent the entity, and its row of `naming` refers to the subscription that
+-- it references. Its serial does not exceed that of the airspace.
 pub record IsGroup (serial : ℕ) (subs : List SubGroup) (g : Group) : Type 0 where
   pub spelt : SpellsEntity g.row g.volumes g.cells (subscription_of g.entity.nature) g.entity
   pub names : Names subs g.naming (subscription_of g.entity.nature)

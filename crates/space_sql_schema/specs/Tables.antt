@@ -19,7 +19,7 @@ use Rattle.sqlite_catalog.specs.Listing.{automatic}
 use Rattle.space_sql_schema.specs.declared.format.Format.{Format}
 use Rattle.space_sql_schema.specs.declared.format.Format.TheVariants.{One, Two}
 
--- -- columns and checks; the columns of a row count from 1
+-- ---- columns and checks; the columns of a row count from 1
 
 -- A column that holds only values of its kind.
 abbrev pub filled : List ℕ → Kind → Column
@@ -251,7 +251,7 @@ format_number Two = 2
 abbrev pub dss_schema : Schema
 dss_schema = schema_of Two
 
--- -- the intermediate schemas, one table or index a step
+-- ---- the intermediate schemas, one table or index a step
 
 abbrev pub schema_1 : Schema
 schema_1 = record { tables = meta 0 ∷ []; indexes = []; views = [] }
@@ -288,7 +288,7 @@ schema_5 = record {
   views = [];
 }
 
--- Format 1 comes between the schema before this one and this one.
+-- Format 1 (`first_schema`) comes between `schema_5` and `schema_7`.
 
 abbrev pub schema_7 : Schema
 schema_7 = record {

@@ -46,7 +46,7 @@ use Rattle.space_sql_search.proofs.Found.{got_has, has_got, near_found}
 above : (m n : ℕ) → m ≤ n → pos m ≤ℤ pos n
 above m n h = grind (arith, ints, h)
 
--- -- every item with a cell that touches a requested cell is found
+-- ---- every item with a cell that touches a requested cell is found
 
 -- Holds if a row of the table has this number and this cell's interval.
 abbrev IsStored : CellTable → Database → ℤ → Cell → Type 0
@@ -139,7 +139,7 @@ module _ (db : Database) (a : Airspace) (s : Spells db a) (areas : List Region) 
   pub near_subs : FindsNumbers OfSubscriptions asked db numbers → (found : Subscriptions) → HoldsNumbered (spelt_subs s) numbers found → HoldsNear (λ (s : Sub). meets_some s.volume areas) a.subscriptions found
   near_subs finds found held = near_found nat_cmp nat_cmp_total nat_cmp-IsAntisymmetric (spelt_subs s) s.subs_kept (λ (s : Sub). meets_some s.volume areas) numbers found (sub_found finds) held
 
--- -- a part that has every element that passes a test
+-- ---- a part that has every element that passes a test
 
 module _ {K X : Type 0} (R : K → K → Ordering) (total : IsTotalOrder R) (exact : IsAntisymmetric R) where
   pub one_filtered : (test : K × X → Bool) (part all : FinMap R X) → (is_near : X → Bool) → HoldsNear is_near all part → ((k : K) (x : X) → test (k, x) ≡ true → is_near x ≡ true) → filter test (entries part) ≡ filter test (entries all)
@@ -154,7 +154,7 @@ module _ {K X : Type 0} (R : K → K → Ordering) (total : IsTotalOrder R) (exa
       let t = has_filtered test (entries all) p h in
       has_kept test (entries part) p (got_has R total exact part p.0 p.1 (held.whole p.0 p.1 (has_got R total exact all p.0 p.1 t.0) (only p.0 p.1 t.1))) t.1)
 
--- -- the search within it
+-- ---- the search within it
 
 pub one_meeting : (kind : Kind) (areas : List Region) (except : Option ℕ) (part all : Entities) → HoldsNear (λ (e : Entity). any_meet e.volumes areas) all part → meeting_in part kind areas except ≡ meeting_in all kind areas except
 unfolding meeting_in

@@ -54,7 +54,7 @@ module _ {K X : Type 0} (R : K → K → Ordering) (total : IsTotalOrder R) (exa
   pub has_got : (m : FinMap R X) (k : K) (x : X) → Has (entries m) (k, x) → get m k ≡ Some x
   has_got m k x h = get-entries m k ∙ has_find k x (entries m) (entries_rise R (entries m) (entries_sorted m)) h
 
-  -- -- the map of the items of groups, each under its key
+  -- ---- the map of the items of groups, each under its key
 
   module _ {G : Type 0} (of : Spelt G K X R) (kept : IsPermutation (map of.pair of.groups) (entries of.all)) where
     abbrev Holds : List ℤ → FinMap R X → Type 0
@@ -76,7 +76,7 @@ module _ {K X : Type 0} (R : K → K → Ordering) (total : IsTotalOrder R) (exa
           ap (λ (p : K × X). get found p.0) g.2 ∙ (h.whole g.0 g.1 number ∙ ap (λ (p : K × X). Some p.1) (sym g.2));
     }
 
-    -- -- one number after another
+    -- ---- one number after another
 
     pub none_numbered : (found : FinMap R X) → found ≡ empty → Holds [] found
     none_numbered found is = record {

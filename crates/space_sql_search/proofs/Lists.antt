@@ -18,7 +18,7 @@ use Rattle.space_rows.proofs.Chunks.{all_joined}
 use Rattle.space_sql_search.specs.declared.interval.Interval.{Interval}
 use Rattle.space_sql_search.specs.SearchRanges.{interval_cmp}
 
--- -- equality of intervals
+-- ---- equality of intervals
 
 abbrev pub same_interval : Interval → Interval → Bool
 same_interval i j = int_eq i.lo j.lo && int_eq i.hi j.hi
@@ -67,11 +67,11 @@ flat_has f (z ∷ xs) x y (inr h) k = has_right (f z) (flat_map f xs) y (flat_ha
 pub has_moved : {X : Type 0} (xs ys : List X) (x : X) → IsPermutation xs ys → Has xs x → Has ys x
 has_moved xs ys x p h = has_contained ys x (Contains-permutation xs ys x p (contains_had xs x h))
 
--- -- appending an element
+-- ---- appending an element
 pub each_more : {X : Type 0} (P : X → Type 0) (xs ys : List X) (x : X) → ys ≡ xs ++ x ∷ [] → AllByRecursion P xs → P x → AllByRecursion P ys
 each_more P xs ys x e all here = subst (AllByRecursion P) (sym e) (all_joined P xs (x ∷ []) all (here, tt))
 
--- -- related lists
+-- ---- related lists
 pub zip_has : {X Y : Type 0} (R : X → Y → Type 0) (xs : List X) (ys : List Y) (y : Y) → AllZip R xs ys → Has ys y → (x : X) × Has xs x × R x y
 zip_has R [] [] y z h = absurd h
 zip_has R [] (w ∷ ys) y z h = absurd z

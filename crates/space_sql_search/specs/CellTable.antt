@@ -17,7 +17,7 @@ text_of OfSubscriptions Within =
 text_of OfSubscriptions Exactly =
     codes "SELECT subscription FROM subscription_cell WHERE lo = ?1 AND hi = ?2"
 
--- -- positions in `sqlite`
+-- ---- positions in `sqlite`
 
 -- The tree of the table.
 abbrev pub tree_of : CellTable → ℕ

@@ -9,7 +9,7 @@ use Rattle.space_core.specs.declared.met.Met.{Met}
 use Rattle.space_core.specs.Met.{met_in, met_of}
 use Rattle.space_sql_schema.specs.Spelling.{Spells}
 
--- -- each in the airspace that the tables represent, if they represent one
+-- These definitions are about the airspace that the tables represent, if they represent one.
 
 -- Holds if the result is the entity with its manager's availability.
 abbrev pub IsWithAvailability : Entity → Database → Met → Type 0

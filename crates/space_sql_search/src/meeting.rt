@@ -84,9 +84,9 @@ fn read_meeting_alive<S: Alter>(
 /// It excludes the entity with the id `except`. If the tables represent no airspace, the result is
 /// unspecified.
 ///
-/// It reads the rows of `cell` that the index on `lo` and `hi` finds, the rows of their entities,
-/// and the row of `availability` of each manager. All reads are in one transaction. Returns an
-/// error if the store fails or memory runs out.
+/// It reads the rows of `cell` that the index on `lo` and `hi` finds, and the rows of their
+/// entities. It also reads the row of `availability` of each manager of an entity that meets. All
+/// reads are in one transaction. Returns an error if the store fails or memory runs out.
 pub fn read_meeting<S: Alter>(
     alloc: Global,
     conn: &mut Connection<S>,

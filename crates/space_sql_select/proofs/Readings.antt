@@ -79,7 +79,7 @@ reads_then P Q a b d x (Err e) p q =
       survives = survives_then a b d _ _ (λ _. ⊥) (λ _ db none. none) (λ _ db none. none) p.survives q.survives;
     }
 
--- -- in a separate transaction
+-- ---- in a separate transaction
 
 module _ {X : Type 0} (P : Database → X → Type 0) (old mid new : State) (x : X) where
   -- A read stays one if the store is alive after it.

@@ -26,7 +26,7 @@ written_text v t p e = subst IsUtf8 (same_text p.0 t (sym p.1 ∙ e)) p.2
 pub is_text : (t : List ℕ) → IsUtf8 t → IsText (Text t)
 is_text t u = (t, refl, u)
 
--- -- the values of a typed row
+-- ---- the values of a typed row
 
 pub entity_typed : (row : Row) (x : EntityRow) → IsRowOf entity_values IsWrittenEntity row x → IsEntityRow row
 entity_typed row x p =

@@ -26,7 +26,7 @@ pub record ShowsRising {X : Type 0} (compare : X → X → Ordering) (values : X
   pub rising : (xs : List X) → IsAscending (λ x y. compare x y ≡ Less) xs
       → IsPermutation (map values xs) (map columns (db.trees tree)) → rows ≡ map values xs
 
--- -- reads
+-- ---- reads
 
 -- Holds if, with tables of format 2, the result has P of the visible database, which stays.
 -- Whatever the result, the last commit stays. A crash leaves what it would have left before.

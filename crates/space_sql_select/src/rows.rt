@@ -213,7 +213,7 @@ pub fn cell_rows(alloc: Global, rows: &[Row]) -> Result<Option<Vec<CellRow>>, Er
     Ok(Some(out))
 }
 
-/// Returns the rows as single numbers, if they are.
+/// Returns the rows as numbers, if each one is a single number.
 pub fn number_rows(alloc: Global, rows: &[Row]) -> Result<Option<Vec<i64>>, Error>
     ensures { IfOk result (λ o. FindsList (AreRowsOf number_values IsWrittenNumber rows.now) o) }
 {

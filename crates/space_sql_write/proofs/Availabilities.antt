@@ -47,7 +47,7 @@ use Rattle.space_sql_write.proofs.Entries.{others, inserted}
 use Rattle.space_sql_write.proofs.Numbered.{made}
 use Rattle.space_sql_write.proofs.Spelt.{AreStated, entities_later, lay_out, own_entities, own_stated, own_subs, subs_later}
 
--- -- deleting the row
+-- ---- deleting the row
 
 clear_availability_is : command_of (understood dss_schema clear_availability_text) ≡ Delete 4 (record { lets = []; body = query_of 8 (is_first 1) (col 1 0 ∷ []) })
 unfolding understood everything
@@ -77,7 +77,7 @@ clears_availability old new uss (Ok count) h = λ l _ has.
     let left = some_left availability_values three_columns l.availabilities (db 8) has.availabilities (λ c. not (names uss c)) (λ s. not (eq_by_cmp text_cmp uss s.0)) (λ s. ap not (names_uss uss s)) in
     subst (λ d. LaysOut d (without_availability_row uss l)) (sym u.is) (availabilities_relaid old.now u.next l has u.step.tables _ (subst (AreRows availability_values three_columns _) (sym u.rows) left))
 
--- -- the new airspace
+-- ---- the new airspace
 
 text_exact : IsAntisymmetric text_cmp
 text_exact = slice_cmp-IsAntisymmetric nat_cmp-IsAntisymmetric

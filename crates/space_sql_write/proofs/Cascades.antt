@@ -44,7 +44,7 @@ in_pairs [] m h = h
 in_pairs (o ∷ olds) m (inl e) = inl (ap (λ (p : Row × Row). p.0) e)
 in_pairs (o ∷ olds) m (inr h) = inr (in_pairs olds m h)
 
--- -- the rows that a delete removes
+-- ---- the rows that a delete removes
 
 -- The row found by a rowid is the one that has it.
 found : (rows xs : List Row) (r : Row) → PairApart rows → ((x : Row) → Has xs x → Has rows x) → Has rows r → Has xs r → find (has_rowid (id_in (rowid r))) xs ≡ Some r
@@ -76,7 +76,7 @@ taken_have P hit rows ids apart same each =
         go true e more = (subst P (sym (taken_row rows x apart (sub x (inl refl)))) (each x (sub x (inl refl)) e), more)
         go false e more = more
 
--- -- idle works
+-- ---- idle works
 
 -- Holds if the column of a child row differs from a number.
 abbrev pub differs : ℕ → ℤ → Row → Type 0
@@ -111,7 +111,7 @@ quiet_step db next edit ws are idle (inl refused) = absurd (let e = refused.2 in
 quiet_step db next edit ws are idle (inr (inl big)) = absurd (let e = big.3 in cc)
 quiet_step db next edit ws are idle (inr (inr went)) = subst (Applies dss_schema Enforced db edit) (sym (all_idle dss_schema Enforced went.2.0 went.0 next ws (idle went.0 went.1) (rw are at went.2.1))) went.1
 
--- -- volumes without cells
+-- ---- volumes without cells
 
 cell_reference : Reference
 cell_reference = record { columns = 1 ∷ 2 ∷ []; parent = codes "volume"; parent_columns = codes "entity" ∷ codes "place" ∷ []; on_delete = Cascade; on_update = NoAction; is_deferred = false }
@@ -142,7 +142,7 @@ volumes_quiet db next ids num all none wrote =
       | inr one ↦ quiet_step db next edit (cell_work olds ∷ []) one (λ mid step. one_idle mid (cell_work olds) (quiet mid step)) wrote
     ]
 
--- -- an entity without volumes and references
+-- ---- an entity without volumes and references
 
 volume_reference : Reference
 volume_reference = record { columns = 1 ∷ []; parent = codes "entity"; parent_columns = codes "num" ∷ []; on_delete = Cascade; on_update = NoAction; is_deferred = false }
@@ -184,7 +184,7 @@ entity_quiet db next ids num all none unnamed wrote =
       | inr two ↦ quiet_step db next edit (volume_work olds ∷ naming_work olds ∷ []) two (λ mid step. two_idle mid (volume_work olds) (naming_work olds) (volumes mid step) (namings mid step)) wrote
     ]
 
--- -- a subscription without cells that no entity references
+-- ---- a subscription without cells that no entity references
 
 sub_cell_reference : Reference
 sub_cell_reference = record { columns = 1 ∷ []; parent = codes "subscription"; parent_columns = codes "num" ∷ []; on_delete = Cascade; on_update = NoAction; is_deferred = false }

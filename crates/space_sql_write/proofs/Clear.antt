@@ -104,7 +104,7 @@ clears hit rows ids sound same = gone_by_ids ids rows ∙ filter_on _ _ rows (λ
         (recursion_from_All (λ id. has_rowid id r ≡ false) (numbers_of hit rows) (All-permutation (λ id. has_rowid id r ≡ false) ids (numbers_of hit rows) (IsPermutation-sym (numbers_of hit rows) ids same) (All-from_recursion (λ id. has_rowid id r ≡ false) ids (any_none (λ id. has_rowid id r) ids none)))))
     each r there (inr no') found = none_any (λ id. has_rowid id r) ids (recursion_from_All (λ id. has_rowid id r ≡ false) ids (All-permutation (λ id. has_rowid id r ≡ false) (numbers_of hit rows) ids same (All-from_recursion (λ id. has_rowid id r ≡ false) (numbers_of hit rows) (misses hit rows rows r sound there no' (λ x has. has))))) ∙ sym no'
 
--- -- distinct rowids, by an ascending list of numbers
+-- ---- distinct rowids, by an ascending list of numbers
 
 past_number : (m n : ℤ) (ids : List ℤ) → int_cmp m n ≡ Equal → AllByRecursion (λ k. int_cmp n k ≡ Less) ids → AllByRecursion (λ k. is_eq (int_cmp m k) ≡ false) ids
 past_number m n [] e all = tt

@@ -54,7 +54,7 @@ module _ {G R : Type 0} (number : G → ℤ) (key : R → ℤ) (f : G → List R
 pub heads_left : {G R : Type 0} (key : R → ℤ) (row : G → R) (num : ℤ) (gs : List G) (rs : List R) → IsPermutation (map row gs) rs → IsPermutation (map row (filter (is_other (λ g. key (row g)) num) gs)) (filter (λ r. not (int_eq (key r) num)) rs)
 heads_left key row num gs rs same = subst (λ k. IsPermutation k (filter (λ r. not (int_eq (key r) num)) rs)) (filter-map (λ r. not (int_eq (key r) num)) row gs) (IsPermutation-filter (λ r. not (int_eq (key r) num)) _ _ same)
 
--- -- adding a group
+-- ---- adding a group
 
 module _ {G : Type 0} (number : G → ℤ) (new : G) (gs : List G) where
   abbrev pub placed : List G
@@ -175,7 +175,7 @@ module _ {G K X : Type 0} (number : G → ℤ) (pair : G → K × X) (R : K → 
       other x (y ∷ hs) all h (inl e) = subst (λ z. int_eq (number x) (number z) ≡ false) (sym e) (ap is_eq all.0)
       other x (y ∷ hs) all h (inr m) = other x hs all.1 h m
 
-  -- -- groups that keep their number
+  -- ---- groups that keep their number
 
   -- Each entry of the map has a group.
   pub group_there : (gs : List G) (m : FinMap R X) → IsPermutation (map pair gs) (entries m) → (k : K) (x : X) → get m k ≡ Some x → (g : G) × Has gs g × (pair g ≡ (k, x))

@@ -155,7 +155,7 @@ inserts_sub_cell old new r (Ok count) h = λ l _ has.
     let more = one_more sub_cell_values five_columns l.sub_cells r (stored_sub_cell db r) (next_rowid (db 12)) (db 12) refl refl it.fresh has.sub_cells in
     subst (λ d. LaysOut d (with_sub_cells (r ∷ []) l)) (sym it.is) (sub_cells_relaid old.now it.next l has it.stand _ (subst (AreRows sub_cell_values five_columns _) (sym it.rows) more))
 
--- -- availabilities
+-- ---- availabilities
 
 insert_availability_is : command_of (understood dss_schema insert_availability_text) ≡ Insert 4 (Values (lit Null ∷ col 0 0 ∷ col 0 1 ∷ col 0 2 ∷ []) 4)
 unfolding understood everything

@@ -26,7 +26,7 @@ joins new (r ∷ rows) fresh = go (value_cmp (rowid r) (rowid new)) refl (joins 
     go Equal e more = absurd (let taken = rw e at fresh in cc)
     go Greater e more = IsPermutation-refl _
 
--- -- an ascending list with one more element
+-- ---- an ascending list with one more element
 
 module _ {X : Type 0} (key : X → ℤ) where
   abbrev pub put_by : X → List X → List X

@@ -15,7 +15,7 @@ use Rattle.entity_purge.specs.PurgeItem.{without_items, without_item}
 use Rattle.space_sql_write.specs.Statements.{MakesLess, MakesLessAll, MakesLessRest}
 use Rattle.space_sql_write.proofs.Numbered.{numbers_stand, numbers_then}
 
--- -- remaining items existed before
+-- ---- remaining items existed before
 
 was_some : {X : Type 0} (b : Bool) (x : Option X) → IsSome (cond b None x) → IsSome x
 was_some true x h = absurd (let none = h in cc)
@@ -34,7 +34,7 @@ sub_was [] a id h = h
 sub_was (Entity kind k ∷ gs) a id h = sub_was gs (without_item a (Entity kind k)) id h
 sub_was (Subscription k ∷ gs) a id h = was_kept nat_cmp_total a.subscriptions k id (sub_was gs (without_item a (Subscription k)) id h)
 
--- -- one after the other
+-- ---- one after the other
 
 -- Purging an item, then the remaining ones, purges all.
 pub less_then : (g : PurgeItem) (gs : List PurgeItem) (old mid new : Database) → MakesLess g old mid → MakesLessRest gs mid new → MakesLessAll (g ∷ gs) old new

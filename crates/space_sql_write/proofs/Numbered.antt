@@ -28,7 +28,7 @@ use Rattle.space_sql_write.proofs.Numbers.{id_from, key_from}
 use Rattle.space_sql_write.proofs.Spelt.{AreRowsOf, spell_out}
 use Rattle.space_sql_write.proofs.Telling.{none_told}
 
--- -- groups by their numbers
+-- ---- groups by their numbers
 
 abbrev pub number : Group → ℤ
 number g = g.row.num
@@ -53,7 +53,7 @@ at_from num id ss there =
 pub number_from : (num : ℤ) (id : ℕ) (ss : List SubGroup) (s : SubGroup) → Has ss s → s.row.num ≡ num → s.sub.id ≡ id → IsSubNumber ss num id
 number_from num id ss s there number own = subst (λ (x : ℤ × ℕ). Has {X = ℤ × ℕ} (map (λ (s : SubGroup). (s.row.num, s.sub.id)) ss) x) (λ i. (number i, own i)) (mapped_there (λ (s : SubGroup). (s.row.num, s.sub.id)) ss s there)
 
--- -- rows of a table and typed rows
+-- ---- rows of a table and typed rows
 
 module _ {R : Type 0} (values : R → Row) (columns : Row → Row) (rs : List R) (rows : List Row) (same : IsPermutation (map values rs) (map columns rows)) where
   -- Each row has a typed row.
@@ -137,7 +137,7 @@ keeps_numbers old new a b p l ss gs has are entities subs = record {
   subscriptions = λ id before after num at. sub_number_out new l ss gs b has are id num (subs num id (sub_number_in old a p id num (short_id old a p id before) at) after);
 }
 
--- -- the result of a change
+-- ---- the result of a change
 
 -- The rows of the changed airspace are its result.
 pub made : (old new : Database) (a b : Airspace) (p : Spells old a) (l : Layout) (ss : List SubGroup) (gs : List Group) → LaysOut new l → IsDatabase new → AreRowsOf l ss gs b → ((num : ℤ) (k : EntityKey) → IsNumberOf num k p.groups → IsSome (get b.entities k) → IsNumberOf num k gs)
@@ -148,7 +148,7 @@ made old new a b p l ss gs has sound are entities subs = (spell_out new l ss gs 
 pub made_untold : (old new : Database) (a b : Airspace) → Makes a b old new → Makes a (with_notified_subs b (is_one_of [])) old new
 made_untold old new a b it = subst (λ m. Makes a (record b { subscriptions = m }) old new) (sym (none_told b.subscriptions)) it
 
--- -- one change after another
+-- ---- one change after another
 
 pub numbers_then : (a b c : Airspace) (old mid new : Database) → ((k : EntityKey) → IsSome (get a.entities k) → IsSome (get c.entities k) → IsSome (get b.entities k)) → ((id : ℕ) → IsSome (get a.subscriptions id) → IsSome (get c.subscriptions id) → IsSome (get b.subscriptions id))
     → KeepsNumbers a b old mid → KeepsNumbers b c mid new → KeepsNumbers a c old new

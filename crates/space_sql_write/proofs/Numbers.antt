@@ -46,7 +46,7 @@ use Rattle.space_sql_write.proofs.Rows.{rows_passing}
 use Rattle.space_sql_write.proofs.Updating.{names, names_id}
 use Rattle.space_sql_write.proofs.Spelt.{lay_out}
 
--- -- the result of a query
+-- ---- the result of a query
 
 -- The numbers of the rows that pass are those of the typed rows that pass.
 module _ {R : Type 0} (encode : R → Row) (number : R → ℤ) (at : (r : R) → column (encode r) 0 ≡ Int (number r)) (columns : Row → Row) (rs : List R) (rows : List Row) (same : IsPermutation (map encode rs) (map columns rows)) where
@@ -84,7 +84,7 @@ shows_sub_numbers old new id rows h = λ l has.
       numbers_passing sub_values (λ s. s.num) (λ s. refl) sub_columns l.subs (db 10) has.subs.same (names id) (has_id id) (names_id id) rows (shows 10 (is_first 2) (col 1 0 ∷ []) db params rows refl (read.answer Null)),
     )
 
--- -- from shown rows to groups
+-- ---- from shown rows to groups
 
 module _ {G R : Type 0} (row : G → R) (number : R → ℤ) (passes : R → Bool) (gs : List G) (shown : List Row) (same : IsPermutation (numbers_of number passes (map row gs)) shown) where
   abbrev Is : ℤ → Type 0
@@ -109,7 +109,7 @@ module _ {G R : Type 0} (row : G → R) (number : R → ℤ) (passes : R → Boo
       let from = mapped_there (λ r. Int (number r) ∷ []) (filter passes (map row gs)) (row g) f in
       subst (λ l. Has l (Int (number (row g)) ∷ [])) none (moved shown _ _ (IsPermutation-sym _ _ same) from)
 
--- -- the rows that pass
+-- ---- the rows that pass
 
 pub same_text : (a b : List ℕ) → eq_by_cmp text_cmp a b ≡ true → a ≡ b
 same_text a b e = slice_cmp-IsAntisymmetric nat_cmp-IsAntisymmetric a b (equal_of _ e)
@@ -148,7 +148,7 @@ sub_passes n id s is e =
 pub id_from : (n id : ℕ) (s : SubGroup) → id < 2 ^ 128 → IsSubGroup n s → has_id (printed id) s.row ≡ true → s.sub.id ≡ id
 id_from n id s low is e = one_id s.row.id s.sub.id id is.spelt.kept.id low is.spelt.sub.id (same_text s.row.id (printed id) e)
 
--- -- the number found in the rows
+-- ---- the number found in the rows
 
 abbrev own_row : Group → EntityRow
 own_row g = g.row

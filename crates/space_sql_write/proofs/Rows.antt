@@ -31,7 +31,7 @@ module _ {R : Type 0} (encode : R → Row) (columns : Row → Row) (rs : List R)
   pub rows_passing : (test : Row → Bool) (passes : R → Bool) → ((r : R) → test (encode r) ≡ passes r) → IsPermutation (map encode (filter passes rs)) (map columns (filter (λ r. test (columns r)) rows))
   rows_passing test passes agree = subst₂ (λ a b. IsPermutation a b) (filter-map test encode rs ∙ ap (map encode) (filter_same (λ r. test (encode r)) passes agree rs)) (filter-map test columns rows) (IsPermutation-filter test _ _ same)
 
--- -- the rows with a number
+-- ---- the rows with a number
 
 -- The test `column = ?1`, as it is computed.
 abbrev pub bears : ℕ → ℤ → Row → Bool

@@ -52,7 +52,7 @@ one_rises n (Some a) = (tt, tt)
 namings_rise : (gs : List Group) → IsAscending IsBefore gs → IsAscending NamingLess (flat_map own_namings gs)
 namings_rise gs up = ascending_flat NamingLess IsBefore (λ _. Unit {0}) own_namings (λ g h _ _ less. cross_namings g.row.num h.row.num g.naming h.naming less) (λ g _. one_rises g.row.num g.naming) gs (all_of (λ _. Unit {0}) (λ _. tt) gs) up
 
--- -- from the airspace to the rows
+-- ---- from the airspace to the rows
 
 pub lay_out : (db : Database) (a : Airspace) (p : Spells db a) → LaysOut db (layout_of db a p)
 lay_out db a p = record {
@@ -98,7 +98,7 @@ lay_out db a p = record {
   };
 }
 
--- -- the rows of an airspace
+-- ---- the rows of an airspace
 
 -- Holds if the rows are those of subscriptions, in groups with ascending numbers.
 pub record AreSubs (serial : ℕ) (rows : List SubRow) (cells : List SubCellRow) (ss : List SubGroup) (m : Subscriptions) : Type 0 where
@@ -157,7 +157,7 @@ spell_out db l ss gs a has are = record {
   apart = (has.volumes.apart, has.cells.apart, has.availabilities.apart, has.sub_cells.apart);
 }
 
--- -- the rows that stay valid with the next serial
+-- ---- the rows that stay valid with the next serial
 
 pub subs_later : (n : ℕ) (rows : List SubRow) (cells : List SubCellRow) (ss : List SubGroup) (m : Subscriptions) → AreSubs n rows cells ss m → AreSubs (n + 1) rows cells ss m
 subs_later n rows cells ss m are = record {

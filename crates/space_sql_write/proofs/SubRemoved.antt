@@ -49,7 +49,7 @@ pub entities_turned : (n : ℕ) (ss ts : List SubGroup) (rows : List EntityRow) 
     → AreEntities n ss rows volumes cells namings gs m → AreEntities n ts rows volumes cells namings gs m
 entities_turned n ss ts rows volumes cells namings gs m turns are = record { rising = are.rising; each = names_turned n ss ts gs turns are.each; rows_are = are.rows_are; volumes_are = are.volumes_are; cells_are = are.cells_are; namings_are = are.namings_are; kept = are.kept }
 
--- -- the remaining rows are those of the other subscriptions
+-- ---- the remaining rows are those of the other subscriptions
 
 cells_borne : (n : ℕ) (ss : List SubGroup) → AllByRecursion (IsSubGroup n) ss → Borne (λ (c : SubCellRow). c.subscription) sub_number (λ (s : SubGroup). s.cells) ss
 cells_borne n ss each = all_turned (IsSubGroup n) (λ s. AllByRecursion (λ (c : SubCellRow). c.subscription ≡ s.row.num) s.cells) (λ s p. sub_cells_of s.row.num s.cells _ p.spelt.cells_are) ss each
@@ -64,7 +64,7 @@ subs_left n rows cells ss m num id are there = record {
   kept = kept_left sub_number sub_pair_of nat_cmp nat_cmp_total nat_cmp-IsAntisymmetric ss are.rising m are.kept num id (at_from num id ss there);
 }
 
--- -- subscriptions that no intent references
+-- ---- subscriptions that no intent references
 
 no_map : {X Y : Type 0} (f : X → Y) (xs : List X) → map f xs ≡ [] → xs ≡ []
 no_map f [] e = refl

@@ -29,7 +29,7 @@ use Rattle.space_sql_write.proofs.Numbered.{at_from, made, number_from, sub_numb
 use Rattle.space_sql_write.proofs.SubRemoved.{entities_turned, subs_left}
 use Rattle.space_sql_write.proofs.Spelt.{AreEntities, AreSubs, entities_later, lay_out, own_entities, own_stated, own_subs, subs_later}
 
--- -- the row of a subscription
+-- ---- the row of a subscription
 
 -- Only one row has the number.
 has_sub : (db : Database) (a : Airspace) (p : Spells db a) (num : ℤ) (id : ℕ) → IsSubNumber p.subs num id → HasSub num (layout_of db a p)
@@ -47,7 +47,7 @@ finds_stored s num old found new finds replaces a p = let it = finds a p in inl 
 pub finds_inserted : (s : Sub) (old found new : Database) → FindsSubNumber s.id None old found → InsertsSub s (pos s.serial) found new → StoresSub s old new
 finds_inserted s old found new finds inserts a p = let it = finds a p in inr (it.1, subst (λ db. InsertsSub s (pos s.serial) db new) it.0 inserts)
 
--- -- its statements in sequence
+-- ---- its statements in sequence
 
 pub replaces_all : (s : Sub) (num : ℤ) (old cleared updated new : Database) (row : SubRow) (cells : List SubCellRow) → row.num ≡ num → SpellsSub row cells s → Relays Always (without_sub_cells num) old cleared
     → Relays (HasSub row.num) (λ l. with_sub_row row (without_sub_row row.num l)) cleared updated → Relays Always (with_sub_cells cells) updated new → ReplacesSub s num old new
@@ -71,7 +71,7 @@ inserts_all s num old inserted new row cells number spelt inserts joins = record
   relays = λ l any has. joins (with_sub_row row l) tt (inserts l tt has);
 }
 
--- -- its rows beside the others
+-- ---- its rows beside the others
 
 module _ (n : ℕ) (rows : List SubRow) (cells : List SubCellRow) (ss : List SubGroup) (m : Subscriptions) where
   subs_stand : (id : ℕ) → AreSubs n rows cells ss m → ((num : ℤ) → ¬ IsSubNumber ss num id) → AreSubs n rows cells ss (remove m id)
@@ -101,7 +101,7 @@ module _ (n : ℕ) (rows : List SubRow) (cells : List SubCellRow) (ss : List Sub
 numbers_below : (s t : ℕ) (ss : List SubGroup) → t ≡ s + 1 → AllByRecursion (IsSubGroup s) ss → AllByRecursion (λ (g : SubGroup). int_eq g.row.num (pos t) ≡ false) ss
 numbers_below s t ss is = all_turned (IsSubGroup s) (λ (g : SubGroup). int_eq g.row.num (pos t) ≡ false) (λ g h. lower_differs g.row.num g.sub.serial s t h.spelt.sub.most h.most is) ss
 
--- -- referenced subscriptions keep their numbers
+-- ---- referenced subscriptions keep their numbers
 
 number_placed : (num : ℤ) (id : ℕ) (new : SubGroup) (ss : List SubGroup) → IsSubNumber ss num id → IsSubNumber (placed sub_number new ss) num id
 number_placed num id new ss there =
@@ -119,7 +119,7 @@ names_by ss ts turns None (Some k) names = names
 names_by ss ts turns (Some n) None names = names
 names_by ss ts turns (Some n) (Some k) names = turns n k names
 
--- -- storing a subscription
+-- ---- storing a subscription
 
 module _ (s : Sub) (old stored new : Database) (raises : RelaysSound (λ l. l.serial < max_serial) with_next_serial stored new) (a : Airspace) (p : Spells old a) (fits : Fits (PutSub s) [] a) where
   abbrev PutsItself : Type 0

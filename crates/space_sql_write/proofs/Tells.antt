@@ -32,7 +32,7 @@ use Rattle.space_sql_write.proofs.Numbered.{made, sub_number}
 use Rattle.space_sql_write.proofs.SubRemoved.{entities_turned}
 use Rattle.space_sql_write.proofs.SubStored.{names_by}
 
--- -- a notified subscription
+-- ---- a notified subscription
 
 told_spelt : (row : SubRow) (cells : List SubCellRow) (s : Sub) → s.index + 1 ≤ max_serial → SpellsSub row cells s → SpellsSub (notified_row row) cells (notified_again s)
 told_spelt row cells s most p = record {
@@ -77,7 +77,7 @@ sub_there db a p id s found =
     let it = group_there sub_number sub_pair_of nat_cmp nat_cmp_total nat_cmp-IsAntisymmetric p.subs a.subscriptions p.subs_kept id s found in
     (it.0, it.1, ap (λ (x : ℕ × Sub). x.0) it.2, ap (λ (x : ℕ × Sub). x.1) it.2)
 
--- -- notifying one subscription
+-- ---- notifying one subscription
 
 module _ (old : Database) (a : Airspace) (p : Spells old a) (id : ℕ) (s : Sub) (found : get a.subscriptions id ≡ Some s) (low : s.index < a.serial) where
   abbrev test : ℕ × Sub → Bool

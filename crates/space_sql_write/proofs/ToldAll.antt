@@ -30,7 +30,7 @@ use Rattle.space_sql_write.proofs.Numbered.{numbers_stand, numbers_then}
 use Rattle.space_sql_write.proofs.Telling.{none_told, same_subs, spells_untold}
 use Rattle.space_sql_write.proofs.Tells.{sub_there}
 
--- -- ascending ids are notified once
+-- ---- ascending ids are notified once
 
 differ : (y x : ℕ) → nat_cmp y x ≡ Less → nat_eq y x ≡ false
 differ y x less = elim (eqb_tells y x) [
@@ -108,7 +108,7 @@ tells_more ids i x old mid new l is first one a p can sound =
     let same = told_twice m xs x fresh ∙ ap (λ ys. notified_where (is_one_of ys) m) (sym (take_more ids i x l ∙ ap (λ y. xs ++ y ∷ []) (sym is))) in
     subst (λ (n : Subscriptions). Makes a (record a { subscriptions = n }) old new) same (next.0, next.1, numbers_then a (with_notified_subs a (is_one_of xs)) (with_notified_subs (with_notified_subs a (is_one_of xs)) (is_one_of (x ∷ []))) old mid new (λ k before after. before) (λ k before after. found_told (is_one_of xs) m k before) it.2 next.2)
 
--- -- after a change
+-- ---- after a change
 
 index_most : (db : Database) (a : Airspace) (p : Spells db a) (id : ℕ) (s : Sub) → get a.subscriptions id ≡ Some s → s.index ≤ a.serial
 index_most db a p id s found = let it = sub_there db a p id s found in subst (λ (x : Sub). x.index ≤ a.serial) it.3 (all_there (IsSubGroup a.serial) p.subs p.each_sub it.0 it.1).index

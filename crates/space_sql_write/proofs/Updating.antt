@@ -49,7 +49,7 @@ news_of db r = rw (cast_int r.num, cast_null, cast_int r.serial, cast_int r.note
 no_works : (db : Trees) (r : SubRow) → works dss_schema Enforced 0 10 (taken_by db (edit_of db (subscription 10) (ids_of ((Int r.num ∷ stored r) ∷ [])) Given 1 ((Int r.num ∷ stored r) ∷ []))) (edit_of db (subscription 10) (ids_of ((Int r.num ∷ stored r) ∷ [])) Given 1 ((Int r.num ∷ stored r) ∷ [])).news ≡ []
 no_works db r = refl
 
--- -- all its columns
+-- ---- all its columns
 
 replaced : (r : SubRow) (row : Row) → column row 0 ≡ Int r.num → eval_all replaced_row (sub_values r ∷ row ∷ []) ≡ Int r.num ∷ stored r
 replaced r row e = λ i. e i ∷ e i ∷ Null ∷ Text r.id ∷ Text r.manager ∷ Int r.serial ∷ Text r.version ∷ Int r.notes ∷ Text r.url ∷ Int r.for_intents ∷ Int r.for_constraints ∷ Int r.alt_lower ∷ Int r.alt_upper ∷ Int r.time_start ∷ Int r.time_end ∷ []
@@ -68,7 +68,7 @@ updates_sub_row old new r (Ok count) h = λ l one has.
     let more = one_more sub_values sub_columns _ r (stored r) num _ refl refl it.fresh left in
     subst (λ d. LaysOut d (with_sub_row r (without_sub_row num l))) (sym it.is) (subs_relaid old.now it.next l has it.stand _ (subst (AreRows sub_values sub_columns _) (sym it.rows) more))
 
--- -- its index
+-- ---- its index
 
 -- The test of the statement, as it is computed.
 abbrev pub names : List ℕ → Row → Bool

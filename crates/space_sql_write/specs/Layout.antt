@@ -181,7 +181,7 @@ with_availability_row uss stated l =
 abbrev pub with_next_serial : Layout → Layout
 with_next_serial l = record l { serial = l.serial + 1 }
 
--- -- preconditions of statements on the rows
+-- ---- preconditions of statements on the rows
 
 -- Holds if the entity has no cell.
 abbrev pub LacksCells : ℤ → Layout → Type 0

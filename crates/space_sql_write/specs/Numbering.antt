@@ -44,7 +44,7 @@ abbrev pub Makes : (before after : Airspace) → Database → Database → Type 
 Makes before after old new =
     Spells new after × IsDatabase new × KeepsNumbers before after old new
 
--- -- batches of changes
+-- ---- batches of changes
 
 -- Holds if an airspace, and each one that the changes of a batch lead to, has P.
 abbrev pub Throughout : (Airspace → Type 0) → List BatchChange → Airspace → Type 0

@@ -84,15 +84,15 @@ abbrev pub RelaysSound : (P : Layout → Type 0) (change : Layout → Layout)
 RelaysSound P change old new =
     Relays P change old new × ((l : Layout) → P l → LaysOut old l → IsDatabase new)
 
--- Holds if, for any airspace that the tables represented, a change that fits and can notify these
--- subscriptions is made.
+-- Holds if a change that fits and may notify these subscriptions is made in any airspace that the
+-- tables represented.
 abbrev pub MakesChange : Change → List ℕ → Database → Database → Type 0
 MakesChange change told old new =
     (a : Airspace) → Spells old a → Fits change told a
     → Makes a (changed change told a) old new
 
--- Holds if, for any airspace that the tables represented, all changes of a batch are made, when
--- each one fits the airspace that the previous ones leave.
+-- Holds if all changes of a batch are made in any airspace that the tables represented. Each change
+-- must fit the airspace that the previous ones leave.
 abbrev pub MakesBatch : List BatchChange → Database → Database → Type 0
 MakesBatch batch old new =
     (a : Airspace) → Spells old a → FitAll batch a → MakesAll batch a old new
@@ -102,13 +102,13 @@ abbrev pub MakesRest : List BatchChange → Database → Database → Type 0
 MakesRest batch old new =
     (a : Airspace) → Spells old a → FitAll batch a → IsDatabase old → MakesAll batch a old new
 
--- Holds if, for any airspace that the tables represented, one item is purged, when it can be.
+-- Holds if one item is purged from any airspace that the tables represented, if it can be.
 abbrev pub MakesLess : PurgeItem → Database → Database → Type 0
 MakesLess gone old new =
     (a : Airspace) → Spells old a → CanPurge gone a → Makes a (without_item a gone) old new
 
--- Holds if, for any airspace that the tables represented, all items are purged, when each one can
--- be purged from the airspace that the previous ones leave.
+-- Holds if all items are purged from any airspace that the tables represented. Each item must be
+-- purgeable from the airspace that the previous ones leave.
 abbrev pub MakesLessAll : List PurgeItem → Database → Database → Type 0
 MakesLessAll gone old new =
     (a : Airspace) → Spells old a → CanPurgeAll gone a → Makes a (without_items gone a) old new

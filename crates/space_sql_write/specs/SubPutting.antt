@@ -40,7 +40,7 @@ StoresSub s old new =
     → ((num : ℤ) × IsSubNumber p.subs num s.id × ReplacesSub s num old new)
     ⊎ (((n : ℤ) → ¬ IsSubNumber p.subs n s.id) × InsertsSub s (pos s.serial) old new)
 
--- -- notifying
+-- ---- notifying
 
 -- Holds if a subscription has the id, and its index is less than the serial.
 abbrev pub CanRise : Airspace → ℕ → Type 0
@@ -51,8 +51,8 @@ pub record CanTell (a : Airspace) (ids : List ℕ) : Type 0 where
   pub rising : IsStrictlySortedBy nat_cmp ids
   pub there : All (CanRise a) ids
 
--- Holds if, for any airspace that the tables represented in which these subscriptions can be
--- notified, they are notified once more, when the rows obeyed the schema.
+-- Holds if these subscriptions are notified once more in any airspace that the tables represented.
+-- They must be notifiable there, and the rows must have obeyed the schema.
 abbrev pub NotifiesRows : List ℕ → Database → Database → Type 0
 NotifiesRows ids old new =
     (a : Airspace) → Spells old a → CanTell a ids → IsDatabase old

@@ -93,8 +93,8 @@ fn let_each_go<S: Alter>(
 /// unchanged.
 ///
 /// Each remaining item keeps its number. It is for tables that represent an airspace in which the
-/// first item exists, each other one exists after the previous ones are purged, and no intent
-/// references it.
+/// first item exists. Each other one exists after the previous ones are purged. No intent
+/// references an item when it is purged.
 ///
 /// # Errors
 ///

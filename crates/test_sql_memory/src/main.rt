@@ -3,8 +3,8 @@
 //!
 //! The first argument is the token file. Each further one is the name of a stream of requests,
 //! whose responses are printed, or `cell:` with the token of a cell. For a cell, it prints for each
-//! kind how many of the references meet the cell, and whether the search by the index finds the
-//! same as one through all references.
+//! kind how many of the references meet the cell. It also prints whether the search by the index
+//! finds the same as one through all references.
 #![tactic(auto)]
 
 use entity_core::entity::Entity;
