@@ -22,7 +22,8 @@ use sqlite::{Alter, Connection, Error, ErrorCode};
 use sqlite_schema::schema::Schema;
 use std::alloc::Global;
 
-/// Returns true if these are exactly the tables of format 2, as created in memory.
+/// Returns true only if these are exactly the tables of format 2, as created in memory. It can
+/// return false for them, for example if memory runs out.
 pub(crate) fn is_ours(alloc: Global, schema: &Schema) -> bool
     ensures { IsTrue result → schema.now ≡ dss_schema }
 {
@@ -54,7 +55,8 @@ fn read_ours<S: Alter>(alloc: Global, conn: &mut Connection<S>) -> Result<Loaded
 impl<S: Alter> SqlSpace<S> {
     /// Returns all that the space holds, as sorted vectors.
     ///
-    /// Returns `Unchanged` if the database has tables other than those of format 2.
+    /// Returns `Unchanged` if the database has tables other than those of format 2, beside them or
+    /// in their place.
     pub fn load_airspace(&mut self) -> Result<LoadedAirspace, SpaceFault>
         ensures tells { ReportsFault self.old.refusals self.new.refusals self.old.broken self.new.broken
             result }

@@ -153,9 +153,9 @@ impl<S: Alter> SqlSpace<S> {
     /// Adopts a connection that is outside a transaction.
     ///
     /// If it has none of the tables, they are created. Tables of format 1 are upgraded to format 2,
-    /// in one transaction, with the same airspace. If the tables are of format 2, whole and read,
-    /// the loaded airspace is returned with the space. The contract says that it is all that the
-    /// space holds only if the tables are exactly as `make_tables` creates them.
+    /// in one transaction, with the same airspace. If the tables were complete and of format 2, the
+    /// loaded airspace is returned with the space. The contract says that it is all that the space
+    /// holds only if the tables are exactly as `make_tables` creates them.
     ///
     /// Returns `Version` if `meta` has one row, of a format that is neither 1 nor 2. Otherwise
     /// returns `NotADss` if only some of the tables exist or their rows represent no airspace.

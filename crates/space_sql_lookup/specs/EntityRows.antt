@@ -12,7 +12,8 @@ use Rattle.space_sql_lookup.specs.Naming.{FindsNaming}
 use Rattle.space_sql_lookup.specs.Texts.{own_cells_read, own_volumes_read}
 use Rattle.space_sql_lookup.specs.declared.entity_rows.OwnRows.{OwnRows}
 
--- Holds if the rows are the result of querying `volume` by a number. `AnswersCells` says it of `cell`.
+-- Holds if the rows are the result of querying `volume` by a number. `AnswersCells` says so of
+-- `cell`.
 abbrev pub AnswersVolumes : ℤ → Database → List Row → Type 0
 AnswersVolumes num db rows = Answers own_volumes_read (Int num ∷ []) db rows
 
