@@ -1,4 +1,4 @@
--- What is told, gathered by address, is the list of it.
+-- Proofs that the notices gathered by URL are the list that the specification defines.
 use Rattle.std.specs.Prelude.{◌≡◌, ℕ, Bool, true, false, cond, ◌&&◌, ◌||◌, T, List, [], ◌∷◌, ◌++◌, map, filter, Some, None, is_some, refl}
 use Rattle.std.proofs.Common.{append-nil, sym, ap, ◌∙◌, subst}
 use Rattle.std.proofs.lemmas.Bool.{or_right}
@@ -28,14 +28,14 @@ use Rattle.service_notify.specs.declared.notice.Notify.{Notify}
 
 -- ---- one subscription more
 
--- what is told at an address, with one state more
+-- The notice at a URL, with one state more.
 abbrev with_state : Notify → ℕ × ℕ → Notify
 with_state n st = record { url = n.url; states = n.states ++ st ∷ [] }
 
 abbrev state_of : Sub → ℕ × ℕ
 state_of s = (s.id, s.index)
 
--- an address that none has is told nothing
+-- A URL that no subscription has gets no states.
 none_at : (ss : List Sub) (url : List ℕ) → is_url_of ss url ≡ false → states_at ss url ≡ []
 none_at [] url e = refl
 none_at (s ∷ ss) url e =
@@ -63,13 +63,13 @@ any_more (x ∷ ss) s url = elim (same_text x.url url) as (λ b. (b || is_url_of
 same_self : (url : List ℕ) → same_text url url ≡ true
 same_self url = (bytes_eq-Decides url url).1 refl
 
--- where s has the address, what is told there has its state last
+-- At the URL of the added subscription, the notice has its state last.
 notice_more : (ss : List Sub) (s : Sub) → notice_at (ss ++ s ∷ []) s.url ≡ with_state (notice_at ss s.url) (state_of s)
 notice_more ss s =
     ap (λ (sts : List (ℕ × ℕ)). record { url = s.url; states = sts }) (states_more ss s s.url
     ∙ ap (λ (b : Bool). states_at ss s.url ++ cond b (state_of s ∷ []) []) (same_self s.url))
 
--- and at other addresses it is what it was
+-- At other URLs, the notice is unchanged.
 notice_other : (ss : List Sub) (s : Sub) (url : List ℕ) → same_text s.url url ≡ false → notice_at (ss ++ s ∷ []) url ≡ notice_at ss url
 notice_other ss s url e =
     ap (λ (sts : List (ℕ × ℕ)). record { url = url; states = sts }) (states_more ss s url
@@ -85,7 +85,7 @@ told_other ss s url e =
     ap (λ (b : Bool). cond b (Some (notice_at (ss ++ s ∷ []) url)) None) (any_more ss s url ∙ (ap (λ (b : Bool). is_url_of ss url || b) e ∙ or_false (is_url_of ss url)))
     ∙ ap (λ (n : Notify). cond (is_url_of ss url) (Some n) None) (notice_other ss s url e)
 
--- at each address, where the state of s was put under its own
+-- At each URL, the result is the notice after the subscription's state was added at its own URL.
 told_by : (ss : List Sub) (s : Sub) (url : List ℕ) → cond (same_text s.url url) (Some (with_state (notice_at ss s.url) (state_of s))) (notified_url_at ss url) ≡ notified_url_at (ss ++ s ∷ []) url
 told_by ss s url =
     elim (same_text s.url url) as (λ b. same_text s.url url ≡ b → cond b (Some (with_state (notice_at ss s.url) (state_of s))) (notified_url_at ss url) ≡ notified_url_at (ss ++ s ∷ []) url) [
@@ -113,7 +113,7 @@ Tree = BTreeMap (Bor (List ℕ)) Notify
 abbrev str_cmp : Bor (List ℕ) → Bor (List ℕ) → Ordering
 str_cmp x y = text_cmp x.now y.now
 
--- what is put under its address has its state last
+-- The notice stored at the subscription's URL has its state last.
 put_told : (ss : List Sub) (s : Sub) (m n : Tree) (w : Notify) → tree.UpdatesBy str_cmp (λ k. text_cmp s.url k.now) m n (Some w)
     → w ≡ with_state (notice_at ss s.url) (state_of s) → IsNotifiedAt ss m → IsNotifiedAt (ss ++ s ∷ []) n
 put_told ss s m n w u is before url =
@@ -125,14 +125,14 @@ module _ (s : Sub) (url : List ℕ) (m n : Tree) (w : Notify) (same : url ≡ s.
   put_at : tree.UpdatesBy str_cmp (λ k. text_cmp s.url k.now) m n (Some w)
   put_at = subst (λ (x : List ℕ). tree.UpdatesBy str_cmp (λ k. text_cmp x k.now) m n (Some w)) same u
 
-  -- where something is told there
+  -- Adding a state to an existing notice preserves `IsNotifiedAt`.
   pub told_more : (old : Notify) → Some old ≡ tree.get_by (λ k. text_cmp url k.now) m → w ≡ with_state old (state_of s) → (ss : List Sub) → IsNotifiedAt ss m → IsNotifiedAt (ss ++ s ∷ []) n
   told_more old there is ss before =
       put_told ss s m n w put_at
       (is ∙ ap (λ (x : Notify). with_state x (state_of s)) (some_notice ss s.url old (ap (notified_url_at ss) (sym same) ∙ (sym (before url) ∙ sym there))))
       before
 
-  -- where nothing is
+  -- Adding the first notice at a URL preserves `IsNotifiedAt`.
   pub told_first : None ≡ tree.get_by (λ k. text_cmp url k.now) m → w ≡ record { url = s.url; states = state_of s ∷ [] } → (ss : List Sub) → IsNotifiedAt ss m → IsNotifiedAt (ss ++ s ∷ []) n
   told_first absent is ss before =
       put_told ss s m n w put_at
@@ -140,12 +140,12 @@ module _ (s : Sub) (url : List ℕ) (m n : Tree) (w : Notify) (same : url ≡ s.
       (sym (none_at ss s.url (no_notice ss s.url (ap (notified_url_at ss) (sym same) ∙ (sym (before url) ∙ sym absent))))))
       before
 
--- ---- all of them
+-- ---- all notices
 
 abbrev Notes : Type 0
 Notes = List (List ℕ × Notify)
 
--- the entries of a map, each under its text
+-- The entries of a map, each under its text.
 abbrev texts_of : List (Bor (List ℕ) × Notify) → Notes
 texts_of es = map (λ e. (e.0.now, e.1)) es
 
@@ -165,7 +165,7 @@ sorted_texts : (es : List (Bor (List ℕ) × Notify)) → IsStrictlySortedBy str
 sorted_texts [] h = tt
 sorted_texts (e ∷ es) h = both _ _ (below_texts e.0 es (sorted_head str_cmp e.0 (keys_of es) h)) (sorted_texts es (sorted_tail str_cmp e.0 (keys_of es) h))
 
--- what is told at the addresses of a list
+-- The notices at the URLs of a list.
 abbrev notes_at : List Sub → List (List ℕ × Unit {0}) → Notes
 notes_at ss us = map (λ u. (u.0, notice_at ss u.0)) us
 
@@ -218,12 +218,12 @@ values_of_notes : (ss : List Sub) (us : List (List ℕ × Unit {0})) → values_
 values_of_notes ss [] = refl
 values_of_notes ss (u ∷ us) = ap (λ (ns : List Notify). notice_at ss u.0 ∷ ns) (values_of_notes ss us)
 
--- in the order of the addresses it is the list
+-- The values of the map, in the order of the URLs, are the list of notices.
 pub told_all : (ss : List Sub) (m : Tree) → tree.IsOrdered str_cmp m → IsNotifiedAt ss m → tree.values m ≡ notices_of ss
 unfolding urls_of
 told_all ss m o is = values_of_texts m.entries ∙ (ap values_of (told_entries ss m o is) ∙ values_of_notes ss (urls ss))
 
--- ---- the list that is made of them
+-- ---- the list built from the map
 
 pub none_left : (ns : List Notify) (rest all : List (Bor (List ℕ) × Notify)) → ns ++ values_of rest ≡ values_of all → rest ≡ [] → ns ≡ values_of all
 none_left ns rest all e gone = sym (append-nil ns) ∙ (ap (λ (es : List (Bor (List ℕ) × Notify)). ns ++ values_of es) (sym gone) ∙ e)

@@ -1,4 +1,4 @@
--- What is told to subscriptions, gathered by address.
+-- Definitions of notices, gathered by URL.
 use Rattle.std.specs.Prelude.{◌≡◌, ℕ, Bool, List, Option, Some, None, if◌then◌else◌}
 use Rattle.std.specs.BTreeMap.{BTreeMap, get_by}
 use Rattle.std.specs.Borrow.{Bor}
@@ -9,15 +9,15 @@ use Rattle.entity_core.specs.declared.subscription.Sub.{Sub}
 use Rattle.service_notify.specs.Notices.{notice_at}
 use Rattle.service_notify.specs.declared.notice.Notify.{Notify}
 
--- whether some subscription has an address
+-- Returns true if some subscription has the URL.
 abbrev pub is_url_of : List Sub → List ℕ → Bool
 is_url_of ss url = list_any (λ s. same_text s.url url) ss
 
--- what is told at an address, if some subscription has it
+-- The notice at a URL, if some subscription has it.
 abbrev pub notified_url_at : List Sub → List ℕ → Option Notify
 notified_url_at ss url = if is_url_of ss url then Some (notice_at ss url) else None
 
--- Whether a map has under each address what is told there of some subscriptions.
+-- Holds if the map has, at each URL, the notice of the subscriptions there.
 abbrev pub IsNotifiedAt : List Sub → BTreeMap (Bor (List ℕ)) Notify → Type 0
 IsNotifiedAt ss told =
     (url : List ℕ) → get_by (λ k. text_cmp url k.now) told ≡ notified_url_at ss url

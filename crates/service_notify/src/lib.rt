@@ -1,4 +1,4 @@
-//! Whom a change of an entity notifies, and what is told of it.
+//! The subscriptions that a change of an entity notifies, and the notices of it.
 #![tactic(auto)]
 
 pub mod notice;

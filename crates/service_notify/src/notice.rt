@@ -1,4 +1,4 @@
-//! What is told of a change to those whom it notifies.
+//! The notices of a change.
 ghost use Rattle.std.specs.Prelude.{◌≡◌, ◌<◌, List, [], ◌∷◌, ◌++◌, IfOk, OnOk, map};
 ghost use Rattle.std.specs.List.{AllByRecursion};
 ghost use Rattle.entity_core.specs.Airspace.{notified_again};
@@ -15,7 +15,7 @@ use std::alloc::{AllocError, Global};
 use std::collections::BTreeMap;
 use std::marker::Model;
 
-/// Ids of subscriptions, each with its index, in their order. Contracts see their list.
+/// The ids of subscriptions, each with its index, in their order. Contracts see its list.
 #[derive(Debug, Drop)]
 pub struct SubIndexes {
     items: Vec<(EntityId, u64)>,
@@ -30,7 +30,7 @@ impl Model for SubIndexes {
 }
 
 impl SubIndexes {
-    // One alone.
+    // Returns a list with only this one.
     fn one(alloc: Global, state: (EntityId, u64)) -> Result<SubIndexes, AllocError>
         ensures { IfOk result (λ states. states ≡ state ∷ []) }
     {
@@ -38,14 +38,14 @@ impl SubIndexes {
         Ok(SubIndexes { items })
     }
 
-    // One more, after the others.
+    // Appends one to the end.
     fn push(&mut self, state: (EntityId, u64)) -> Result<(), AllocError>
         ensures { OnOk result (self.new ≡ self.old ++ state ∷ []) }
     {
         Ok(self.items.push(state)?)
     }
 
-    /// They, in their order.
+    /// Returns the ids and indexes, in their order.
     pub fn items(&self) -> &[(EntityId, u64)]
         ensures { result.now ≡ self.now }
     {
@@ -53,7 +53,7 @@ impl SubIndexes {
     }
 }
 
-/// What is told at an address: the subscriptions that have it, by rising ids, with their new
+/// The notice at a URL: the subscriptions that have it, in ascending order of ids, with their new
 /// indexes.
 #[derive(Debug, Drop)]
 pub struct Notify {
@@ -61,7 +61,7 @@ pub struct Notify {
     pub states: SubIndexes,
 }
 
-/// What is told, address by address in the order of their bytes. Contracts see its list.
+/// The notices of a change, in the order of the bytes of their URLs. Contracts see its list.
 #[derive(Debug, Drop)]
 pub struct Notices {
     items: Vec<Notify>,
@@ -77,14 +77,14 @@ impl Model for Notices {
 }
 
 impl Notices {
-    // These. It takes no memory.
+    // Creates it from these notices. It allocates nothing.
     fn from_vec(items: Vec<Notify>) -> Notices
         ensures { result ≡ items.items }
     {
         Notices { items }
     }
 
-    /// They, in their order.
+    /// Returns the notices, in their order.
     pub fn items(&self) -> &[Notify]
         ensures { result.now ≡ self.now }
     {
@@ -92,7 +92,7 @@ impl Notices {
     }
 }
 
-/// Tells each of one more change, while its index can rise.
+/// Notifies each subscription of one more change, if its index can increase.
 pub fn notify_each(subs: &mut [Sub])
     ensures { AllByRecursion (λ s. s.index < max_serial) subs.old
         → subs.new ≡ map notified_again subs.old }
@@ -102,7 +102,7 @@ pub fn notify_each(subs: &mut [Sub])
     }
 }
 
-/// The ids of some subscriptions, in their order.
+/// Returns the ids of some subscriptions, in their order.
 pub fn sub_ids(alloc: Global, subs: &[Sub]) -> Result<EntityIds, AllocError>
     ensures { IfOk result (λ ids. ids ≡ map (λ s. s.id) subs.now) }
 {
@@ -113,10 +113,10 @@ pub fn sub_ids(alloc: Global, subs: &[Sub]) -> Result<EntityIds, AllocError>
     Ok(EntityIds::from_vec(items))
 }
 
-// What is told so far, by address.
+// The notices gathered so far, by URL.
 type Told<'a> = BTreeMap<&'a str, Notify>;
 
-// Tells of one subscription more, at its address.
+// Adds the state of one more subscription at its URL.
 fn tell_more<'a>(told: &mut Told<'a>, alloc: Global, sub: &'a Sub) -> Result<(), AllocError>
     ensures { OnOk result ((before : List Sub) → IsNotifiedAt before told.old
         → IsNotifiedAt (before ++ sub.now ∷ []) told.new) }
@@ -137,7 +137,7 @@ fn tell_more<'a>(told: &mut Told<'a>, alloc: Global, sub: &'a Sub) -> Result<(),
     }
 }
 
-// What is told to some subscriptions, by address.
+// Returns the notices of some subscriptions, by URL.
 fn told_of<'a>(alloc: Global, subs: &'a [Sub]) -> Result<Told<'a>, AllocError>
     ensures { IfOk result (IsNotifiedAt subs.now) }
 {
@@ -148,7 +148,7 @@ fn told_of<'a>(alloc: Global, subs: &'a [Sub]) -> Result<Told<'a>, AllocError>
     Ok(told)
 }
 
-/// What is told to some subscriptions, address by address.
+/// Returns the notices of some subscriptions, one for each URL.
 pub fn notices_of(alloc: Global, subs: &[Sub]) -> Result<Notices, AllocError>
     ensures { IfOk result (λ told. told ≡ notices_of subs.now) }
 {

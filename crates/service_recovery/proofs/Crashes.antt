@@ -1,4 +1,4 @@
--- What a crash leaves after each reply.
+-- Proofs about the effects of a crash after each reply.
 use Rattle.std.specs.Prelude.{◌≡◌, ℕ, List, false, refl}
 use Rattle.std.proofs.Common.{inl, inr, subst, sym, ◌∙◌}
 use Rattle.sqlite_trees.specs.Memory.{memory_view}
@@ -35,7 +35,7 @@ module _ {K : Type 0} (g : Ghosts K) (new : K) (db : Trees) (found : (b : Airspa
     | inr after ↦ inr (subst (λ b. AreTablesOf db b) after found.2)
   ]
 
--- the words of a space over tables
+-- The ghosts of a space over tables.
 abbrev pub words_of : {S : Type 0} → stores.Ghosts S → Ghosts (SqlSpaceModel S)
 words_of g = record {
   holds = holds_of g;
@@ -54,7 +54,7 @@ crash_leaves g old new now call reply is = record {
   stays = is.stays.shut;
 }
 
--- what a crash leaves of tables in memory is what they have committed
+-- A crash leaves of tables in memory what they have committed.
 pub due_in_memory : (salt : List ℕ) (a : Airspace) (old new : Service (SqlSpaceModel MemStore)) (now : ℕ) (call : Call) (reply : Reply) → IsReplyTo (words_of over_memory) old new now call reply → is_shut old ≡ false → salt_of old ≡ salt
     → IsContent (holds_of over_memory) (space_of old) a → is_sound_of over_memory (space_of new) → LeavesDue over_memory salt a now call reply (space_of new)
 due_in_memory salt a old new now call reply is goes own content sound =

@@ -1,4 +1,4 @@
--- What a crash leaves of tables whose changes may wait.
+-- Proofs about the effects of a crash on tables whose changes can be pending.
 use Rattle.std.specs.Prelude.{◌≡◌, ◌||◌, ◌⊎◌, ◌↔◌, ℕ, Bool, true, false, Result, Ok, Err, OnOk, IsErrOf, refl}
 use Rattle.std.specs.Coded.{Coded}
 use Rattle.std.proofs.Common.{inl, inr, ap, subst, sym, ◌∙◌}
@@ -31,7 +31,7 @@ use Rattle.space_sql.proofs.Crashes.{leaves_held}
 use Rattle.service_recovery.specs.Crash.{CrashLeavesGrouped, PersistsCommitted, bound_waiting_of, waiting_of}
 use Rattle.service_recovery.proofs.Crashes.{kept_after, words_of}
 
--- what is so of a space whose changes may wait, by the space over tables in it
+-- Facts about a space whose changes can be pending, given the space over tables in it.
 pub record IsOver {S : Type 0} (tables : Ghosts S) (space : Ghosts (MirroredModel S)) : Type 0 where
   pub calm_sound : (k : MirroredModel S) → is_pending_in k ≡ false → tables.is_sound k.store → space.is_sound k
   pub calm_content : (k : MirroredModel S) (a : Airspace) → is_pending_in k ≡ false → IsContent tables.holds k.store a → IsContent space.holds k a
@@ -39,10 +39,10 @@ pub record IsOver {S : Type 0} (tables : Ghosts S) (space : Ghosts (MirroredMode
   pub sound : (k : MirroredModel S) → space.is_sound k → tables.is_sound k.store
   pub whole : (k : MirroredModel S) → tables.is_whole k.store → space.is_whole k
   pub store_whole : (k : MirroredModel S) → space.is_whole k → tables.is_whole k.store
-  -- what is seen is one where what is kept is one
+  -- If the durable airspace is unique, the visible one is.
   pub one : (k : MirroredModel S) (a b c : Airspace) → IsContent tables.holds k.store a → space.holds k b → space.holds k c → c ≡ b
 
--- the words of such a space
+-- The ghosts of such a space.
 abbrev pub group_words : {S : Type 0} → Ghosts S → (MirroredModel S → Code) → Ghosts (MirroredModel S)
 group_words g fixed = record {
   holds = holds_in g;
@@ -64,14 +64,14 @@ grouped_over g fixed = record {
   one = λ k a b c content held seen. seen.2 ∙ ap (changed_all (pending k.ahead)) (content.only seen.0 seen.1 ∙ sym (content.only held.0 held.1)) ∙ sym held.2;
 }
 
--- what is so where a bound stands over it
+-- Facts about such a space below a quota.
 pub record IsBoundOver {S : Type 0} (tables : Ghosts S) (space : Ghosts (QuotaModel (MirroredModel S))) : Type 0 where
   pub calm_content : (k : QuotaModel (MirroredModel S)) (a : Airspace) → is_pending_in k.space ≡ false → IsContent tables.holds k.space.store a → IsContent space.holds k a
   pub sound : (k : QuotaModel (MirroredModel S)) → space.is_sound k → tables.is_sound k.space.store
   pub whole : (k : QuotaModel (MirroredModel S)) → tables.is_whole k.space.store → space.is_whole k
   pub store_whole : (k : QuotaModel (MirroredModel S)) → space.is_whole k → tables.is_whole k.space.store
 
--- the words of such a space
+-- The ghosts of such a space.
 abbrev pub bound_words : {S : Type 0} → Ghosts S → (QuotaModel (MirroredModel S) → ℕ) → (QuotaModel (MirroredModel S) → Code) → Ghosts (QuotaModel (MirroredModel S))
 bound_words g refusals fixed = record {
   holds = λ k a. holds_in g k.space a;
@@ -92,7 +92,7 @@ bounded_over g refusals fixed = record {
   store_whole = λ k whole. whole;
 }
 
--- a crash in the midst of a round leaves what is kept where its changes are not
+-- A crash during a batch leaves the durable airspace, without the batch's changes.
 pub open_segment_in : {S : Type 0} (g : Ghosts S) (c : Coded S) (refusals : QuotaModel (MirroredModel S) → ℕ) → OpenSegmentIsNotDurable (bound_words g refusals (λ k. fixed_in c k.space)) (bound_waiting_of g)
 open_segment_in g c refusals = open_segment (bound_words g refusals (λ k. fixed_in c k.space)) (bound_waiting_of g) (record {
   quiet = λ s a calm. seen_is_kept g.holds s.space a calm;
@@ -104,7 +104,7 @@ open_segment_in g c refusals = open_segment (bound_words g refusals (λ k. fixed
 module _ {S : Type 0} (g : stores.Ghosts S) (space : Ghosts (MirroredModel (SqlSpaceModel S))) (over : IsOver (words_of g) space) (old new : Service (MirroredModel (SqlSpaceModel S))) where
   -- ---- a call
 
-  -- an airspace of a crash's outcome, as the space holds it
+  -- The airspace of a crash's outcome is one that the space holds.
   seen_in : is_pending_in (space_of new) ≡ false → is_whole_of g (space_of new).store → (db : Trees) → may_leave_of g (space_of new).store db → (b : Airspace) × space.holds (space_of new) b × AreTablesOf db b
   seen_in calm whole db may =
       let it = leaves_held (state g (space_of new).store.conn) whole db may in
@@ -123,7 +123,7 @@ module _ {S : Type 0} (g : stores.Ghosts S) (space : Ghosts (MirroredModel (SqlS
     stays = is.stays.shut;
   }
 
-  -- ---- the end of a round
+  -- ---- the end of a batch
 
   module _ (kept seen : Airspace) (content : IsContent (holds_of g) (space_of old).store kept) (held : space.holds (space_of old) seen) (sound : space.is_sound (space_of new)) (db : Trees) (found : (b : Airspace) × space.holds (space_of new) b × AreTablesOf db b) where
     settled_by : (result : Result (Unit {0}) SpaceFault) → IsCommitted space (waiting_of (words_of g)) old new result → PersistsCommitted kept seen result db

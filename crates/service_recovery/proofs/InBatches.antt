@@ -1,4 +1,4 @@
--- A run in rounds: what is kept of it is found.
+-- Proofs about a run in batches: what is durable of it is recovered.
 use Rattle.std.specs.Prelude.{◌≡◌, ◌∷◌, List, [], ◌++◌, refl}
 use Rattle.std.proofs.Common.{inl, sym, subst}
 use Rattle.std.proofs.Math.Logic.{∥∥₁_elim, ∥∥₁_map}
@@ -30,7 +30,7 @@ use Rattle.service_recovery.proofs.Crashes.{words_of}
 use Rattle.service_recovery.proofs.Grouping.{IsBoundOver}
 use Rattle.service_recovery.proofs.Lives.{content_found}
 
--- a space was sound where it is, and stays whole
+-- Lemmas about a space that was sound if it is, and stays whole.
 module _ {S : Type 0} (g : Ghosts S) (k : settles.Ghosts S) where
   made_sound : (old new : Service S) (calls : List CallRecord) → CalledInOrder g k old calls new → g.is_sound (space_of new) → g.is_sound (space_of old)
   made_sound old new [] same sound = subst (λ s. g.is_sound (space_of s)) same sound
@@ -63,7 +63,7 @@ module _ {S : Type 0} (g : Ghosts S) (k : settles.Ghosts S) where
 module _ {D : Type 0} {g : disk.Ghosts D} (space : Ghosts (QuotaModel (MirroredModel (SqlSpaceModel (FileStore D g))))) (over : IsBoundOver (words_of over_files) space) (some : SomeIsHeld {S = SqlSpaceModel (FileStore D g)} (words_of over_files)) (law : OpenSegmentIsNotDurable space (bound_waiting_of (words_of over_files)))
     (before : Image) (old purged mid new : Service (QuotaModel (MirroredModel (SqlSpaceModel (FileStore D g))))) (segments : List Segment) (batches : List Batch) (calls : List CallRecord)
     (starts : StartsOver (words_of over_files) space before old) (segments_made : MadeSegments space (bound_waiting_of (words_of over_files)) old segments purged) (batches_made : MadeBatches space (bound_waiting_of (words_of over_files)) purged batches mid) (calls_made : CalledInOrder space (bound_waiting_of (words_of over_files)) mid calls new) (by_store : IsSoundByStore (words_of over_files) space (space_of new)) where
-  -- what is known of the run as it ends, while its store is sound
+  -- Lemmas about a run at its end, while its store is sound.
   module _ (sound : is_sound_of over_files (space_of new).space.store) (a : Airspace) (stands : StandFor before a) where
     mid_sound : space.is_sound (space_of mid)
     mid_sound = made_sound space (bound_waiting_of (words_of over_files)) mid new calls calls_made (by_store sound)
@@ -83,7 +83,7 @@ module _ {D : Type 0} {g : disk.Ghosts D} (space : Ghosts (QuotaModel (MirroredM
     only : (b : Airspace) → holds_of over_files (space_of old).space.store b → b ≡ a
     only b held = opened.only b (starts.read.no_other first_sound b held)
 
-    -- what is read at most still holds it, since it holds something
+    -- A space that was only read still holds the airspace, since it holds one.
     first : ∥ IsContent (holds_of over_files) (space_of old).space.store a ∥₁
     first = ∥∥₁_map (some (space_of old).space.store first_sound first_whole) (λ it. record {
       held = subst (λ b. holds_of over_files (space_of old).space.store b) (only it.0 it.1) it.1;

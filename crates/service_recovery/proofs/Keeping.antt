@@ -1,4 +1,4 @@
--- What may be kept of rounds, and of segments.
+-- Proofs about what may be durable of batches and segments.
 use Rattle.std.specs.Prelude.{◌≡◌, ◌↔◌, ◌∷◌, ℕ, List, [], ◌++◌, map, true, false, refl}
 use Rattle.std.specs.List.{AllByRecursion}
 use Rattle.std.proofs.Common.{inl, inr, sym, subst, ◌∙◌}
@@ -15,7 +15,7 @@ use Rattle.service_calls.proofs.InBatches.{even_in}
 use Rattle.service_calls.proofs.Joined.{airspace_then, goes_first, stops_then}
 use Rattle.service_recovery.specs.Life.{AreEmpty, IsExpectedAfter, alone}
 
--- of a round in which nothing waited
+-- A batch without pending changes may be durable exactly if its calls may have been stepped.
 pub alone_is_stepped : (salt : List ℕ) (a b : Airspace) (cs : List TimedCall) (rs : List Reply) → MayHavePersisted salt a (alone cs rs ∷ []) b ↔ MayHaveStepped salt a cs rs b
 alone_is_stepped salt a b [] rs = ((λ is. is), (λ is. is))
 alone_is_stepped salt a b (c ∷ cs) [] = ((λ is. is), (λ is. is))
@@ -24,7 +24,7 @@ alone_is_stepped salt a b (c ∷ cs) (Stopped ∷ rs) = ((λ is. elim is [ inl s
 alone_is_stepped salt a b (c ∷ cs) (Done x ∷ rs) = alone_is_stepped salt (step salt a c.0 c.1).0 b cs rs
 alone_is_stepped salt a b (c ∷ cs) (Denied p m ∷ rs) = alone_is_stepped salt (step salt a c.0 c.1).0 b cs rs
 
--- nothing is left of an open round without a call
+-- An open batch without a call leaves nothing.
 pub without_empty : (salt : List ℕ) (a b : Airspace) (batches : List Batch) → MayHavePersisted salt a (batches ++ uncommitted [] ∷ []) b → MayHavePersisted salt a batches b
 without_empty salt a b [] may = may
 without_empty salt a b (r ∷ rs) may =
@@ -55,7 +55,8 @@ without_empty_purged salt a b (s ∷ ss) batches may =
       | false ↦ λ more. (more.0, more.1, without_empty_purged salt more.0 b ss batches more.2)
     ] may
 
--- what may be kept of a segment and of what follows, where nobody was told `Stopped` in the segment
+-- If no call of a segment returned `Stopped`, the next segments continue from its airspace, partly
+-- purged.
 going_on : (salt : List ℕ) (a b : Airspace) (s : Segment) (ss : List Segment) (batches : List Batch) → has_stopped (all_delivered s.batches) ≡ false → MayHavePersistedPurged salt a (s ∷ ss) batches b
     → (c : Airspace) × IsPartlyPurged s.until (airspace_after_batches salt a s.batches) c × MayHavePersistedPurged salt c ss batches b
 going_on salt a b s ss batches goes may =
@@ -68,7 +69,7 @@ due_purged salt a b (s ∷ ss) batches goes is =
     let more = going_on salt a b s ss batches first is in
     (more.0, more.1, due_purged salt more.0 b ss batches (sym (stops_then (all_delivered s.batches) (all_delivered_in ss batches) first) ∙ goes) more.2)
 
--- ---- rounds in which nobody called
+-- ---- batches without calls
 
 none_told : (batches : List Batch) → AreEmpty batches → all_delivered batches ≡ []
 none_told [] empty = refl

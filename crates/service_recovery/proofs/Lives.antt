@@ -1,4 +1,4 @@
--- From run to run.
+-- Proofs about successive runs.
 use Rattle.std.specs.Prelude.{◌≡◌, ◌∷◌, ℕ, List, [], ◌++◌, false, refl}
 use Rattle.std.proofs.Common.{inl, inr, sym, subst}
 use Rattle.std.proofs.Math.Logic.{∥∥₁_elim, ∥∥₁_map}
@@ -38,7 +38,7 @@ content_found image space k finds sound a (inl it) = finds.spelt sound it.0 a it
 content_found image space k finds sound a (inr it) = subst (λ b. IsContent space.holds k b) (sym it.1) (finds.new sound it.0)
 
 module _ {D : Type 0} {g : disk.Ghosts D} (before : Image) (old new : Service (SqlSpaceModel (FileStore D g))) (calls : List TimedCall) (replies : List Reply) (goes : is_shut old ≡ false) (finds : FindsSpelt before (words_of over_files) (space_of old)) (asked : AskedInOrder (words_of over_files) old calls replies new) where
-  -- what is known of a run as it ends, while its space is sound
+  -- The calls of a run, at its end, were answered.
   all : Answered (words_of over_files) old calls replies new
   all = answered (words_of over_files) old calls replies new asked
 

@@ -1,4 +1,4 @@
--- From a call to the next run.
+-- Proofs that relate a call to the next run.
 use Rattle.std.specs.Prelude.{◌≡◌, ℕ, false}
 use Rattle.std.proofs.Common.{inl, inr}
 use Rattle.std.proofs.Math.Logic.{∥∥₁_map}

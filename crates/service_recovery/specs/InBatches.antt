@@ -1,4 +1,5 @@
--- What a service over files leaves whose changes may wait for the end of a round.
+-- Definitions of the effects of a service over files whose changes can be pending until a batch
+-- ends.
 use Rattle.std.specs.Prelude.{◌≡◌, List, [], ◌∷◌, ◌++◌, false}
 use Rattle.sqlite_disk.specs.declared.Disk as disk
 use Rattle.sqlite_disk.specs.declared.Files.{Files}
@@ -21,13 +22,13 @@ use Rattle.space_sql.specs.Restart.{ClosesFiles, FilesHave, FilesLeft, LeavesFil
 use Rattle.service_recovery.specs.Crash.{bound_waiting_of}
 use Rattle.service_recovery.specs.Life.{Continues, run_purged}
 
--- a sound space that is whole holds some airspace
+-- Holds if a sound and whole space holds some airspace.
 abbrev pub SomeIsHeld : {S : Type 0} → spaces.Ghosts S → Type 0
 SomeIsHeld {S} space =
     (s : S) → space.is_sound s → space.is_whole s → ∥ ((a : Airspace) × space.holds s a) ∥₁
 
--- Calls that read may leave this of a space: it holds nothing but what it held, and is whole where
--- it was.
+-- Holds if calls that only read may leave this of a space: it holds only what it held, and is whole
+-- if it was.
 pub record IsOnlyRead {S : Type 0} (space : spaces.Ghosts S) (old new : S) : Type 0 where
   pub sound : space.is_sound new → space.is_sound old
   pub whole : space.is_sound new → space.is_whole old → space.is_whole new
@@ -35,9 +36,8 @@ pub record IsOnlyRead {S : Type 0} (space : spaces.Ghosts S) (old new : S) : Typ
 
 module _ {D : Type 0} {g : disk.Ghosts D} (tables : spaces.Ghosts (SqlSpaceModel (FileStore D g)))
     (space : spaces.Ghosts (QuotaModel (MirroredModel (SqlSpaceModel (FileStore D g))))) where
-  -- A service starts over files: a space was taken over them, which was only read since; over it, a
-  -- list in memory and a bound of what is kept of each supplier is the space of the service, in
-  -- which no change waits.
+  -- Holds if a service starts over files: a space was adopted over them, and only read since. Above
+  -- it stand a mirror in memory and a quota for each USS. No change is pending.
   pub record StartsOver (image : Image) (old : Service (QuotaModel (MirroredModel (SqlSpaceModel (FileStore D g))))) : Type 0 where
     pub opened : SqlSpaceModel (FileStore D g)
     pub finds : FindsSpelt image tables opened
@@ -45,13 +45,15 @@ module _ {D : Type 0} {g : disk.Ghosts D} (tables : spaces.Ghosts (SqlSpaceModel
     pub calm : is_pending_in (space_of old).space ≡ false
     pub goes : is_shut old ≡ false
 
-  -- It is sound where the space over tables in it is, as each is by `Mirrored::release`.
+  -- Holds if the space is sound whenever the space over tables in it is, as the contract of
+  -- `Mirrored::into_store` provides.
   abbrev pub IsSoundByStore : QuotaModel (MirroredModel (SqlSpaceModel (FileStore D g))) → Type 0
   IsSoundByStore k = tables.is_sound k.space.store → space.is_sound k
 
-  -- A service started over files, and was asked rounds of calls, after some of which it let go of
-  -- some of what had ended, and calls that no round ended; its space over tables was given up, and
-  -- a crash left of the files what it may: nothing of the changes that waited then.
+  -- States that a run in batches continues its files. A service started over files and received
+  -- batches of calls. After some batches, it purged some of what had ended. The last calls were
+  -- ended by no commit. The space over tables was abandoned, and a crash left what it may of the
+  -- files. The changes that were pending then are lost.
   abbrev pub ContinuesInBatches : Type 0
   ContinuesInBatches =
       (before after : Image) (old purged mid new : Service (QuotaModel (MirroredModel (SqlSpaceModel (FileStore D g)))))
@@ -62,7 +64,7 @@ module _ {D : Type 0} {g : disk.Ghosts D} (tables : spaces.Ghosts (SqlSpaceModel
       → LeavesFiles (space_of new).space.store last → IsClean (store.view last) → FilesLeft last after
       → Continues before (run_purged old segments (batches ++ uncommitted calls ∷ [])) after
 
-  -- The same where that space was closed, also where then the log is gone.
+  -- The same if the space was closed, even if the log is gone then.
   abbrev pub ContinuesInBatchesClosed : Type 0
   ContinuesInBatchesClosed =
       (before after : Image) (old purged mid new : Service (QuotaModel (MirroredModel (SqlSpaceModel (FileStore D g)))))

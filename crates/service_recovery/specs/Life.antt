@@ -1,4 +1,5 @@
--- What a service over files leaves in its whole life: run after run, each ended by stop or crash.
+-- Definitions of the effects of a service over files in its whole life: runs in sequence, each
+-- ended by a stop or a crash.
 use Rattle.std.specs.Prelude.{◌≡◌, ◌⊎◌, ◌↔◌, ℕ, List, [], ◌∷◌, ◌++◌, Ok, false}
 use Rattle.std.specs.List.{AllByRecursion}
 use Rattle.sqlite_disk.specs.declared.Disk as disk
@@ -26,65 +27,66 @@ use Rattle.space_sql.specs.Found.{AreUnmade, FilesSpell, FindsSpelt, RefusesFoun
 use Rattle.space_sql.specs.Holding.{SqlSpaceModel}
 use Rattle.space_sql.specs.Restart.{ClosesFiles, FilesHave, FilesLeft, LeavesFiles, LeavesTrees, without_log}
 
--- files stand for the airspace: they spell it in a format, or have no table, and it is the empty
--- one
+-- Holds if the files stand for the airspace: they represent it in a format, or have no table, and
+-- it is the empty one.
 abbrev pub StandFor : Image → Airspace → Type 0
 StandFor image a =
     ((format : Format) × FilesSpell format image a) ⊎ (AreUnmade image × (a ≡ empty_at 0))
 
--- A run of a service over files: its salt, and what it was asked, in rounds after each of which
--- some of what had ended was let go of, and in rounds after these. A sweep of files that no service
--- serves is a run, too, in which nobody calls.
+-- A run of a service over files: its salt, and the batches of calls that it received. After each
+-- segment, some of what had ended was purged. The last batches follow the segments. A purge of
+-- files that no service uses is a run without calls.
 pub record Run : Type 0 where
   pub salt : List ℕ
   pub segments : List Segment
   pub batches : List Batch
 
--- the run of a service that was asked this
+-- The run of a service that received these batches.
 abbrev pub run_purged : {S : Type 0} → Service S → List Segment → List Batch → Run
 run_purged old segments batches =
     record { salt = salt_of old; segments = segments; batches = batches }
 
--- the same where nothing was let go of
+-- The same without purges.
 abbrev pub run_of : {S : Type 0} → Service S → List Batch → Run
 run_of old batches = run_purged old [] batches
 
--- a run whose opening failed
+-- A run whose opening failed.
 abbrev pub unasked : Run
 unasked = record { salt = []; segments = []; batches = [] }
 
--- calls with their replies, none of which waits
+-- Calls with their replies, none of which has a pending change.
 abbrev pub made_at_once : List TimedCall → List Reply → List CallRecord
 made_at_once [] rs = []
 made_at_once (c ∷ cs) [] = []
 made_at_once (c ∷ cs) (r ∷ rs) = record { timed = c; reply = r; waits = false } ∷ made_at_once cs rs
 
--- the one round of a service over a space in which no change waits
+-- The single batch of a service over a space without pending changes.
 abbrev pub alone : List TimedCall → List Reply → Batch
 alone calls replies = record { calls = made_at_once calls replies; settled = Ok tt }
 
--- Of such a round what may be kept is what its calls may have made of the airspace: by the policy's
--- steps for those that were answered, and for the one that was answered `Stopped`, if there is one,
--- by its step or not.
+-- States what may be durable of such a batch: exactly what its calls may have made of the airspace.
+-- Calls that were answered take the policy's steps. A call that returned `Stopped`, if there is
+-- one, may take its step.
 abbrev pub AloneIsStepped : Type 0
 AloneIsStepped =
     (salt : List ℕ) (a b : Airspace) (calls : List TimedCall) (replies : List Reply)
     → MayHavePersisted salt a (alone calls replies ∷ []) b ↔ MayHaveStepped salt a calls replies b
 
--- The airspace may have come of another one in this run: by the policy's steps for the calls that
--- were answered; of the first round in which a caller was told `Stopped`, if there is one, by those
--- up to that call, or by all that were made in it; and what was let go of between two rounds had
--- ended.
+-- Holds if the airspace may follow from the other one in this run: by the policy's steps for the
+-- calls that were answered. Of the first batch with a `Stopped`, if there is one, the calls up to
+-- it count, or all of its calls. Whatever was purged between two batches had ended.
 abbrev pub MayCome : Airspace → Run → Airspace → Type 0
 MayCome a run b = MayHavePersistedPurged run.salt a run.segments run.batches b
 
--- files that stood for an airspace before the run stand after it for one that may have come of that
+-- Holds if files that stood for an airspace before the run stand for one that may follow from it
+-- after the run.
 abbrev pub Continues : Image → Run → Image → Type 0
 Continues before run after =
     (a : Airspace) → StandFor before a → ∥ ((b : Airspace) × MayCome a run b × StandFor after b) ∥₁
 
--- A space was opened over files, a service over it was asked calls in order, each once, it was
--- given up, and a crash left of the files what it may.
+-- States that a run continues its files. A space was opened over files, and a service over it
+-- received calls in order, each once. Then it was abandoned, and a crash left what it may of the
+-- files.
 abbrev pub ContinuesServed : {D : Type 0} {g : disk.Ghosts D}
     → spaces.Ghosts (SqlSpaceModel (FileStore D g)) → Type 0
 ContinuesServed {D} {g} space =
@@ -95,7 +97,7 @@ ContinuesServed {D} {g} space =
     → LeavesFiles (space_of new) last → IsClean (store.view last) → FilesLeft last after
     → Continues before (run_of old (alone calls replies ∷ [])) after
 
--- The same where the space was closed, also where then the log is gone.
+-- The same if the space was closed, even if the log is gone then.
 abbrev pub ContinuesClosed : {D : Type 0} {g : disk.Ghosts D}
     → spaces.Ghosts (SqlSpaceModel (FileStore D g)) → Type 0
 ContinuesClosed {D} {g} space =
@@ -107,8 +109,8 @@ ContinuesClosed {D} {g} space =
     → Continues before (run_of old (alone calls replies ∷ [])) after
     × Continues before (run_of old (alone calls replies ∷ [])) (without_log after)
 
--- A space was not opened over files, the connection that came back was given up, and a crash left
--- of the files what it may.
+-- States that a failed opening continues its files: the returned connection was abandoned, and a
+-- crash left what it may of the files.
 abbrev pub ContinuesRefused : {D : Type 0} → disk.Ghosts D → Type 0
 ContinuesRefused {D} g =
     (before after : Image) (back : Held (FileStore D g)) (fault : OpenFault)
@@ -117,25 +119,25 @@ ContinuesRefused {D} g =
     → LeavesTrees back last → IsClean (store.view last) → FilesLeft last after
     → Continues before unasked after
 
--- runs one after the other, each over what the one before left
+-- Holds if the runs follow each other, each over what the previous one left.
 abbrev pub Lives : Image → List Run → Image → Type 0
 Lives before [] after = after ≡ before
 Lives before (run ∷ runs) after =
     (left : Image) × Continues before run left × Lives left runs after
 
--- the airspace may have come of another one in these runs
+-- Holds if the airspace may follow from another one in these runs.
 abbrev pub MayComeOfAll : Airspace → List Run → Airspace → Type 0
 MayComeOfAll a [] b = b ≡ a
 MayComeOfAll a (run ∷ runs) b = (c : Airspace) × MayCome a run c × MayComeOfAll c runs b
 
--- After all of them the files stand for an airspace that may have come of the first one.
+-- States that after all runs the files stand for an airspace that may follow from the first one.
 abbrev pub LifeLeaves : Type 0
 LifeLeaves =
     (before after : Image) (runs : List Run) (a : Airspace)
     → StandFor before a → Lives before runs after
     → ∥ ((b : Airspace) × MayComeOfAll a runs b × StandFor after b) ∥₁
 
--- And a space that is opened over them holds such an airspace and no other.
+-- States that a space opened over them holds exactly such an airspace.
 abbrev pub LifeIsFound : {T : Type 0} → spaces.Ghosts (SqlSpaceModel T) → Type 0
 LifeIsFound {T} again =
     (before after : Image) (runs : List Run) (a : Airspace) (next : SqlSpaceModel T)
@@ -143,34 +145,33 @@ LifeIsFound {T} again =
     → FindsSpelt after again next → again.is_sound next
     → ∥ ((b : Airspace) × MayComeOfAll a runs b × IsContent again.holds next b) ∥₁
 
--- Where no caller of a run was told `Stopped`, and nothing was let go of in it, one airspace alone
--- may come of it: the policy's, after all calls that were answered.
+-- States that only one airspace may follow from a run that purged nothing and in which no call
+-- returned `Stopped`: the policy's, after all calls that were answered.
 abbrev pub UnstoppedIsExpected : Type 0
 UnstoppedIsExpected =
     (a b : Airspace) (run : Run) → run.segments ≡ [] → has_stopped (all_delivered run.batches) ≡ false
     → MayCome a run b
     → b ≡ airspace_after run.salt a (answered_calls (all_timed run.batches) (all_delivered run.batches))
 
--- what is due of segments and rounds: the policy's airspace after all calls that were answered,
--- over one of which some of what had ended was let go of after each segment
+-- Holds if the airspace is due after segments and batches: the policy's after all calls that were
+-- answered, with some of what had ended purged after each segment.
 abbrev pub IsExpectedAfter : List ℕ → Airspace → List Segment → List Batch → Airspace → Type 0
 IsExpectedAfter salt a [] batches b = b ≡ airspace_after_batches salt a batches
 IsExpectedAfter salt a (segment ∷ segments) batches b =
     (c : Airspace) × IsPartlyPurged segment.until (airspace_after_batches salt a segment.batches) c
     × IsExpectedAfter salt c segments batches b
 
--- Where no caller of a run was told `Stopped`, such an airspace comes of it.
+-- States that only such an airspace may follow from a run in which no call returned `Stopped`.
 abbrev pub UnstoppedIsDuePurged : Type 0
 UnstoppedIsDuePurged =
     (a b : Airspace) (run : Run) → has_stopped (all_delivered_in run.segments run.batches) ≡ false
     → MayCome a run b → IsExpectedAfter run.salt a run.segments run.batches b
 
--- rounds in which nobody called
+-- Holds if the batches have no calls.
 abbrev pub AreEmpty : List Batch → Type 0
 AreEmpty batches = AllByRecursion (λ batch. batch.calls ≡ []) batches
 
--- A run in which nobody called, and some of what had ended by a moment was let go of: of each
--- airspace comes one that is swept in part.
+-- Holds if a run has no calls and only purged some of what had ended by a time.
 abbrev pub PurgesOnly : ℕ → Run → Type 0
 PurgesOnly until run = AllByRecursion (λ s. AreEmpty s.batches × (s.until ≡ until)) run.segments
     × AreEmpty run.batches
@@ -180,7 +181,7 @@ PurgeRunIsPartly =
     (until : ℕ) (a b : Airspace) (run : Run) → PurgesOnly until run → MayCome a run b
     → IsPartlyPurged until a b
 
--- What is asked over several connections, one after the other, is one list of calls.
+-- States that calls received over several connections, one after the other, are one list of calls.
 abbrev pub AskedOn : {S : Type 0} → spaces.Ghosts S → Type 0
 AskedOn {S} space =
     (old mid new : Service S) (calls more : List TimedCall) (replies later : List Reply)

@@ -1,4 +1,4 @@
--- What the next run finds after a call of a service over files and a crash.
+-- Definitions of what the next run finds after a call of a service over files and a crash.
 use Rattle.std.specs.Prelude.{◌≡◌, ◌⊎◌, ℕ, false}
 use Rattle.sqlite_disk.specs.declared.Disk as disk
 use Rattle.sqlite_store.specs.declared.store.FileStore.{FileStore}
@@ -20,17 +20,18 @@ use Rattle.space_sql.specs.Found.{FindsSpelt}
 use Rattle.space_sql.specs.Holding.{SqlSpaceModel, holds_of, is_whole_of}
 use Rattle.space_sql.specs.Restart.{FilesLeft, LeavesFiles}
 
--- P holds of the airspace that is due after this reply: after an answer that of the policy's step,
--- after a denial or a fault the one before, and after `Stopped` one of the two
+-- Holds if P holds of the airspace that is due after this reply. After an answer, that is the
+-- airspace of the policy's step. After a denial or a fault, it is the one before. After `Stopped`,
+-- it is one of the two.
 abbrev pub IsDueAfter : (before after : Airspace) → Reply → (P : Airspace → Type 0) → Type 0
 IsDueAfter before after (Done answer) P = P after
 IsDueAfter before after (Denied _ _) P = P before
 IsDueAfter before after Fault P = P before
 IsDueAfter before after Stopped P = P before ⊎ P after
 
--- A service over files that had one airspace answered a call, its store was given up, and a crash
--- left of the files what it may: a space that is opened over these holds the airspace that is due,
--- and no other.
+-- States that a space opened over the files after a call and a crash holds exactly the airspace
+-- that is due. The service over files had one airspace, answered a call, and its store was
+-- abandoned. A crash left what it may of the files.
 abbrev pub RestartAfterCall : {D T : Type 0} {g : disk.Ghosts D}
     → spaces.Ghosts (SqlSpaceModel (FileStore D g)) → spaces.Ghosts (SqlSpaceModel T) → Type 0
 RestartAfterCall {D} {T} {g} space again =

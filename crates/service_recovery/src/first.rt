@@ -14,11 +14,11 @@ use space_sql_open::open_fault::OpenFault;
 use sqlite::MemStore;
 use std::alloc::Global;
 
-/// Answers a call over new tables in memory, and gives the space as it is then.
+/// Executes a call over new tables in memory, and returns the reply and the space.
 ///
-/// What is promised of a crash after a call is said of services over a space with a content, as
-/// long as the disk returned what was written. Here both are there: a crash leaves something, and
-/// whatever it leaves keeps the airspace that is due.
+/// The laws about a crash after a call are for services over a space with a content, while the disk
+/// returns what was written. Here both exist: a crash leaves something, and whatever it leaves
+/// stores the airspace that is due.
 pub fn first_call(
     alloc: Global,
     salt: Salt,

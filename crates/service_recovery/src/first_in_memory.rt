@@ -13,12 +13,12 @@ use space_core::space::Space;
 use space_memory::memory::MemorySpace;
 use std::alloc::Global;
 
-/// Answers a call over a new, empty airspace, and gives the service that did so.
+/// Executes a call over a new, empty airspace, and returns the reply and the service.
 ///
-/// What a service promises is said of any space with a content. Here both are there: the reply and
-/// the content are the policy's, or it is `Fault` and the airspace is still empty. Such a space has
-/// refused nothing before, so that for a call that breaks one of P7 to P13, P16 or P17 a `Fault`
-/// comes only where it did now.
+/// The contracts of a service are for any space with a content. Here both exist: the reply and the
+/// content are the policy's, or the reply is `Fault` and the airspace is still empty. Such a space
+/// has failed no call before. So for a call that breaks one of P7 to P13, P16 or P17, `Fault`
+/// occurs only if the space fails now.
 pub fn first_call_in_memory(
     alloc: Global,
     salt: Salt,

@@ -1,4 +1,4 @@
-//! A service over tables: what a crash leaves of it.
+//! A service over tables, and the effects of a crash on it.
 #![tactic(auto)]
 
 pub mod first;

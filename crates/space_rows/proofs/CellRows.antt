@@ -1,4 +1,4 @@
--- The cells of a volume are read row by row.
+-- Proofs that the cells of a volume are read row by row.
 use Rattle.std.specs.Prelude.{◌≡◌, ℕ, suc, ℤ, pos, ◌+◌, ◌<◌, ◌≤◌, List, [], ◌∷◌, ◌++◌, length, drop, map, refl}
 use Rattle.std.specs.List.{AllZip}
 use Rattle.std.proofs.Common.{sym, ap, ap₂, ◌∙◌, subst, append_assoc, get_or, arith}
@@ -9,13 +9,13 @@ use Rattle.space_rows.specs.Cells.{SpellsToken, SpellsRange, SpellsCell, SpellsC
 use Rattle.space_rows.proofs.Digits.{one_spelt}
 use Rattle.space_rows.proofs.ReadSoFar.{ReadSoFar, read_more, read_nowhere, read_all, front}
 
--- other places than those of the cell of a token
+-- If the range is not that of the token's cell, the row represents no cell.
 pub no_range : (text : List ℕ) (lo hi : ℤ) (c : Cell) → SpellsToken text c → ¬ ((lo ≡ pos (lo_of c)) × (hi ≡ pos (hi_of c))) → (x : Cell) → ¬ SpellsRange text lo hi x
 no_range text lo hi c t other x h =
     let same : x ≡ c = one_spelt text x c h.token t in
     other (h.lo_is ∙ ap (λ (d : Cell). pos (lo_of d)) same, h.hi_is ∙ ap (λ (d : Cell). pos (hi_of d)) same)
 
--- a list in step with the images of another is in step with it
+-- If `AllZip R` relates a list to the images of another, it relates it to that list.
 pub zip_of : {A B C : Type 0} (R : A → C → Type 0) (f : B → C) (xs : List A) (ys : List B) → AllZip R xs (map f ys) → AllZip (λ x y. R x (f y)) xs ys
 zip_of R f [] [] p = tt
 zip_of R f [] (y ∷ ys) p = absurd p
@@ -38,7 +38,7 @@ module _ {R : Type 0} (is_row : R → ℕ × Cell → Type 0) where
 
   -- ---- the cells of rows
 
-  -- a row that spells no cell
+  -- If a row represents no cell, the rows represent no list of cells.
   pub cells_none : (rows : List R) (i : ℕ) (row : R) (out : List Cell) → i < length rows → row ≡ get_or rows i row → ((c : Cell) → ¬ SpellsCell is_row i row c)
       → ReadSoFar (SpellsCells is_row 0 rows) (SpellsCells is_row i (drop i rows)) out → (fs : List Cell) → ¬ SpellsCells is_row 0 rows fs
   cells_none rows i row out lt is none g =
@@ -50,7 +50,7 @@ module _ {R : Type 0} (is_row : R → ℕ × Cell → Type 0) where
       read_all (SpellsCells is_row 0 rows) (SpellsCells is_row i (drop i rows)) out g (subst (λ (l : List R). SpellsCells is_row i l []) (sym (drop_of_length-le rows le)) (record { rows_are = tt; valid = tt }))
 
   module _ (one : (n : ℕ) (row : R) (c d : Cell) → SpellsCell is_row n row c → SpellsCell is_row n row d → c ≡ d) where
-    -- one row more
+    -- One more cell is read from the next row.
     pub cells_more : (rows : List R) (i : ℕ) (row : R) (out : List Cell) (c : Cell) → i < length rows → row ≡ get_or rows i row → SpellsCell is_row i row c
         → ReadSoFar (SpellsCells is_row 0 rows) (SpellsCells is_row i (drop i rows)) out → ReadSoFar (SpellsCells is_row 0 rows) (SpellsCells is_row (i + 1) (drop (i + 1) rows)) (out ++ c ∷ [])
     cells_more rows i row out c lt is s g =
@@ -63,7 +63,7 @@ module _ {R : Type 0} (is_row : R → ℕ × Cell → Type 0) where
         let same : a.0 ≡ c = one i row a.0 c a.3 s in
         (a.1, a.2 ∙ ap (λ (x : Cell). x ∷ a.1) same, subst (λ (k : ℕ). SpellsCells is_row k (drop (i + 1) rows) a.1) n a.4))
 
-    -- rows spell one list of cells
+    -- Rows represent at most one list of cells.
     pub one_cells : (n : ℕ) (rows : List R) (cs ds : List Cell) → SpellsCells is_row n rows cs → SpellsCells is_row n rows ds → cs ≡ ds
     one_cells n [] [] [] p q = refl
     one_cells n [] [] (d ∷ ds) p q = absurd q.rows_are
@@ -77,7 +77,7 @@ module _ {R : Type 0} (is_row : R → ℕ × Cell → Type 0) where
 
   -- ---- the rows of cells
 
-  -- with rows for the other cells behind them, these are the rows of all
+  -- Holds if `out`, followed by any rows for the remaining cells, represents all cells.
   abbrev pub CellsWritten : List Cell → ℕ → List R → Type 0
   CellsWritten cs i out = (rows : List R) → SpellsCells is_row i rows (drop i cs) → SpellsCells is_row 0 (out ++ rows) cs
 

@@ -1,9 +1,9 @@
--- Lists in pieces.
+-- Lemmas about lists that are cut into parts.
 use Rattle.std.specs.Prelude.{◌≡◌, ◌≢◌, List, [], ◌∷◌, ◌++◌, refl}
 use Rattle.std.specs.List.{AllByRecursion, AllZip, flat_map}
 use Rattle.std.proofs.Common.{sym, ap₂, subst, ◌∙◌}
 
--- two lists begin alike up to where P ends
+-- Two equal lists have the same prefix of elements with P.
 pub one_front : {B : Type 0} (P : B → Type 0) (xs ys rs ss : List B) → AllByRecursion P xs → AllByRecursion P ys → AllByRecursion (λ b. ¬ P b) rs → AllByRecursion (λ b. ¬ P b) ss
     → xs ++ rs ≡ ys ++ ss → (xs ≡ ys) × (rs ≡ ss)
 one_front P [] [] rs ss p q r s e = (refl, e)
@@ -17,11 +17,11 @@ one_front P (x ∷ xs) (y ∷ ys) rs ss p q r s e =
     let more = one_front P xs ys rs ss p.1 q.1 r s rest in
     (ap₂ ◌∷◌ head more.0, more.1)
 
--- each piece has a key, which all its elements bear
+-- Holds if every element of each part has the key of that part.
 abbrev pub Borne : {A B K : Type 0} → (B → K) → (A → K) → (A → List B) → List A → Type 0
 Borne key of f xs = AllByRecursion (λ a. AllByRecursion (λ b. key b ≡ of a) (f a)) xs
 
--- no two have one key
+-- Holds if no two elements have the same key.
 abbrev pub Differ : {A K : Type 0} → (A → K) → List A → Type 0
 Differ of [] = Unit {0}
 Differ of (x ∷ xs) = AllByRecursion (λ y. of x ≢ of y) xs × Differ of xs
@@ -40,7 +40,7 @@ module _ {A B K : Type 0} (key : B → K) (of : A → K) (f : A → List B) wher
   none_of k (x ∷ xs) borne other =
       all_joined _ (f x) (flat_map f xs) (all_turned (λ b. key b ≡ of x) (λ b. ¬ (key b ≡ k)) (λ b e g. other.0 (sym g ∙ e)) (f x) borne.0) (none_of k xs borne.1 other.1)
 
-  -- the pieces are found again in the whole
+  -- If two flattened lists are equal and the keys differ, the parts are equal.
   pub one_flat : (xs ys : List A) → AllZip (λ a b. of a ≡ of b) xs ys → Borne key of f xs → Borne key of f ys → Differ of xs → flat_map f xs ≡ flat_map f ys → AllZip (λ a b. f a ≡ f b) xs ys
   one_flat [] [] same p q apart e = tt
   one_flat [] (y ∷ ys) same p q apart e = same

@@ -1,4 +1,4 @@
--- A cell has one shortest token in lower case.
+-- Proofs that a cell has exactly one shortest token in lower case.
 use Rattle.std.specs.Prelude.{◌≡◌, ℕ, ◌+◌, ◌-◌, ◌*◌, ◌^◌, ◌≤◌, ◌<◌, ◌⊎◌, List, [], ◌∷◌, length, refl, IsTrue, true, false, Bool, ◌&&◌}
 use Rattle.std.specs.List.{list_all}
 use Rattle.std.specs.Char.{digit_value}
@@ -38,7 +38,7 @@ one_digit x y p q e = elim (lower_range x p) [
   ]
 ]
 
--- digits of one number, as many in the one as in the other, are one text
+-- Two lower-case digit strings of the same length and value are equal.
 one_after : (m n : ℕ) (s t : List ℕ) → length s ≡ length t → AllDigits 16 s → AllDigits 16 t → IsTrue (list_all is_lower_digit s) → IsTrue (list_all is_lower_digit t) → digits_value_after 16 m s ≡ digits_value_after 16 n t → (m ≡ n) × (s ≡ t)
 one_after m n [] [] l a b v w e = (e, refl)
 one_after m n [] (y ∷ t) l a b v w e = absurd (omega (arith, l))
@@ -54,7 +54,7 @@ one_after m n (x ∷ s) (y ∷ t) l a b v w e =
     let digit : digit_value x ≡ digit_value y = omega (arith, low, low', top) in
     (same, ap₂ ◌∷◌ (one_digit x y p.0 q.0 digit) ih.1)
 
--- a product tells its factor
+-- Two numbers with the same product by a positive factor are equal.
 one_factor : (m n k : ℕ) → 0 < k → m * k ≡ n * k → m ≡ n
 one_factor m n k h e = elim (cases_lt m n) [
   | inl lt ↦ let more : (m + 1) * k ≤ n * k = mul-le-mul_right k (let s : m + 1 ≤ n = omega (arith, lt) in s) in absurd (omega (arith, more, e, h))
@@ -72,12 +72,12 @@ one_shortest c s t p q =
     let whole : digits_value 16 s * 16 ^ k ≡ digits_value 16 t * 16 ^ k = ap (λ (n : ℕ). digits_value 16 s * 16 ^ (16 - n)) (sym size) ∙ (sym p.reads.number ∙ q.reads.number) in
     (one_after 0 0 s t size p.reads.digits q.reads.digits p.lower q.lower (one_factor (digits_value 16 s) (digits_value 16 t) (16 ^ k) some whole)).1
 
--- a text that reads as a cell is the token of no other, and of none if it is not the one that is printed
+-- A text that reads as a cell, but is not its printed token, is the token of no cell.
 pub not_printed : (text printed : List ℕ) (c : Cell) → IsCell c → IsTokenOf text c → IsShortest printed c → ¬ (printed ≡ text) → (x : Cell) → ¬ SpellsToken text x
 not_printed text printed c v r s other x h =
     let same : x ≡ c = same_cell x c h.valid v (h.token.reads.number ∙ sym r.number) in
     other (one_shortest c printed text s (subst (IsShortest text) same h.token))
 
--- a token is that of one cell
+-- A token is that of one cell.
 pub one_spelt : (text : List ℕ) (c d : Cell) → SpellsToken text c → SpellsToken text d → c ≡ d
 one_spelt text c d p q = same_cell c d p.valid q.valid (p.token.reads.number ∙ sym q.token.reads.number)

@@ -1,4 +1,4 @@
--- An entity of its row, its volumes and their count.
+-- Proofs about reading an entity from its row, its volumes and their number.
 use Rattle.std.specs.Prelude.{◌≡◌, ℕ, ◌≤◌, List, length, Option, Some, None, refl}
 use Rattle.std.proofs.Common.{sym, subst}
 use Rattle.grid_core.specs.Extent.{Extent}

@@ -1,4 +1,4 @@
--- What a row of `entity` says.
+-- Proofs about what a row of `entity` represents.
 use Rattle.std.specs.Prelude.{◌≡◌, ℕ, List, length, Some, Err}
 use Rattle.std.proofs.Common.{sym, ap, ◌∙◌}
 use Rattle.entity_core.specs.declared.id_fault.IdFault.{IdFault}

@@ -1,4 +1,4 @@
--- Rows spell one entity at most.
+-- A proof that rows represent at most one entity.
 use Rattle.std.specs.Prelude.{◌≡◌, ◌≢◌, ℕ, zero, suc, ℤ, pos, ◌<◌, List, [], ◌∷◌, ◌^◌, map, Option, refl}
 use Rattle.std.specs.List.{AllByRecursion, AllZip, flat_map}
 use Rattle.std.proofs.Common.{sym, ap, ap₂, ◌∙◌, arith}
@@ -17,7 +17,7 @@ use Rattle.space_rows.specs.Rows.{state_number, placed, PlacedCell, cells_at, pl
 use Rattle.space_rows.specs.Laws.{OneEntity}
 use Rattle.space_rows.proofs.Chunks.{Borne, Differ, all_joined, all_turned, one_flat}
 
--- the nature that a state's number is of
+-- The nature that a state number represents.
 nature_at : ℤ → Option ℕ → Nature
 nature_at (pos zero) named = Intent Accepted named
 nature_at (pos (suc zero)) named = Intent Activated named
@@ -42,7 +42,7 @@ one_pos m n x p q = let e = sym p ∙ q in cc
 pub one_number : (m n : ℕ) → pos m ≡ pos n → m ≡ n
 one_number m n e = cc
 
--- a token is that of one cell
+-- A token is that of one cell.
 pub one_token : (num : ℤ) (row : CellRow) (c d : PlacedCell) → IsCell c.cell → IsCell d.cell → IsCellRow num row c → IsCellRow num row d → c ≡ d
 one_token num row c d v w p q =
     let volume = one_pos c.volume d.volume row.volume p.volume q.volume in
@@ -58,7 +58,7 @@ one_cells num (r ∷ rs) [] ds v w p q = absurd p
 one_cells num (r ∷ rs) (c ∷ cs) [] v w p q = absurd q
 one_cells num (r ∷ rs) (c ∷ cs) (d ∷ ds) v w p q = ap₂ ◌∷◌ (one_token num r c d v.0 w.0 p.0 q.0) (one_cells num rs cs ds v.1 w.1 p.1 q.1)
 
--- the bounds of volumes, and how many there are
+-- Holds if two volumes have the same position, altitudes and times.
 abbrev Bounds : ℕ × Extent → ℕ × Extent → Type 0
 Bounds a b = (a.0 ≡ b.0) × (a.1.altitude ≡ b.1.altitude) × (a.1.time ≡ b.1.time)
 
@@ -77,7 +77,7 @@ all_bounds num (r ∷ rs) [] ys p q = absurd p
 all_bounds num (r ∷ rs) (x ∷ xs) [] p q = q
 all_bounds num (r ∷ rs) (x ∷ xs) (y ∷ ys) p q = (one_bounds num r x y p.0 q.0, all_bounds num rs xs ys p.1 q.1)
 
--- the cells of a volume are found again among the placed ones
+-- Removing the positions from placed cells returns the cells.
 unplaced : (k n : ℕ) (cs : List Cell) → map (λ (c : PlacedCell). c.cell) (cells_at k n cs) ≡ cs
 unplaced k n [] = refl
 unplaced k n (c ∷ cs) = ap (λ l. c ∷ l) (unplaced k (suc n) cs)
@@ -134,7 +134,7 @@ one_volumes num volumes cells es fs v w p q r s =
 pub one_id : (text : List ℕ) (m n : ℕ) → m < 2 ^ 128 → n < 2 ^ 128 → text ≡ printed m → text ≡ printed n → m ≡ n
 one_id text m n a b p q = let e = sym (printed_spells m text p a) ∙ printed_spells n text q b in cc
 
--- rows spell one entity
+-- Rows represent at most one entity.
 pub one_entity : OneEntity
 one_entity row volumes cells named e f p q =
     let nature = one_state e.nature f.nature (sym p.entity.state ∙ q.entity.state) (sym p.named_is ∙ q.named_is) in

@@ -1,4 +1,4 @@
--- A subscription of its row, its cells and its bounds.
+-- Proofs about reading a subscription from its row, its cells and its bounds.
 use Rattle.std.specs.Prelude.{◌≡◌, ◌≤◌, ℤ, pos, List, length, None, zero, suc, refl}
 use Rattle.std.proofs.Common.{sym, ap₂, subst, ◌∙◌, arith}
 use Rattle.grid_core.specs.Cell.{Cell}
@@ -47,7 +47,7 @@ sub_bounds_in row cells s p = record {
   limits = p.kept.volume.limits;
 }
 
--- the parts are the whole
+-- The row, the cells and the bounds together represent the subscription.
 pub whole_sub : (row : SubRow) (cells : List SubCellRow) (h : SubHead) (cs : List Cell) (v : Extent) → SpellsSubHead row h → SpellsCells (IsSubCellRow row.num) 0 cells cs → HasBounds (bounds_of row) cs v → SpellsSub row cells (with_volume h v)
 whole_sub row cells h cs v p c b =
     let own = subst (SpellsCells (IsSubCellRow row.num) 0 cells) b.cells c in
@@ -87,13 +87,13 @@ no_sub_bounds row cells cs c none s p =
     let same : s.volume.cells ≡ cs = one_sub_cells row.num cells s.volume.cells cs (sub_cells_in row cells s p) c in
     none s.volume (subst (λ (l : List Cell). HasBounds (bounds_of row) l s.volume) same (sub_bounds_in row cells s p))
 
--- a volume within the limits has few cells
+-- A volume within the limits has at most 512 cells.
 pub few_cells : (v : Extent) → region_fault (region_of v) ≡ None → length v.cells ≤ 512
 few_cells v limits = grind (arith, limits)
 
 -- ---- rows spell one subscription
 
--- the interest that two numbers are of
+-- The interest that two flag numbers represent.
 interest_at : ℤ → ℤ → Interest
 interest_at (pos zero) b = Constraints
 interest_at (pos (suc n)) (pos zero) = Intents

@@ -1,4 +1,4 @@
--- The volumes of an entity are read row by row, each with the cells of its place.
+-- Proofs that the volumes of an entity are read row by row, each with the cells of its position.
 use Rattle.std.specs.Prelude.{◌≡◌, ℕ, suc, ℤ, pos, ◌+◌, ◌<◌, ◌≤◌, List, [], ◌∷◌, ◌++◌, length, take, drop, ◌^◌, refl, Option, Some, None}
 use Rattle.std.specs.List.{AllByRecursion, AllZip, flat_map}
 use Rattle.std.proofs.Common.{sym, ap, ap₂, ◌∙◌, subst, append_assoc, arith, take-append-drop}
@@ -29,11 +29,11 @@ module _ (num : ℤ) (v : ℕ) where
   cells_once : (cells : List CellRow) (cs ds : List Cell) → SpellsCells (IsRowInVolume num v) 0 cells cs → SpellsCells (IsRowInVolume num v) 0 cells ds → cs ≡ ds
   cells_once cells cs ds p q = one_cells (IsRowInVolume num v) one_cell 0 cells cs ds p q
 
-  -- where the rows spell no cells, they are those of no volume
+  -- If the rows represent no cells, they represent no volume.
   pub no_cells : (row : VolumeRow) (cells : List CellRow) → ((cs : List Cell) → ¬ SpellsCells (IsRowInVolume num v) 0 cells cs) → (e : Extent) → ¬ SpellsVolume num v row cells e
   no_cells row cells none e h = none e.cells (own_cells cells e h.cells_are h.kept)
 
--- where the cells are read, the bounds say the rest
+-- If the cells are read, the bounds decide the rest.
 pub found_bounds : (num : ℤ) (v : ℕ) (row : VolumeRow) (cells : List CellRow) (cs : List Cell) (o : Option Extent) → (row.entity ≡ num) × (row.place ≡ pos v) → SpellsCells (IsRowInVolume num v) 0 cells cs
     → Finds (HasBounds row cs) o → Finds (SpellsVolume num v row cells) o
 found_bounds num v row cells cs None at s f = λ x h.
@@ -53,7 +53,7 @@ found_bounds num v row cells cs (Some e) at s f =
       kept = record { limits = f.limits; cells = all.valid };
     }
 
--- ---- lists in step
+-- ---- splitting related lists
 
 pub split_zip : {A B : Type 0} (R : A → B → Type 0) (xs : List A) (ys zs : List B) → AllZip R xs (ys ++ zs) → (us : List A) × (bs : List A) × (xs ≡ us ++ bs) × AllZip R us ys × AllZip R bs zs
 split_zip R xs [] zs p = ([], xs, refl, tt, p)
@@ -69,7 +69,7 @@ join_zip R (a ∷ us) bs (y ∷ ys) zs p q = (p.0, join_zip R us bs ys zs p.1 q)
 abbrev Of : ℕ → CellRow → Type 0
 Of v r = r.volume ≡ pos v
 
--- the rows of a volume end where another begins
+-- The rows of a volume end at the first row of another volume.
 one_part : (v : ℕ) (xs ys rs ss : List CellRow) → AllByRecursion (Of v) xs → AllByRecursion (Of v) ys → StartsElse v rs → StartsElse v ss → xs ++ rs ≡ ys ++ ss → (xs ≡ ys) × (rs ≡ ss)
 one_part v [] [] rs ss p q r s e = (refl, e)
 one_part v [] (y ∷ ys) [] ss p q r s e = absurd cc
@@ -134,7 +134,7 @@ first_volume num v row rows own more (e ∷ es) these other p =
       },
     )
 
--- the rows of the next volume, and the others
+-- The split of cell rows into those of the next volume and the others.
 pub record Parts (v : ℕ) (rest own more : List CellRow) : Type 0 where
   pub whole : rest ≡ own ++ more
   pub these : AllByRecursion (λ (r : CellRow). r.volume ≡ pos v) own
@@ -191,14 +191,14 @@ parts_at v n rest own more e f these other = record {
 
 -- ---- the rows of volumes
 
--- times within the limits are numbers of a column
+-- Times within the limits fit a column.
 pub first_fits : (v : Extent) → region_fault (region_of v) ≡ None → v.time.0 < 2 ^ 63
 first_fits v limits = grind (arith, limits)
 
 pub last_fits : (v : Extent) → region_fault (region_of v) ≡ None → v.time.1 < 2 ^ 63
 last_fits v limits = grind (arith, limits)
 
--- with rows for the other volumes and their cells behind them, these are the rows of all
+-- Holds if the rows, followed by any rows for the remaining volumes, represent all volumes.
 abbrev pub VolumesWritten : ℤ → List Extent → ℕ → List VolumeRow → List CellRow → Type 0
 VolumesWritten num vs i rows cells = (more : List VolumeRow) (others : List CellRow) → SpellsVolumes num i more others (drop i vs) → SpellsVolumes num 0 (rows ++ more) (cells ++ others) vs
 

@@ -1,4 +1,4 @@
--- What a row of the table `entity` spells.
+-- Definitions of what a row of the table `entity` represents.
 use Rattle.std.specs.Prelude.{◌≡◌, ℕ, ℤ, pos, ◌≤◌, ◌<◌, ◌≤ℤ◌, ◌^◌, List, length, Option, None}
 use Rattle.grid_core.specs.Extent.{Extent}
 use Rattle.entity_core.specs.declared.entity.Entity.{Entity}
@@ -12,7 +12,7 @@ use Rattle.space_rows.specs.declared.rows.EntityRow.{EntityRow}
 use Rattle.space_rows.specs.declared.head.Head.{Head}
 use Rattle.space_rows.specs.Rows.{kind_number, state_number}
 
--- an entity without its volumes
+-- An entity without its volumes.
 abbrev pub head_part : Entity → Head
 head_part e = record {
   nature = e.nature;
@@ -24,7 +24,7 @@ head_part e = record {
   url = e.url;
 }
 
--- and with these volumes
+-- The entity with the given volumes.
 abbrev pub with_volumes : Head → List Extent → Entity
 with_volumes h vs = record {
   nature = h.nature;
@@ -37,29 +37,29 @@ with_volumes h vs = record {
   url = h.url;
 }
 
--- the entity of these parts, where it may have so many volumes
+-- Holds if `e` is the entity of these parts, and an entity may have so many volumes.
 pub record HasVolumes (h : Head) (vs : List Extent) (e : Entity) : Type 0 where
   pub whole : e ≡ with_volumes h vs
   pub count : (1 ≤ length vs) × (length vs ≤ 32)
 
--- the numbers of a kind and a state, and the subscription that is named
+-- Holds if the kind, the state and the referenced subscription represent the nature.
 pub record SpellsNature (kind state : ℤ) (named : Option ℕ) (n : Nature) : Type 0 where
   pub kind_is : kind ≡ kind_number (kind_of n)
   pub state_is : state ≡ state_number n
   pub named_is : named ≡ subscription_of n
 
--- the text that is printed of an id
+-- Holds if the text is the printed id.
 pub record SpellsId (text : List ℕ) (id : ℕ) : Type 0 where
   pub text_is : text ≡ printed id
   pub fits : id < 2 ^ 128
 
--- a number from 1 to the greatest
+-- Holds if the column is the number, which is from 1 to the max.
 pub record SpellsCount (greatest : ℕ) (column : ℤ) (n : ℕ) : Type 0 where
   pub number : column ≡ pos n
   pub least : 1 ≤ n
   pub most : n ≤ greatest
 
--- a text without a fault
+-- Holds if the text has no fault and is the one read.
 pub record SpellsText (fault : List ℕ → Option IdFault) (text read : List ℕ) : Type 0 where
   pub same : text ≡ read
   pub right : fault read ≡ None

@@ -10,13 +10,13 @@ use Rattle.entity_core.specs.declared.subscription.Sub.{Sub}
 use Rattle.space_rows.specs.Rows.{SpellsEntity}
 use Rattle.space_rows.specs.Subs.{SpellsSub}
 
--- rows spell one entity at most
+-- States that rows represent at most one entity.
 abbrev pub OneEntity : Type 0
 OneEntity = (row : EntityRow) (volumes : List VolumeRow) (cells : List CellRow)
     (named : Option ℕ) (e f : Entity)
     → SpellsEntity row volumes cells named e → SpellsEntity row volumes cells named f → e ≡ f
 
--- rows spell one subscription at most
+-- States that rows represent at most one subscription.
 abbrev pub OneSub : Type 0
 OneSub = (row : SubRow) (cells : List SubCellRow) (s t : Sub)
     → SpellsSub row cells s → SpellsSub row cells t → s ≡ t

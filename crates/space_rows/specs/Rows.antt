@@ -1,4 +1,4 @@
--- Which rows of the tables spell an entity.
+-- Definitions of the rows that represent an entity.
 use Rattle.std.specs.Prelude.{◌≡◌, ℕ, suc, ℤ, pos, ◌≤◌, ◌<◌, ◌≤ℤ◌, ◌^◌, List, [], ◌∷◌, map, length, Option, None}
 use Rattle.std.specs.List.{AllByRecursion, AllZip, flat_map}
 use Rattle.grid_core.specs.Cell.{Cell, IsCell, lo_of, hi_of}
@@ -18,12 +18,12 @@ use Rattle.space_rows.specs.declared.rows.EntityRow.{EntityRow}
 use Rattle.space_rows.specs.declared.rows.VolumeRow.{VolumeRow}
 use Rattle.space_rows.specs.declared.rows.CellRow.{CellRow}
 
--- the number of a kind
+-- The number of a kind.
 abbrev pub kind_number : Kind → ℤ
 kind_number kind.Intent = pos 0
 kind_number kind.Constraint = pos 1
 
--- the number of a state, and 4 for a constraint
+-- The number of a state, or 4 for a constraint.
 abbrev pub state_number : Nature → ℤ
 state_number (nature.Intent Accepted named) = pos 0
 state_number (nature.Intent Activated named) = pos 1
@@ -31,32 +31,32 @@ state_number (nature.Intent Nonconforming named) = pos 2
 state_number (nature.Intent Contingent named) = pos 3
 state_number nature.Constraint = pos 4
 
--- ---- places
+-- ---- positions
 
--- the elements of a list with their places, which count from a number
+-- The elements of a list with their positions, counted from `k`.
 abbrev pub placed : {X : Type 0} → ℕ → List X → List (ℕ × X)
 placed k [] = []
 placed k (x ∷ xs) = (k, x) ∷ placed (suc k) xs
 
--- a cell, the place of its volume, and its place in the volume
+-- A cell, the position of its volume, and its position in the volume.
 pub record PlacedCell : Type 0 where
   pub volume : ℕ
   pub place : ℕ
   pub cell : Cell
 
--- the cells of the volume at a place, their places counted from a number
+-- The cells of the volume at a position, with their own positions counted from `k`.
 abbrev pub cells_at : ℕ → ℕ → List Cell → List PlacedCell
 cells_at volume k cs = map (λ c. record { volume = volume; place = c.0; cell = c.1 }) (placed k cs)
 
--- the cells of a volume that has a place
+-- The cells of a volume at its position.
 abbrev pub placed_cells : ℕ × Extent → List PlacedCell
 placed_cells v = cells_at v.0 0 v.1.cells
 
--- the cells of all volumes, volume by volume
+-- The cells of all volumes, volume by volume.
 abbrev pub all_cells : List Extent → List PlacedCell
 all_cells volumes = flat_map placed_cells (placed 0 volumes)
 
--- ---- what the types of an entity keep
+-- ---- invariants of the types of an entity
 
 pub record IsVolume (v : Extent) : Type 0 where
   pub limits : region_fault (region_of v) ≡ None
@@ -74,7 +74,7 @@ pub record IsEntity (e : Entity) : Type 0 where
 
 -- ---- the rows, column by column
 
--- the number of the row is from 1 to the serial
+-- Holds if the row has the entity's columns, and its number is from 1 to the serial.
 pub record IsEntityRow (row : EntityRow) (e : Entity) : Type 0 where
   pub least : pos 1 ≤ℤ row.num
   pub most : row.num ≤ℤ pos e.serial
@@ -87,7 +87,7 @@ pub record IsEntityRow (row : EntityRow) (e : Entity) : Type 0 where
   pub ovn : row.ovn ≡ e.ovn
   pub url : row.url ≡ e.url
 
--- a volume of the entity with this number, and its place
+-- Holds if the row is that of a volume, and its position, of the entity with this number.
 pub record IsVolumeRow (num : ℤ) (row : VolumeRow) (v : ℕ × Extent) : Type 0 where
   pub entity : row.entity ≡ num
   pub place : row.place ≡ pos v.0
@@ -96,7 +96,7 @@ pub record IsVolumeRow (num : ℤ) (row : VolumeRow) (v : ℕ × Extent) : Type 
   pub time_start : row.time_start ≡ pos v.1.time.0
   pub time_end : row.time_end ≡ pos v.1.time.1
 
--- the token is the one that is printed of the cell
+-- Holds if the row is that of the placed cell, with the cell's printed token.
 pub record IsCellRow (num : ℤ) (row : CellRow) (c : PlacedCell) : Type 0 where
   pub entity : row.entity ≡ num
   pub volume : row.volume ≡ pos c.volume
@@ -105,11 +105,12 @@ pub record IsCellRow (num : ℤ) (row : CellRow) (c : PlacedCell) : Type 0 where
   pub lo : row.lo ≡ pos (lo_of c.cell)
   pub hi : row.hi ≡ pos (hi_of c.cell)
 
--- A row of `entity`, the rows of `volume` by rising places, and those of `cell` by rising volumes
--- and places, spell an entity: each reads by its types, and places count from 0 without gaps. There
--- is a volume, and each volume has a cell, as `IsEntity` and `region_fault` say. `named` is the id
--- of the subscription that the entity names by its row of `naming`, if it has one; a constraint has
--- none.
+-- Holds if a row of `entity`, the rows of `volume` and the rows of `cell` represent an entity. The
+-- rows of `volume` are in the order of their positions. The rows of `cell` are in the order of
+-- their volumes, then of their own positions. Positions count from 0 without gaps. There is a
+-- volume, and each volume has a cell, as `IsEntity` and `region_fault` say.
+-- `named` is the id of the subscription to which the entity's row of `naming` refers, if it has
+-- one. A constraint has none.
 pub record SpellsEntity (row : EntityRow) (volumes : List VolumeRow) (cells : List CellRow)
     (named : Option ℕ) (e : Entity) : Type 0 where
   pub entity : IsEntityRow row e

@@ -1,4 +1,4 @@
--- What a row of the table `subscription` spells, but for the volume.
+-- Definitions of what a row of the table `subscription` represents, except for the volume.
 use Rattle.std.specs.Prelude.{◌≡◌, ℤ, ℕ, pos, ◌≤◌, ◌≤ℤ◌}
 use Rattle.grid_core.specs.Extent.{Extent}
 use Rattle.entity_core.specs.declared.subscription.Sub.{Sub}
@@ -10,7 +10,7 @@ use Rattle.space_rows.specs.declared.sub_head.SubHead.{SubHead}
 use Rattle.space_rows.specs.Head.{SpellsCount, SpellsId, SpellsText}
 use Rattle.space_rows.specs.Subs.{SpellsInterest}
 
--- a subscription without its volume
+-- A subscription without its volume.
 abbrev pub sub_head_part : Sub → SubHead
 sub_head_part s = record {
   id = s.id;
@@ -22,7 +22,7 @@ sub_head_part s = record {
   interest = s.interest;
 }
 
--- and with this volume
+-- The subscription with the given volume.
 abbrev pub with_volume : SubHead → Extent → Sub
 with_volume h v = record {
   id = h.id;
@@ -35,7 +35,7 @@ with_volume h v = record {
   interest = h.interest;
 }
 
--- a number from 0 to the greatest serial
+-- Holds if the column is the number, which is from 0 to the max serial.
 pub record SpellsIndex (column : ℤ) (n : ℕ) : Type 0 where
   pub number : column ≡ pos n
   pub most : n ≤ max_serial
@@ -51,7 +51,7 @@ pub record SpellsSubHead (row : SubRow) (h : SubHead) : Type 0 where
   pub url : SpellsText url_fault row.url h.url
   pub interest : SpellsInterest row.for_intents row.for_constraints h.interest
 
--- the bounds of a subscription, as a row of a volume has them
+-- The bounds of a subscription in the form of a volume row.
 abbrev pub bounds_of : SubRow → VolumeRow
 bounds_of row = record {
   entity = row.num;

@@ -1,4 +1,4 @@
--- Which rows of the tables spell a subscription.
+-- Definitions of the rows that represent a subscription.
 use Rattle.std.specs.Prelude.{◌≡◌, ℕ, ℤ, pos, ◌≤◌, ◌<◌, ◌≤ℤ◌, ◌^◌, Bool, true, false, List, None}
 use Rattle.std.specs.List.{AllZip}
 use Rattle.grid_core.specs.Cell.{Cell, lo_of, hi_of}
@@ -14,17 +14,17 @@ use Rattle.space_rows.specs.declared.rows.SubRow.{SubRow}
 use Rattle.space_rows.specs.declared.rows.SubCellRow.{SubCellRow}
 use Rattle.space_rows.specs.Rows.{IsVolume, placed}
 
--- 0 or 1
+-- The number of a flag: 0 or 1.
 abbrev pub flag_number : Bool → ℤ
 flag_number false = pos 0
 flag_number true = pos 1
 
--- the numbers that say what a subscription is for
+-- Holds if the two numbers represent the interest of a subscription.
 pub record SpellsInterest (for_intents for_constraints : ℤ) (i : Interest) : Type 0 where
   pub intents : for_intents ≡ flag_number (wants i Intent)
   pub constraints : for_constraints ≡ flag_number (wants i Constraint)
 
--- what the types of a subscription keep
+-- Holds if the values keep the invariants of the types of a subscription.
 pub record IsSub (s : Sub) : Type 0 where
   pub id : s.id < 2 ^ 128
   pub manager : name_fault s.manager ≡ None
@@ -34,7 +34,7 @@ pub record IsSub (s : Sub) : Type 0 where
   pub volume : IsVolume s.volume
   pub url : url_fault s.url ≡ None
 
--- the number of the row is from 1 to the serial
+-- Holds if the row has the subscription's columns, and its number is from 1 to the serial.
 pub record IsSubRow (row : SubRow) (s : Sub) : Type 0 where
   pub least : pos 1 ≤ℤ row.num
   pub most : row.num ≤ℤ pos s.serial
@@ -50,7 +50,8 @@ pub record IsSubRow (row : SubRow) (s : Sub) : Type 0 where
   pub time_start : row.time_start ≡ pos s.volume.time.0
   pub time_end : row.time_end ≡ pos s.volume.time.1
 
--- a cell of the subscription with this number, and its place; the token is the one that is printed
+-- Holds if the row is that of a cell and its position, of the subscription with this number, with
+-- the cell's printed token.
 pub record IsSubCellRow (num : ℤ) (row : SubCellRow) (c : ℕ × Cell) : Type 0 where
   pub subscription : row.subscription ≡ num
   pub place : row.place ≡ pos c.0
@@ -58,8 +59,8 @@ pub record IsSubCellRow (num : ℤ) (row : SubCellRow) (c : ℕ × Cell) : Type 
   pub lo : row.lo ≡ pos (lo_of c.1)
   pub hi : row.hi ≡ pos (hi_of c.1)
 
--- A row of `subscription` and the rows of `subscription_cell` by rising places spell a
--- subscription: each reads by its types, and places count from 0 without gaps. There is a cell, as
+-- Holds if a row of `subscription` and the rows of `subscription_cell`, in the order of their
+-- positions, represent a subscription. Positions count from 0 without gaps. There is a cell, as
 -- `IsVolume` says.
 pub record SpellsSub (row : SubRow) (cells : List SubCellRow) (s : Sub) : Type 0 where
   pub sub : IsSubRow row s

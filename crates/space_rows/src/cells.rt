@@ -1,4 +1,4 @@
-//! What rows of the tables of cells spell, and the rows of cells.
+//! The cells that rows represent, and the rows of cells.
 ghost use Rattle.std.specs.Prelude.{◌≡◌, ◌↔◌, ◌≤◌, ◌<◌, pos, IsTrue, IfOk, length, take, drop};
 ghost use Rattle.std.specs.List.{AllByRecursion};
 ghost use Rattle.grid_core.specs.Cell.{IsCell, lo_of, hi_of};
@@ -13,21 +13,21 @@ use grid_core::cell::CellId;
 use grid_core::token::{parse_token, token};
 use std::alloc::{AllocError, Global};
 
-/// Whether a number is that of a place.
+/// Returns true if the number is that of the position.
 pub(crate) fn is_at(number: i64, place: usize) -> bool
     ensures { IsTrue result ↔ (number ≡ pos place) }
 {
     number >= 0 && number as u64 == place as u64
 }
 
-/// Whether the two are one text.
+/// Returns true if the two texts are equal.
 pub(crate) fn is_same(text: &str, other: &str) -> bool
     ensures { IsTrue result ↔ (text.now ≡ other.now) }
 {
     text == other
 }
 
-// The cell, where the text is the one that is printed of it.
+// Returns the cell if the text is its printed token.
 fn as_printed(alloc: Global, cell: CellId, text: &str) -> Result<Option<CellId>, AllocError>
     requires valid { IsCell cell }
     requires reads { IsTokenOf text.now cell }
@@ -41,7 +41,7 @@ fn as_printed(alloc: Global, cell: CellId, text: &str) -> Result<Option<CellId>,
     }
 }
 
-/// The cell of a token that is as it is printed.
+/// Returns the cell of which the text is the printed token, if there is one.
 pub(crate) fn cell_of_token(alloc: Global, text: &str) -> Result<Option<CellId>, AllocError>
     ensures { IfOk result (λ o. Finds (SpellsToken text.now) o) }
 {
@@ -51,14 +51,15 @@ pub(crate) fn cell_of_token(alloc: Global, text: &str) -> Result<Option<CellId>,
     }
 }
 
-// Whether a cell has this first and this last place.
+// Returns true if the cell has this first and this last position.
 fn has_range(lo: i64, hi: i64, cell: CellId) -> bool
     ensures { IsTrue result ↔ ((lo ≡ pos (lo_of cell)) × (hi ≡ pos (hi_of cell))) }
 {
     lo == i64::from(cell.lo()) && hi == i64::from(cell.hi())
 }
 
-/// The cell of a token that is as it is printed, where its first and last places are these.
+/// Returns the cell of which the text is the printed token, if its first and last positions are
+/// these.
 pub(crate) fn cell_in(
     alloc: Global,
     text: &str,
@@ -79,7 +80,7 @@ pub(crate) fn cell_in(
     }
 }
 
-/// The token of a cell, and its first and last places.
+/// Returns the token of a cell, and its first and last positions.
 pub(crate) fn columns_of(alloc: Global, cell: CellId) -> Result<(Text, i64, i64), AllocError>
     ensures { IfOk result (λ r. SpellsRange r.0 r.1 r.2 cell) }
 {
@@ -88,7 +89,7 @@ pub(crate) fn columns_of(alloc: Global, cell: CellId) -> Result<(Text, i64, i64)
     Ok((text, i64::from(cell.lo()), i64::from(cell.hi())))
 }
 
-/// The cells of a volume, by rows of it alone.
+/// Returns the cells that the rows of one volume represent, if they represent any.
 pub(crate) fn cells_of<R: RowOfCell>(
     alloc: Global,
     num: i64,
@@ -107,7 +108,7 @@ pub(crate) fn cells_of<R: RowOfCell>(
     Ok(Some(out))
 }
 
-/// How many rows at the front are of a volume.
+/// Returns the number of rows at the front that belong to a volume.
 pub(crate) fn count_of(rows: &[CellRow], volume: usize) -> usize
     ensures most { result ≤ length rows.now }
     ensures these { AllByRecursion (IsOfVolume volume) (take result rows.now) }
@@ -121,7 +122,7 @@ pub(crate) fn count_of(rows: &[CellRow], volume: usize) -> usize
     rows.len()
 }
 
-/// The rows of the cells of a volume.
+/// Returns the rows of the cells of a volume.
 pub(crate) fn cell_rows<R: RowOfCell>(
     alloc: Global,
     num: i64,

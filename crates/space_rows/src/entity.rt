@@ -1,4 +1,4 @@
-//! The entity that rows spell, and the rows of an entity.
+//! Conversion between an entity and its rows.
 ghost use Rattle.std.specs.Prelude.{◌≡◌, ◌≤ℤ◌, pos, IfOk};
 ghost use Rattle.entity_core.specs.Entity.{subscription_of};
 ghost use Rattle.space_rows.specs.Rows.{SpellsEntity};
@@ -32,10 +32,12 @@ fn joined(alloc: Global, head: Head, list: Vec<Volume>) -> Result<Option<Entity>
     }
 }
 
-/// The entity that the rows spell, if they spell one. The rows of `volume` come by rising places,
-/// and those of `cell` by rising volumes and then places; in another order they spell none. `named`
-/// is the id of the subscription to which the entity's row of `naming` refers, if it has one; a
-/// constraint with one is spelt by no rows.
+/// Returns the entity that the rows represent, if they represent one.
+///
+/// The rows of `volume` come in the order of their positions, and those of `cell` in the order of
+/// their volumes, then of their positions. In another order they represent none. `named` is the id
+/// of the subscription to which the entity's row of `naming` refers, if it has one. No rows
+/// represent a constraint with one.
 pub fn entity_of(
     alloc: Global,
     row: &EntityRow,
@@ -54,9 +56,12 @@ pub fn entity_of(
     }
 }
 
-/// The rows of an entity under a number: that of `entity`, those of `volume` by rising places, and
-/// those of `cell` by rising volumes and then places. They spell it with the subscription that it
-/// names; its row of `naming` is not among them.
+/// Returns the rows of an entity under a number.
+///
+/// They are the row of `entity`, the rows of `volume` and those of `cell`. Rows of `volume` are in
+/// the order of their positions, and rows of `cell` in the order of their volumes, then of their
+/// positions. They represent the entity together with the subscription that it references. Its row
+/// of `naming` is not among them.
 pub fn rows_of(
     alloc: Global,
     entity: &Entity,

@@ -1,4 +1,4 @@
-//! What a row of the table `entity` spells, and the row of an entity.
+//! Conversion between an entity without volumes and a row of the table `entity`.
 ghost use Rattle.std.specs.Prelude.{◌≡◌, ◌↔◌, ◌≤◌, ◌^◌, ◌≤ℤ◌, ℕ, pos, IsTrue, IfOk, Some, None};
 ghost use Rattle.entity_core.specs.EntityId.{spelled};
 ghost use Rattle.entity_core.specs.Entity.{max_version, subscription_of};
@@ -65,7 +65,7 @@ fn constraint_of(state: i64, named: Option<EntityId>) -> Option<Nature>
     }
 }
 
-// What an entity is, by the numbers of its row and the subscription that it names.
+// Returns the nature that the numbers of a row and the referenced subscription represent, if any.
 fn nature_of(kind: i64, state: i64, named: Option<EntityId>) -> Option<Nature>
     ensures { Finds (SpellsNature kind state named) result }
 {
@@ -91,7 +91,7 @@ fn id_as_printed(alloc: Global, id: EntityId, text: &str) -> Result<Option<Entit
     }
 }
 
-/// The id of which a text is what is printed.
+/// Returns the id whose printed form is the text, if there is one.
 pub(crate) fn id_of(alloc: Global, text: &str) -> Result<Option<EntityId>, AllocError>
     ensures { IfOk result (λ o. Finds (SpellsId text.now) o) }
 {
@@ -110,7 +110,7 @@ fn version_of(number: i64) -> Option<Version>
     Version::from_number(number as u32)
 }
 
-/// The serial of a number.
+/// Returns the serial with this number, if there is one.
 pub(crate) fn serial_of(number: i64) -> Option<Serial>
     ensures { Finds (SpellsCount max_serial number) result }
 {
@@ -120,14 +120,14 @@ pub(crate) fn serial_of(number: i64) -> Option<Serial>
     Serial::next_after(number as u64 - 1)
 }
 
-/// Whether the number of an entity or a subscription is from 1 to its serial.
+/// Returns true if the number of an entity or a subscription is from 1 to its serial.
 pub(crate) fn is_numbered(num: i64, serial: Serial) -> bool
     ensures { IsTrue result ↔ ((pos 1 ≤ℤ num) × (num ≤ℤ pos serial)) }
 {
     num >= 1 && num as u64 <= serial.number()
 }
 
-/// What a row of the table `entity` spells.
+/// Returns what a row of the table `entity` represents, if it represents anything.
 pub(crate) fn head_of(
     alloc: Global,
     row: &EntityRow,
@@ -170,7 +170,8 @@ pub(crate) fn head_of(
     }))
 }
 
-/// The row of an entity under a number. It does not tell which subscription the entity names.
+/// Returns the row of an entity under a number. The row does not say which subscription the entity
+/// references.
 pub(crate) fn entity_row(alloc: Global, entity: &Entity, num: i64) -> Result<EntityRow, AllocError>
     requires least { pos 1 ≤ℤ num }
     requires most { num ≤ℤ pos entity.now.serial }

@@ -1,12 +1,12 @@
-//! Laws of rows, each named by a function that does nothing.
+//! Laws of rows, each stated by a function that does nothing.
 ghost use Rattle.space_rows.specs.Laws.{OneEntity, OneSub};
 
-/// Rows spell one entity at most.
+/// States that rows represent at most one entity.
 pub fn one_entity()
     ensures { OneEntity }
 {}
 
-/// Rows spell one subscription at most.
+/// States that rows represent at most one subscription.
 pub fn one_sub()
     ensures { OneSub }
 {}

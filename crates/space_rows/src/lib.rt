@@ -1,4 +1,4 @@
-//! Entities and subscriptions as rows of tables: what rows spell, and the rows of either.
+//! Conversion between entities or subscriptions and rows of tables.
 #![tactic(auto)]
 
 mod cells;

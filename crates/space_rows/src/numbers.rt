@@ -4,7 +4,7 @@ ghost use Rattle.space_rows.specs.Rows.{kind_number, state_number};
 
 use entity_core::nature::{Kind, Nature, State};
 
-/// The number of a kind: 0 for an intent, 1 for a constraint.
+/// Returns the number of a kind: 0 for an intent, 1 for a constraint.
 pub fn kind_number(kind: Kind) -> i64
     ensures { result ≡ kind_number kind }
 {
@@ -14,7 +14,7 @@ pub fn kind_number(kind: Kind) -> i64
     }
 }
 
-/// The number of an intent's state, and 4 for a constraint.
+/// Returns the number of an intent's state, or 4 for a constraint.
 pub(crate) fn state_number(nature: Nature) -> i64
     ensures { result ≡ state_number nature }
 {

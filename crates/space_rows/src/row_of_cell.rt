@@ -1,4 +1,4 @@
-//! Rows of the tables `cell` and `subscription_cell`, each of which keeps a cell.
+//! Rows of the tables `cell` and `subscription_cell`, each of which stores a cell.
 ghost use Rattle.std.specs.Prelude.{◌≡◌, ◌<◌, ℕ, ℤ, IfOk};
 ghost use Rattle.grid_core.specs.Cell.{Cell};
 ghost use Rattle.space_rows.specs.Cells.{SpellsCell};
@@ -9,13 +9,14 @@ use crate::rows::{CellRow, SubCellRow};
 use grid_core::cell::CellId;
 use std::alloc::{AllocError, Global};
 
-/// A row that keeps a cell of a volume. An entity has many volumes, and a subscription the one of
-/// the place 0.
+/// A row that stores a cell of a volume. An entity has many volumes. A subscription has one, at
+/// position 0.
 pub(crate) trait RowOfCell: Drop {
-    /// The row is of this cell, with its place, in the volume of a place, under a number.
+    /// Holds if the row is that of a cell and its position, in the volume at a position, under a
+    /// number.
     ghost is_row: { ℤ → ℕ → Self → ℕ × Cell → Type 0 };
 
-    /// The cell, where the row is of the one at that place.
+    /// Returns the cell, if the row is that of the cell at this position.
     fn cell(
         &self,
         alloc: Global,
@@ -25,7 +26,7 @@ pub(crate) trait RowOfCell: Drop {
     ) -> Result<Option<CellId>, AllocError>
         ensures { IfOk result (λ o. Finds (SpellsCell (is_row num volume) place self.now) o) };
 
-    /// The row of a cell.
+    /// Returns the row of a cell.
     fn of_cell(
         alloc: Global,
         num: i64,
@@ -37,7 +38,7 @@ pub(crate) trait RowOfCell: Drop {
         requires place { place < 512 }
         ensures { IfOk result (λ row. SpellsCell (is_row num volume) place row cell) };
 
-    /// A row is of one cell.
+    /// States that a row represents at most one cell.
     ghost one_cell: { (num : ℤ) (volume place : ℕ) (row : Self) (c d : Cell)
         → SpellsCell (is_row num volume) place row c → SpellsCell (is_row num volume) place row d
         → c ≡ d };

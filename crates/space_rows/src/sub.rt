@@ -1,4 +1,4 @@
-//! The subscription that rows spell, and the rows of a subscription.
+//! Conversion between a subscription and its rows.
 ghost use Rattle.std.specs.Prelude.{◌≡◌, ◌≤ℤ◌, pos, IfOk};
 ghost use Rattle.space_rows.specs.Finds.{Finds};
 ghost use Rattle.space_rows.specs.Subs.{SpellsSub};
@@ -27,8 +27,10 @@ fn with_volume(head: SubHead, volume: Volume) -> Sub
     }
 }
 
-/// The subscription that the rows spell, if they spell one. The rows of `subscription_cell` come by
-/// rising places; in another order they spell none.
+/// Returns the subscription that the rows represent, if they represent one.
+///
+/// The rows of `subscription_cell` come in the order of their positions. In another order they
+/// represent none.
 pub fn sub_of(alloc: Global, row: &SubRow, cells: &[SubCellRow]) -> Result<Option<Sub>, AllocError>
     ensures { IfOk result (λ o. Finds (SpellsSub row.now cells.now) o) }
 {
@@ -44,8 +46,8 @@ pub fn sub_of(alloc: Global, row: &SubRow, cells: &[SubCellRow]) -> Result<Optio
     }
 }
 
-/// The rows of a subscription under a number: that of `subscription`, and those of
-/// `subscription_cell` by rising places.
+/// Returns the rows of a subscription under a number: the row of `subscription`, and the rows of
+/// `subscription_cell` in the order of their positions.
 pub fn rows_of_sub(
     alloc: Global,
     sub: &Sub,

@@ -1,4 +1,4 @@
-//! What a row of the table `subscription` spells, and the row of a subscription.
+//! Conversion between a subscription without its volume and a row of the table `subscription`.
 ghost use Rattle.std.specs.Prelude.{◌≡◌, ◌≤ℤ◌, pos, IfOk};
 ghost use Rattle.space_rows.specs.Finds.{Finds};
 ghost use Rattle.space_rows.specs.Volumes.{HasBounds};
@@ -33,7 +33,7 @@ pub(crate) struct SubHead {
     pub interest: Interest,
 }
 
-// What a subscription is for, by the two numbers of its row.
+// Returns the interest that the two numbers of a row represent, if any.
 fn interest_of(for_intents: i64, for_constraints: i64) -> Option<Interest>
     ensures { Finds (SpellsInterest for_intents for_constraints) result }
 {
@@ -60,7 +60,8 @@ fn flag_number(flag: bool) -> i64
     if flag { 1 } else { 0 }
 }
 
-/// What a row of the table `subscription` spells, but for the volume.
+/// Returns what a row of the table `subscription` represents, except for the volume, if it
+/// represents anything.
 pub(crate) fn sub_head_of(alloc: Global, row: &SubRow) -> Result<Option<SubHead>, AllocError>
     ensures { IfOk result (λ o. Finds (SpellsSubHead row.now) o) }
 {
@@ -99,7 +100,7 @@ pub(crate) fn sub_head_of(alloc: Global, row: &SubRow) -> Result<Option<SubHead>
     }))
 }
 
-/// The bounds of a subscription, as a row of a volume has them.
+/// Returns the bounds of a subscription in the form of a volume row.
 pub(crate) fn bounds_of(row: &SubRow) -> VolumeRow
     ensures { result ≡ bounds_of row.now }
 {
@@ -113,7 +114,7 @@ pub(crate) fn bounds_of(row: &SubRow) -> VolumeRow
     }
 }
 
-/// The row of a subscription under a number.
+/// Returns the row of a subscription under a number.
 pub(crate) fn sub_row(alloc: Global, sub: &Sub, num: i64) -> Result<SubRow, AllocError>
     requires least { pos 1 ≤ℤ num }
     requires most { num ≤ℤ pos sub.now.serial }

@@ -1,4 +1,4 @@
-//! Texts of rows as what they read as, and texts for rows.
+//! Conversion of the texts of rows.
 ghost use Rattle.std.specs.Prelude.{◌≡◌, IfOk};
 ghost use Rattle.entity_core.specs.IdTexts.{name_fault, ovn_fault, url_fault};
 ghost use Rattle.space_rows.specs.Finds.{Finds};
@@ -11,7 +11,7 @@ use entity_core::text::Text;
 use entity_core::uss_id::UssId;
 use std::alloc::{AllocError, Global};
 
-/// The supplier that a text names, if it names one.
+/// Returns the USS that the text identifies, if it identifies one.
 pub fn uss_in(alloc: Global, text: &str) -> Result<Option<UssId>, AllocError>
     ensures { IfOk result (λ o. Finds (SpellsText name_fault text.now) o) }
 {
@@ -23,7 +23,7 @@ pub fn uss_in(alloc: Global, text: &str) -> Result<Option<UssId>, AllocError>
     }
 }
 
-/// The version number that a text is, if it is one.
+/// Returns the text as an OVN, if it is one.
 pub fn ovn_in(alloc: Global, text: &str) -> Result<Option<Ovn>, AllocError>
     ensures { IfOk result (λ o. Finds (SpellsText ovn_fault text.now) o) }
 {
@@ -35,7 +35,7 @@ pub fn ovn_in(alloc: Global, text: &str) -> Result<Option<Ovn>, AllocError>
     }
 }
 
-/// The address that a text is, if it is one.
+/// Returns the text as a base URL, if it is one.
 pub(crate) fn url_in(alloc: Global, text: &str) -> Result<Option<BaseUrl>, AllocError>
     ensures { IfOk result (λ o. Finds (SpellsText url_fault text.now) o) }
 {
@@ -47,7 +47,7 @@ pub(crate) fn url_in(alloc: Global, text: &str) -> Result<Option<BaseUrl>, Alloc
     }
 }
 
-/// The same letters.
+/// Returns a copy of the text.
 pub(crate) fn text_of(alloc: Global, text: &str) -> Result<Text, AllocError>
     ensures { IfOk result (λ copy. copy ≡ text.now) }
 {

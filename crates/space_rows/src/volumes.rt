@@ -1,4 +1,4 @@
-//! What rows of the tables `volume` and `cell` spell, and the rows of volumes.
+//! Conversion between volumes and rows of the tables `volume` and `cell`.
 ghost use Rattle.std.specs.Prelude.{◌≡◌, ◌↔◌, ◌≤◌, ◌<◌, pos, IsTrue, IfOk, None, length};
 ghost use Rattle.grid_core.specs.Extent.{region_of, region_fault};
 ghost use Rattle.space_rows.specs.Finds.{Finds, FindsList};
@@ -11,7 +11,8 @@ use grid_core::cell::CellId;
 use grid_core::volume::Volume;
 use std::alloc::{AllocError, Global};
 
-// The volume of these cells with the bounds of a row, whose times are no less than 0.
+// Returns the volume with these cells and the bounds of a row, if it is valid. The times of the row
+// are at least 0.
 fn with_times(cells: Vec<CellId>, row: &VolumeRow, first: u64, last: u64) -> Option<Volume>
     requires first { row.now.time_start ≡ pos first }
     requires last { row.now.time_end ≡ pos last }
@@ -23,7 +24,7 @@ fn with_times(cells: Vec<CellId>, row: &VolumeRow, first: u64, last: u64) -> Opt
     }
 }
 
-/// The volume of these cells with the bounds of a row.
+/// Returns the volume with these cells and the bounds of a row, if it is valid.
 pub(crate) fn bounded(cells: Vec<CellId>, row: &VolumeRow) -> Option<Volume>
     ensures { Finds (HasBounds row.now cells.items) result }
 {
@@ -57,7 +58,8 @@ fn volume_of(
     }
 }
 
-/// The volumes, each with the cells of its place.
+/// Returns the volumes that the rows represent, if they represent any, each with the cells of its
+/// position.
 pub(crate) fn volumes_of(
     alloc: Global,
     num: i64,
@@ -83,7 +85,7 @@ pub(crate) fn volumes_of(
     }
 }
 
-/// The row of a volume at a place.
+/// Returns the row of a volume at a position.
 pub(crate) fn volume_row(num: i64, place: usize, volume: &Volume) -> VolumeRow
     requires { place < 32 }
     ensures row { IsVolumeRow num result (place, volume.now) }
@@ -101,7 +103,7 @@ pub(crate) fn volume_row(num: i64, place: usize, volume: &Volume) -> VolumeRow
     }
 }
 
-/// The rows of volumes, and those of their cells.
+/// Returns the rows of volumes and of their cells.
 pub(crate) fn volume_rows(
     alloc: Global,
     num: i64,

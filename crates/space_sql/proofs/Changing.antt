@@ -1,4 +1,4 @@
--- What a change tells of a space.
+-- Proofs about the result of a change of a space.
 use Rattle.std.proofs.Common.{◌≡◌, ◌⊎◌, inl, inr, List, [], ◌∷◌, length, Ok, Err, Result, refl, sym, ap, subst, ◌∙◌, arith}
 use Rattle.std.proofs.lemmas.List.{nil_from_length}
 use Rattle.std.specs.Prelude.{false, IsTrue, IsErrOf, OnOk, ◌↔◌}
@@ -20,7 +20,7 @@ use Rattle.space_sql.specs.Holding.{IsKeeping, AreTablesOf, SqlSpaceModel, Rests
 use Rattle.space_sql.specs.Settling.{Settles}
 use Rattle.space_sql.proofs.Outcomes.{held_is_spelt, spelt_alone, spelt_is_held, whole_is_spelt}
 
--- trees that a commit may have left keep the airspace that they spell
+-- The trees that a commit may leave store the airspace that they represent.
 keeps_of : (trees : Trees) (a : Airspace) → ((db : Database) × (trees ≡ db.trees) × IsDatabase db × Spells db a) → AreTablesOf trees a
 keeps_of trees a it =
     let path : it.0 ≡ with_tables trees = λ i. record { schema = it.3.schema i; trees = (sym it.1) i } in
@@ -33,7 +33,7 @@ module _ (P : Airspace → Type 0) (change : Airspace → Airspace) (old mid new
   old_clean : HasCleanDisk old
   old_clean = omega (arith, went.clean, mid_clean)
 
-  -- what was held is changed where trees may have been committed
+  -- The visible airspace is changed if the trees may be committed.
   committed : (db : Trees) → MayBeChanged P change old db → (a : Airspace) → holds_in old a → AreTablesOf db (change a)
   committed db made a h = keeps_of db (change a) (made a (held_is_spelt old rests (live old_clean) a h) (fits old_clean a h))
 
@@ -59,7 +59,7 @@ module _ (P : Airspace → Type 0) (change : Airspace → Airspace) (old mid new
         (λ h. (old.committed.trees, rests.stays (live old_clean), subst (λ t. AreTablesOf t a) (after.no_other h.0 same.0.is_open h.1 ∙ sym last) h.2)),
       )
 
--- a space that was not broken, and a change of its tables that was tried
+-- Lemmas about an unbroken space and an attempted change of its tables.
 module _ {S : Type 0} (g : Ghosts S) (P : Airspace → Type 0) (change : Airspace → Airspace) (old new : SqlSpaceModel S) (mid : Held S) (works : old.broken ≡ false) (kept : IsKeeping (state g old.conn) old.broken) (keeping : IsKeeping (state g new.conn) new.broken) (fits : is_sound_of g old → (a : Airspace) → holds_of g old a → P a) where
   live : HasCleanDisk (state g old.conn) → IsTrue (state g old.conn).is_open
   live clean = kept.live clean works
@@ -102,7 +102,7 @@ module _ {S : Type 0} (g : Ghosts S) (P : Airspace → Type 0) (change : Airspac
     frozen = λ s set. absurd (let off = works in cc);
   }
 
--- the answer of a space, for what a change of its tables told
+-- The result of the space matches the result of the change of its tables.
 pub changes_settled : {S : Type 0} (g : Ghosts S) (P : Airspace → Type 0) {change : Airspace → Airspace} {old seen new : SqlSpaceModel S} {mid : Held S} {told : Result (Unit {0}) Error} {r : Result (Unit {0}) SpaceFault} → old ≡ seen → IsKeeping (state g old.conn) old.broken → old.broken ≡ false
     → (is_sound_of g seen → (a : Airspace) → holds_of g seen a → P a) → Commits P change (state g old.conn) (state g mid) told → Settles g mid new.conn told r → IsKeeping (state g new.conn) new.broken
     → Changes (holds_of g) (is_sound_of g) (is_whole_of g) seen.broken seen new r change
@@ -110,9 +110,9 @@ changes_settled {S} g P {change} {old} {seen} {new} {mid} {told} {r} is kept wor
     let due = subst (λ (k : SqlSpaceModel S). is_sound_of g k → (a : Airspace) → holds_of g k a → P a) (sym is) fits in
     subst (λ (k : SqlSpaceModel S). Changes (holds_of g) (is_sound_of g) (is_whole_of g) k.broken k new r change) is (changes g P change old new mid works kept keeping due told r it to)
 
--- ---- changes that are made together
+-- ---- changes made together
 
--- the same of a list of them, of which there is a first
+-- The same for a nonempty list of changes.
 pub all_settled : {S X : Type 0} (g : Ghosts S) (P : List X → Airspace → Type 0) (change : List X → Airspace → Airspace) (all : List X) (first : X) (rest : List X) {old seen new : SqlSpaceModel S} {mid : Held S} {told : Result (Unit {0}) Error} {r : Result (Unit {0}) SpaceFault} → all ≡ first ∷ rest → old ≡ seen → IsKeeping (state g old.conn) old.broken → old.broken ≡ false
     → (is_sound_of g seen → (a : Airspace) → holds_of g seen a → P all a) → Commits (P (first ∷ rest)) (change (first ∷ rest)) (state g old.conn) (state g mid) told → Settles g mid new.conn told r → IsKeeping (state g new.conn) new.broken
     → Changes (holds_of g) (is_sound_of g) (is_whole_of g) seen.broken seen new r (change all)
@@ -120,7 +120,7 @@ all_settled {S} g P change all first rest {old} {seen} {new} {mid} {told} {r} wh
     let made = subst (λ xs. Commits (P xs) (change xs) (state g old.conn) (state g mid) told) (sym whole) it in
     changes_settled g (P all) is kept works fits made to keeping
 
--- no change
+-- No change.
 nothing : {S : Type 0} (g : Ghosts S) (k : SqlSpaceModel S) → IsKeeping (state g k.conn) k.broken → k.broken ≡ false → Changes {T = Unit {0}} (holds_of g) (is_sound_of g) (is_whole_of g) k.broken k k (Ok tt) (λ a. a)
 nothing g k kept works = record {
   sound = λ s. s;
@@ -131,7 +131,7 @@ nothing g k kept works = record {
   frozen = λ s set b h. h;
 }
 
--- and of a list of none
+-- The same for an empty list of changes.
 pub none_settled : {S X : Type 0} (g : Ghosts S) (change : List X → Airspace → Airspace) (all : List X) {old seen : SqlSpaceModel S} → change [] ≡ (λ a. a) → length all ≡ 0 → old ≡ seen → IsKeeping (state g old.conn) old.broken → old.broken ≡ false
     → Changes {T = Unit {0}} (holds_of g) (is_sound_of g) (is_whole_of g) seen.broken seen seen (Ok tt) (change all)
 none_settled {S} g change all {old} {seen} stays none is kept works =

@@ -1,4 +1,4 @@
--- From a crash to the next opening.
+-- Proofs that relate a crash to the next opening.
 use Rattle.std.specs.Prelude.{◌≡◌, ◌∷◌, List, [], IsTrue, Result, Ok, Err, IfErr, IfOk, refl}
 use Rattle.std.proofs.Common.{sym, ap, subst, ◌∙◌}
 use Rattle.std.proofs.Math.Logic.{∥∥₁_map}
@@ -28,7 +28,7 @@ leaves_held s whole db may = let it = whole db may in (it.0, (db, may, it.1), it
 pub leaves_content : (s : State) (a : Airspace) → ((b : Airspace) → holds_in s b → b ≡ a) → is_whole_in s → (db : Trees) → s.may_leave db → AreTablesOf db a
 leaves_content s a only whole db may = let it = leaves_held s whole db may in subst (λ b. AreTablesOf db b) (only it.0 it.1) it.2
 
--- what a connection sees that was opened over what a crash left
+-- Holds if the connection was opened over what a crash left.
 record Found (old opened : State) : Type 0 where
   schema : opened.now.schema ≡ dss_schema
   held : Airspace
@@ -61,7 +61,7 @@ not_refused format db a NotADss p r other = r.0 a p
 not_refused format db a Version p r other = not_other format db a p r
 not_refused format db a Store p r other = other refl
 
--- the fault is the one of the store, if each other one is impossible
+-- The fault is `Store` if every other one is impossible.
 pub is_store : (fault : OpenFault) → ((fault ≡ Store → ⊥) → ⊥) → fault ≡ Store
 is_store NotADss h = absurd (h (λ e. cc))
 is_store Version h = absurd (h (λ e. cc))

@@ -1,4 +1,4 @@
--- From what files held to what is taken of them.
+-- Proofs that relate the content of files to the opened space.
 use Rattle.std.specs.Prelude.{◌≡◌, ◌≢◌, ◌⊎◌, ◌↔◌, ◌<◌, [], length, false, IsTrue, IfErr, IfOk, Result, Ok, Err, refl}
 use Rattle.std.proofs.Common.{inl, inr, sym, ap, subst, ◌∙◌, arith}
 use Rattle.sqlite_trees.specs.Tree.{Trees}
@@ -33,13 +33,13 @@ use Rattle.space_sql.proofs.Outcomes.{one_schema}
 pub respell_as : (format : Format) (D E : Database) (a : Airspace) → D.schema ≡ E.schema → D.trees ≡ E.trees → SpellsAs format D a → SpellsAs format E a
 respell_as format D E a schema trees p = let path : D ≡ E = λ i. record { schema = schema i; trees = trees i } in subst (λ d. SpellsAs format d a) path p
 
--- the trees of a database that spells an airspace keep it
+-- The trees of a database that represents an airspace store it.
 pub keeps_of : (format : Format) (db : Trees) (d : Database) (a : Airspace) → db ≡ d.trees → IsDatabase d → SpellsAs format d a → KeepsAs format db a
 keeps_of format db d a is obeys p =
     let path : d ≡ tables_of format db = λ i. record { schema = p.schema i; trees = sym is i } in
     (subst IsDatabase path obeys, subst (λ d. SpellsAs format d a) path p)
 
--- of no byte come no pages, so nothing was found but an empty database
+-- If the database file has no byte, only an empty database is found.
 new_found : (image : Image) → image.db ≡ [] → (db : Trees) → AreFoundIn image db → IsEmpty db
 new_found image none db (inl it) = absurd (let some : 0 < length image.db = it.3.found.present in let few : length image.db ≡ 0 = ap length none in omega (arith, some, few))
 new_found image none db (inr it) = it.1
@@ -47,7 +47,7 @@ new_found image none db (inr it) = it.1
 pub new_is_unmade : (image : Image) → image.db ≡ [] → AreUnmade image
 new_is_unmade image none = inl (new_found image none)
 
--- the presence of a format names it
+-- The presence of a format determines it.
 same_format : (format : Format) → Whole format ≡ Whole One → format ≡ One
 same_format One e = refl
 same_format Two e = cc
@@ -93,7 +93,7 @@ module _ (image : Image) (s : State) (it : IsOpenedOver image s) where
       let path : s.now ≡ tables_of format db = λ i. record { schema = schema i; trees = trees i } in
       subst (λ d. Refuses format d fault) path (due format schema)
 
-  -- trees that may have been committed over files that spell an airspace
+  -- The trees that may be committed over files that represent an airspace store it in format 2.
   taken_found : (format : Format) (a : Airspace) → FilesSpell format image a → (db : Trees) → MayBeTaken (Whole format) s db → KeepsAs Two db a
   taken_found One a h db may =
       let moved = may (found_schema One h.0 (h.1, h.2.0)) in
@@ -126,7 +126,7 @@ module _ (image : Image) (s : State) (it : IsOpenedOver image s) where
     | inr taken ↦ absurd (other taken.0)
   ]
 
--- what is known of a space that was taken
+-- Proves `FindsSpelt` for an adopted space.
 pub finds : {S : Type 0} (image : Image) (s : State) (space : Ghosts (SqlSpaceModel S)) (k : SqlSpaceModel S) → (space.is_sound k → IsOpenedOver image s) → HoldsSpelt space s k → (space.is_sound k → s.now.schema ≡ no_schema → IsContent space.holds k (empty_at 0))
     → (space.is_sound k → (a : Airspace) → space.holds k a → space.is_whole k) → (IsTrue k.upgraded ↔ (presence_in s.now.schema.tables ≡ Whole One)) → FindsSpelt image space k
 finds image s space k opened holds made whole told = record {
@@ -136,7 +136,7 @@ finds image s space k opened holds made whole told = record {
   upgraded = λ sound. told_found image s (opened sound) _ told;
 }
 
--- what is known after a fault
+-- Proves `RefusesFound` after a fault.
 pub refuses : (image : Image) (s back : State) (fault : OpenFault) → (HasCleanDisk s → IsOpenedOver image s) → Rests s → Survives s back (MayBeOpened s fault) → IsDueFault s back fault → (s.now.schema ≡ no_schema → fault ≡ Store) → RefusesFound image back fault
 refuses image s back fault opened rests went due new =
     let before = λ (clean : HasCleanDisk back). opened (omega (arith, went.clean, clean)) in
@@ -149,7 +149,7 @@ refuses image s back fault opened rests went due new =
     }
 
 module _ {S L : Type 0} (g : stores.Ghosts S) (image : Image) (s : State) (opened : HasCleanDisk s → IsOpenedOver image s) where
-  -- after a taking
+  -- Proves the result of a successful opening.
   pub finds_ok : (space : Ghosts (SqlSpaceModel S)) (clean : (k : SqlSpaceModel S) → space.is_sound k → HasCleanDisk (state g k.conn)) (certain : (k : SqlSpaceModel S) (a : Airspace) → space.is_sound k → space.is_broken k ≡ false → space.holds k a → space.is_whole k)
       → (r : Result (SqlSpaceModel S × L) (OpenFault × Held S)) → IfOk r (λ t. IsFresh g space t.0) → IfOk r (λ t. HasCleanDisk (state g t.0.conn) → HasCleanDisk s) → IfOk r (λ t. HoldsSpelt space s t.0)
       → IfOk r (λ t. space.is_sound t.0 → s.now.schema ≡ no_schema → IsContent space.holds t.0 (empty_at 0)) → IfOk r (λ t. IsTrue t.0.upgraded ↔ (presence_in s.now.schema.tables ≡ Whole One)) → IfOk r (λ t. FindsSpelt image space t.0)

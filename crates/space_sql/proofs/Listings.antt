@@ -1,4 +1,4 @@
--- What was read is all that a space holds.
+-- Proofs that the loaded airspace is all that a space holds.
 use Rattle.std.proofs.Common.{◌≡◌, Ok, Err, Result, IfOk, sym, subst, ◌∙◌}
 use Rattle.std.specs.Prelude.{Bool, false}
 use Rattle.sqlite_trees.specs.declared.store.Store.{Ghosts}

@@ -1,4 +1,4 @@
--- What opening tells and leaves, by how the database stood.
+-- Proofs about the result and the effects of opening, by the presence of the tables.
 use Rattle.std.specs.Prelude.{◌≡◌, ◌≢◌, Result, Ok, Err, IfErr, refl}
 use Rattle.std.proofs.Common.{ap, subst, sym, ◌∙◌}
 use Rattle.sqlite_trees.specs.Tree.{Trees}
@@ -24,9 +24,9 @@ use Rattle.space_sql.specs.OpenResult.{MayBeOpened, MayBeTaken}
 pub ok_is_no_fault : {X : Type 0} (x : X) (fault : OpenFault) → ◌≢◌ {A = Result X OpenFault} (Ok x) (Err fault)
 ok_is_no_fault x fault = λ e. cc
 
--- ---- which schema there was
+-- ---- the schema that was found
 
--- how a schema stands that was seen, by the one that there is
+-- The presence of the tables in a schema is that in an equal one.
 pub stands_seen : {seen own : Schema} {presence : Presence} → seen ≡ own → presence ≡ presence_in seen.tables → presence_in own.tables ≡ presence
 stands_seen same exact = ap (λ (s : Schema). presence_in s.tables) (sym same) ∙ sym exact
 
@@ -34,17 +34,18 @@ pub stands_as : (format : Format) (schema : Schema) → schema ≡ schema_of for
 stands_as One schema e = ap (λ (s : Schema). presence_in s.tables) e ∙ first_stands
 stands_as Two schema e = ap (λ (s : Schema). presence_in s.tables) e ∙ second_stands
 
--- what is so where tables are of the format as which they stand, is so for each format that they are of
+-- If P holds for the format that the tables are found to have, it holds for each format that they
+-- have.
 pub of_format : (schema : Schema) (P : Format → Type 0) (own : Format) → presence_in schema.tables ≡ Whole own → (schema ≡ schema_of own → P own) → (format : Format) → schema ≡ schema_of format → P format
 of_format schema P own stands f format e =
     let same : Whole own ≡ Whole format = sym stands ∙ stands_as format schema e in
     let is : own ≡ format = cc in
     subst (λ (x : Format). schema ≡ schema_of x → P x) is f e
 
--- ---- what a crash leaves
+-- ---- effects of a crash
 
 module _ {X C : Type 0} (old : State) (shown : C → State) where
-  -- after a fault
+  -- After a fault, the trees are those that the fault allows.
   pub left_as : (presence : Presence) (P : OpenFault → Trees → Type 0) (r : Result X (OpenFault × C)) → presence_in old.now.schema.tables ≡ presence → ((fault : OpenFault) (trees : Trees) → P fault trees → (fault ≡ Store) × MayBeTaken presence old trees)
       → IfErr r (λ e. Survives old (shown e.1) (P e.0)) → IfErr r (λ e. Survives old (shown e.1) (MayBeOpened old e.0))
   left_as presence P (Ok x) is f left = tt
@@ -54,11 +55,11 @@ module _ {X C : Type 0} (old : State) (shown : C → State) where
   left_made (Ok x) is store left = tt
   left_made (Err e) is store left = survives_weaker old (shown e.1) _ _ (λ clean db made. (store, subst (λ (s : Presence). MayBeTaken s old db) (sym is) made)) left
 
--- ---- which airspace is held
+-- ---- the airspace that is stored
 
 pub one_airspace_as : (format : Format) (D E : Database) (a b : Airspace) → D.trees ≡ E.trees → SpellsAs format D a → SpellsAs format E b → a ≡ b
 one_airspace_as format D E a b same p q = one_airspace_of format D E a b same p q
 
--- what is so of one airspace that a database spells is so of each
+-- If a database represents one airspace with P, each airspace that it represents has P.
 pub of_each_spelt : (P : Airspace → Type 0) (format : Format) (db : Database) (a : Airspace) → ((b : Airspace) × SpellsAs format db b × P b) → SpellsAs format db a → P a
 of_each_spelt P format db a own spelt = subst P (one_airspace_of format db db own.0 a refl own.1 spelt) own.2

@@ -1,4 +1,4 @@
--- What a crash may leave of a store before and after a call.
+-- Proofs about the effects of a crash on a store before and after a call.
 use Rattle.std.proofs.Common.{◌≡◌, inl, inr, refl, sym, ap, subst, ◌∙◌, arith}
 use Rattle.std.specs.Prelude.{IsTrue}
 use Rattle.sqlite_trees.specs.Tree.{Trees}
@@ -16,16 +16,16 @@ use Rattle.space_sql.specs.Holding.{AreTablesOf, Rests, holds_in, is_whole_in, w
 pub respell : (D E : Database) (a : Airspace) → E.schema ≡ dss_schema → D.trees ≡ E.trees → Spells D a → Spells E a
 respell D E a is same p = let path : D ≡ E = λ i. record { schema = (p.schema ∙ sym is) i; trees = same i } in subst (λ d. Spells d a) path p
 
--- the trees tell the schema
+-- The trees determine the schema.
 pub one_schema : (trees : Trees) (s t : Schema) → IsDatabase (record { schema = s; trees = trees }) → IsDatabase (record { schema = t; trees = trees }) → s ≡ t
 one_schema trees s t p q = lists_once (trees catalog_tree) s t p.lists q.lists
 
 module _ (s : State) (rests : Rests s) (is_open : IsTrue s.is_open) where
-  -- the one outcome
+  -- A crash leaves only the visible trees.
   now_trees : (db : Trees) → s.may_leave db → db ≡ s.now.trees
   now_trees db may = rests.no_other db is_open may ∙ sym (ap (λ (d : Database). d.trees) (rests.settled is_open))
 
-  -- what is held is spelt by what is seen
+  -- The visible database represents the airspace that the space holds.
   pub held_is_spelt : (a : Airspace) → holds_in s a → Spells s.now a
   held_is_spelt a h =
       let trees = now_trees h.0 h.1 in
@@ -41,11 +41,11 @@ module _ (s : State) (rests : Rests s) (is_open : IsTrue s.is_open) where
   pub spelt_alone : (a b : Airspace) → Spells s.now a → holds_in s b → b ≡ a
   spelt_alone a b p h = one_airspace s.now s.now b a refl (held_is_spelt b h) p
 
-  -- where all that is committed is whole, something is spelt
+  -- If all that may be committed is whole, the visible database represents an airspace.
   pub whole_is_spelt : is_whole_in s → (a : Airspace) × Spells s.now a
   whole_is_spelt whole = let it = whole _ (rests.stays is_open) in (it.0, held_is_spelt it.0 (_, rests.stays is_open, it.1))
 
--- ---- a call that commits nothing
+-- ---- calls that commit nothing
 
 module _ (old new : State) (went : Survives old new (λ _. ⊥)) (clean : HasCleanDisk new) where
   pub clean_before : HasCleanDisk old
@@ -60,7 +60,7 @@ module _ (old new : State) (went : Survives old new (λ _. ⊥)) (clean : HasCle
   pub stays_whole : is_whole_in old → is_whole_in new
   stays_whole whole db may = whole db (not_new db may)
 
-  -- the store is open still, so what was held is held
+  -- If the store is still open, the space holds the same airspaces.
   pub stays_held : Rests old → Rests new → IsTrue old.is_open → IsTrue new.is_open → (a : Airspace) → holds_in old a → holds_in new a
   stays_held before after was_open is_open a h =
       let may = after.stays is_open in

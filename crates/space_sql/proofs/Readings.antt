@@ -1,4 +1,4 @@
--- What a reading tells of a space.
+-- Proofs about the result of reading a space.
 use Rattle.std.proofs.Common.{◌≡◌, Ok, Err, Result, IfOk, subst, ◌∙◌}
 use Rattle.std.specs.Prelude.{false, IsTrue, MatchResult}
 use Rattle.sqlite_trees.specs.declared.store.Store.{Ghosts}
@@ -17,13 +17,13 @@ use Rattle.space_sql_load.specs.Judging.{loaded_airspace}
 use Rattle.space_sql_select.specs.Reading.{ReadsTables}
 use Rattle.space_sql.proofs.Outcomes.{clean_before, held_is_spelt, no_other, stays_held, stays_whole}
 
--- what is found in the airspace that was read
+-- A result found in the loaded airspace is right for the space.
 pub found_in : {U : Type 0} (old new : State) (l : LoadedAirspace) (r : Result U Error) (Q : Airspace → U → Type 0) → ReadsTables old new (Ok l) (λ a found. loaded_airspace found ≡ a)
     → IfOk r (Q (loaded_airspace l)) → ReadsTables old new r Q
 found_in old new l (Ok x) Q it ok = record { answer = λ clean a p. subst (λ b. Q b x) (it.answer clean a p) ok; rests = it.rests; is_open = it.is_open; survives = it.survives }
 found_in old new l (Err e) Q it ok = record { answer = λ clean. tt; rests = λ clean. tt; is_open = λ clean. tt; survives = it.survives }
 
--- a space that was not broken, and a call that read its tables
+-- Lemmas about an unbroken space and a call that read its tables.
 module _ {S T : Type 0} (g : Ghosts S) (P : Airspace → T → Type 0) (old new : SqlSpaceModel S) (mid : Held S) (works : old.broken ≡ false) (kept : IsKeeping (state g old.conn) old.broken) (keeping : IsKeeping (state g new.conn) new.broken) where
   module _ (went : Survives (state g old.conn) (state g new.conn) (λ _. ⊥)) (clean : HasCleanDisk (state g new.conn)) where
     was_open : IsTrue (state g old.conn).is_open
@@ -58,7 +58,7 @@ module _ {S T : Type 0} (g : Ghosts S) (P : Airspace → T → Type 0) (old new 
         answer = λ s. answered went s.clean told r it to;
       }
 
--- the answer of a space, for what its connection told
+-- The result of the space matches the result of its connection.
 pub reads_settled : {S T : Type 0} (g : Ghosts S) {P : Airspace → T → Type 0} {old seen new : SqlSpaceModel S} {mid : Held S} {told : Result T Error} {r : Result T SpaceFault} → old ≡ seen → IsKeeping (state g old.conn) old.broken → old.broken ≡ false
     → Settles g mid new.conn told r → ReadsTables (state g old.conn) (state g mid) told P → IsKeeping (state g new.conn) new.broken → new.broken ≡ is_broken_after old.broken r
     → Reads (holds_of g) (is_sound_of g) (is_whole_of g) seen new r P

@@ -1,4 +1,4 @@
--- Why nothing was taken of files.
+-- Proofs about the reasons why files are not opened.
 use Rattle.std.specs.Prelude.{◌≡◌, ◌≢◌, ℕ, Bool, cond, List, [], ◌∷◌}
 use Rattle.std.proofs.Common.{inl, inr, sym, subst, subst₂, ◌∙◌}
 use Rattle.std.proofs.lemmas.Grind.{not_there}
@@ -28,18 +28,18 @@ use Rattle.space_sql.specs.declared.failed_open.FailedOpen.TheVariants as of
 use Rattle.space_sql.proofs.Crashes.{is_store}
 use Rattle.space_sql.proofs.Restarts.{next_fault}
 
--- ---- files that were just opened
+-- ---- newly opened files
 
 settled_leaves : (mixes : Bool) (start : List ℕ) (key : ℕ) (c : List ℕ) → (let m = replay start (settled key ∷ []) in MayLeave mixes m.seen m.synced m.steps c) → c ≡ start
 settled_leaves mixes start key c (inl same) = same
 settled_leaves mixes start key c (inr same) = same
 
--- a crash leaves what they held
+-- A crash leaves the content that they had.
 pub opened_leaves : (mixes : Bool) (log db : List ℕ) (is_log own : Bool) (events : List Event) (key : ℕ) → is_log ≡ own → events ≡ settled key ∷ [] → (c : List ℕ) → (let m = replay (cond is_log log db) events in MayLeave mixes m.seen m.synced m.steps c) → c ≡ cond own log db
 opened_leaves mixes log db is_log own events key which same c may =
     settled_leaves mixes (cond own log db) key c (subst₂ (λ b e. let m = replay (cond b log db) e in MayLeave mixes m.seen m.synced m.steps c) which same may)
 
--- ---- the fault
+-- ---- faults
 
 not_named : (kind : StoreError) → store_error kind ≡ SqliteFailure NotADatabase → ⊥
 not_named stored.OutOfMemory is = cc
@@ -49,7 +49,7 @@ not_named stored.Full is = cc
 not_named stored.Broken is = cc
 not_named stored.Unstorable is = cc
 
--- files that are to open are not refused as no database
+-- Files that can be opened are not rejected with `NotADatabase`.
 not_refused : (kind : StoreError) (old new : ℕ) (AtLimit Wanted : Type 0) (e : Error) → FailsAs kind old new AtLimit Wanted e → Wanted → e ≢ SqliteFailure NotADatabase
 not_refused kind old new AtLimit Wanted e (inl memory) wanted is = let no = sym memory ∙ is in cc
 not_refused kind old new AtLimit Wanted e (inr (inl refused)) wanted is = refused.1 wanted
@@ -65,7 +65,7 @@ module _ {D : Type 0} {g : disk.Ghosts D} where
     kept = λ clean. (files, at, (fails clean).1);
   }
 
-  -- files that spell an airspace are refused with `Store` alone
+  -- Files that represent an airspace are rejected only with `Store`.
   pub next_refused : (image : Image) (format : Format) (a : Airspace) → ∥ FilesSpell format image a ∥₁ → (remains : FailedOpen D g) (fault : OpenFault) → RefusesOpening image remains fault → IsCleanIn remains → fault ≡ Store
   next_refused image format a files of.Nothing fault refuses clean = refuses
   next_refused image format a files (of.Files left) fault refuses clean = is_store fault (λ other. not_there files (λ it. other (refuses.due clean (inl (it.0, it.1)))))

@@ -1,4 +1,4 @@
--- From one run to the next.
+-- Proofs that relate one run to the next.
 use Rattle.std.specs.Prelude.{◌≡◌, IsTrue, false}
 use Rattle.std.proofs.Common.{inl, inr, arith, sym, subst}
 use Rattle.std.proofs.Math.Logic.{∥∥₁_elim, ∥∥₁_map}

@@ -1,4 +1,4 @@
--- What a space was found to hold is the content of one in memory.
+-- Proofs that a loaded airspace is the content of one in memory.
 use Rattle.std.proofs.Common.{◌≡◌, Ok, Err, Result, IfOk, sym, subst, refl, ◌∙◌}
 use Rattle.std.specs.Prelude.{Bool, IfErr, IsTrue}
 use Rattle.sqlite_trees.specs.declared.store.Store.{Ghosts}
@@ -14,13 +14,14 @@ use Rattle.space_sql_load.specs.declared.table_check.LoadedAirspace.{LoadedAirsp
 use Rattle.space_sql_load.specs.Judging.{loaded_airspace}
 use Rattle.space_sql.specs.Holding.{SqlSpaceModel, holds_in, holds_of, is_sound_of, is_whole_in, is_whole_of}
 
--- an answer that is no worse than a refusal breaks nothing
+-- A result that is no worse than `Unchanged` does not break the space.
 unbroken : {T : Type 0} (b : Bool) (r : Result T SpaceFault) → IfErr r (λ fault. fault ≡ Unchanged) → is_broken_after b r ≡ b
 unbroken b (Ok x) fault = refl
 unbroken b (Err Unchanged) fault = refl
 unbroken b (Err Broken) fault = absurd (let no : Broken ≡ Unchanged = fault in cc)
 
--- the answer after the lists were read: what is counted then changes nothing that is held
+-- Lemmas about the result after the airspace was loaded: counting it changes nothing that the space
+-- holds.
 module _ {S : Type 0} (g : Ghosts S) (old mid new : SqlSpaceModel S) (listed : LoadedAirspace) (conn : new.conn ≡ mid.conn) (broken : new.broken ≡ mid.broken)
     (it : Reads (holds_of g) (is_sound_of g) (is_whole_of g) old mid (Ok listed) (λ a found. loaded_airspace found ≡ a)) where
   sound_before : is_sound_of g new → is_sound_of g mid
@@ -50,7 +51,7 @@ module _ {S : Type 0} (g : Ghosts S) (old mid new : SqlSpaceModel S) (listed : L
   }
   reads_found (Err Broken) content fault = absurd (let no : Broken ≡ Unchanged = fault in cc)
 
--- the answer of a space that counted it
+-- The result of a space that loaded its airspace into memory.
 pub reads_whole : {S : Type 0} (g : Ghosts S) {old seen mid new : SqlSpaceModel S} {listed : LoadedAirspace} {r : Result MemorySpace SpaceFault} → mid ≡ seen → new.conn ≡ mid.conn → new.broken ≡ is_broken_after mid.broken r
     → Reads (holds_of g) (is_sound_of g) (is_whole_of g) old seen (Ok listed) (λ a found. loaded_airspace found ≡ a)
     → IfOk r (λ list. content_of list ≡ loaded_airspace listed) → IfErr r (λ fault. fault ≡ Unchanged)

@@ -1,5 +1,5 @@
--- What the outcomes of a crash keep. Proved, so nothing has to be believed here: a law of an `impl`
--- cites `specs/` alone.
+-- Lemmas about what the outcomes of a crash store. They are proved here, since a law of an `impl`
+-- can only cite `specs/`.
 use Rattle.std.specs.Prelude.{◌≡◌, ◌≤◌, ℕ, true, false, List, [], ◌∷◌, map, Some, cond, refl}
 use Rattle.std.proofs.Common.{sym, subst, ◌∙◌}
 use Rattle.std.proofs.Math.Logic.{∥∥₁_map}
@@ -20,15 +20,15 @@ use Rattle.space_sql_schema.specs.Spelling.{Group, IsSubGroup, Spells, SubGroup,
 use Rattle.space_sql_schema.proofs.OneAirspace.{one_airspace}
 use Rattle.space_sql.specs.Holding.{AreTablesOf, with_tables}
 
--- outcomes that are one keep one airspace
+-- A single outcome represents a single airspace.
 pub one_kept : {May : Trees → Type 0} (last : Trees) (a b : Airspace) → ((db : Trees) → May db → db ≡ last) → ((db : Trees) × May db × AreTablesOf db a) → ((db : Trees) × May db × AreTablesOf db b) → a ≡ b
 one_kept last a b one h k = one_airspace _ _ a b (one h.0 h.1 ∙ sym (one k.0 k.1)) h.2.1 k.2.1
 
--- where there is one outcome, and it keeps an airspace, each does
+-- If there is a single outcome, and it represents an airspace, each outcome does.
 pub all_kept : {May : Trees → Type 0} (last : Trees) (a : Airspace) → ((db : Trees) → May db → db ≡ last) → ((db : Trees) × May db × AreTablesOf db a) → (db : Trees) → May db → (b : Airspace) × AreTablesOf db b
 all_kept last a one h db may = (a, subst (λ d. AreTablesOf d a) (one h.0 h.1 ∙ sym (one db may)) h.2)
 
--- where there is an outcome, and each keeps an airspace, some airspace is kept
+-- If there is an outcome, and each one represents an airspace, some airspace is represented.
 pub some_kept : {May : Trees → Type 0} → ∥ ((db : Trees) × May db) ∥₁ → ((db : Trees) → May db → (a : Airspace) × AreTablesOf db a) → ∥ ((a : Airspace) × ((db : Trees) × May db × AreTablesOf db a)) ∥₁
 some_kept there whole = ∥∥₁_map there (λ it. let kept = whole it.0 it.1 in (kept.0, (it.0, it.1, kept.1)))
 
@@ -39,7 +39,7 @@ own_keys : (gs : List Group) → AllByRecursion IsUnderItsKey (map pair_of gs)
 own_keys [] = tt
 own_keys (g ∷ gs) = (refl, own_keys gs)
 
--- under its own id, and its index is at most the serial
+-- Holds if the subscription is stored under its own id, and its index is at most the serial.
 abbrev IsUnderItsId : ℕ → ℕ × Sub → Type 0
 IsUnderItsId serial p = (p.1.id ≡ p.0) × (p.1.index ≤ serial)
 
@@ -47,7 +47,7 @@ own_ids : (serial : ℕ) (gs : List SubGroup) → AllByRecursion (IsSubGroup ser
 own_ids serial [] all = tt
 own_ids serial (g ∷ gs) all = ((refl, all.0.index), own_ids serial gs all.1)
 
--- what is found stands in the list, under an equal key
+-- An entry that is found is in the list, under an equal key.
 found_there : {K V : Type 0} (cmp : K → K → Ordering) (P : K × V → Type 0) (es : List (K × V)) (k : K) (x : V) → AllByRecursion P es → maps.find cmp k es ≡ Some x → (l : K) × (eq_by_cmp cmp k l ≡ true) × P (l, x)
 found_there cmp P [] k x all h = cc
 found_there {K} {V} cmp P (e ∷ es) k x all h =
@@ -66,7 +66,7 @@ own_id a id s all h =
     let it = found_there nat_cmp (IsUnderItsId a.serial) (entries a.subscriptions) id s all (sym (get-entries a.subscriptions id) ∙ h) in
     (it.2.0 ∙ sym (one_id id it.0 it.1), it.2.1)
 
--- what tables spell is an airspace that may be kept
+-- The airspace that tables represent is a valid one.
 pub spelt_is_proper : (db : Trees) (a : Airspace) → Spells (with_tables db) a → IsAirspace a
 spelt_is_proper db a p =
     let keys = all-permutation IsUnderItsKey _ _ p.kept (own_keys p.groups) in
@@ -77,6 +77,6 @@ spelt_is_proper db a p =
       told = λ id s h. (own_id a id s ids h).1;
     }
 
--- what an outcome keeps is an airspace that may be kept
+-- The airspace that an outcome represents is a valid one.
 pub kept_is_proper : {May : Trees → Type 0} (a : Airspace) → ((db : Trees) × May db × AreTablesOf db a) → IsAirspace a
 kept_is_proper a h = spelt_is_proper h.0 a h.2.1

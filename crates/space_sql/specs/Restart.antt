@@ -1,4 +1,5 @@
--- From one run to the next: what the two files of a space hold after a crash, and what is found of it.
+-- Definitions that relate one run to the next: the two files of a space after a crash, and what is
+-- recovered.
 use Rattle.std.specs.Prelude.{◌≡◌, ◌⊎◌, []}
 use Rattle.sqlite_disk.specs.declared.Disk as disk
 use Rattle.sqlite_disk.specs.declared.Files.{Files}
@@ -25,28 +26,28 @@ use Rattle.space_sql.specs.Holding.{SqlSpaceModel, holds_of, is_sound_of, is_who
 use Rattle.space_sql.specs.FailedOpen.{IsCleanIn, RefusesOpening}
 use Rattle.space_sql.specs.declared.failed_open.FailedOpen.{FailedOpen}
 
--- the two files read so, or a crash leaves this of them
+-- Holds if the two files have this content, or a crash leaves it of them.
 abbrev pub FilesHave : {D : Type 0} → disk.Ghosts D → Files D → Image → Type 0
 FilesHave g files image = (image ≡ image_of g files) ⊎ outcomes g files.log files.db image
 
--- the database file alone
+-- The content of the database file, without the log.
 abbrev pub without_log : Image → Image
 without_log image = record image { log = [] }
 
 module _ {D : Type 0} {g : disk.Ghosts D} where
-  -- what the log and the file of a store may hold after a crash at this moment
+  -- Holds if the log and the file of a store may have this content after a crash at this time.
   abbrev pub FilesLeft : FileStore D g → Image → Type 0
   FilesLeft it image = (store.state it).may_leave image
 
-  -- What is known of the files of a connection that was given up, whose store is then this one: after
-  -- a crash they hold a database that a crash of the connection might have left.
+  -- Holds if, after a crash, the files of an abandoned connection hold a database that a crash of
+  -- the connection may have left. The store of the connection is `last`.
   pub record LeavesTrees (conn : Held (FileStore D g)) (last : FileStore D g) : Type 0 where
     pub clean : IsClean (store.view last) → HasCleanDisk (file_state conn)
     pub found : IsClean (store.view last) → (image : Image) → FilesLeft last image
         → ∥ ((db : Trees) × (file_state conn).may_leave db × HoldsDatabase image db) ∥₁
 
-  -- The same of a space that was given up: so they hold tables of format 2 that spell an airspace
-  -- which the space held, and where it held one and no other, that one.
+  -- Holds if, after a crash, the files of an abandoned space hold tables of format 2 that represent
+  -- an airspace that the space held. If it held exactly one, they represent that one.
   pub record LeavesFiles (k : SqlSpaceModel (FileStore D g)) (last : FileStore D g) : Type 0 where
     pub sound : IsClean (store.view last) → is_sound_of over_files k
     pub trees : LeavesTrees k.conn last
@@ -57,8 +58,8 @@ module _ {D : Type 0} {g : disk.Ghosts D} where
         → (a : Airspace) → IsContent (holds_of over_files) k a
         → (image : Image) → FilesLeft last image → ∥ FilesSpell Two image a ∥₁
 
-  -- What is known of the files of a space that was closed: they spell an airspace that it held, also
-  -- without their log.
+  -- Holds if the files of a closed space represent an airspace that it held, with or without their
+  -- log.
   pub record ClosesFiles (k : SqlSpaceModel (FileStore D g)) (files : Files D) : Type 0 where
     pub sound : AreClean g files.log files.db → is_sound_of over_files k
     pub held : AreClean g files.log files.db → is_whole_of over_files k
@@ -66,8 +67,8 @@ module _ {D : Type 0} {g : disk.Ghosts D} where
         → ∥ ((a : Airspace) × holds_of over_files k a × FilesSpell Two image a
         × FilesSpell Two (without_log image) a) ∥₁
 
--- What the next run finds of files that spell an airspace in format 2: a space that was taken over
--- them holds that airspace and no other, and the fault of a taking is `Store`.
+-- Holds if the next run finds files that represent an airspace in format 2: a space adopted over
+-- them holds exactly that airspace, and the only fault of adopting is `Store`.
 pub record NextFinds {S : Type 0} (g : stores.Ghosts S) (space : Ghosts (SqlSpaceModel S)) (image : Image)
     (a : Airspace) : Type 0 where
   pub found : (next : SqlSpaceModel S) → FindsSpelt image space next → space.is_sound next
@@ -79,17 +80,17 @@ abbrev pub NextRun : {S : Type 0} → stores.Ghosts S → Ghosts (SqlSpaceModel 
 NextRun g space =
     (image : Image) (a : Airspace) → ∥ FilesSpell Two image a ∥₁ → NextFinds g space image a
 
--- Of an opening that took nothing of files which spell an airspace, in either format, also where no
--- connection came back: the fault is `Store`.
+-- States that an opening that fails over files that represent an airspace in either format returns
+-- `Store`, even if no connection is returned.
 abbrev pub NextRefused : {D : Type 0} → disk.Ghosts D → Type 0
 NextRefused {D} g =
     (image : Image) (format : Format) (a : Airspace) → ∥ FilesSpell format image a ∥₁
     → (remains : FailedOpen D g) (fault : OpenFault)
     → RefusesOpening image remains fault → IsCleanIn remains → fault ≡ Store
 
--- A space was not opened over files that spell an airspace, as where the move of format 1 was stopped;
--- the connection that came back was given up, and a crash left of the files what it may: a space that is
--- then opened over them holds that airspace and no other.
+-- States that a failed opening keeps the airspace that the files represent, for example if the
+-- upgrade of format 1 was interrupted. If the returned connection is abandoned and a crash follows,
+-- a space opened over what is left holds exactly that airspace.
 abbrev pub RefusedIsFound : {D T : Type 0} → disk.Ghosts D → Ghosts (SqlSpaceModel T) → Type 0
 RefusedIsFound {D} {T} g again =
     (before after : Image) (format : Format) (a : Airspace) (back : Held (FileStore D g))

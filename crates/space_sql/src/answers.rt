@@ -1,4 +1,4 @@
-//! What a space over tables answers, and how it keeps count of it.
+//! Conversion of results of a connection to results of a space, and their recording.
 ghost use Rattle.std.specs.Prelude.{◌≡◌, false, IsTrue, OnOk};
 ghost use Rattle.sqlite.specs.Held.{state};
 ghost use Rattle.sqlite.specs.State.{HasCleanDisk, IsUnchanged, Survives};
@@ -11,7 +11,7 @@ use space_core::space::SpaceFault;
 use space_sql_select::reading::{connection_facts, is_store_alive};
 use sqlite::{Alter, Connection, Error};
 
-/// What is known of a connection outside a transaction. It does nothing.
+/// States what holds of a connection outside a transaction. It does nothing.
 pub(crate) fn at_rest<S: Alter>(conn: &Connection<S>)
     requires { conn.now.in_transaction ≡ false }
     ensures { Rests (state S.Store conn.now) }
@@ -19,7 +19,7 @@ pub(crate) fn at_rest<S: Alter>(conn: &Connection<S>)
     connection_facts(conn);
 }
 
-// The fault of a call that failed: the store still works, or not.
+// Returns the fault of a call that failed: `Unchanged` if the store is alive, otherwise `Broken`.
 fn fault<S: Alter>(conn: &mut Connection<S>) -> SpaceFault
     requires { conn.old.in_transaction ≡ false }
     ensures outside { conn.new.in_transaction ≡ false }
@@ -33,7 +33,7 @@ fn fault<S: Alter>(conn: &mut Connection<S>) -> SpaceFault
     }
 }
 
-/// Keeps count of an answer.
+/// Records a result: counts `Unchanged`, and marks the space as broken after `Broken`.
 pub(crate) fn note<T>(refusals: &mut u64, broken: &mut bool, answer: &Result<T, SpaceFault>)
     ensures counted { refusals.new ≡ refusals_after refusals.old answer.now }
     ensures breaks { broken.new ≡ is_broken_after broken.old answer.now }
@@ -45,7 +45,8 @@ pub(crate) fn note<T>(refusals: &mut u64, broken: &mut bool, answer: &Result<T, 
     }
 }
 
-// The answer for what a connection told; after an error the store is tried, which writes nothing.
+// Returns the result for that of a connection. After an error it tests the store, which writes
+// nothing.
 fn answer_or_fault<S: Alter, T>(
     conn: &mut Connection<S>,
     answer: Result<T, Error>,
@@ -60,7 +61,7 @@ fn answer_or_fault<S: Alter, T>(
     }
 }
 
-/// The answer of a space that was not broken, for what its connection told.
+/// Returns the result of an unbroken space, given the result of its connection.
 pub(crate) fn answer_of<S: Alter, T>(
     conn: &mut Connection<S>,
     refusals: &mut u64,

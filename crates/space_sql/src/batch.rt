@@ -1,4 +1,4 @@
-//! The changes of a round are made together in a space over tables.
+//! Batches of changes in a space over tables.
 use crate::answers::answer_of;
 use crate::space::SqlSpace;
 use space_core::batch::{ApplyBatch, BatchChange};

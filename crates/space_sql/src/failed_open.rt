@@ -1,14 +1,14 @@
-//! What there is of the files of a database that was not taken.
+//! The files of a database that was not adopted.
 use sqlite::{Connection, FileStore, Leftover};
 use sqlite_disk::Disk;
 
-/// What there is of the files after a fault of an opening.
+/// The state of the files after a fault of an opening.
 pub enum FailedOpen<D: Disk> {
     /// No file was opened.
     Nothing,
-    /// The files were opened, and no database in them.
+    /// The files were opened, but no database in them.
     Files(Leftover<D>),
-    /// A database in them was opened, and was not taken.
+    /// A database in the files was opened, but not adopted.
     Connection(Connection<FileStore<D>>),
 }
 

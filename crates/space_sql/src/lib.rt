@@ -1,4 +1,4 @@
-//! A space over tables of SQLite: made, taken and given back, read and changed.
+//! A space over tables of SQLite: opening, closing, reading and changing.
 #![tactic(auto)]
 
 mod answers;

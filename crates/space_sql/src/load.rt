@@ -1,4 +1,4 @@
-//! All that a space over tables holds is read at once.
+//! Loading of all that a space over tables holds.
 ghost use Rattle.std.specs.Prelude.{◌≡◌, false, IfOk, IsTrue};
 ghost use Rattle.sqlite.specs.Held.{state};
 ghost use Rattle.sqlite.specs.State.{HasCleanDisk};
@@ -22,7 +22,8 @@ use sqlite::{Alter, Connection, Error, ErrorCode};
 use sqlite_schema::schema::Schema;
 use std::alloc::Global;
 
-/// Whether these are the tables of format 2 and no other, as they are made in memory.
+/// Returns true only if these are exactly the tables of format 2, as created in memory. It can
+/// return false for them, for example if memory runs out.
 pub(crate) fn is_ours(alloc: Global, schema: &Schema) -> bool
     ensures { IsTrue result → schema.now ≡ dss_schema }
 {
@@ -35,8 +36,8 @@ pub(crate) fn is_ours(alloc: Global, schema: &Schema) -> bool
     }
 }
 
-// Reads all tables, where they are those of format 2 and no other. Others are told as corrupt, and so
-// are those that spell no airspace.
+// Reads all tables, if they are exactly those of format 2. Reports others as corrupt, and also
+// those that represent no airspace.
 fn read_ours<S: Alter>(alloc: Global, conn: &mut Connection<S>) -> Result<LoadedAirspace, Error>
     requires { conn.old.in_transaction ≡ false }
     ensures outside { conn.new.in_transaction ≡ false }
@@ -52,8 +53,10 @@ fn read_ours<S: Alter>(alloc: Global, conn: &mut Connection<S>) -> Result<Loaded
 }
 
 impl<S: Alter> SqlSpace<S> {
-    /// All that it holds, read at once, as sorted lists. Where the database has other tables than
-    /// those of format 2, beside them or in their place, the answer is `Unchanged`.
+    /// Returns all that the space holds, as sorted vectors.
+    ///
+    /// Returns `Unchanged` if the database has tables other than those of format 2, beside them or
+    /// in their place.
     pub fn load_airspace(&mut self) -> Result<LoadedAirspace, SpaceFault>
         ensures tells { ReportsFault self.old.refusals self.new.refusals self.old.broken self.new.broken
             result }

@@ -1,4 +1,4 @@
-//! A space over tables is made, taken and given back.
+//! Creation, adoption, opening and closing of a space over tables.
 ghost use Rattle.std.specs.Prelude.{◌≡◌, ◌≢◌, ◌↔◌, codes, false, IfErr, IfOk, IfSome, IsErrAnd, IsTrue};
 ghost use Rattle.sqlite.specs.Files.{file_state, over_files};
 ghost use Rattle.sqlite.specs.Recovery.{Image};
@@ -42,7 +42,7 @@ use std::alloc::Global;
 use std::io::Read;
 use std::{fs, io};
 
-// A space over a connection at rest, whose tables spell an airspace.
+// Returns a space over a connection outside a transaction, whose tables represent an airspace.
 fn space_over<S: Alter>(alloc: Global, conn: Connection<S>, upgraded: bool) -> SqlSpace<S>
     requires outside { conn.in_transaction ≡ false }
     requires open { HasCleanDisk (state S.Store conn) → IsTrue (state S.Store conn).is_open }
@@ -63,11 +63,11 @@ fn space_over<S: Alter>(alloc: Global, conn: Connection<S>, upgraded: bool) -> S
     }
 }
 
-/// A space over a connection, with all that its tables have where they were read; or a fault, with
-/// the connection that goes back.
+/// A space over a connection, with the airspace of its tables if it was loaded; or a fault, with
+/// the returned connection.
 pub type AdoptResult<S> = Result<(SqlSpace<S>, Option<LoadedAirspace>), (OpenFault, Connection<S>)>;
 
-// Makes the tables in a database that has none of them.
+// Creates the tables in a database that has none of them.
 fn make_new<S: Alter>(alloc: Global, mut conn: Connection<S>) -> AdoptResult<S>
     requires { conn.in_transaction ≡ false }
     ensures clean { IfOk result (λ t. HasCleanDisk (state S.Store t.0.conn)
@@ -89,7 +89,7 @@ fn make_new<S: Alter>(alloc: Global, mut conn: Connection<S>) -> AdoptResult<S>
     }
 }
 
-// Takes tables of format 2 as they are.
+// Adopts tables of format 2 as they are.
 fn take_second<S: Alter>(alloc: Global, mut conn: Connection<S>) -> AdoptResult<S>
     requires { conn.in_transaction ≡ false }
     ensures clean { IfOk result (λ t. HasCleanDisk (state S.Store t.0.conn)
@@ -114,7 +114,7 @@ fn take_second<S: Alter>(alloc: Global, mut conn: Connection<S>) -> AdoptResult<
     }
 }
 
-// Brings tables of format 1 to format 2, and takes them.
+// Upgrades tables of format 1 to format 2, and adopts them.
 fn take_first<S: Alter>(alloc: Global, mut conn: Connection<S>) -> AdoptResult<S>
     requires { conn.in_transaction ≡ false }
     ensures clean { IfOk result (λ t. HasCleanDisk (state S.Store t.0.conn)
@@ -139,7 +139,7 @@ fn take_first<S: Alter>(alloc: Global, mut conn: Connection<S>) -> AdoptResult<S
     }
 }
 
-// Why a database with only some of the tables is not taken, with the connection that goes back.
+// Returns why a database with only some of the tables is rejected, with its connection.
 fn refused<S: Alter>(mut conn: Connection<S>) -> (OpenFault, Connection<S>)
     requires { conn.in_transaction ≡ false }
     ensures back { result.1.in_transaction ≡ false }
@@ -150,16 +150,17 @@ fn refused<S: Alter>(mut conn: Connection<S>) -> (OpenFault, Connection<S>)
 }
 
 impl<S: Alter> SqlSpace<S> {
-    /// Takes a connection that is outside a transaction. Where it has none of the tables, they are
-    /// made; tables of format 1 are brought to format 2, in one transaction, with their airspace. A
-    /// database whose `meta` has one row, of a format that is neither 1 nor 2, is `Version`; else
-    /// one with only some of the tables, or with rows that are no airspace, is `NotADss`. On a
-    /// fault the connection comes back: after `NotADss` and `Version` nothing was written, and
-    /// after `Store` the tables are as before, or as this call would have made them.
+    /// Adopts a connection that is outside a transaction.
     ///
-    /// With the space comes all that the tables have, where they were whole and of format 2 and so
-    /// were read. That this is all that the space holds is said where they are as `make_tables`
-    /// makes them, and no other stands beside them.
+    /// If it has none of the tables, they are created. Tables of format 1 are upgraded to format 2,
+    /// in one transaction, with the same airspace. If the tables were complete and of format 2, the
+    /// loaded airspace is returned with the space. The contract says that it is all that the space
+    /// holds only if the tables are exactly as `make_tables` creates them.
+    ///
+    /// Returns `Version` if `meta` has one row, of a format that is neither 1 nor 2. Otherwise
+    /// returns `NotADss` if only some of the tables exist or their rows represent no airspace.
+    /// After a fault the connection is returned. After `NotADss` and `Version` nothing was written.
+    /// After `Store` the tables are as before, or as this call would have created them.
     pub fn adopt(alloc: Global, conn: Connection<S>) -> AdoptResult<S>
         requires { conn.in_transaction ≡ false }
         ensures clean { IfOk result (λ t. HasCleanDisk (state S.Store t.0.conn)
@@ -191,14 +192,14 @@ impl<S: Alter> SqlSpace<S> {
         }
     }
 
-    /// Whether the tables were those of format 1 when they were taken.
+    /// Returns true if the tables were those of format 1 when they were adopted.
     pub fn upgraded(&self) -> bool
         ensures { result ≡ self.now.upgraded }
     {
         self.upgraded
     }
 
-    /// The connection as it is.
+    /// Returns the connection as it is.
     pub fn release(self) -> Connection<S>
         ensures same { result ≡ self.conn }
         ensures outside { result.in_transaction ≡ false }
@@ -214,7 +215,7 @@ impl<S: Alter> SqlSpace<S> {
     }
 }
 
-// Takes a connection that was opened over files, whatever these held.
+// Adopts a connection that was opened over files, whatever their content.
 fn taken_over<S: Alter>(alloc: Global, conn: Connection<S>) -> AdoptResult<S>
     requires { conn.in_transaction ≡ false }
     ensures fresh { IfOk result (λ t. IsFresh S.Store ⟦<SqlSpace<S> as Space>⟧ t.0) }
@@ -229,7 +230,7 @@ fn taken_over<S: Alter>(alloc: Global, conn: Connection<S>) -> AdoptResult<S>
     SqlSpace::adopt(alloc, conn)
 }
 
-// Takes a connection, with all that the space then holds where its tables are as they are made.
+// Adopts a connection, and returns all that the space then holds if its tables are as created.
 fn taken_whole<S: Alter>(alloc: Global, conn: Connection<S>) -> AdoptResult<S>
     requires { conn.in_transaction ≡ false }
     ensures fresh { IfOk result (λ t. IsFresh S.Store ⟦<SqlSpace<S> as Space>⟧ t.0) }
@@ -248,7 +249,7 @@ fn taken_whole<S: Alter>(alloc: Global, conn: Connection<S>) -> AdoptResult<S>
     }
 }
 
-// A database in memory, with no table.
+// Returns a database in memory, without a table.
 pub(crate) fn memory(alloc: Global) -> Result<Connection<MemStore>, OpenFault>
     ensures empty { IfOk result (λ conn. IsEmpty (state over_memory conn)) }
     ensures store { IfErr result (λ fault. fault ≡ OpenFault.Store) }
@@ -260,7 +261,9 @@ pub(crate) fn memory(alloc: Global) -> Result<Connection<MemStore>, OpenFault>
 }
 
 impl SqlSpace<MemStore> {
-    /// An empty airspace in memory. Its one fault is `Store`.
+    /// Returns an empty airspace in memory.
+    ///
+    /// Its only fault is `Store`.
     pub fn create(alloc: Global) -> Result<SqlSpace<MemStore>, OpenFault>
         ensures sound { IfOk result ⟦<SqlSpace<MemStore> as Space>⟧.is_sound }
         ensures content { IfOk result (λ s.
@@ -276,7 +279,7 @@ impl SqlSpace<MemStore> {
     }
 }
 
-// Whether a file begins as a database of SQLite does.
+// Returns true if a file starts like a database of SQLite.
 fn begins_as_database(rt: &HostRuntime, path: &str) -> io::Result<bool> {
     let mut head = [0; 16];
     let mut file = fs::File::open(rt, path)?;
@@ -284,8 +287,8 @@ fn begins_as_database(rt: &HostRuntime, path: &str) -> io::Result<bool> {
     Ok(head == *b"SQLite format 3\0")
 }
 
-// Why a file was not opened. `sqlite` opens no database whose rows break a rule of their tables, as
-// those that refer to a table which is lacking: no airspace is spelt there.
+// Returns why a file was not opened. `sqlite` opens no database whose rows break a rule of their
+// tables, for example by referring to a missing table. Such a database represents no airspace.
 fn unopened(rt: &HostRuntime, path: &str, error: &Error) -> OpenFault
     ensures store { error.now ≢ SqliteFailure NotADatabase → result ≡ Store }
     ensures unread { result ≢ Version }
@@ -300,7 +303,7 @@ fn unopened(rt: &HostRuntime, path: &str, error: &Error) -> OpenFault
     }
 }
 
-// Opens the file, or makes it.
+// Opens the file, or creates it.
 fn file<S: Start>(
     rt: &HostRuntime,
     path: &str,
@@ -319,19 +322,19 @@ fn file<S: Start>(
     }
 }
 
-/// A space over a file, with all that it then holds where that was read; or a fault, with what there
-/// is of the files.
+/// A space over a file, with all that it holds if that was loaded; or a fault, with the state of
+/// the files.
 pub type OpenResult<S> = Result<
     (SqlSpace<FileStore<FileFrom<S>>>, Option<LoadedAirspace>),
     (OpenFault, FailedOpen<FileFrom<S>>),
 >;
 
 impl<S: Start> SqlSpace<FileStore<FileFrom<S>>> {
-    /// Opens a file, or makes it, and takes what it has (`adopt`), where `S` stands for what the
-    /// file and its log held; no clause ties these to the name. The name `:memory:` is refused.
+    /// Opens a file, or creates it, and adopts its content (`adopt`).
     ///
-    /// With the space comes all that it then holds. That is not told where the tables were made or
-    /// moved, or are not as they are made.
+    /// `S` stands for the content of the file and its log. No clause ties it to the name. The name
+    /// `:memory:` is rejected. All that the space holds is returned with it, unless the tables were
+    /// created or upgraded, or are not as created.
     pub fn open(rt: &HostRuntime, path: &str, start: S) -> OpenResult<S>
         ensures fresh { IfOk result (λ t.
             IsFresh over_files ⟦<SqlSpace<FileStore<FileFrom<S>>> as Space>⟧ t.0) }
@@ -352,8 +355,10 @@ impl<S: Start> SqlSpace<FileStore<FileFrom<S>>> {
         }
     }
 
-    /// Closes the files and gives them back. Its one fault is `Broken`; after it the space is gone,
-    /// too, and nothing is said of the files.
+    /// Closes the files and returns them.
+    ///
+    /// Returns `Broken` if that fails. Then the space is gone, too, and nothing is said of the
+    /// files.
     pub fn close_files(self) -> Result<Files<FileFrom<S>>, SpaceFault>
         ensures broken { IfErr result (λ fault. fault ≡ SpaceFault.Broken) }
         ensures closed { IfOk result (λ files. ClosesFiles self files) }
@@ -369,7 +374,9 @@ impl<S: Start> SqlSpace<FileStore<FileFrom<S>>> {
         }
     }
 
-    /// As `close_files`, and the files are closed.
+    /// Closes the space and its files.
+    ///
+    /// Returns `Broken` like `close_files`.
     pub fn close(self) -> Result<(), SpaceFault>
         ensures broken { IfErr result (λ fault. fault ≡ SpaceFault.Broken) }
     {

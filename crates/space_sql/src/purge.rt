@@ -1,4 +1,4 @@
-//! A space over tables lets go of what has ended.
+//! Purging of what has ended in a space over tables.
 use crate::answers::answer_of;
 use crate::space::SqlSpace;
 use entity_purge::purge_item::PurgeItem;

@@ -1,4 +1,4 @@
-//! All that the tables have is read, and the entities of a kind among it.
+//! Reading of all that the tables have, and of the entities of a kind.
 ghost use Rattle.std.specs.Prelude.{◌≡◌, false, IfOk};
 ghost use Rattle.sqlite.specs.Held.{state};
 ghost use Rattle.sqlite.specs.State.{HasCleanDisk};
@@ -15,7 +15,7 @@ use space_sql_load::table_check::{LoadedAirspace, TableCheck};
 use sqlite::{Alter, Connection, Error, ErrorCode};
 use std::alloc::Global;
 
-/// Reads all tables. Tables that spell no airspace are told as corrupt.
+/// Reads all tables. Reports tables that represent no airspace as corrupt.
 pub(crate) fn read_listed<S: Alter>(
     alloc: Global,
     conn: &mut Connection<S>,
@@ -43,7 +43,7 @@ fn all_among(alloc: Global, listed: &LoadedAirspace, kind: Kind) -> Result<Vec<E
     Ok(found)
 }
 
-/// The entities of a kind.
+/// Returns the entities of a kind.
 pub(crate) fn read_all<S: Alter>(
     alloc: Global,
     conn: &mut Connection<S>,

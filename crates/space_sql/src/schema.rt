@@ -1,4 +1,4 @@
-//! Whether two schemas are one.
+//! Equality of schemas.
 ghost use Rattle.std.specs.Prelude.{◌≡◌, IsTrue};
 
 mod code;
@@ -103,7 +103,8 @@ impl Same for Index {
     }
 }
 
-/// Whether two schemas are one, with no view in either. It may say no of two that are.
+/// Returns true only if the two schemas are equal and have no view. It can return false for equal
+/// schemas.
 pub(crate) fn same_schema(a: &Schema, b: &Schema) -> bool
     ensures { IsTrue result → a.now ≡ b.now }
 {

@@ -29,10 +29,10 @@ use std::marker::Model;
 
 /// An airspace in the tables of a store of SQLite.
 ///
-/// What a space holds is what a crash at this moment may leave of its tables: those of format 2 and
-/// no other, and the airspace that they spell. What is said of it stands as long as the disk has
-/// returned what was written; a store in memory has no disk. After `Broken` every call answers
-/// `Broken`, and the tables are left.
+/// A space holds the airspace that a crash at this time may leave in its tables: exactly those of
+/// format 2, which represent the airspace. Contracts hold while the disk returns what was written.
+/// A store in memory has no disk. After `Broken`, every call returns `Broken`, and the tables are
+/// not touched.
 #[derive(Drop)]
 pub struct SqlSpace<S: Alter> {
     pub(crate) conn: Connection<S>,

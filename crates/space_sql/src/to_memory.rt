@@ -1,4 +1,4 @@
-//! A space over tables is read whole into one in memory.
+//! Loading of a space over tables into one in memory.
 ghost use Rattle.std.specs.Prelude.{◌≡◌, IfErr, IfOk};
 ghost use Rattle.space_core.specs.declared.space.SpaceFault.TheVariants.{Unchanged};
 ghost use Rattle.space_memory.specs.Memory.{content_of};
@@ -13,7 +13,7 @@ use space_sql_load::table_check::LoadedAirspace;
 use sqlite::Alter;
 use std::alloc::Global;
 
-// The lists as a space in memory, where there is memory for its index.
+// Returns the loaded airspace as a space in memory, unless memory runs out.
 fn indexed(alloc: Global, listed: LoadedAirspace) -> Result<MemorySpace, SpaceFault>
     ensures content { IfOk result (λ list. content_of list ≡ loaded_airspace listed) }
     ensures fault { IfErr result (λ fault. fault ≡ Unchanged) }

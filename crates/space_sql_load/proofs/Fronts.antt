@@ -1,4 +1,4 @@
--- The rows at the front that are of one number.
+-- Lemmas about the rows at the front that have the same number.
 use Rattle.std.specs.Prelude.{◌≡◌, ℕ, ℤ, ◌<ℤ◌, List, [], ◌∷◌, ◌++◌, take, drop, refl}
 use Rattle.std.specs.List.{AllByRecursion}
 use Rattle.std.specs.Ordering.{int_cmp, MatchOrdering}
@@ -29,7 +29,7 @@ not_self x y p e = omega (arith, ints)
 
 -- ---- fronts
 
--- the rows of the next number, and the others
+-- The split into the rows with the next number and the others.
 pub record Front {X : Type 0} (P : X → Type 0) (rest own more : List X) : Type 0 where
   pub whole : rest ≡ own ++ more
   pub these : AllByRecursion P own
@@ -59,13 +59,13 @@ module _ {X : Type 0} (of : X → ℤ) where
   none_of num [] p = tt
   none_of num (x ∷ xs) p = not_self num (of x) p.0
 
-  -- all rows are of later numbers
+  -- All rows have later numbers.
   pub later : (last num : ℤ) (rest own more : List X) → last <ℤ num → AllByRecursion (λ x. of x ≡ num) own → AllByRecursion (λ x. num <ℤ of x) more → rest ≡ own ++ more → AllByRecursion (λ x. last <ℤ of x) rest
   later last num rest own more up p q e =
       let first = all_turned (λ x. of x ≡ num) (λ x. last <ℤ of x) (λ x h. after last num (of x) up h) own p in
       let others = all_turned (λ x. num <ℤ of x) (λ x. last <ℤ of x) (λ x h. trans last num (of x) up h) more q in
       subst (AllByRecursion (λ x. last <ℤ of x)) (sym e) (all_joined (λ x. last <ℤ of x) own more first others)
 
-  -- the front of a number is one
+  -- The front of a number is unique.
   pub one_front : (num : ℤ) (rest own more mine others : List X) → AllByRecursion (λ x. of x ≡ num) own → AllByRecursion (λ x. num <ℤ of x) more → rest ≡ own ++ more → Front (λ x. of x ≡ num) rest mine others → (own ≡ mine) × (more ≡ others)
   one_front num rest own more mine others p q e f = one_split (λ x. of x ≡ num) own mine more others p f.these (none_of num more q) f.others (sym e ∙ f.whole)

@@ -1,4 +1,4 @@
--- Entities are gathered one after the other.
+-- Proofs about gathering entities one after the other.
 use Rattle.std.specs.Prelude.{◌≡◌, ℕ, ℤ, pos, ◌<ℤ◌, ◌↔◌, List, [], ◌∷◌, Option, Some, None, refl}
 use Rattle.std.specs.List.{AllByRecursion}
 use Rattle.std.specs.FinMap.{insert, empty}
@@ -15,7 +15,7 @@ use Rattle.space_sql_load.specs.declared.naming.Numbered.{Numbered}
 use Rattle.space_sql_load.specs.Gathering.{Gathers, IsNext, NamesBy, Parts, id_in, joined}
 use Rattle.space_sql_load.proofs.Fronts.{Front, less, later, one_front}
 
--- ---- what is named
+-- ---- referenced subscriptions
 
 pub own_namings : (numbers : List Numbered) (num : ℤ) (own : List NamingRow) (named : Option ℕ) → NamesBy numbers num own named → AllByRecursion (λ (n : NamingRow). n.entity ≡ num) own
 own_namings numbers num own None h = subst (AllByRecursion (λ (n : NamingRow). n.entity ≡ num)) (sym h) tt
@@ -25,7 +25,7 @@ first_at : List NamingRow → ℤ
 first_at [] = pos 0
 first_at (n ∷ ns) = n.subscription
 
--- the rows name one id
+-- The rows reference at most one id.
 pub one_id : (numbers : List Numbered) (num : ℤ) (own : List NamingRow) (a b : Option ℕ) → NamesBy numbers num own a → NamesBy numbers num own b → a ≡ b
 unfolding first_at
 one_id numbers num own None None p q = refl
@@ -72,7 +72,7 @@ module _ (serial : ℕ) (numbers : List Numbered) where
         namings = later of_naming last r.num parts.namings s.own.namings s.more.namings up (own_namings numbers r.num s.own.namings s.named s.names) more.namings (ap (λ (p : Parts). p.namings) s.parts_are);
       }
 
-  -- the first entity, and the others
+  -- The split into the first entity and the others.
   record First (last : ℤ) (r : EntityRow) (rows : List EntityRow) (own more : Parts) (m n : Entities) : Type 0 where
     named : Option ℕ
     entity : Entity
@@ -97,7 +97,7 @@ module _ (serial : ℕ) (numbers : List Numbered) where
         rest = subst (λ (p : Parts). Gathers serial numbers r.num rows p (insert m (key_of s.entity) s.entity) n) others g.1;
       }
 
-  -- what is left is gathered exactly where the whole is
+  -- Holds if the remaining rows are gathered exactly if all rows are.
   abbrev pub GathersOn : List EntityRow → Parts → ℤ → List EntityRow → Parts → Entities → Type 0
   GathersOn rows parts last rest left m = (n : Entities) → Gathers serial numbers (pos 0) rows parts empty n ↔ Gathers serial numbers last rest left m n
 
@@ -121,14 +121,14 @@ module _ (serial : ℕ) (numbers : List Numbered) where
           (record { own = own; more = others; named = named; entity = e; parts_are = whole r.num left own others f; names = names; next = t }, subst (λ (k : Entities). Gathers serial numbers r.num more others k a) put w))),
     )
 
-    -- no entity is spelt with what is named
+    -- If no entity fits the rows and the referenced id, nothing is gathered from the rows.
     pub gathers_none : (named : Option ℕ) → NamesBy numbers r.num own.namings named → ((e : Entity) → ¬ IsNext serial last r own.volumes own.cells named m e) → (n : Entities) → ¬ Gathers serial numbers (pos 0) rows parts empty n
     gathers_none named names none n w =
         let h = first_left n w in
         let called = one_id numbers r.num own.namings h.named named h.names names in
         none h.entity (subst (λ (k : Option ℕ). IsNext serial last r own.volumes own.cells k m h.entity) called h.next)
 
-    -- the rows of naming are those of no entity
+    -- If the rows of `naming` fit no reference, nothing is gathered from the rows.
     pub gathers_unnamed : ((named : Option ℕ) → ¬ NamesBy numbers r.num own.namings named) → (n : Entities) → ¬ Gathers serial numbers (pos 0) rows parts empty n
     gathers_unnamed none n w = let h = first_left n w in none h.named h.names
 

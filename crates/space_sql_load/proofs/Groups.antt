@@ -1,4 +1,4 @@
--- The rows that are gathered are those of groups of entities.
+-- Proofs that the gathered rows are those of groups of entities.
 use Rattle.std.proofs.Common.{◌≡◌, ℕ, ℤ, List, [], ◌∷◌, ◌++◌, map, flat_map, Option, Some, None, refl, sym, ap, subst, ◌∙◌, Less}
 use Rattle.std.specs.Prelude.{IsPermutation}
 use Rattle.std.specs.List.{AllByRecursion}

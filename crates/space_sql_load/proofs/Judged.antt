@@ -1,4 +1,4 @@
--- What is found of the rows is so of the database.
+-- Proofs that the check of the rows is right for the database.
 use Rattle.std.proofs.Common.{◌≡◌, Ok, Err, Result, IfOk}
 use Rattle.sqlite.specs.Effect.{Database}
 use Rattle.sqlite.specs.State.{State}
@@ -20,7 +20,7 @@ judges_database db t (Ok (Valid l)) h has read = spelt_if_listed db t (loaded_ai
 judges_database db t (Ok OtherFormat) h has read = other_database db t.metas.items read.metas h
 judges_database db t (Ok Invalid) h has read = ((λ a p. h.0 a (listed_if_spelt db t a has read p)), (λ o. h.1 (other_rows db t.metas.items read.metas o)))
 
--- the same in a transaction
+-- The same within a transaction.
 pub reads_database : (old new : State) (t : Tables) (r : Result TableCheck Error) → IfOk r (Judges t) → Reads ShowsTables old new (Ok t) → Reads JudgesDatabase old new r
 reads_database old new t (Ok v) h p = record { answer = λ clean has. judges_database old.now t (Ok v) h has (p.answer clean has); same = p.same; kept = p.kept; survives = p.survives }
 reads_database old new t (Err e) h p = record { answer = λ clean. tt; same = λ clean. tt; kept = p.kept; survives = p.survives }

@@ -1,4 +1,4 @@
--- What was read is listed exactly where it is spelt.
+-- A proof that an airspace is listed by the rows exactly if the tables represent it.
 use Rattle.std.proofs.Common.{◌≡◌, ℕ, ℤ, pos, List, [], ◌∷◌, ◌++◌, map, flat_map, refl, sym, ap, ap₂, subst, subst₂, ◌∙◌, arith, Less, append-nil}
 use Rattle.std.specs.Prelude.{IsPermutation}
 use Rattle.std.specs.List.{AllByRecursion}
@@ -52,7 +52,7 @@ settles_from (s ∷ ss) m all each same =
       settles_from ss (insert m s.0 s.1) all each.1 (IsPermutation-trans _ _ _ (moves_in text_cmp nat_list_cmp_total m s ss new) same),
     )
 
--- what a list is in another order, its rows are in that order
+-- The rows of a list in another order are those of the reordered list.
 swapped_back : {X : Type 0} (f : X → Row) (g : Row → X) → ((x : X) → g (f x) ≡ x) → (xs : List X) (ys : List Row) → IsPermutation (map f xs) ys → (ys ≡ map f (map g ys)) × IsPermutation xs (map g ys)
 swapped_back f g back xs ys same =
     let all = recursion_from_All (λ y. y ≡ f (g y)) ys (All-permutation (λ y. y ≡ f (g y)) (map f xs) ys same (All-from_recursion (λ y. y ≡ f (g y)) (map f xs) (each xs))) in

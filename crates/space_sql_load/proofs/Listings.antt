@@ -1,4 +1,4 @@
--- The entities that typed rows list.
+-- Proofs about the entities that typed rows list.
 use Rattle.std.specs.Prelude.{◌≡◌, ◌↔◌, ℕ, ℤ, pos, List, [], Option, Some, None, MatchOption, IfSome, Bool, IsTrue}
 use Rattle.std.specs.Ordering.{int_cmp}
 use Rattle.std.specs.declared.cmp.Ordering.TheVariants.{Less}
@@ -38,7 +38,7 @@ module _ (serial : ℕ) (t : SubTables) where
   pub no_sub_cells : ((xs : List SubCellRow) → ¬ AreRowsOf sub_cell_values IsWrittenSubCell t.cells.items xs) → (a : Subs) → ¬ ListsSubs serial t a
   no_sub_cells none a l = none l.cells (record { written = (subs_written serial (pos 0) l.rows l.cells (empty, []) a l.gathered).1; values_are = l.cells_are })
 
-  -- what is gathered of the typed rows is listed
+  -- The subscriptions gathered from typed rows are those that the rows list.
   pub lists_subs : (rows : List SubRow) (cells : List SubCellRow) (o : Option KnownSubs) → AreRowsOf sub_values IsWrittenSub t.subscriptions.items rows → AreRowsOf sub_cell_values IsWrittenSubCell t.cells.items cells
       → MatchOption o ((a : Subs) → ¬ GathersSubs serial (pos 0) rows cells (empty, []) a) (λ k. GathersSubs serial (pos 0) rows cells (empty, []) (subs_of k))
       → MatchOption o ((a : Subs) → ¬ ListsSubs serial t a) (λ k. ListsSubs serial t (subs_of k))
@@ -48,7 +48,7 @@ module _ (serial : ℕ) (t : SubTables) where
       let y = one_typed sub_cell_values sub_cell_of_values sub_cell_back t.cells.items l.cells cells l.cells_are c.values_are in
       g a (subst (λ (xs : List SubRow). GathersSubs serial (pos 0) xs cells (empty, []) a) x (subst (λ (xs : List SubCellRow). GathersSubs serial (pos 0) l.rows xs (empty, []) a) y l.gathered))
 
-  -- what is listed is one
+  -- The rows list at most one set of subscriptions.
   pub one_listed : (a b : Subs) → ListsSubs serial t a → ListsSubs serial t b → a ≡ b
   one_listed a b l k =
       let x = one_typed sub_values sub_of_values sub_back t.subscriptions.items l.rows k.rows l.rows_are k.rows_are in
@@ -56,7 +56,7 @@ module _ (serial : ℕ) (t : SubTables) where
       let g = subst (λ (xs : List SubRow). GathersSubs serial (pos 0) xs k.cells (empty, []) a) x (subst (λ (xs : List SubCellRow). GathersSubs serial (pos 0) l.rows xs (empty, []) a) y l.gathered) in
       one_gathered serial k.rows k.cells a b g k.gathered
 
--- the numbers of what is gathered rise
+-- The numbers of the gathered subscriptions are ascending.
 gathered_rise : (serial : ℕ) (rows : List SubRow) (cells : List SubCellRow) (a : Subs) → GathersSubs serial (pos 0) rows cells (empty, []) a → Rise int_cmp number_pair a.1
 gathered_rise serial rows cells a g =
     let s = sub_groups_from serial (pos 0) rows cells (empty, []) a g in
@@ -85,7 +85,7 @@ module _ (serial : ℕ) (numbers : List Numbered) (t : EntityTables) where
   pub no_namings : ((xs : List NamingRow) → ¬ AreRowsOf values_of_naming IsWrittenNaming t.namings.items xs) → None-listed
   no_namings none m l = none l.parts.namings (record { written = all_written l.parts.namings; values_are = l.namings_are })
 
-  -- what is gathered of the typed rows is listed
+  -- The entities gathered from typed rows are those that the rows list.
   pub lists : (rows : List EntityRow) (p : Parts) (o : Option (List Entity)) → AreRowsOf entity_values IsWrittenEntity t.entities.items rows
       → AreRowsOf volume_values IsWrittenVolume t.volumes.items p.volumes → AreRowsOf cell_values IsWrittenCell t.cells.items p.cells → AreRowsOf values_of_naming IsWrittenNaming t.namings.items p.namings
       → MatchOption o ((m : Entities) → ¬ Gathers serial numbers (pos 0) rows p empty m) (λ es. Gathers serial numbers (pos 0) rows p empty (entity_map es))

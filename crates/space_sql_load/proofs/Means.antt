@@ -1,4 +1,4 @@
--- What the statements mean.
+-- Proofs of what the statements mean.
 use Rattle.std.proofs.Common.{refl, codes, [], ◌∷◌}
 use Rattle.sqlite_tied.specs.Compute.{everything}
 use Rattle.sqlite.specs.Listing.{understood}

@@ -1,4 +1,4 @@
--- The number in a row of `naming` is found among those of the subscriptions.
+-- Proofs that the number in a row of `naming` is found among those of the subscriptions.
 use Rattle.std.proofs.Common.{◌≡◌, inl, inr, ℕ, ℤ, List, [], ◌∷◌, map, Bool, true, false, cond, Option, Some, None, refl, sym, ap, subst, ◌∙◌, Ordering, Less, Equal, Greater, is_eq}
 use Rattle.std.specs.Prelude.{◌&&◌, T}
 use Rattle.std.specs.List.{AllByRecursion}
@@ -63,7 +63,7 @@ named_by subs up num None (Some id) h = absurd h
 named_by subs up num (Some at) None h = absurd h
 named_by subs up num (Some at) (Some id) h = (at, refl, is_found at id subs up h)
 
--- ---- numbers rise
+-- ---- ascending numbers
 
 both : (a b : Bool) → T a → T b → T (a && b)
 both true b p q = q

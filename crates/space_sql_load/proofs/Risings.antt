@@ -1,4 +1,4 @@
--- Numbers rise where each is below the next one.
+-- A proof that numbers are ascending if each is less than the next one.
 use Rattle.std.specs.Prelude.{◌≡◌, ℤ, ◌↔◌, List, [], ◌∷◌}
 use Rattle.std.specs.Ordering.{int_cmp}
 use Rattle.std.specs.Cmp.{int_cmp_is}

@@ -1,4 +1,5 @@
--- The rows of availability are read one after the other: what is left is settled exactly where the whole is.
+-- Proofs about reading the rows of `availability`: the remaining rows are read exactly if all rows
+-- are.
 use Rattle.std.specs.Prelude.{◌≡◌, ℕ, ◌↔◌, List, [], ◌∷◌, refl}
 use Rattle.std.specs.FinMap.{insert, empty}
 use Rattle.std.proofs.Common.{sym, ap, ◌∙◌, subst}
@@ -10,7 +11,7 @@ use Rattle.space_sql_select.specs.declared.availability_record.AvailabilityRecor
 use Rattle.space_sql_select.specs.AvailabilityRecord.{stated_by}
 use Rattle.space_sql_load.specs.Gathering.{ReadsAvailabilities, IsSetting}
 
--- a row is what one USS has set
+-- A row represents at most one USS's availability.
 pub one_setting : (s t : List ℕ × VersionedAvailability) → availability_values s ≡ availability_values t → s ≡ t
 one_setting s t e = sym (stated_back s) ∙ (ap stated_of_values e ∙ stated_back t)
 

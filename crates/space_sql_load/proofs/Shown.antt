@@ -1,4 +1,4 @@
--- What a reading of each table shows.
+-- Proofs about reading each table.
 use Rattle.std.proofs.Common.{◌≡◌, List, [], ◌∷◌, refl}
 use Rattle.std.specs.Ordering.{int_cmp}
 use Rattle.sqlite_value.proofs.OrderLemmas.{value_cmp-Int}

@@ -1,4 +1,4 @@
--- Subscriptions are gathered one after the other.
+-- Proofs about gathering subscriptions one after the other.
 use Rattle.std.specs.Prelude.{◌≡◌, ℕ, ℤ, pos, ◌<ℤ◌, ◌↔◌, List, [], ◌∷◌, refl}
 use Rattle.std.specs.List.{AllByRecursion}
 use Rattle.std.specs.FinMap.{empty}
@@ -20,7 +20,7 @@ later_cells serial last (r ∷ rows) cs m a g =
     let s = g.0 in
     later number_of last r.num cs s.own s.more (less last r.num s.next.rising) (sub_cells_of r.num s.own _ s.next.spelt.cells_are) (later_cells serial r.num rows s.more (with_sub r s.sub m) a g.1) s.cells_are
 
--- the first subscription, and the others
+-- The rows split into the first subscription and the others.
 subs_first : (serial : ℕ) (last : ℤ) (r : SubRow) (rows : List SubRow) (cs oc mc : List SubCellRow) (m a : Subs) → Front (λ (c : SubCellRow). c.subscription ≡ r.num) cs oc mc → GathersSubs serial last (r ∷ rows) cs m a
     → (s : Sub) × IsNextSub serial last r oc m.0 s × GathersSubs serial r.num rows mc (with_sub r s m) a
 subs_first serial last r rows cs oc mc m a f g =
@@ -31,7 +31,7 @@ subs_first serial last r rows cs oc mc m a f g =
       subst (λ (l : List SubCellRow). GathersSubs serial r.num rows l (with_sub r s.sub m) a) c.1 g.1,
     )
 
--- what is left is gathered exactly where the whole is
+-- Holds if the remaining rows are gathered exactly if all rows are.
 abbrev pub SubsOn : ℕ → List SubRow → List SubCellRow → ℤ → List SubRow → List SubCellRow → Subs → Type 0
 SubsOn serial rows cs last rest left m = (a : Subs) → GathersSubs serial (pos 0) rows cs (empty, []) a ↔ GathersSubs serial last rest left m a
 

@@ -1,4 +1,4 @@
--- The rows that are gathered are those of groups of subscriptions.
+-- Proofs that the gathered rows are those of groups of subscriptions.
 use Rattle.std.proofs.Common.{◌≡◌, ℕ, ℤ, pos, List, [], ◌∷◌, ◌++◌, map, flat_map, refl, sym, ap, subst, ◌∙◌, append-nil, Less}
 use Rattle.std.specs.Prelude.{IsPermutation}
 use Rattle.std.specs.List.{AllByRecursion}
@@ -18,7 +18,7 @@ use Rattle.space_sql_select.proofs.MapEntries.{new_key, moves_in}
 use Rattle.space_sql_load.specs.declared.naming.Numbered.{Numbered}
 use Rattle.space_sql_load.specs.Gathering.{GathersSubs, Subs, numbered, with_sub}
 
--- the numbers and ids of subscriptions
+-- The numbers and the ids of subscriptions.
 abbrev pub numbers_of : List SubGroup → List Numbered
 numbers_of subs = map (λ (g : SubGroup). numbered g.row g.sub) subs
 
@@ -78,7 +78,7 @@ gathers_subs_from serial last (g ∷ gs) m a each up above is numbers =
           (append_assoc m.1 (numbered g.row g.sub ∷ []) (numbers_of gs) ∙ numbers),
     )
 
--- what is gathered from the first row is one
+-- The rows are gathered as at most one set of subscriptions.
 pub one_gathered : (serial : ℕ) (rows : List SubRow) (cs : List SubCellRow) (a b : Subs) → GathersSubs serial (pos 0) rows cs (empty, []) a → GathersSubs serial (pos 0) rows cs (empty, []) b → a ≡ b
 one_gathered serial rows cs a b g h =
     let p = sub_groups_from serial (pos 0) rows cs (empty, []) a g in

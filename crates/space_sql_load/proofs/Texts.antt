@@ -1,4 +1,4 @@
--- The statements that read all rows of a table.
+-- The texts of the statements that read all rows of a table.
 use Rattle.std.specs.Prelude.{ℕ, List, codes}
 
 abbrev pub entities_read : List ℕ

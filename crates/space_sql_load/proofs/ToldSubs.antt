@@ -1,4 +1,4 @@
--- No index of the subscriptions that rows spell is over the serial.
+-- A proof that no index of the subscriptions that rows represent exceeds the serial.
 use Rattle.std.specs.Prelude.{◌≡◌, ℕ, ℤ, pos, ◌≤◌, cond, List, [], ◌∷◌, Some, None, true, false}
 use Rattle.std.proofs.Common.{sym, ◌∙◌, subst}
 use Rattle.std.proofs.lemmas.Option.{same_Some}
@@ -12,7 +12,7 @@ use Rattle.space_rows.specs.declared.rows.SubCellRow.{SubCellRow}
 use Rattle.space_sql_load.specs.declared.tables.SubTables.{SubTables}
 use Rattle.space_sql_load.specs.Gathering.{GathersSubs, ListsSubs, Subs, with_sub}
 
--- the index of none is over a serial
+-- Holds if no index exceeds the serial.
 abbrev Told : Subscriptions → ℕ → Type 0
 Told m serial = (id : ℕ) (s : Sub) → get m id ≡ Some s → s.index ≤ serial
 

@@ -1,4 +1,4 @@
--- The texts of rows that spell something are UTF-8.
+-- Proofs that the texts of rows that represent something are UTF-8.
 use Rattle.std.specs.Prelude.{ℕ, ℤ, List, [], ◌∷◌, Option, IsUtf8, refl}
 use Rattle.std.specs.List.{AllByRecursion, AllZip}
 use Rattle.std.proofs.Common.{sym, subst, inl}

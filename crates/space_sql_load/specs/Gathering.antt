@@ -1,4 +1,4 @@
--- Which airspace the rows that were read list.
+-- Definitions of the airspace that the rows list.
 use Rattle.std.specs.Prelude.{◌≡◌, ℕ, ℤ, pos, ◌≤◌, List, [], ◌∷◌, ◌++◌, map, Option, Some, None}
 use Rattle.std.specs.Ordering.{int_cmp}
 use Rattle.std.specs.declared.cmp.Ordering.TheVariants.{Less}
@@ -31,23 +31,23 @@ use Rattle.space_sql_load.specs.declared.table_check.TableCheck.{TableCheck}
 use Rattle.space_sql_load.specs.declared.table_check.TableCheck.TheVariants.{Valid, OtherFormat, Invalid}
 use Rattle.space_sql_load.specs.Judging.{loaded_airspace}
 
--- the first element, if there is one, is not so
+-- Holds if the first element, if any, does not have P.
 abbrev pub StartsElse : {X : Type 0} → (X → Type 0) → List X → Type 0
 StartsElse P [] = Unit {0}
 StartsElse P (x ∷ xs) = ¬ P x
 
 -- ---- subscriptions
 
--- what is known of subscriptions: what each is under its id, and their numbers
+-- The subscriptions by their ids, and their numbers.
 abbrev pub Subs : Type 0
 Subs = Subscriptions × List Numbered
 
 abbrev pub subs_of : KnownSubs → Subs
 subs_of k = (subscription_map k.subscriptions, k.numbers.items)
 
--- A row of subscription and its rows of subscription_cell spell a subscription: its number is over
--- the last one, neither its serial nor its index is over the serial of the airspace, and its id is
--- none of those before it.
+-- Holds if a row of `subscription` and its rows of `subscription_cell` represent the subscription.
+-- Its number is greater than the last one. Neither its serial nor its index exceeds the serial of
+-- the airspace. Its id differs from all before it.
 pub record IsNextSub (serial : ℕ) (last : ℤ) (row : SubRow) (cells : List SubCellRow)
     (before : Subscriptions) (s : Sub) : Type 0 where
   pub rising : int_cmp last row.num ≡ Less
@@ -56,7 +56,7 @@ pub record IsNextSub (serial : ℕ) (last : ℤ) (row : SubRow) (cells : List Su
   pub index : s.index ≤ serial
   pub new : get before s.id ≡ None
 
--- it is spelt with the first rows of subscription_cell
+-- Holds if the row and the first rows of `subscription_cell` represent a subscription.
 pub record SubStep (serial : ℕ) (last : ℤ) (row : SubRow) (cells : List SubCellRow)
     (before : Subs) : Type 0 where
   pub own : List SubCellRow
@@ -65,21 +65,21 @@ pub record SubStep (serial : ℕ) (last : ℤ) (row : SubRow) (cells : List SubC
   pub cells_are : cells ≡ own ++ more
   pub next : IsNextSub serial last row own before.0 sub
 
--- the number and the id of the subscription that a row spells
+-- The number and the id of the subscription that a row represents.
 abbrev pub numbered : SubRow → Sub → Numbered
 numbered row s = record { num = row.num; id = s.id }
 
 abbrev pub with_sub : SubRow → Sub → Subs → Subs
 with_sub row s before = (insert before.0 s.id s, before.1 ++ numbered row s ∷ [])
 
--- subscription by subscription, the rows spell what `all` has beside `before`
+-- Holds if the rows, subscription by subscription, represent those that `all` has beyond `before`.
 abbrev pub GathersSubs : ℕ → ℤ → List SubRow → List SubCellRow → Subs → Subs → Type 0
 GathersSubs serial last [] cells before all = (cells ≡ []) × (before ≡ all)
 GathersSubs serial last (row ∷ rows) cells before all =
     (step : SubStep serial last row cells before)
     × GathersSubs serial row.num rows step.more (with_sub row step.sub before) all
 
--- the rows that were read spell these subscriptions and no more
+-- Holds if the rows represent exactly these subscriptions.
 pub record ListsSubs (serial : ℕ) (t : SubTables) (all : Subs) : Type 0 where
   pub rows : List SubRow
   pub cells : List SubCellRow
@@ -87,18 +87,19 @@ pub record ListsSubs (serial : ℕ) (t : SubTables) (all : Subs) : Type 0 where
   pub cells_are : t.cells.items ≡ map sub_cell_values cells
   pub gathered : GathersSubs serial (pos 0) rows cells (empty, []) all
 
--- ---- what entities name
+-- ---- references of entities
 
--- a number with its id
+-- A number with its id.
 abbrev pub number_pair : Numbered → ℤ × ℕ
 number_pair n = (n.num, n.id)
 
--- the id of the subscription that has a number
+-- The id of the subscription with a number.
 abbrev pub id_in : List Numbered → ℤ → Option ℕ
 id_in numbers num = find int_cmp num (map number_pair numbers)
 
--- The rows of naming of the entity with a number are none where it names none, and else one, which
--- refers to the number of the subscription with the id that is named.
+-- Holds if the rows of `naming` of the entity with a number match what it references. They are none
+-- if it references none. Otherwise there is one, with the number of the subscription with the
+-- referenced id.
 abbrev pub NamesBy : List Numbered → ℤ → List NamingRow → Option ℕ → Type 0
 NamesBy numbers num own None = own ≡ []
 NamesBy numbers num own (Some id) =
@@ -106,9 +107,9 @@ NamesBy numbers num own (Some id) =
 
 -- ---- entities
 
--- A row of entity and its rows of volume and cell spell an entity that names this subscription: its
--- number is over the last one, its serial is not over that of the airspace, and its key is none of
--- those before it.
+-- Holds if a row of `entity` and its rows of `volume` and `cell` represent the entity, with this
+-- referenced subscription. Its number is greater than the last one. Its serial does not exceed that
+-- of the airspace. Its key differs from all before it.
 pub record IsNext (serial : ℕ) (last : ℤ) (row : EntityRow) (volumes : List VolumeRow)
     (cells : List CellRow) (named : Option ℕ) (before : Entities) (e : Entity) : Type 0 where
   pub rising : int_cmp last row.num ≡ Less
@@ -116,7 +117,7 @@ pub record IsNext (serial : ℕ) (last : ℤ) (row : EntityRow) (volumes : List 
   pub most : e.serial ≤ serial
   pub new : get before (key_of e) ≡ None
 
--- the rows of volume, cell and naming
+-- The rows of `volume`, `cell` and `naming`.
 pub record Parts : Type 0 where
   pub volumes : List VolumeRow
   pub cells : List CellRow
@@ -130,7 +131,7 @@ abbrev pub joined : Parts → Parts → Parts
 joined own more =
     parts_of (own.volumes ++ more.volumes) (own.cells ++ more.cells) (own.namings ++ more.namings)
 
--- it is spelt with the first rows of volume and cell, and names by the first of naming
+-- Holds if the row, with the first rows of `volume`, `cell` and `naming`, represents an entity.
 pub record Step (serial : ℕ) (numbers : List Numbered) (last : ℤ) (row : EntityRow) (parts : Parts)
     (before : Entities) : Type 0 where
   pub own : Parts
@@ -144,7 +145,7 @@ pub record Step (serial : ℕ) (numbers : List Numbered) (last : ℤ) (row : Ent
 abbrev pub no_parts : Parts
 no_parts = parts_of [] [] []
 
--- entity by entity, the rows spell what `all` has beside `before`
+-- Holds if the rows, entity by entity, represent those that `all` has beyond `before`.
 abbrev pub Gathers : ℕ → List Numbered → ℤ → List EntityRow → Parts → Entities → Entities → Type 0
 Gathers serial numbers last [] parts before all = (parts ≡ no_parts) × (before ≡ all)
 Gathers serial numbers last (row ∷ rows) parts before all =
@@ -152,7 +153,7 @@ Gathers serial numbers last (row ∷ rows) parts before all =
     × Gathers serial numbers row.num rows step.more
     (insert before (key_of step.entity) step.entity) all
 
--- the rows that were read spell these entities and no more
+-- Holds if the rows represent exactly these entities.
 pub record ListsEntities (serial : ℕ) (numbers : List Numbered) (t : EntityTables) (all : Entities)
     : Type 0 where
   pub rows : List EntityRow
@@ -165,12 +166,12 @@ pub record ListsEntities (serial : ℕ) (numbers : List Numbered) (t : EntityTab
 
 -- ---- availabilities
 
--- a row of availability is what a USS has set, and the USS is none of those before it
+-- Holds if the row of `availability` is what a USS has set, and the USS differs from all before it.
 pub record IsSetting (row : Row) (before : Availabilities) (s : List ℕ × VersionedAvailability) : Type 0 where
   pub says : SaysSetting row s
   pub new : get before s.0 ≡ None
 
--- row by row, they are what `all` has beside `before`
+-- Holds if the rows are, one by one, what `all` has beyond `before`.
 abbrev pub ReadsAvailabilities : List Row → Availabilities → Availabilities → Type 0
 ReadsAvailabilities [] before all = before ≡ all
 ReadsAvailabilities (row ∷ rows) before all =
@@ -178,7 +179,7 @@ ReadsAvailabilities (row ∷ rows) before all =
 
 -- ---- the airspace
 
--- the rows are numbers that rise
+-- Holds if the rows are ascending numbers.
 abbrev pub AreRising : List Row → Type 0
 AreRising rows =
     (ids : List ℤ) × (rows ≡ map number_values ids)
@@ -198,7 +199,7 @@ pub record IsListed (t : Tables) (a : Airspace) : Type 0 where
   pub availabilities : ReadsAvailabilities t.settings.items empty a.availabilities
   pub rising : HaveRisingIds t
 
--- what is found of the rows that were read
+-- Holds if the result of the check is right for the rows.
 abbrev pub Judges : Tables → TableCheck → Type 0
 Judges t (Valid l) = IsListed t (loaded_airspace l)
 Judges t OtherFormat = AreOtherFormat t.metas.items

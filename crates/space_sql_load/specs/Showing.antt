@@ -1,4 +1,4 @@
--- What all rows of the tables show.
+-- Definitions of what all rows of the tables show.
 use Rattle.std.specs.Prelude.{ℕ, List, [], ◌∷◌}
 use Rattle.std.specs.Ordering.{int_cmp}
 use Rattle.sqlite_value.specs.Order.{Row}
@@ -70,7 +70,7 @@ pub record ShowsRowids (db : Database) (t : Rowids) : Type 0 where
   pub settings : ShowsSettingIds db t.settings.items
   pub sub_cells : ShowsSubCellIds db t.sub_cells.items
 
--- all tables of a database
+-- Holds if the rows are those of all tables of a database.
 pub record ShowsTables (db : Database) (t : Tables) : Type 0 where
   pub metas : ShowsMeta db t.metas.items
   pub subscriptions : ShowsSubTables db t.subscriptions

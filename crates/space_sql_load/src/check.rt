@@ -1,4 +1,4 @@
-//! What the rows of all tables list: an airspace, another format, or neither.
+//! The check of the rows of all tables: an airspace, another format, or neither.
 ghost use Rattle.std.specs.Prelude.{◌≡◌, ◌↔◌, ◌≤◌, [], ◌∷◌, IfOk, IsTrue};
 ghost use Rattle.entity_core.specs.Serial.{max_serial};
 ghost use Rattle.space_sql_schema.specs.Spelling.{meta_values};
@@ -56,7 +56,7 @@ fn judge_ours(alloc: Global, tables: &Tables, serial: u64) -> Result<TableCheck,
     }
 }
 
-/// Judges the rows.
+/// Checks the rows of all tables.
 pub(crate) fn check_tables(alloc: Global, tables: &Tables) -> Result<TableCheck, Error>
     ensures { IfOk result (Judges tables.now) }
 {

@@ -1,4 +1,4 @@
-//! The entities that the rows spell, one after the other.
+//! The entities that the rows represent, one after the other.
 ghost use Rattle.std.specs.Prelude.{◌≡◌, ◌↔◌, ◌≤◌, pos, None, IsTrue, IfOk, MatchOption, length, take, drop};
 ghost use Rattle.std.specs.List.{AllByRecursion};
 ghost use Rattle.std.specs.FinMap.{get, empty};
@@ -25,7 +25,7 @@ use space_sql_select::sub_rows::{NamingRow, naming_rows};
 use sqlite::Error;
 use std::alloc::{AllocError, Global};
 
-// How many rows at the front are of an entity.
+// Returns the number of rows at the front that belong to an entity.
 fn volume_count(rows: &[VolumeRow], num: i64) -> usize
     ensures most { result ≤ length rows.now }
     ensures these { AllByRecursion (λ (r : VolumeRow). r.entity ≡ num) (take result rows.now) }
@@ -66,7 +66,7 @@ fn is_entity_free(
     }
 }
 
-// The next entity, if the rows spell one that may come after those before it.
+// Returns the next entity, if the rows represent one that can follow those before it.
 fn next_entity(
     alloc: Global,
     serial: u64,
@@ -96,7 +96,7 @@ fn next_entity(
     }
 }
 
-// The entities that all rows spell.
+// Returns the entities that all rows represent, if they represent any.
 fn gather_entities(
     alloc: Global,
     serial: u64,
@@ -156,7 +156,8 @@ fn gather_entities(
     }
 }
 
-/// The entities that the rows of the four tables spell, if they do, up to the serial.
+/// Returns the entities that the rows of the four tables represent, if they do, with serials up to
+/// the given one.
 pub(crate) fn entities_in(
     alloc: Global,
     serial: u64,

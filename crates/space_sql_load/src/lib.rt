@@ -1,4 +1,4 @@
-//! The airspace that the tables of format 2 spell, read of a connection.
+//! Loading of the airspace that the tables of format 2 represent.
 #![tactic(auto)]
 
 mod check;

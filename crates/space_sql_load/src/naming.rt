@@ -1,4 +1,4 @@
-//! Which subscription the rows of `naming` of an entity refer to.
+//! The subscription to which the rows of `naming` of an entity refer.
 ghost use Rattle.std.specs.Prelude.{◌≡◌, ◌≤◌, length, take, drop, IfOk, IfErr};
 ghost use Rattle.std.specs.List.{AllByRecursion};
 ghost use Rattle.std.specs.List.Sorted.{IsBinarySearchResult, IsSearchInRange};
@@ -35,7 +35,7 @@ fn id_of(numbers: &[Numbered], num: i64) -> Option<EntityId>
     }
 }
 
-/// How many rows at the front are of an entity.
+/// Returns the number of rows at the front that belong to an entity.
 pub(crate) fn naming_count(rows: &[NamingRow], num: i64) -> usize
     ensures most { result ≤ length rows.now }
     ensures these { AllByRecursion (λ (r : NamingRow). r.entity ≡ num) (take result rows.now) }
@@ -49,8 +49,9 @@ pub(crate) fn naming_count(rows: &[NamingRow], num: i64) -> usize
     rows.len()
 }
 
-/// What an entity names by its rows: a subscription's id, or none. `None` where the rows are not
-/// those of an entity.
+/// Returns what an entity references by its rows: the id of a subscription, or none.
+///
+/// Returns `None` if the rows are not those of an entity.
 pub(crate) fn named_by(
     numbers: &[Numbered],
     num: i64,

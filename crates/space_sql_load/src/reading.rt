@@ -1,4 +1,4 @@
-//! The airspace is read of a connection.
+//! Reading of the airspace from a connection.
 ghost use Rattle.std.specs.Prelude.{◌≡◌, false};
 ghost use Rattle.sqlite.specs.Held.{state};
 ghost use Rattle.space_sql_schema.specs.Within.{SameConnection, Within};
@@ -13,7 +13,7 @@ use space_sql_select::reading::{connection_facts, is_store_alive};
 use sqlite::{Alter, Connection, Error, Transaction};
 use std::alloc::Global;
 
-// Reads all tables of a store that still works after it.
+// Reads all tables, if the store is alive after it.
 fn read_alive<S: Alter>(conn: &mut Connection<S>) -> Result<Tables, Error>
     requires { conn.old.in_transaction ≡ false }
     ensures outside { conn.new.in_transaction ≡ false }
@@ -26,9 +26,10 @@ fn read_alive<S: Alter>(conn: &mut Connection<S>) -> Result<Tables, Error>
     Ok(tables)
 }
 
-/// Reads the airspace that the tables of format 2 spell, and leaves them as they are. What it says
-/// holds of a database with the schema of format 2, and no other; `Unspelt` is for texts that are
-/// not UTF-8, too. An error is one of the store, or want of memory.
+/// Reads the airspace that the tables of format 2 represent, and leaves them unchanged.
+///
+/// The contract describes the result only for a database with the schema of format 2. `Invalid`
+/// also covers texts that are not UTF-8. Returns an error if the store fails or memory runs out.
 pub fn read_airspace<S: Alter>(alloc: Global, conn: &mut Connection<S>) -> Result<TableCheck, Error>
     requires { conn.old.in_transaction ≡ false }
     ensures outside { conn.new.in_transaction ≡ false }
@@ -39,7 +40,7 @@ pub fn read_airspace<S: Alter>(alloc: Global, conn: &mut Connection<S>) -> Resul
     check_tables(alloc, &tables)
 }
 
-/// The same in a transaction that goes on.
+/// Reads the airspace that the tables of format 2 represent, within an open transaction.
 pub fn read_airspace_in_transaction<S: Alter>(
     alloc: Global,
     tx: &mut Transaction<'_, S>,

@@ -1,4 +1,4 @@
-//! Numbers that rise.
+//! Ascending numbers.
 ghost use Rattle.std.specs.Prelude.{◌≡◌, ◌↔◌, ◌∷◌, IfOk, IsTrue};
 ghost use Rattle.std.specs.Ordering.{int_cmp};
 ghost use Rattle.std.specs.declared.cmp.Ordering.TheVariants.{Less};
@@ -9,7 +9,7 @@ use space_sql_select::rows::number_rows;
 use sqlite::{Error, Row};
 use std::alloc::Global;
 
-/// Whether one number comes before another.
+/// Returns true if one number is less than the other.
 pub(crate) fn is_before(last: i64, next: i64) -> bool
     ensures { IsTrue result ↔ (int_cmp last next ≡ Less) }
 {
@@ -38,7 +38,7 @@ fn is_rising(ids: &[i64]) -> bool
     }
 }
 
-/// Whether the rows are numbers, each below the next one.
+/// Returns true if the rows are numbers, each less than the next one.
 pub(crate) fn are_rising(alloc: Global, rows: &[Row]) -> Result<bool, Error>
     ensures { IfOk result (λ b. IsTrue b ↔ AreRising rows.now) }
 {

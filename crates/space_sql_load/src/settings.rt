@@ -1,4 +1,4 @@
-//! What suppliers have set, as the rows of `availability` say.
+//! The availabilities that USSs set, from the rows of `availability`.
 ghost use Rattle.std.specs.Prelude.{◌≡◌, ◌↔◌, None, IsTrue, IfOk, MatchOption};
 ghost use Rattle.std.specs.FinMap.{get, empty};
 ghost use Rattle.entity_core.specs.Airspace.{Availabilities as Map};
@@ -22,7 +22,7 @@ fn is_setting_free(out: &Availabilities, uss: &UssId) -> Result<bool, AllocError
     }
 }
 
-// What a row says that a supplier has set, if the supplier is none of those before it.
+// Returns the availability that a row gives for a USS, if the USS differs from all before it.
 fn new_setting(
     alloc: Global,
     row: &Row,
@@ -41,7 +41,7 @@ fn new_setting(
     }
 }
 
-/// What suppliers have set, if each row says what one has.
+/// Returns the availabilities that USSs set, if each row gives one.
 pub(crate) fn settings_in(alloc: Global, rows: &[Row]) -> Result<Option<Availabilities>, AllocError>
     ensures { let r = rows.now in
         IfOk result (λ o. MatchOption o ((m : Map) → ¬ ReadsAvailabilities r empty m)

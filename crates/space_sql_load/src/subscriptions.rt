@@ -1,4 +1,4 @@
-//! The subscriptions that the rows spell, one after the other.
+//! The subscriptions that the rows represent, one after the other.
 ghost use Rattle.std.specs.Prelude.{◌≡◌, ◌↔◌, ◌≤◌, pos, [], None, IsTrue, IfOk, IfSome, MatchOption, length, take, drop};
 ghost use Rattle.std.specs.List.{AllByRecursion};
 ghost use Rattle.std.specs.Ordering.{int_cmp};
@@ -21,14 +21,14 @@ use space_sql_select::sub_rows::{sub_cell_rows, sub_rows};
 use sqlite::Error;
 use std::alloc::{AllocError, Global};
 
-/// Subscriptions, and the number of each by rising numbers.
+/// Subscriptions, and the number of each in ascending order.
 #[derive(Drop)]
 pub(crate) struct KnownSubs {
     pub subscriptions: Subscriptions,
     pub numbers: Vec<Numbered>,
 }
 
-// How many rows at the front are of a subscription.
+// Returns the number of rows at the front that belong to a subscription.
 fn sub_cell_count(rows: &[SubCellRow], num: i64) -> usize
     ensures most { result ≤ length rows.now }
     ensures these { AllByRecursion (λ (r : SubCellRow). r.subscription ≡ num)
@@ -53,7 +53,7 @@ fn is_sub_free(out: &Subscriptions, id: EntityId) -> Result<bool, AllocError>
     }
 }
 
-// The next subscription, if the rows spell one that may come after those before it.
+// Returns the next subscription, if the rows represent one that can follow those before it.
 fn next_sub(
     alloc: Global,
     serial: u64,
@@ -84,7 +84,7 @@ fn next_sub(
     }
 }
 
-// The subscriptions that all rows spell.
+// Returns the subscriptions that all rows represent, if they represent any.
 fn gather_subs(
     alloc: Global,
     serial: u64,
@@ -123,7 +123,8 @@ fn gather_subs(
     }
 }
 
-/// The subscriptions that the rows of the two tables spell, if they do, up to the serial.
+/// Returns the subscriptions that the rows of the two tables represent, if they do, with serials
+/// and indexes up to the given serial.
 pub(crate) fn subs_in(
     alloc: Global,
     serial: u64,

@@ -1,11 +1,11 @@
-//! What a database is found to be.
+//! The result of checking the tables.
 ghost use Rattle.entity_maps.specs.Subscriptions.{AllNotified};
 
 use entity_maps::availabilities::Availabilities;
 use entity_maps::entities::Entities;
 use entity_maps::subscriptions::Subscriptions;
 
-/// An airspace, as it was read.
+/// An airspace that was loaded from the tables.
 #[derive(Debug, Drop)]
 pub struct LoadedAirspace {
     pub entities: Entities,
@@ -15,13 +15,13 @@ pub struct LoadedAirspace {
     ghost told: { AllNotified subscriptions serial },
 }
 
-/// What the tables of format 2 are found to spell.
+/// The result of checking tables of format 2.
 #[derive(Debug, Drop)]
 pub enum TableCheck {
-    /// This airspace.
+    /// The tables represent this airspace.
     Valid(LoadedAirspace),
-    /// None: `meta` has one row, and it says another format.
+    /// The tables represent no airspace: `meta` has one row, with another format.
     OtherFormat,
-    /// None, and `meta` says no other format.
+    /// The tables represent no airspace, and `meta` gives no other format.
     Invalid,
 }

@@ -8,15 +8,15 @@ ghost use Rattle.space_sql_load.specs.Showing.{ShowsSubs, ShowsSubCells, ShowsEn
 
 use sqlite::{Alter, Connection, Error, Row, Transaction};
 
-/// The rows of the tables that keep subscriptions, by rising keys.
+/// The rows of the tables that store subscriptions, in ascending order of keys.
 #[derive(Drop)]
 pub(crate) struct SubTables {
     pub subscriptions: Vec<Row>,
-    /// Those of `subscription_cell`.
+    /// The rows of `subscription_cell`.
     pub cells: Vec<Row>,
 }
 
-/// The rows of the tables that keep entities, by rising keys.
+/// The rows of the tables that store entities, in ascending order of keys.
 #[derive(Drop)]
 pub(crate) struct EntityTables {
     pub entities: Vec<Row>,
@@ -25,7 +25,7 @@ pub(crate) struct EntityTables {
     pub namings: Vec<Row>,
 }
 
-/// The rowids of the tables that have no number as their key, rising.
+/// The rowids of the tables whose key is not a number, in ascending order.
 #[derive(Drop)]
 pub(crate) struct Rowids {
     pub volumes: Vec<Row>,
@@ -40,7 +40,7 @@ pub(crate) struct Tables {
     pub metas: Vec<Row>,
     pub subscriptions: SubTables,
     pub entities: EntityTables,
-    /// Those of `availability`.
+    /// The rows of `availability`.
     pub settings: Vec<Row>,
     pub rowids: Rowids,
 }
@@ -199,7 +199,7 @@ fn read_rowids<S: Alter>(tx: &mut Transaction<'_, S>) -> Result<Rowids, Error>
     })
 }
 
-/// Reads all tables in a transaction that goes on.
+/// Reads all tables within an open transaction.
 pub(crate) fn read_all<S: Alter>(tx: &mut Transaction<'_, S>) -> Result<Tables, Error>
     ensures same_reference { SameConnection tx.old tx.new }
     ensures reads { Within S.Store tx.old tx.new (Reads ShowsTables) result }
@@ -213,7 +213,7 @@ pub(crate) fn read_all<S: Alter>(tx: &mut Transaction<'_, S>) -> Result<Tables, 
     })
 }
 
-/// Reads all tables, and leaves them as they are.
+/// Reads all tables, and leaves them unchanged.
 pub(crate) fn read_tables<S: Alter>(conn: &mut Connection<S>) -> Result<Tables, Error>
     requires { conn.old.in_transaction ≡ false }
     ensures ended { conn.new.in_transaction ≡ false }

@@ -1,4 +1,4 @@
--- What the statements mean that ask for rows by one column.
+-- Proofs of what the statements mean that query rows by one column.
 use Rattle.std.proofs.Common.{◌≡◌, List, [], ◌∷◌, codes, refl}
 use Rattle.sqlite_schema.specs.declared.command.Command.TheVariants.{Select}
 use Rattle.sqlite_tied.specs.Compute.{everything}
@@ -9,15 +9,15 @@ use Rattle.space_sql_select.proofs.Means.{listing}
 use Rattle.space_sql_lookup.proofs.Found.{same}
 use Rattle.space_sql_lookup.specs.Texts.{numbered_read, naming_read, sub_id_read, sub_read, sub_numbered_read, own_sub_cells_read, sub_num_read, namers_read, id_read}
 
--- the number that is the key of a row is the parameter
+-- The test that the key of a row is the parameter.
 abbrev pub by_key : List Term
 by_key = same (col 1 0) (col 0 0) ∷ []
 
--- the first column is
+-- The test that the first column is the parameter.
 abbrev pub by_first : List Term
 by_first = same (col 1 1) (col 0 0) ∷ []
 
--- the second column is
+-- The test that the second column is the parameter.
 abbrev pub by_second : List Term
 by_second = same (col 1 2) (col 0 0) ∷ []
 

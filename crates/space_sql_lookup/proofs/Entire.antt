@@ -1,4 +1,4 @@
--- The entity that is read is the one that is spelt.
+-- Proofs that the entity that is read is the one that the tables represent.
 use Rattle.std.proofs.Common.{◌≡◌, inl, inr, ◌<◌, ◌^◌, ℕ, List, [], ◌∷◌, map, Option, Some, None, sym, ap, subst, ◌∙◌, refl}
 use Rattle.std.specs.FinMap.{get}
 use Rattle.sqlite_rules.proofs.ListLemmas.{all_has}
@@ -18,7 +18,7 @@ use Rattle.space_sql_lookup.specs.Entity.{AnswersNamed, FindsNamed}
 use Rattle.space_sql_lookup.proofs.Heads.{ShowsHead, head_shown}
 use Rattle.space_sql_lookup.proofs.OwnRows.{own_volumes_shown, own_cells_shown}
 
--- what is found of the row is what is found of the kind and the id
+-- A result that is right for the row is right for the kind and the id.
 pub named_told : (db : Database) (k : EntityKey) → k.1 < 2 ^ 128 → (heads : List Row) (found : Option Entity) → AnswersNamed k db heads → FindsOfHead heads db found → FindsNamed k db found
 named_told db k fits heads found h of a s = go (head_shown db a s k fits heads h)
   where
@@ -26,7 +26,7 @@ named_told db k fits heads found h of a s = go (head_shown db a s k fits heads h
     go (inl (p, none)) = (of a s).none p ∙ sym none
     go (inr (g, there, p, is)) = (of a s).own g there p ∙ sym is
 
--- ---- of one row
+-- ---- at most one row
 
 module _ (heads : List Row) (o : Option EntityRow) (none : heads ≡ [] → o ≡ None) (one : (x : EntityRow) → heads ≡ entity_values x ∷ [] → o ≡ Some x) where
   pub no_entity_told : o ≡ None → (db : Database) → FindsOfHead heads db None

@@ -1,4 +1,4 @@
--- What a SELECT by a key finds.
+-- Proofs about the result of a SELECT by a key.
 use Rattle.std.proofs.Common.{◌≡◌, ℕ, List, [], ◌∷◌, map, filter, Bool, false, cond, codes, Option, Some, None, Ok, Err, Result, IfOk, refl, sym, ap, subst, ◌∙◌, Ordering, Less, Equal, Greater, is_eq}
 use Rattle.std.specs.Prelude.{IsPermutation}
 use Rattle.std.specs.List.{list_all}
@@ -35,7 +35,7 @@ use Rattle.space_sql_select.proofs.Selected.{selects_all}
 abbrev pub same : Term → Term → Term
 same a b = op2 (Compare Eq Binary) a b
 
--- ---- entries of a key
+-- ---- entries with a key
 
 module _ {K X : Type 0} (R : K → K → Ordering) (o : IsTotalOrder R) (exact : IsAntisymmetric R) where
   abbrev pub entry_of : K → Option X → List (K × X)
@@ -67,7 +67,7 @@ availability_is : command_of availability_read ≡ Select (record { lets = []; b
 unfolding understood everything
 availability_is = refl
 
--- the columns are of the USS
+-- Returns true if the columns are those of the USS.
 abbrev is_of : List ℕ → Row → Bool
 is_of uss c = list_all (holds ((Text uss ∷ []) ∷ (Null ∷ c) ∷ [])) (same (col 1 1) (col 0 0) ∷ [])
 

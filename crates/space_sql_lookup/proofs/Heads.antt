@@ -1,4 +1,4 @@
--- The row of the entity of a kind and an id.
+-- Proofs about the row of the entity of a kind and an id.
 use Rattle.std.proofs.Common.{◌≡◌, ◌⊎◌, inl, inr, ℕ, ℤ, ◌<◌, ◌^◌, List, [], ◌∷◌, ◌&&◌, map, filter, Bool, true, false, cond, codes, Option, Some, None, refl, sym, ap, ap₂, subst, ◌∙◌, is_eq, int_eq, Ordering, Equal, Less, Greater}
 use Rattle.std.specs.Prelude.{IsPermutation}
 use Rattle.std.specs.List.{AllByRecursion, list_all}
@@ -74,7 +74,7 @@ equal_keys j k e = key_exact j k (go (key_cmp j k) e)
     go Equal e = refl
     go Greater e = cc
 
--- the columns are of the key
+-- Returns true if the columns are those of the key.
 abbrev is_key : EntityKey → Row → Bool
 is_key k c = list_all (holds ((Int (kind_number k.0) ∷ Text (printed k.1) ∷ []) ∷ (column c 0 ∷ Null ∷ column c 1 ∷ column c 2 ∷ []) ∷ [])) tests
 
@@ -111,7 +111,7 @@ has_filtered {X} q (y ∷ ys) x has = go (has_filtered q ys x) (q y) has
     go more true (inr h) = inr (more h)
     go more false h = inr (more h)
 
--- the rows are that of the entity, or there is none
+-- Holds if the rows are the single row of the entity, or there is neither.
 abbrev pub ShowsHead : (db : Database) (a : Airspace) → Spells db a → EntityKey → List Row → Type 0
 ShowsHead db a s k rows = ((rows ≡ []) × (get a.entities k ≡ None)) ⊎ ((g : Group) × Has s.groups g × (rows ≡ entity_values g.row ∷ []) × (get a.entities k ≡ Some g.entity))
 

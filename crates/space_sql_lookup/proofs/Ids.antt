@@ -1,4 +1,4 @@
--- The id of the entity of a number.
+-- Proofs about the id of the entity with a number.
 use Rattle.std.proofs.Common.{◌≡◌, ℕ, ℤ, ◌<◌, ◌^◌, List, [], ◌∷◌, false, Result, Ok, Err, IfOk, refl, ap, subst, ◌∙◌, int_eq}
 use Rattle.std.specs.List.{list_all}
 use Rattle.sqlite_rules.specs.Lists.{Has}

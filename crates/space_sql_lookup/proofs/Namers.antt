@@ -1,4 +1,4 @@
--- The ids that are found are those of the entities that name the subscription.
+-- Proofs that the ids found are those of the entities that reference the subscription.
 use Rattle.std.proofs.Common.{◌≡◌, ◌≢◌, inl, inr, ℕ, ℤ, ◌<◌, ◌^◌, List, [], ◌∷◌, map, filter, true, false, cond, Option, Some, None, refl, sym, ap, ap₂, subst, ◌∙◌, Less, int_eq, arith}
 use Rattle.std.specs.Prelude.{IsPermutation, nat_eq}
 use Rattle.std.specs.List.{AllByRecursion, AllZip}
@@ -39,7 +39,7 @@ use Rattle.space_sql_lookup.proofs.SubHeads.{ShowsSub, sub_num_shown}
 
 -- ---- ids by numbers
 
--- the id of the entity of a number
+-- The id of the entity with a number.
 abbrev id_by : List Group → ℤ → ℕ
 id_by [] num = 0
 id_by (g ∷ gs) num = cond (int_eq g.row.num num) g.entity.id (id_by gs num)
@@ -73,14 +73,14 @@ module _ (gs : List Group) (apart : Differ (λ (g : Group). g.row.num) gs) where
     ids_back [] f = refl
     ids_back (d ∷ ds) f = ap₂ ◌∷◌ (id_by_own gs d apart (f d (inl refl))) (ids_back ds (λ x h. f x (inr h)))
 
-    -- the ids that are read by some numbers are those of the entities that have them
+    -- The ids that are read for some numbers are those of the entities that have them.
     ids_of : (numbers : List ℤ) (ids : List ℕ) → IsPermutation (map (λ (d : Group). d.row.num) ds) numbers → AllZip (IsIdOf gs) numbers ids → IsPermutation (map (λ (d : Group). d.entity.id) ds) ids
     ids_of numbers ids same zip =
         let all = all-permutation HasGroup _ _ same (have_groups ds among) in
         let moved = IsPermutation-map (id_by gs) _ _ same in
         subst (IsPermutation (map (λ (d : Group). d.entity.id) ds)) (sym (ids_are numbers ids zip all)) (subst (λ (l : List ℕ). IsPermutation l (map (id_by gs) numbers)) (ids_back ds among) moved)
 
--- ---- what names the subscription of an id
+-- ---- entities that reference the subscription with an id
 
 module _ (subs : List SubGroup) (apart : Differ (λ (t : SubGroup). t.row.num) subs) (id : ℕ) where
   names_same : (t : SubGroup) → Has subs t → t.sub.id ≡ id → ((u : SubGroup) → Has subs u → u.sub.id ≡ id → u ≡ t) → (o : Option ℤ) (named : Option ℕ) → Names subs o named → names_number t.row.num o ≡ is_id id named
@@ -100,7 +100,7 @@ module _ (subs : List SubGroup) (apart : Differ (λ (t : SubGroup). t.row.num) s
       let one = only u.0 u.1 (sym (ap (λ (q : ℤ × ℕ). q.1) u.2) ∙ is) in
       equal_numbers m t.row.num (ap (λ (q : ℤ × ℕ). q.0) u.2 ∙ ap (λ (s : SubGroup). s.row.num) one))
 
-  -- where no subscription has the id, nothing names it
+  -- If no subscription has the id, no entity references it.
   named_none : ((u : SubGroup) → Has subs u → u.sub.id ≢ id) → (o : Option ℤ) (named : Option ℕ) → Names subs o named → is_id id named ≡ false
   named_none none o None p = refl
   named_none none None (Some n) p = absurd p
@@ -114,7 +114,7 @@ module _ (subs : List SubGroup) (apart : Differ (λ (t : SubGroup). t.row.num) s
     same_filter [] each = refl
     same_filter (g ∷ gs) each = λ i. cond (names_same t there own only g.naming (subscription_of g.entity.nature) each.0.names i) (g ∷ same_filter gs each.1 i) (same_filter gs each.1 i)
 
--- ---- their ids, rising
+-- ---- their ids in ascending order
 
 abbrev IsUnderItsKey : EntityKey × Entity → Type 0
 IsUnderItsKey p = key_of p.1 ≡ p.0
@@ -131,7 +131,7 @@ own_key (e ∷ es) k x all h =
       | false ↦ λ t s. own_key es k x all.1 s
     ] refl h
 
--- each entity that is spelt stands under its own key
+-- Each entity that the tables represent is stored under its own key.
 pub spelt_keyed : (db : Database) (a : Airspace) → Spells db a → (k : EntityKey) (x : Entity) → get a.entities k ≡ Some x → key_of x ≡ k
 spelt_keyed db a s k x h = own_key (entries a.entities) k x (all-permutation IsUnderItsKey _ _ s.kept (own_keys s.groups)) (sym (get-entries a.entities k) ∙ h)
 
@@ -141,7 +141,7 @@ strictly [] up = tt
 strictly (n ∷ ns) up = (up.0, strictly ns up.1)
 
 module _ (db : Database) (a : Airspace) (s : Spells db a) (id : ℕ) where
-  -- the entities alone
+  -- An airspace with only the entities.
   abbrev alone : Airspace
   alone = record { entities = a.entities; subscriptions = empty; availabilities = empty; serial = 0 }
 
@@ -165,14 +165,14 @@ module _ (db : Database) (a : Airspace) (s : Spells db a) (id : ℕ) where
       ∙ (ap (map (λ (e : Entity). e.id)) (map-map (λ (e : EntityKey × Entity). e.1) pair_of ds) ∙ map-map (λ (e : Entity). e.id) (λ (g : Group). g.entity) ds) in
       subst (λ (l : List ℕ). IsPermutation l (dependents_in a.entities id)) from moved
 
-  -- nothing names what is not there
+  -- No entity references a subscription that does not exist.
   none_named : ((u : SubGroup) → Has s.subs u → u.sub.id ≢ id) → [] ≡ dependents_in a.entities id
   none_named none =
       let no = filter_none (λ (g : Group). is_naming id (pair_of g)) s.groups (all_from (λ (g : Group). is_naming id (pair_of g) ≡ false) s.groups (λ g there.
       named_none s.subs (sub_numbers_differ s.subs s.subs_rising) id none g.naming (subscription_of g.entity.nature) (all_has (IsGroup a.serial s.subs) s.groups g s.each there).names)) in
       sym (nothing_left (dependents_in a.entities id) (subst (λ (l : List Group). IsPermutation (map (λ (g : Group). g.entity.id) l) (dependents_in a.entities id)) no dependents_are))
 
-  -- sorted, the ids of those that name it are its dependents
+  -- The sorted ids of the entities that reference the subscription are its dependents.
   named_are : (t : SubGroup) → Has s.subs t → t.sub.id ≡ id → ((u : SubGroup) → Has s.subs u → u.sub.id ≡ id → u ≡ t) → (rows : List Row) → AnswersNamers t.row.num db rows → (numbers : List ℤ) → rows ≡ map number_values numbers → (ids : List ℕ) → FindsIds numbers db ids
       → (sorted : List ℕ) → IsPermutation ids sorted → IsSorted nat_cmp sorted → sorted ≡ dependents_in a.entities id
   named_are t there own only rows h numbers are ids finds sorted moved up =

@@ -1,4 +1,5 @@
--- The rows of `naming`: which subscription an entity names, and which entities name a subscription.
+-- Proofs about the rows of `naming`: the subscription that an entity references, and the entities
+-- that reference a subscription.
 use Rattle.std.proofs.Common.{◌≡◌, ℕ, ℤ, ◌<◌, ◌^◌, List, [], ◌∷◌, ◌++◌, map, filter, flat_map, Bool, true, false, cond, Option, Some, None, refl, sym, ap, ap₂, subst, ◌∙◌, int_eq}
 use Rattle.std.specs.Prelude.{IsPermutation}
 use Rattle.std.specs.List.{AllByRecursion, list_all}
@@ -57,7 +58,7 @@ pairs_borne (g ∷ gs) = (one g.row.num g.naming, pairs_borne gs)
     one num None = tt
     one num (Some sub) = (refl, tt)
 
--- the number in a row of `naming`, if there is one, is this one
+-- Returns true if the row of `naming`, if any, has this number.
 abbrev pub names_number : ℤ → Option ℤ → Bool
 names_number sub None = false
 names_number sub (Some num) = int_eq num sub
@@ -73,7 +74,7 @@ namers_are sub (g ∷ gs) = go g.naming (namers_are sub gs)
         elim (int_eq num sub) as (λ b. map (λ (p : ℤ × ℤ). p.0) (cond b ((g.row.num, num) ∷ filter (λ (p : ℤ × ℤ). int_eq p.1 sub) (flat_map pairs_of gs)) (filter (λ (p : ℤ × ℤ). int_eq p.1 sub) (flat_map pairs_of gs))) ≡ map (λ (g : Group). g.row.num) (cond b (g ∷ filter (λ (g : Group). names_number sub g.naming) gs) (filter (λ (g : Group). names_number sub g.naming) gs)))
         [ true ↦ ap (λ (l : List ℤ). g.row.num ∷ l) more | false ↦ more ]
 
--- ---- what an entity names
+-- ---- the subscription that an entity references
 
 abbrev pub numbers_in : Option ℤ → List Row
 numbers_in None = []
@@ -97,7 +98,7 @@ module _ (db : Database) (a : Airspace) (s : Spells db a) where
       let own = own_of (λ (p : ℤ × ℤ). p.0) (λ (g : Group). g.row.num) pairs_of s.groups g (pairs_borne s.groups) (numbers_differ s.groups s.rising) there in
       second_shown num g.naming rows (subst (λ (l : List (ℤ × ℤ)). IsPermutation (map (λ (p : ℤ × ℤ). number_values p.1) l) rows) own all)
 
-  -- the id of the subscription of a number
+  -- The query returns the id of the subscription with the number.
   pub sub_id_shown : (num : ℤ) (rows : List Row) → AnswersSubId num db rows → (t : SubGroup) → Has s.subs t → t.row.num ≡ num → rows ≡ (Text t.row.id ∷ []) ∷ []
   sub_id_shown num rows h =
       let params = Int num ∷ [] in
@@ -106,7 +107,7 @@ module _ (db : Database) (a : Airspace) (s : Spells db a) where
       (λ r. refl) (λ r. refl) (λ t. last_term (at_ints false Eq t.row.num num)) s.subs s.sub_rows in
       one_shown (λ (t : SubGroup). t.row.num) num (λ t. Text t.row.id ∷ []) s.subs rows all (sub_numbers_differ s.subs s.subs_rising)
 
-  -- ---- which entities name a subscription
+  -- ---- the entities that reference a subscription
 
   pub namers_shown : (sub : ℤ) (rows : List Row) → AnswersNamers sub db rows → IsPermutation (map number_values (map (λ (g : Group). g.row.num) (filter (λ (g : Group). names_number sub g.naming) s.groups))) rows
   namers_shown sub rows h =
@@ -117,7 +118,7 @@ module _ (db : Database) (a : Airspace) (s : Spells db a) where
       (λ r. refl) (λ r. refl) (λ p. last_term (at_ints false Eq p.1 sub)) (flat_map pairs_of s.groups) stored in
       subst (λ (l : List Row). IsPermutation l rows) (sym (map-map number_values (λ (p : ℤ × ℤ). p.0) own) ∙ ap (map number_values) (namers_are sub s.groups)) all
 
--- ---- what is told
+-- ---- results
 
 none_named : (subs : List SubGroup) (o : Option ℤ) (named : Option ℕ) → Names subs o named → o ≡ None → None ≡ named
 none_named subs None None p e = refl

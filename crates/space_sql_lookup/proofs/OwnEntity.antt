@@ -1,4 +1,4 @@
--- The entity of a number is the one whose rows are read.
+-- Proofs that the entity with a number is the one whose rows are read.
 use Rattle.std.proofs.Common.{◌≡◌, ◌≢◌, ◌⊎◌, inl, inr, ℤ, List, [], ◌∷◌, map, filter, false, Option, refl, sym, subst, int_eq}
 use Rattle.std.specs.Prelude.{IsPermutation, IfSome}
 use Rattle.std.specs.List.{list_all}
@@ -19,7 +19,7 @@ use Rattle.space_sql_lookup.proofs.Commands.{by_key, numbered_is}
 use Rattle.space_sql_lookup.proofs.Picked.{selects_from, has_or_not, one_shown, none_shown}
 
 module _ (db : Database) (a : Airspace) (s : Spells db a) (num : ℤ) (rows : List Row) (h : AnswersNumber num db rows) where
-  -- the groups of the number, by their rows
+  -- The rows of the groups with the number are shown.
   shown : IsPermutation (map (λ (g : Group). entity_values g.row) (filter (λ (g : Group). int_eq g.row.num num) s.groups)) rows
   shown =
       let params = Int num ∷ [] in
@@ -33,7 +33,7 @@ module _ (db : Database) (a : Airspace) (s : Spells db a) (num : ℤ) (rows : Li
   pub no_row_shown : ((g : Group) → Has s.groups g → g.row.num ≢ num) → rows ≡ []
   no_row_shown = none_shown (λ (g : Group). g.row.num) num (λ g. entity_values g.row) s.groups rows shown
 
--- what is found of the row is what is found of the number
+-- A result that is right for the row is right for the number.
 pub numbered_told : (num : ℤ) (db : Database) (heads : List Row) (found : Option Entity) → AnswersNumber num db heads → FindsOfHead heads db found → FindsNumbered num db found
 numbered_told num db heads found h of a s = record {
   own = λ g there is. (of a s).own g there (numbered_shown db a s num heads h g there is);

@@ -1,4 +1,4 @@
--- The rows of one entity among those of all.
+-- Proofs about the rows of one entity among those of all.
 use Rattle.std.proofs.Common.{◌≡◌, ◌≢◌, inl, inr, ℤ, List, [], ◌∷◌, ◌++◌, map, filter, flat_map, Bool, true, false, cond, codes, refl, sym, ap, ap₂, subst, ◌∙◌, Less, int_eq, append-nil}
 use Rattle.std.specs.Prelude.{IsPermutation}
 use Rattle.std.specs.List.{AllByRecursion, list_all}
@@ -33,7 +33,7 @@ use Rattle.space_sql_lookup.proofs.Found.{same}
 use Rattle.space_sql_select.proofs.Shown.{then_equal}
 use Rattle.space_sql_select.proofs.Selected.{selects_one}
 
--- ---- pieces
+-- ---- parts
 
 filter_joined : {X : Type 0} (q : X → Bool) (xs ys : List X) → filter q (xs ++ ys) ≡ filter q xs ++ filter q ys
 filter_joined q [] ys = refl
@@ -64,7 +64,7 @@ module _ {A B : Type 0} (key : B → ℤ) (of : A → ℤ) (f : A → List B) wh
   has_all P (x ∷ xs) a all (inl e) = subst P (sym e) all.0
   has_all P (x ∷ xs) a all (inr has) = has_all P xs a all.1 has
 
-  -- the piece with its key
+  -- The elements with a key are the part of that key.
   pub own_of : (xs : List A) (a : A) → Borne key of f xs → Differ of xs → Has xs a → filter (bears (of a)) (flat_map f xs) ≡ f a
   own_of [] a borne apart has = absurd has
   own_of (x ∷ xs) a borne apart (inl e) =
@@ -95,7 +95,7 @@ own_cells_is : command_of own_cells_read ≡ Select (record { lets = []; body = 
 unfolding understood everything
 own_cells_is = refl
 
--- the columns are of the entity with the number
+-- Returns true if the columns are those of the entity with the number.
 abbrev is_own : ℤ → Row → Bool
 is_own num c = list_all (holds ((Int num ∷ []) ∷ (Null ∷ c) ∷ [])) (same (col 1 1) (col 0 0) ∷ [])
 

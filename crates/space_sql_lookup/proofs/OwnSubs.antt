@@ -1,4 +1,4 @@
--- The subscription that is read is the one that is spelt.
+-- Proofs that the subscription that is read is the one that the tables represent.
 use Rattle.std.proofs.Common.{◌≡◌, ◌≢◌, ◌⊎◌, inl, inr, ℕ, ℤ, ◌<◌, ◌^◌, List, [], ◌∷◌, map, filter, flat_map, Bool, false, Option, Some, None, refl, sym, ap, subst, ◌∙◌, Less, int_eq, append-nil}
 use Rattle.std.specs.Prelude.{IsPermutation, IfSome}
 use Rattle.std.specs.List.{AllByRecursion, list_all}
@@ -36,7 +36,7 @@ use Rattle.space_sql_lookup.proofs.SubHeads.{ShowsSub, sub_shown}
 
 -- ---- cells
 
--- the columns are of the subscription with the number
+-- Returns true if the columns are those of the subscription with the number.
 abbrev is_own : ℤ → Row → Bool
 is_own num c = list_all (holds ((Int num ∷ []) ∷ (Null ∷ c) ∷ [])) by_first
 
@@ -58,7 +58,7 @@ own_sub_cells_shown db a s t there rows h =
     (λ x y e. rw (value_cmp-Int x.subscription y.subscription, value_cmp-Int x.place y.place, then_equal (int_cmp x.place y.place)) e) t.cells rises
     (subst (λ l. IsPermutation (map sub_cell_values t.cells) l) mine (subst (λ l. IsPermutation l (filter (is_own num) (map five_columns (db.trees 12)))) theirs stored))
 
--- ---- of one row
+-- ---- at most one row
 
 module _ (heads : List Row) (o : Option SubRow) (none : heads ≡ [] → o ≡ None) (one : (x : SubRow) → heads ≡ sub_values x ∷ [] → o ≡ Some x) where
   pub no_sub_told : o ≡ None → (db : Database) → FindsSubOfHead heads db None
@@ -78,7 +78,7 @@ module _ (heads : List Row) (o : Option SubRow) (none : heads ≡ [] → o ≡ N
         ap (λ (y : Sub). Some y) (spelt t.cells t.sub (own_sub_cells_shown db a s t there cells own) spells);
   }
 
--- ---- of an id
+-- ---- by an id
 
 pub sub_named_told : (db : Database) (id : ℕ) → id < 2 ^ 128 → (heads : List Row) (found : Option Sub) → AnswersSub id db heads → FindsSubOfHead heads db found → FindsSub id db found
 sub_named_told db id fits heads found h of a s = go (sub_shown db a s id fits heads h)
@@ -87,7 +87,7 @@ sub_named_told db id fits heads found h of a s = go (sub_shown db a s id fits he
     go (inl (p, none, lacks)) = (of a s).none p ∙ sym none
     go (inr (t, there, p, is, own, only)) = (of a s).own t there p ∙ sym is
 
--- ---- of a number
+-- ---- by a number
 
 module _ (db : Database) (a : Airspace) (s : Spells db a) (num : ℤ) (rows : List Row) (h : AnswersSubNumber num db rows) where
   shown : IsPermutation (map (λ (t : SubGroup). sub_values t.row) (filter (λ (t : SubGroup). int_eq t.row.num num) s.subs)) rows

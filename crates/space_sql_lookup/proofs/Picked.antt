@@ -1,4 +1,5 @@
--- What a SELECT of some columns shows of the values that a table keeps, and what is found by a number.
+-- Proofs about a SELECT of some columns of a table's values, and about finding an element by a
+-- number.
 use Rattle.std.proofs.Common.{◌≡◌, ◌≢◌, ◌⊎◌, inl, inr, ℕ, ℤ, List, [], ◌∷◌, map, filter, flat_map, Bool, true, false, refl, sym, ap, subst, subst₂, ◌∙◌, int_eq, arith}
 use Rattle.std.specs.Prelude.{IsPermutation}
 use Rattle.std.specs.List.{list_all}
@@ -18,7 +19,7 @@ use Rattle.space_sql_select.proofs.Means.{listing, cols}
 use Rattle.space_sql_select.proofs.Selected.{selects_all}
 use Rattle.space_sql_lookup.proofs.OwnRows.{own_of, equal_numbers, other_numbers}
 
--- a test and a choice of columns that look at the columns of a table look at the values that it keeps
+-- Tests and columns that read the columns of a table read the values that it stores.
 pub selects_from : (t : ℕ) (tests : List Term) (shown : List ℕ) (db : Trees) (params : Row) (rows : List Row) → overlay db [] t ≡ db t → IsAnswer (listing t tests shown []) (overlay db []) params rows
     → {X : Type 0} (values : X → Row) (columns : Row → Row) (test : Row → Bool) (pick : Row → Row) (passes : X → Bool) → ((r : Row) → list_all (holds (params ∷ r ∷ [])) tests ≡ test (columns r)) → ((r : Row) → eval_all (cols shown) (params ∷ r ∷ []) ≡ pick (columns r)) → ((x : X) → test (values x) ≡ passes x)
     → (xs : List X) → IsPermutation (map values xs) (map columns (db t)) → IsPermutation (map (λ x. pick (values x)) (filter passes xs)) rows
@@ -46,7 +47,7 @@ singles [] = refl
 singles (x ∷ xs) = ap (λ l. x ∷ l) (singles xs)
 
 module _ {X : Type 0} (of : X → ℤ) (num : ℤ) where
-  -- an element has the number, or none
+  -- Either an element has the number, or none does.
   pub has_or_not : (xs : List X) → ((x : X) → Has xs x → of x ≢ num) ⊎ ((x : X) × Has xs x × (of x ≡ num))
   has_or_not [] = inl (λ x there. absurd there)
   has_or_not (y ∷ xs) = go (int_eq (of y) num) refl (has_or_not xs)
@@ -60,7 +61,7 @@ module _ {X : Type 0} (of : X → ℤ) (num : ℤ) where
       ])
 
   module _ (shown : X → Row) (xs : List X) (rows : List Row) (same : IsPermutation (map shown (filter (λ x. int_eq (of x) num) xs)) rows) where
-    -- the row of the one that has the number
+    -- If an element has the number, its row is shown.
     pub one_shown : Differ of xs → (x : X) → Has xs x → of x ≡ num → rows ≡ shown x ∷ []
     one_shown apart x there is =
         let own = own_of of of (λ (y : X). y ∷ []) xs x (each_its_own of xs) apart there in

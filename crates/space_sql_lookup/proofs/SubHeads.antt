@@ -1,4 +1,4 @@
--- The row of the subscription of an id.
+-- Proofs about the row of the subscription with an id.
 use Rattle.std.proofs.Common.{◌≡◌, ◌≢◌, ◌⊎◌, inl, inr, ℕ, ◌<◌, ◌^◌, List, [], ◌∷◌, map, filter, Bool, true, false, cond, Option, Some, None, refl, sym, ap, subst, ◌∙◌, is_eq}
 use Rattle.std.specs.Prelude.{IsPermutation}
 use Rattle.std.specs.List.{AllByRecursion, list_all}
@@ -38,7 +38,7 @@ nat_exact m n e = changes.one_id m n (ap is_eq e)
 abbrev pub is_sub : ℕ → SubGroup → Bool
 is_sub id t = hits nat_cmp nat_cmp_total id (sub_pair_of t)
 
--- the columns are of the id
+-- Returns true if the columns are those of the id.
 abbrev is_id : ℕ → Row → Bool
 is_id id c = list_all (holds ((Text (printed id) ∷ []) ∷ (column c 0 ∷ Null ∷ column c 1 ∷ []) ∷ [])) by_second
 
@@ -60,7 +60,7 @@ module _ (id : ℕ) (fits : id < 2 ^ 128) (serial : ℕ) where
   same_filter [] each = refl
   same_filter (t ∷ ts) each = λ i. cond (id_test t each.0 i) (t ∷ same_filter ts each.1 i) (same_filter ts each.1 i)
 
--- the rows show the one subscription of the id, or there is none
+-- Holds if the rows show the one subscription with the id, or there is neither.
 abbrev pub ShowsSub : Airspace → List SubGroup → (SubGroup → Row) → ℕ → List Row → Type 0
 ShowsSub a subs shown id rows =
     ((rows ≡ []) × (get a.subscriptions id ≡ None) × ((u : SubGroup) → Has subs u → u.sub.id ≢ id))

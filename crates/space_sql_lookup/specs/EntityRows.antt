@@ -1,4 +1,4 @@
--- The rows of one entity, and the entity that they spell.
+-- Definitions of the rows of one entity, and the entity that they represent.
 use Rattle.std.specs.Prelude.{◌≡◌, ℤ, List, [], ◌∷◌, Option, Some, None}
 use Rattle.sqlite_value.specs.Order.{Row}
 use Rattle.sqlite_value.specs.declared.value.Value.TheVariants.{Int}
@@ -12,24 +12,25 @@ use Rattle.space_sql_lookup.specs.Naming.{FindsNaming}
 use Rattle.space_sql_lookup.specs.Texts.{own_cells_read, own_volumes_read}
 use Rattle.space_sql_lookup.specs.declared.entity_rows.OwnRows.{OwnRows}
 
--- the rows of volume and of cell of a number, as they are asked for
+-- Holds if the rows are the result of querying `volume` by a number. `AnswersCells` says so of
+-- `cell`.
 abbrev pub AnswersVolumes : ℤ → Database → List Row → Type 0
 AnswersVolumes num db rows = Answers own_volumes_read (Int num ∷ []) db rows
 
 abbrev pub AnswersCells : ℤ → Database → List Row → Type 0
 AnswersCells num db rows = Answers own_cells_read (Int num ∷ []) db rows
 
--- what goes with the number of an entity
+-- Holds if the rows are the result of the further queries by an entity's number.
 pub record AnswersOwn (num : ℤ) (db : Database) (rows : OwnRows) : Type 0 where
   pub volumes : AnswersVolumes num db rows.volumes.items
   pub cells : AnswersCells num db rows.cells.items
   pub named : FindsNaming num db rows.named
 
--- the entity of the row of entity, where there is one
+-- Holds if the result is the entity of the row of `entity`, if there is one.
 pub record IsOfHead (heads : List Row) (gs : List Group) (found : Option Entity) : Type 0 where
   pub none : heads ≡ [] → found ≡ None
   pub own : (g : Group) → Has gs g → heads ≡ entity_values g.row ∷ [] → found ≡ Some g.entity
 
--- it is that of the airspace that the tables spell, if they spell one
+-- Holds if the result is right for the airspace that the tables represent, if they represent one.
 abbrev pub FindsOfHead : List Row → Database → Option Entity → Type 0
 FindsOfHead heads db found = (a : Airspace) (s : Spells db a) → IsOfHead heads s.groups found

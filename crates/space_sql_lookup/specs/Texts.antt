@@ -1,4 +1,4 @@
--- The statements that read single things.
+-- The texts of the statements that look up single items.
 use Rattle.std.specs.Prelude.{ℕ, List, codes}
 
 abbrev pub serial_read : List ℕ

@@ -1,4 +1,4 @@
-//! What a supplier has set, read of a connection and in a transaction.
+//! The availability that a USS set, read from a connection or in a transaction.
 ghost use Rattle.std.specs.Prelude.{◌≡◌, false, Option, IfOk};
 ghost use Rattle.std.specs.FinMap.{get};
 ghost use Rattle.sqlite.specs.Held.{state};
@@ -16,7 +16,7 @@ use space_sql_select::select::query;
 use sqlite::{Alter, Connection, Error, Row, Transaction, params};
 use std::alloc::Global;
 
-// What the rows say of a supplier: nothing, or what it has set.
+// Returns the availability that the rows give for a USS, if any.
 fn availability_of(
     alloc: Global,
     uss: &UssId,
@@ -46,8 +46,9 @@ fn query_stated<S: Alter>(tx: &mut Transaction<'_, S>, uss: &UssId) -> Result<Ve
     )
 }
 
-/// What a supplier has set, if it has set anything, as the tables spell it. Where they spell no
-/// airspace, anything may come of it.
+/// Returns the availability that a USS set, if it set one.
+///
+/// If the tables represent no airspace, the result is unspecified.
 pub fn read_availability_in_transaction<S: Alter>(
     alloc: Global,
     tx: &mut Transaction<'_, S>,
@@ -60,7 +61,7 @@ pub fn read_availability_in_transaction<S: Alter>(
     availability_of(alloc, uss, rows.as_slice())
 }
 
-// In a transaction of its own, which is rolled back.
+// Reads in a separate transaction, which is rolled back.
 fn find_stated_alone<S: Alter>(
     alloc: Global,
     conn: &mut Connection<S>,
@@ -77,8 +78,10 @@ fn find_stated_alone<S: Alter>(
     Ok(found)
 }
 
-/// What a supplier has set, if it has set anything, as the tables spell it. Where they spell no
-/// airspace, anything may come of it. An error is one of the store, or want of memory.
+/// Returns the availability that a USS set, if it set one.
+///
+/// If the tables represent no airspace, the result is unspecified. Returns an error if the store
+/// fails or memory runs out.
 pub fn read_availability<S: Alter>(
     alloc: Global,
     conn: &mut Connection<S>,

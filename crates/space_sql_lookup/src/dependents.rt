@@ -1,4 +1,4 @@
-//! The ids of the entities that name a subscription, read of a connection.
+//! The ids of the entities that reference a subscription, read from a connection.
 ghost use Rattle.std.specs.Prelude.{◌≡◌, false};
 ghost use Rattle.sqlite.specs.Held.{state};
 ghost use Rattle.entity_core.specs.Search.{dependents_in};
@@ -96,7 +96,7 @@ fn find_dependents<S: Alter>(
     Ok(ids)
 }
 
-// In a transaction of its own, which is rolled back.
+// Reads in a separate transaction, which is rolled back.
 fn find_dependents_alone<S: Alter>(
     alloc: Global,
     conn: &mut Connection<S>,
@@ -113,9 +113,10 @@ fn find_dependents_alone<S: Alter>(
     Ok(ids)
 }
 
-/// The ids of the intents that name a subscription, rising, as the tables spell them. Where they
-/// spell no airspace, anything may come of it. It reads no cells. An error is one of the store, or
-/// want of memory.
+/// Returns the ids of the intents that reference a subscription, in ascending order.
+///
+/// If the tables represent no airspace, the result is unspecified. It reads no cells. Returns an
+/// error if the store fails or memory runs out.
 pub fn read_dependents<S: Alter>(
     alloc: Global,
     conn: &mut Connection<S>,

@@ -16,7 +16,7 @@ use space_sql_select::select::query;
 use sqlite::{Alter, Connection, Error, Row, Transaction, params};
 use std::alloc::Global;
 
-// ---- by its kind and id
+// ---- by kind and id
 
 fn query_named<S: Alter>(
     alloc: Global,
@@ -51,7 +51,7 @@ fn find_named<S: Alter>(
     entity_of_head(alloc, tx, rows.as_slice())
 }
 
-// In a transaction of its own, which is rolled back.
+// Reads in a separate transaction, which is rolled back.
 fn find_entity_alone<S: Alter>(
     alloc: Global,
     conn: &mut Connection<S>,
@@ -69,8 +69,10 @@ fn find_entity_alone<S: Alter>(
     Ok(found)
 }
 
-/// The entity of a kind and an id, if there is one, as the tables spell it. Where they spell no
-/// airspace, anything may come of it. An error is one of the store, or want of memory.
+/// Returns the entity with a kind and an id, if there is one.
+///
+/// If the tables represent no airspace, the result is unspecified. Returns an error if the store
+/// fails or memory runs out.
 pub fn read_entity<S: Alter>(
     alloc: Global,
     conn: &mut Connection<S>,
@@ -88,7 +90,7 @@ pub fn read_entity<S: Alter>(
     Ok(found)
 }
 
-// ---- by its number
+// ---- by number
 
 fn query_numbered<S: Alter>(tx: &mut Transaction<'_, S>, num: i64) -> Result<Vec<Row>, Error>
     ensures same_reference { SameConnection tx.old tx.new }
@@ -103,8 +105,9 @@ fn query_numbered<S: Alter>(tx: &mut Transaction<'_, S>, num: i64) -> Result<Vec
     )
 }
 
-/// The entity whose row has a number, if there is one, as the tables spell it. Where they spell no
-/// airspace, anything may come of it.
+/// Returns the entity whose row has a number, if there is one.
+///
+/// If the tables represent no airspace, the result is unspecified.
 pub fn read_entity_by_num<S: Alter>(
     alloc: Global,
     tx: &mut Transaction<'_, S>,

@@ -20,8 +20,8 @@ use space_sql_select::select::query;
 use sqlite::{Alter, Error, Row, Transaction, params};
 use std::alloc::Global;
 
-/// What goes with the row of an entity: the rows of the other tables by rising places, and the id
-/// of the subscription that it names.
+/// The rows of an entity in the other tables, in the order of their positions, and the id of the
+/// subscription that it references.
 #[derive(Drop)]
 pub(crate) struct OwnRows {
     pub volumes: Vec<Row>,
@@ -66,7 +66,7 @@ fn query_own<S: Alter>(tx: &mut Transaction<'_, S>, num: i64) -> Result<OwnRows,
     })
 }
 
-// The row of an entity, if there is one.
+// Returns the row of an entity, if there is one.
 fn entity_head_of(rows: &[Row]) -> Result<Option<EntityRow>, Error>
     ensures none { IfOk result (λ o. rows.now ≡ [] → o ≡ None) }
     ensures one { IfOk result (λ o. (x : AnEntityRow)
@@ -81,7 +81,7 @@ fn entity_head_of(rows: &[Row]) -> Result<Option<EntityRow>, Error>
     }
 }
 
-// The entity that its rows spell.
+// Returns the entity that its rows represent.
 fn entity_in(alloc: Global, head: &EntityRow, own: &OwnRows) -> Result<Entity, Error>
     ensures { let rows = own.now in
         IfOk result (λ e. (vs : List VolumeRow) (cs : List CellRow) (x : AnEntity)
@@ -100,7 +100,7 @@ fn entity_in(alloc: Global, head: &EntityRow, own: &OwnRows) -> Result<Entity, E
     }
 }
 
-/// The entity of the row of `entity` that was read, if one was.
+/// Returns the entity of the row of `entity` that was read, if one was.
 pub(crate) fn entity_of_head<S: Alter>(
     alloc: Global,
     tx: &mut Transaction<'_, S>,

@@ -1,4 +1,4 @@
-//! Single things of the airspace that the tables spell, read of a connection.
+//! Lookup of single items of the airspace that the tables represent.
 #![tactic(auto)]
 
 pub mod availability;

@@ -1,4 +1,4 @@
-//! The subscription that an entity names, read in a transaction.
+//! The subscription that an entity references, read in a transaction.
 ghost use Rattle.space_sql_schema.specs.Within.{SameConnection, Within};
 ghost use Rattle.space_sql_select.specs.Reading.{Reads};
 ghost use Rattle.space_sql_lookup.specs.Naming.{AnswersNaming, AnswersSubId, FindsNaming};
@@ -32,8 +32,9 @@ fn query_sub_id<S: Alter>(tx: &mut Transaction<'_, S>, num: i64) -> Result<Vec<R
     )
 }
 
-/// The id of the subscription that the entity with a number names, if it names one. Where the
-/// tables spell no airspace, anything may come of it.
+/// Returns the id of the subscription that the entity with a number references, if any.
+///
+/// If the tables represent no airspace, the result is unspecified.
 pub(crate) fn read_naming<S: Alter>(
     tx: &mut Transaction<'_, S>,
     num: i64,

@@ -1,4 +1,4 @@
-//! The serial of the airspace, read of a connection.
+//! The serial of the airspace, read from a connection.
 ghost use Rattle.std.specs.Prelude.{◌≡◌, false, ℕ, pos, [], ◌∷◌, IfOk};
 ghost use Rattle.sqlite_value.specs.declared.value.Value.TheVariants.{Int};
 ghost use Rattle.sqlite.specs.Held.{state};
@@ -16,8 +16,9 @@ fn serial_in(rows: &[Row]) -> Result<u64, Error>
     }
 }
 
-/// The serial of the airspace that the tables spell. Where they spell none, any number may come of
-/// it.
+/// Returns the serial of the airspace that the tables represent.
+///
+/// If they represent none, the result is unspecified.
 pub fn read_serial<S: Alter>(conn: &mut Connection<S>) -> Result<u64, Error>
     requires { conn.old.in_transaction ≡ false }
     ensures outside { conn.new.in_transaction ≡ false }

@@ -14,7 +14,7 @@ use space_sql_select::select::query;
 use sqlite::{Alter, Connection, Error, Row, Transaction, params};
 use std::alloc::Global;
 
-// ---- by its id
+// ---- by id
 
 fn query_sub<S: Alter>(
     alloc: Global,
@@ -47,7 +47,7 @@ fn find_sub<S: Alter>(
     sub_of_head(alloc, tx, rows.as_slice())
 }
 
-// In a transaction of its own, which is rolled back.
+// Reads in a separate transaction, which is rolled back.
 fn find_sub_alone<S: Alter>(
     alloc: Global,
     conn: &mut Connection<S>,
@@ -64,8 +64,10 @@ fn find_sub_alone<S: Alter>(
     Ok(found)
 }
 
-/// The subscription of an id, if there is one, as the tables spell it. Where they spell no
-/// airspace, anything may come of it. An error is one of the store, or want of memory.
+/// Returns the subscription with an id, if there is one.
+///
+/// If the tables represent no airspace, the result is unspecified. Returns an error if the store
+/// fails or memory runs out.
 pub fn read_subscription<S: Alter>(
     alloc: Global,
     conn: &mut Connection<S>,
@@ -82,7 +84,7 @@ pub fn read_subscription<S: Alter>(
     Ok(found)
 }
 
-// ---- by its number
+// ---- by number
 
 fn query_sub_numbered<S: Alter>(tx: &mut Transaction<'_, S>, num: i64) -> Result<Vec<Row>, Error>
     ensures same_reference { SameConnection tx.old tx.new }
@@ -97,8 +99,9 @@ fn query_sub_numbered<S: Alter>(tx: &mut Transaction<'_, S>, num: i64) -> Result
     )
 }
 
-/// The subscription whose row has a number, if there is one, as the tables spell it. Where they
-/// spell no airspace, anything may come of it.
+/// Returns the subscription whose row has a number, if there is one.
+///
+/// If the tables represent no airspace, the result is unspecified.
 pub fn read_sub_by_num<S: Alter>(
     alloc: Global,
     tx: &mut Transaction<'_, S>,

@@ -30,7 +30,7 @@ fn query_sub_cells<S: Alter>(tx: &mut Transaction<'_, S>, num: i64) -> Result<Ve
     )
 }
 
-// The row of a subscription, if there is one.
+// Returns the row of a subscription, if there is one.
 fn sub_head_of(rows: &[Row]) -> Result<Option<SubRow>, Error>
     ensures none { IfOk result (λ o. rows.now ≡ [] → o ≡ None) }
     ensures one { IfOk result (λ o. (x : ASubRow)
@@ -45,7 +45,7 @@ fn sub_head_of(rows: &[Row]) -> Result<Option<SubRow>, Error>
     }
 }
 
-// The subscription that its rows spell.
+// Returns the subscription that its rows represent.
 fn sub_in(alloc: Global, head: &SubRow, cells: &[Row]) -> Result<Sub, Error>
     ensures { IfOk result (λ s. (cs : List SubCellRow) (x : ASub)
         → cells.now ≡ map sub_cell_values cs → SpellsSub head.now cs x → s ≡ x) }
@@ -59,7 +59,7 @@ fn sub_in(alloc: Global, head: &SubRow, cells: &[Row]) -> Result<Sub, Error>
     }
 }
 
-/// The subscription of the row of `subscription` that was read, if one was.
+/// Returns the subscription of the row of `subscription` that was read, if one was.
 pub(crate) fn sub_of_head<S: Alter>(
     alloc: Global,
     tx: &mut Transaction<'_, S>,

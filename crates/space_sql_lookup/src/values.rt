@@ -1,4 +1,4 @@
-//! Single values of the rows of an answer.
+//! Single values of the rows of a result.
 ghost use Rattle.std.specs.Prelude.{◌≡◌, ◌<◌, ◌^◌, ℕ, ℤ, [], ◌∷◌, map, Some, None, IfOk};
 ghost use Rattle.sqlite_value.specs.declared.value.Value.TheVariants.{Text};
 ghost use Rattle.entity_core.specs.EntityId.{printed};
@@ -9,7 +9,7 @@ use space_sql_select::rows::number_rows;
 use sqlite::{Error, Row};
 use std::alloc::Global;
 
-/// The number of the one row, if there is one.
+/// Returns the number in the only row, if there is one.
 pub(crate) fn number_among(rows: &[Row]) -> Result<Option<i64>, Error>
     ensures none { IfOk result (λ o. rows.now ≡ [] → o ≡ None) }
     ensures one { IfOk result (λ o. (n : ℤ) → rows.now ≡ number_values n ∷ [] → o ≡ Some n) }
@@ -21,7 +21,7 @@ pub(crate) fn number_among(rows: &[Row]) -> Result<Option<i64>, Error>
     Ok(Some(number))
 }
 
-/// The id of the one row.
+/// Returns the id in the only row.
 pub(crate) fn id_among(rows: &[Row]) -> Result<EntityId, Error>
     ensures { IfOk result (λ id. (n : ℕ) → n < 2 ^ 128
         → rows.now ≡ (Text (printed n) ∷ []) ∷ [] → id ≡ n) }
@@ -36,7 +36,7 @@ pub(crate) fn id_among(rows: &[Row]) -> Result<EntityId, Error>
     }
 }
 
-/// The numbers of the rows.
+/// Returns the numbers in the rows.
 pub(crate) fn numbers_of(alloc: Global, rows: &[Row]) -> Result<Vec<i64>, Error>
     ensures { IfOk result (λ found. rows.now ≡ map number_values found.items) }
 {

@@ -1,4 +1,4 @@
--- What is told of what was read.
+-- Lemmas about the result of opening, given what was read.
 use Rattle.std.proofs.Common.{◌≡◌, Ok, Err, Result, IfOk, OnOk, sym, subst}
 use Rattle.std.specs.Prelude.{IfErr}
 use Rattle.sqlite.specs.declared.error.Error.{Error}
@@ -15,12 +15,12 @@ on_listed : (s : Result LoadedAirspace OpenFault) (A : Type 0) → A → OnOk s 
 on_listed (Ok l) A a = a
 on_listed (Err f) A a = tt
 
--- of a store that is open after an answer
+-- A fact that holds after a successful read holds after a successful opening.
 pub told_open : (r : Result TableCheck Error) (s : Result LoadedAirspace OpenFault) (A : Type 0) → IfErr r (λ _. s ≡ Err Store) → OnOk r A → OnOk s A
 told_open (Ok j) s A failed a = on_listed s A a
 told_open (Err e) s A failed a = subst (λ (t : Result LoadedAirspace OpenFault). OnOk t A) (sym failed) tt
 
--- where it is no fault of the store, there was an answer
+-- If the result is no fault of the store, the read succeeded.
 pub told_rest : (r : Result TableCheck Error) (s : Result LoadedAirspace OpenFault) (A : Type 0) → IfErr r (λ _. s ≡ Err Store) → OnOk r A → (s ≡ Err Store → ⊥) → A
 told_rest (Ok j) s A failed a other = a
 told_rest (Err e) s A failed a other = absurd (other failed)

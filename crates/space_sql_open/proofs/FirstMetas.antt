@@ -1,4 +1,4 @@
--- What the rows of `meta` of tables of format 1 say is so of the database.
+-- Proofs that the rows of `meta` describe tables of format 1.
 use Rattle.std.proofs.Common.{◌≡◌, ◌⊎◌, inl, inr, false, ℤ, pos, List, [], ◌∷◌, map, codes, Ok, Err, Result, IfOk, refl, sym, subst}
 use Rattle.std.specs.Prelude.{IfErr, IsPermutation, Vec}
 use Rattle.std.specs.Global.{Global}
@@ -60,7 +60,7 @@ module _ (old new : State) where
   failed e (inl h) has = kept_keeps old new (query_kept metas_read [] old new e (ours has) h)
   failed e (inr h) has = unchanged_keeps old new h.5
 
-  -- the statement alone
+  -- A single statement is a read.
   pub reads_meta : (r : Result (Vec Row Global) Error) → (HasCleanDisk new → IfOk r (λ rows. Shown metas_read [] old new rows.items)) → (HasCleanDisk new → IfErr r (λ e. FailsToQuery metas_read [] old new e ⊎ IsTooLate metas_read [] old new e))
       → Survives old new (λ _. ⊥) → Inside first_schema ReadsMeta old new r
   reads_meta (Ok rows) ok err survives = record {
@@ -70,11 +70,11 @@ module _ (old new : State) where
   }
   reads_meta (Err e) ok err survives = record { done = λ clean has. tt; kept = λ clean has. failed e (err clean) has; survives = survives }
 
--- one row that says format 1 is that of the table
+-- If `meta` shows one row with format 1, it is the row of the table.
 first_database : (db : Database) (rows : List Row) → ShowsMeta db rows → AreFirst rows → (serial : ℤ) × HasMeta 1 serial (db.trees 0)
 first_database db rows shows it = (it.0, one_permutation _ (map meta_columns (db.trees 0)) (IsPermutation-sym _ _ (subst (IsPermutation (map meta_columns (db.trees 0))) it.1 shows)))
 
--- tables that spell an airspace in format 1 say so
+-- If the tables represent an airspace in format 1, `meta` says format 1.
 first_rows : (db : Database) (rows : List Row) → ShowsMeta db rows → (a : Airspace) → SpellsAs One db a → AreFirst rows
 first_rows db rows shows a p = (pos a.serial, one_permutation _ rows (subst (λ l. IsPermutation l rows) p.meta shows))
 

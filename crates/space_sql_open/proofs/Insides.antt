@@ -1,4 +1,4 @@
--- What is done in a transaction, one thing after the other.
+-- Lemmas about steps in a transaction, in sequence.
 use Rattle.std.proofs.Common.{◌≡◌, Ok, Err, Result, IfOk, OnOk, sym, subst, arith}
 use Rattle.std.specs.Prelude.{IfErr, MatchResult}
 use Rattle.sqlite.specs.Effect.{Database}
@@ -19,7 +19,7 @@ use Rattle.space_sql_open.specs.Opening.{ChecksTables}
 use Rattle.space_sql_open.specs.declared.open_fault.OpenFault.{OpenFault}
 use Rattle.space_sql_open.specs.declared.open_fault.OpenFault.TheVariants.{NotADss, Version, Store}
 
--- the same, told otherwise
+-- The same facts, with another result.
 pub inside_as : {X Y E F : Type 0} (s : Schema) (P : Database → Database → Result X E → Type 0) (R : Database → Database → Result Y F → Type 0) (a d : State) (p : Result X E) (r : Result Y F) → (a.now.schema ≡ s → P a.now d.now p → R a.now d.now r) → Inside s P a d p → Inside s R a d r
 inside_as s P R a d p r f x = record { done = λ clean has. f has (x.done clean has); kept = x.kept; survives = x.survives }
 
@@ -33,12 +33,12 @@ inside_then s t P Q R a b d p q r next joins x y =
       survives = survives_then a b d _ _ (λ _. ⊥) (λ _ db none. none) (λ _ db none. none) x.survives y.survives;
     }
 
--- statements of a transaction that write
+-- Statements that write are steps within a transaction.
 pub inside_steps : {X Y F : Type 0} (s : Schema) (R : Database → Database → Type 0) (Q : Database → Database → Result Y F → Type 0) (a d : State) (p : Result X Error) (r : Result Y F) → (a.now.schema ≡ s → OnOk p (R a.now d.now) → Q a.now d.now r) → making.Steps R a d p → Inside s Q a d r
 inside_steps {X} s R Q a d (Ok x) r f h = record { done = λ clean has. f has ((h.done clean).0); kept = λ clean has. h.kept clean; survives = h.survives }
 inside_steps {X} s R Q a d (Err e) r f h = record { done = λ clean has. f has tt; kept = λ clean has. h.kept clean; survives = h.survives }
 
--- what is read is judged
+-- The check of what was read decides the result.
 judged : (old new : Database) (r : Result LoadedAirspace OpenFault) (s : Result (Unit {0}) OpenFault) → MatchResult r (λ x. s ≡ Ok tt) (λ fault. s ≡ Err fault) → new ≡ old → ChecksTables old r → Judges old new s
 judged old new (Ok x) s is same it = subst (Judges old new) (sym is) ((loaded_airspace x, it), same)
 judged old new (Err NotADss) s is same it = subst (Judges old new) (sym is) it

@@ -1,4 +1,4 @@
--- Tables of format 1 are taken where those that they become are.
+-- Proofs that the check of the upgraded tables decides whether tables of format 1 are accepted.
 use Rattle.std.proofs.Common.{◌≡◌, ap, ℤ, Ok, Err, Result, OnOk, refl, sym, subst, ◌∙◌}
 use Rattle.sqlite.specs.Effect.{Database, IsDatabase}
 use Rattle.sqlite.specs.declared.error.Error.{Error}
@@ -15,25 +15,25 @@ use Rattle.space_sql_open.specs.Opening.{UpgradesFormat}
 use Rattle.space_sql_open.specs.declared.open_fault.OpenFault.{OpenFault}
 use Rattle.space_sql_open.specs.declared.open_fault.OpenFault.TheVariants.{NotADss, Version, Store}
 
--- the rows are those that there are
+-- An upgrade applies to the existing rows.
 pub rewritten : (old new : Database) → Upgrades old new → old.schema ≡ first_schema → IsUpgraded old.trees new
 rewritten old new upgrades has = upgrades old.trees (has, (refl, (refl, (refl, (refl, (refl, tt))))))
 
 pub rewrites : (old new : Database) (p : Result (Unit {0}) Error) (x : Unit {0}) → ◌≡◌ {A = Result (Unit {0}) Error} p (Ok x) → old.schema ≡ first_schema → OnOk p (Upgrades old new) → Rewrites old new (Ok x)
 rewrites old new p x is has h = rewritten old new (rw is at h) has
 
--- meta said format 1, and the tables were made
+-- Holds if `meta` had format 1, and the tables were upgraded.
 pub record HasMoved (old new : Database) : Type 0 where
   pub schema : old.schema ≡ first_schema
   pub serial : ℤ
   pub meta : HasMeta 1 serial (old.trees 0)
   pub upgraded : IsUpgraded old.trees new
 
--- after an answer of the steps so far
+-- Holds if `HasMoved` does after a successful result of the steps so far.
 abbrev pub HasMovedOk : Database → Database → Result (Unit {0}) OpenFault → Type 0
 HasMovedOk old new r = HasMoved old new
 
--- meta was read, and the tables are those that they were
+-- After reading `meta`, the tables are unchanged.
 pub same_schema : (old new : Database) → SaysMeta old new (Ok tt) → old.schema ≡ first_schema → new.schema ≡ first_schema
 same_schema old new said has = ap (λ (d : Database). d.schema) said.1 ∙ has
 
@@ -43,14 +43,14 @@ has_moved old mid new x y has said rewrote = record { schema = has; serial = sai
 pub moved_schema : (old new : Database) → HasMoved old new → new.schema ≡ second_schema
 moved_schema old new h = (h.upgraded h.serial h.meta).schema
 
--- meta of format 1 says no other format
+-- If `meta` says format 1, it says no other format.
 not_other : (db : Database) (serial : ℤ) → HasMeta 1 serial (db.trees 0) → ¬ IsOtherFormat db
 not_other db serial meta other = other.not_one (let e = sym other.only ∙ meta in cc)
 
 not_other_after : (db : Database) (serial : ℤ) → HasMeta 2 serial (db.trees 0) → ¬ IsOtherFormat db
 not_other_after db serial meta other = other.not_two (let e = sym other.only ∙ meta in cc)
 
--- what is told of the tables that were made is so of those before
+-- The result of the check of the upgraded tables is right for the tables before the upgrade.
 pub moves : (old mid new : Database) (r : Result (Unit {0}) OpenFault) → HasMoved old mid → Judges mid new r → UpgradesFormat old new r
 moves old mid new (Ok x) h judged =
     let it = h.upgraded h.serial h.meta in

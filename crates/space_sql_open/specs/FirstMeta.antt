@@ -1,4 +1,4 @@
--- What the table `meta` of tables of format 1 says.
+-- Definitions of what the table `meta` says in tables of format 1.
 use Rattle.std.specs.Prelude.{◌≡◌, ℤ, pos, List, [], ◌∷◌, Result, Ok, Err, Vec}
 use Rattle.std.specs.Global.{Global}
 use Rattle.sqlite_value.specs.Order.{Row}
@@ -12,27 +12,28 @@ use Rattle.space_sql_open.specs.Opening.{Refuses}
 use Rattle.space_sql_open.specs.declared.open_fault.OpenFault.{OpenFault}
 use Rattle.space_sql_open.specs.declared.open_fault.OpenFault.TheVariants.{NotADss, Version, Store}
 
--- a row of meta that says format 1, with some number as the serial
+-- Holds if the row of `meta` says format 1, with a number as the serial.
 abbrev pub IsFirstRow : Row → Type 0
 IsFirstRow row = (serial : ℤ) × (row ≡ Int (pos 1) ∷ Int (pos 1) ∷ Int serial ∷ [])
 
--- the rows are one such row
+-- Holds if the rows are one such row.
 abbrev pub AreFirst : List Row → Type 0
 AreFirst rows = (serial : ℤ) × (rows ≡ (Int (pos 1) ∷ Int (pos 1) ∷ Int serial ∷ []) ∷ [])
 
--- what is told of the rows of meta
+-- Holds if the result is right for the rows of `meta`.
 abbrev pub SaysRows : List Row → Result (Unit {0}) OpenFault → Type 0
 SaysRows rows (Ok x) = AreFirst rows
 SaysRows rows (Err NotADss) = ¬ AreFirst rows × ¬ AreOtherFormat rows
 SaysRows rows (Err Version) = AreOtherFormat rows
 SaysRows rows (Err Store) = ⊥
 
--- the rows of meta are read, and all stays
+-- Holds if the rows of `meta` are read, and the database is unchanged.
 abbrev pub ReadsMeta : Database → Database → Result (Vec Row Global) Error → Type 0
 ReadsMeta old new (Ok rows) = ShowsMeta old rows.items × (new ≡ old)
 ReadsMeta old new (Err e) = Unit {0}
 
--- meta says format 1, and all stays; or why the tables are not taken
+-- Holds if `meta` says format 1 and the database is unchanged, or the fault says why the tables are
+-- rejected.
 abbrev pub SaysMeta : Database → Database → Result (Unit {0}) OpenFault → Type 0
 SaysMeta old new (Ok x) = ((serial : ℤ) × HasMeta 1 serial (old.trees 0)) × (new ≡ old)
 SaysMeta old new (Err fault) = Refuses One old fault

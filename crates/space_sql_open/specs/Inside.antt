@@ -1,11 +1,11 @@
--- What is done in a transaction that goes on.
+-- Definitions of steps within an open transaction.
 use Rattle.std.specs.Prelude.{◌≡◌, Result}
 use Rattle.sqlite_schema.specs.declared.schema.Schema.{Schema}
 use Rattle.sqlite.specs.Effect.{Database}
 use Rattle.sqlite.specs.State.{State, HasCleanDisk, KeepsCommit, Survives}
 
--- Where the tables are those of the schema, R holds of the database before, that after, and the
--- answer. Whatever comes of it, the last commit stands, and a crash leaves what it would have left
+-- Holds if, with tables of the schema, R relates the database before, the one after, and the
+-- result. Whatever the result, the last commit stays. A crash leaves what it would have left
 -- before.
 pub record Inside {X E : Type 0} (schema : Schema)
     (R : Database → Database → Result X E → Type 0) (old new : State) (result : Result X E)

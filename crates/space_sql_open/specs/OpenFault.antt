@@ -1,4 +1,4 @@
--- Faults of opening, by number and name.
+-- The faults of opening, by number and name.
 use Rattle.std.specs.Prelude.{ℕ, List, codes}
 use Rattle.space_sql_open.specs.declared.open_fault.OpenFault.{OpenFault}
 use Rattle.space_sql_open.specs.declared.open_fault.OpenFault.TheVariants.{NotADss, Version, Store}

@@ -1,4 +1,4 @@
--- What taking a database tells, and what it leaves.
+-- Definitions of the results and effects of opening a database.
 use Rattle.std.specs.Prelude.{◌≡◌, Result, Ok, Err}
 use Rattle.sqlite_trees.specs.Tree.{Trees}
 use Rattle.sqlite.specs.Effect.{Database, IsDatabase}
@@ -15,27 +15,29 @@ use Rattle.space_sql_schema.specs.Tables.{first_schema}
 use Rattle.space_sql_open.specs.declared.open_fault.OpenFault.{OpenFault}
 use Rattle.space_sql_open.specs.declared.open_fault.OpenFault.TheVariants.{NotADss, Version, Store}
 
--- Why tables of a format were not taken: NotADss where they spell no airspace in it and meta says no
--- other format than the two, Version where it does.
+-- Holds if the fault is right for tables of a format. `NotADss` means that they represent no
+-- airspace and `meta` gives no format other than the two. `Version` means that `meta` gives another
+-- format.
 abbrev pub Refuses : Format → Database → OpenFault → Type 0
 Refuses format db NotADss = ((a : Airspace) → ¬ SpellsAs format db a) × ¬ IsOtherFormat db
 Refuses format db Version = IsOtherFormat db
 Refuses format db Store = Unit {0}
 
--- what is told of tables of format 2: they are taken where they spell an airspace, which is told
+-- Holds if the result is right for tables of format 2: it is the airspace that they represent, or a
+-- fault.
 abbrev pub ChecksTables : Database → Result LoadedAirspace OpenFault → Type 0
 ChecksTables db (Ok listed) = Spells db (loaded_airspace listed)
 ChecksTables db (Err fault) = Refuses Two db fault
 
--- what is told of tables of format 1: where they spell an airspace, those that they become spell it
--- in format 2
+-- Holds if the result is right for tables of format 1. After `Ok`, they represented an airspace,
+-- and the upgraded tables represent it in format 2.
 abbrev pub UpgradesFormat : Database → Database → Result (Unit {0}) OpenFault → Type 0
 UpgradesFormat old new (Ok x) =
     (a : Airspace) × SpellsAs One old a × Spells new a × IsDatabase new
 UpgradesFormat old new (Err fault) = Refuses One old fault
 
--- trees that a commit may have left over tables of format 1: those of tables of format 2 that spell
--- the airspace which was spelt
+-- Holds if, when the tables were of format 1, they represented an airspace, and the trees are those
+-- of tables of format 2 that represent it. A commit may have left them.
 abbrev pub MayHaveUpgraded : State → Trees → Type 0
 MayHaveUpgraded old trees =
     old.now.schema ≡ first_schema → (a : Airspace) × SpellsAs One old.now a

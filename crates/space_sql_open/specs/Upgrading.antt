@@ -1,4 +1,4 @@
--- How tables of format 1 are brought to format 2, step by step.
+-- Definitions of the steps of an upgrade from format 1 to format 2.
 use Rattle.std.specs.Prelude.{◌≡◌, Result, Ok, Err}
 use Rattle.sqlite.specs.Effect.{Database}
 use Rattle.entity_core.specs.Airspace.{Airspace}
@@ -9,12 +9,13 @@ use Rattle.space_sql_open.specs.Opening.{Refuses}
 use Rattle.space_sql_open.specs.declared.open_fault.OpenFault.{OpenFault}
 use Rattle.space_sql_open.specs.declared.open_fault.OpenFault.TheVariants.{Store}
 
--- the tables are made and the format is set, whatever is spelt
+-- Holds if the tables are created and the format is set, whatever they represent.
 abbrev pub Rewrites : Database → Database → Result (Unit {0}) OpenFault → Type 0
 Rewrites old new (Ok x) = IsUpgraded old.trees new
 Rewrites old new (Err fault) = fault ≡ Store
 
--- what tables of format 2 spell is found, and all stays
+-- Holds if the result says whether tables of format 2 represent an airspace, and the database is
+-- unchanged.
 abbrev pub Judges : Database → Database → Result (Unit {0}) OpenFault → Type 0
 Judges old new (Ok x) = ((a : Airspace) × Spells old a) × (new ≡ old)
 Judges old new (Err fault) = Refuses Two old fault

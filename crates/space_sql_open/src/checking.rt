@@ -1,4 +1,4 @@
-//! What a database is found to be, that has all tables of format 2, or only some tables.
+//! The check of a database that has all tables of format 2, or only some tables.
 ghost use Rattle.std.specs.Prelude.{◌≡◌, ◌≢◌, false, Err, IfErr, IfOk, IsTrue, OnOk};
 ghost use Rattle.sqlite.specs.Effect.{Database};
 ghost use Rattle.sqlite.specs.Held.{state};
@@ -17,7 +17,7 @@ use space_sql_select::meta::has_other_format;
 use sqlite::{Alter, Connection, Error};
 use std::alloc::Global;
 
-// What tables have that were found to be this, where they are taken.
+// Returns the loaded airspace if the check found one, or the fault.
 fn listed_of(judgement: TableCheck) -> Result<LoadedAirspace, OpenFault>
     ensures { (db : Database) → JudgesDatabase db judgement → ChecksTables db result }
 {
@@ -28,7 +28,7 @@ fn listed_of(judgement: TableCheck) -> Result<LoadedAirspace, OpenFault>
     }
 }
 
-/// What tables have of which this was read, where they are taken.
+/// Returns the loaded airspace if the tables were read and represent one, or the fault.
 pub(crate) fn listed_or_fault(read: Result<TableCheck, Error>) -> Result<LoadedAirspace, OpenFault>
     ensures examines { (db : Database) → IfOk read (JudgesDatabase db) → ChecksTables db result }
     ensures failed { IfErr read (λ _. result ≡ Err Store) }
@@ -39,7 +39,7 @@ pub(crate) fn listed_or_fault(read: Result<TableCheck, Error>) -> Result<LoadedA
     }
 }
 
-/// What tables of format 2 have, where they can be taken as they are; nothing is written.
+/// Returns the airspace of tables of format 2, if they represent one. It writes nothing.
 pub fn check_format_2<S: Alter>(
     alloc: Global,
     conn: &mut Connection<S>,
@@ -60,8 +60,8 @@ pub fn check_format_2<S: Alter>(
     listed_or_fault(read)
 }
 
-// The fault for an error of a reading of `meta` in tables that may be no others' than ours: a text
-// that cannot be read under their schema is no fault of the store.
+// Returns the fault for an error of reading `meta` in tables that can be foreign. A text that
+// cannot be compiled under their schema is no fault of the store.
 fn fault_of(error: &Error) -> OpenFault {
     match error {
         Error::SqlInputError(_) => OpenFault::NotADss,
@@ -69,8 +69,10 @@ fn fault_of(error: &Error) -> OpenFault {
     }
 }
 
-/// Why a database with only some of the tables, or without some of their columns, is not taken:
-/// `meta`, where it is there, may say another format. Nothing is written.
+/// Returns why a database with only some of the tables, or without some of their columns, is
+/// rejected.
+///
+/// The table `meta`, if it exists, can give another format. It writes nothing.
 pub fn partial_schema_fault<S: Alter>(conn: &mut Connection<S>) -> OpenFault
     requires { conn.old.in_transaction ≡ false }
     ensures outside { conn.new.in_transaction ≡ false }

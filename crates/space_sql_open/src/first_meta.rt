@@ -1,4 +1,4 @@
-//! What the table `meta` of tables of format 1 says.
+//! The content of the table `meta` in tables of format 1.
 ghost use Rattle.std.specs.Prelude.{◌≡◌, ◌↔◌, pos, IsTrue};
 ghost use Rattle.sqlite_value.specs.Order.{column};
 ghost use Rattle.sqlite_value.specs.declared.value.Value.TheVariants.{Int};
@@ -51,7 +51,7 @@ fn are_first(rows: &[Row]) -> bool
     }
 }
 
-// What the rows say.
+// Returns `Ok` if the rows say format 1, or the fault.
 fn said(rows: &[Row]) -> Result<(), OpenFault>
     ensures { SaysRows rows.now result }
 {
@@ -72,7 +72,7 @@ fn read_meta<S: Alter>(tx: &mut Transaction<'_, S>) -> Result<Vec<Row>, Error>
     tx.query_all("SELECT one, format, serial FROM meta", &[])
 }
 
-/// Whether the tables say that they are of format 1, in a transaction that goes on.
+/// Checks, within an open transaction, that `meta` says format 1.
 pub(crate) fn first_meta<S: Alter>(tx: &mut Transaction<'_, S>) -> Result<(), OpenFault>
     ensures same_reference { SameConnection tx.old tx.new }
     ensures says { Within S.Store tx.old tx.new (Inside first_schema SaysMeta) result }

@@ -1,5 +1,5 @@
-//! What a database is found to be as it is opened, and how tables of format 1 are brought to format
-//! 2, in one transaction, where they spell an airspace.
+//! The checks of a database when it is opened, and the upgrade from format 1 to format 2 in one
+//! transaction.
 #![tactic(auto)]
 
 pub mod checking;

@@ -1,12 +1,12 @@
-//! Why a database was not taken as an airspace.
+//! The reasons why a database is not accepted as an airspace.
 ghost use Rattle.std.specs.Prelude.{◌≡◌};
 
-/// Why a database was not taken as an airspace.
+/// The reason why a database is not accepted as an airspace.
 #[derive(Clone, Copy, Debug, PartialEq, Eq)]
 pub enum OpenFault {
-    /// Some of the tables or their columns are lacking, or the rows are no airspace.
+    /// Some of the tables or their columns are missing, or the rows represent no airspace.
     NotADss,
-    /// `meta` reads with one row whose format is not known.
+    /// The table `meta` has one row, with an unknown format.
     Version,
     /// The store failed.
     Store,
@@ -15,7 +15,7 @@ pub enum OpenFault {
 impl OpenFault {
     ghost use Rattle.space_sql_open.specs.OpenFault.{name_of, number_of};
 
-    /// Its number, from 1 to 3.
+    /// Returns the number of the fault, from 1 to 3.
     pub fn number(self) -> u8
         ensures { result ≡ number_of self }
     {
@@ -26,7 +26,7 @@ impl OpenFault {
         }
     }
 
-    /// Its name, as it is spelled here.
+    /// Returns the name of the fault, as it is written here.
     pub fn name(self) -> &'static str
         ensures { result.now ≡ name_of self }
     {

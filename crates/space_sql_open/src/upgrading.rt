@@ -1,4 +1,4 @@
-//! Tables of format 1 are brought to format 2, in one transaction, where they spell an airspace.
+//! Upgrade of tables of format 1 to format 2, in one transaction, if they represent an airspace.
 ghost use Rattle.std.specs.Prelude.{◌≡◌, ◌≢◌, ◌⊎◌, false, IfErr, OnOk, IsTrue};
 ghost use Rattle.sqlite.specs.Held.{state};
 ghost use Rattle.sqlite.specs.State.{HasCleanDisk, IsUnchanged, Survives};
@@ -20,7 +20,7 @@ use space_sql_select::reading::{connection_facts, is_store_alive};
 use sqlite::{Alter, Connection, Transaction};
 use std::alloc::Global;
 
-// Makes tables of format 2 of them, whatever they spell.
+// Upgrades the tables to format 2, whatever they represent.
 fn rewrite<S: Alter>(tx: &mut Transaction<'_, S>) -> Result<(), OpenFault>
     ensures same_reference { SameConnection tx.old tx.new }
     ensures rewrites { Within S.Store tx.old tx.new (Inside first_schema Rewrites) result }
@@ -31,7 +31,7 @@ fn rewrite<S: Alter>(tx: &mut Transaction<'_, S>) -> Result<(), OpenFault>
     }
 }
 
-// Whether the tables of format 2 spell an airspace.
+// Checks that the tables of format 2 represent an airspace.
 fn judge_moved<S: Alter>(alloc: Global, tx: &mut Transaction<'_, S>) -> Result<(), OpenFault>
     ensures same_reference { SameConnection tx.old tx.new }
     ensures judges { Within S.Store tx.old tx.new (Inside dss_schema Judges) result }
@@ -85,7 +85,7 @@ fn move_tables<S: Alter>(alloc: Global, conn: &mut Connection<S>) -> Result<(), 
     }
 }
 
-// The fault of tables that were not taken, if the store still works. It writes nothing.
+// Returns the fault of rejected tables if the store is alive, otherwise `Store`. It writes nothing.
 fn still<S: Alter>(conn: &mut Connection<S>, fault: OpenFault) -> OpenFault
     requires { conn.old.in_transaction ≡ false }
     ensures outside { conn.new.in_transaction ≡ false }
@@ -100,9 +100,11 @@ fn still<S: Alter>(conn: &mut Connection<S>, fault: OpenFault) -> OpenFault
     }
 }
 
-/// Brings tables of format 1 to format 2, in one transaction, where they spell an airspace, which
-/// stays. Else they are left as they are: after `NotADss` and `Version` nothing was written, and
-/// after `Store` they are of format 1 or of format 2, with the same airspace.
+/// Upgrades tables of format 1 to format 2, in one transaction, if they represent an airspace,
+/// which stays the same.
+///
+/// Otherwise it leaves them unchanged. After `NotADss` and `Version`, nothing was written. After
+/// `Store`, the tables are of format 1 or 2, with the same airspace.
 pub fn upgrade_format<S: Alter>(alloc: Global, conn: &mut Connection<S>) -> Result<(), OpenFault>
     requires { conn.old.in_transaction ≡ false }
     ensures outside { conn.new.in_transaction ≡ false }

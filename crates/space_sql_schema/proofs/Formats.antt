@@ -1,4 +1,4 @@
--- The format in meta is set to 2.
+-- A proof about the statement that sets the format in `meta` to 2.
 use Rattle.std.proofs.Common.{◌≡◌, ℕ, ℤ, pos, List, [], ◌∷◌, map, filter, false, Ok, Err, Result, OnOk, refl, ap, subst, ◌∙◌}
 use Rattle.std.specs.Prelude.{IsPermutation}
 use Rattle.std.specs.List.{list_all}

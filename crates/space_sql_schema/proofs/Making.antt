@@ -1,4 +1,4 @@
--- How the tables are made, one statement after the other.
+-- Proofs about creating the tables, one statement after the other.
 use Rattle.std.proofs.Common.{◌≡◌, ℕ, pos, List, [], ◌∷◌, map, slice_get, false, Some, None, Ok, Err, Result, OnOk, refl, sym, ap, subst, ◌∙◌}
 use Rattle.std.specs.List.{AllByRecursion}
 use Rattle.sqlite_keyed.proofs.ListLemmas.{all_both, all-append}
@@ -42,7 +42,7 @@ use Rattle.space_sql_schema.proofs.Steps.{cast_int, cast_null, inserts}
 use Rattle.space_sql_schema.specs.Making.{HasRows, IsBare, IsMade, SpellsEmptyAs}
 use Rattle.space_sql_schema.proofs.Steps.{went, same_value}
 
--- a table is made beside others, whose rows stay
+-- The statement creates a table beside the others, whose rows stay.
 pub makes : (before after : Schema) (rows : Trees) (table : Table) (text : List ℕ) (old new : State) (r : Result ℕ Error) → rows (next_tree before) ≡ [] → command_of (understood before text) ≡ CreateTable → IsPlain (understood before text)
     → statement_of text (understood before text) ≡ text → table_defined_by text ≡ Ok table → created before table ≡ after → lacks_sequence after ≡ false
     → Executes text [] old new r → HasRows before rows old.now → OnOk r (HasRows after rows new.now)
@@ -63,7 +63,7 @@ makes before after rows table text old new (Ok count) none is plain whole define
     let every = all-append (λ (t : Table). first.0.trees t.tree ≡ rows t.tree) before.tables (record table { tree = next_tree before } ∷ []) there (empty, tt) in
     subst (HasRows after rows) (sym now) (schema, subst (λ (s : Schema). AllByRecursion (λ t. first.0.trees t.tree ≡ rows t.tree) s.tables) after_is every)
 
--- so is an index
+-- The statement creates an index, and all rows stay.
 pub makes_index : (before after : Schema) (rows : Trees) (table : Table) (at : ℕ) (index : Index) (text : List ℕ) (old new : State) (r : Result ℕ Error) → command_of (understood before text) ≡ CreateIndex at → IsPlain (understood before text)
     → statement_of text (understood before text) ≡ text → slice_get before.tables at ≡ Some table → index_defined_by table text ≡ Ok index → indexed before table index ≡ after → after.tables ≡ before.tables
     → Executes text [] old new r → HasRows before rows old.now → OnOk r (HasRows after rows new.now)
@@ -108,7 +108,7 @@ none_of_length (x ∷ xs) e = absurd (omega (arith, e))
 pub no_entries : {K X : Type 0} (R : K → K → Ordering) → entries (empty {X = X} {R = R}) ≡ []
 no_entries {K} {X} R = none_of_length _ (sym (len-entries (empty {X = X} {R = R})) ∙ len-empty R X)
 
--- empty tables and the first row of meta spell an empty airspace
+-- Empty tables with the first row of `meta` represent an empty airspace.
 pub spells_empty : (format : Format) (db : Database) → db.schema ≡ schema_of format → db.trees 0 ≡ source (format_number format) ∷ [] → db.trees 1 ≡ [] → db.trees 3 ≡ [] → db.trees 5 ≡ [] → db.trees 8 ≡ [] → later_rows format db 10 ≡ [] → later_rows format db 12 ≡ [] → later_rows format db 15 ≡ []
     → SpellsEmptyAs format db
 spells_empty format db schema first one three five eight ten twelve fifteen = record {

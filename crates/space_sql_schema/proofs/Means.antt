@@ -1,4 +1,4 @@
--- What the statements mean.
+-- Proofs of what the statements mean.
 use Rattle.std.proofs.Common.{◌≡◌, Ok, refl, [], ◌∷◌, pos}
 use Rattle.sqlite.specs.declared.types.Value.TheVariants.{Null, Int}
 use Rattle.sqlite.specs.Compile.{table_defined_by}

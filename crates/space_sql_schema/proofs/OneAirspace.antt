@@ -1,4 +1,4 @@
--- The tables spell at most one airspace.
+-- A proof that the tables represent at most one airspace.
 use Rattle.std.specs.Prelude.{◌≡◌, ◌&&◌, ℕ, zero, suc, ℤ, pos, Bool, true, false, T, List, [], ◌∷◌, map, IsPermutation, Option, Some, None, refl}
 use Rattle.std.specs.List.{AllByRecursion, AllZip, flat_map}
 use Rattle.std.specs.Ordering.{int_cmp, nat_cmp, is_lt}
@@ -39,7 +39,7 @@ use Rattle.space_sql_schema.specs.Laws.{OneAirspace}
 use Rattle.space_sql_schema.specs.Spelling.{SpellsAs, SubGroup, IsSubGroup, IsSubBefore, sub_pair_of, IsSubNumber, Names, Group, IsGroup, IsBefore, pair_of, naming_rows, naming_rows_of, meta_values, entity_values, volume_values, cell_values, availability_values, sub_values, sub_cell_values, entity_columns, six_columns, three_columns, meta_columns, sub_columns, five_columns, two_columns, later_rows}
 use Rattle.space_sql_schema.proofs.Rising.{rises_once, volume_cmp, cell_cmp, sub_cell_cmp, naming_cmp, volume_total, cell_total, sub_cell_total, naming_total, all_volumes_rise, all_cells_rise, all_sub_cells_rise, all_namings_rise, volumes_of, cells_of, sub_cells_of, named_in, namings_borne}
 
--- ---- rows are found again from their values
+-- ---- reading rows back from their values
 
 int_of : Value → ℤ
 int_of (Int n) = n
@@ -109,13 +109,13 @@ stated_back s = go s.1.0 refl
     go Normal e = rw e
     go Down e = rw e
 
--- two lists whose values are those of one table
+-- Two lists of rows with the values of the same table are permutations of each other.
 pub one_table : {X : Type 0} (encode : X → Row) (decode : Row → X) → ((x : X) → decode (encode x) ≡ x) → (xs ys : List X) (l m : List Row) → l ≡ m → IsPermutation (map encode xs) l → IsPermutation (map encode ys) m → IsPermutation xs ys
 one_table encode decode back xs ys l m e p q =
     let rows = IsPermutation-trans _ _ _ p (subst (λ k. IsPermutation k (map encode ys)) (sym e) (IsPermutation-sym _ _ q)) in
     subst₂ (λ a b. IsPermutation a b) (map_back encode decode back xs) (map_back encode decode back ys) (IsPermutation-map decode _ _ rows)
 
--- ---- maps of the same entries
+-- ---- maps with the same entries
 
 less : (o : Ordering) → T (is_lt o) → o ≡ Less
 less Less p = refl
@@ -191,14 +191,14 @@ one_subs m n ss ts p q up rise rows cells =
     same_subs m n ss ts p q heads
     (one_flat (λ (c : SubCellRow). c.subscription) (λ (s : SubGroup). s.row.num) (λ s. s.cells) ss ts (same_sub_numbers ss ts heads) (sub_cells_borne m ss p) (sub_cells_borne n ts q) (sub_numbers_differ ss up) (sym c))
 
--- ---- what is named
+-- ---- referenced subscriptions
 
 not_among : (num : ℤ) (id : ℕ) (ss : List SubGroup) → AllByRecursion (λ s. ¬ (num ≡ s.row.num)) ss → ¬ IsSubNumber ss num id
 not_among num id [] other h = h
 not_among num id (s ∷ ss) other (inl e) = other.0 (ap (λ (p : ℤ × ℕ). p.0) e)
 not_among num id (s ∷ ss) other (inr h) = not_among num id ss other.1 h
 
--- a number is of one id
+-- A number belongs to one id.
 pub one_number : (num : ℤ) (a b : ℕ) (ss : List SubGroup) → Differ (λ (s : SubGroup). s.row.num) ss → IsSubNumber ss num a → IsSubNumber ss num b → a ≡ b
 one_number num a b [] apart p q = absurd p
 one_number num a b (s ∷ ss) apart (inl e) (inl f) = ap (λ (p : ℤ × ℕ). p.1) (e ∙ sym f)
@@ -206,7 +206,7 @@ one_number num a b (s ∷ ss) apart (inl e) (inr q) = absurd (not_among num b ss
 one_number num a b (s ∷ ss) apart (inr p) (inl f) = absurd (not_among num a ss (subst (λ k. AllByRecursion (λ (t : SubGroup). ¬ (k ≡ t.row.num)) ss) (sym (ap (λ (p : ℤ × ℕ). p.0) f)) apart.0) p)
 one_number num a b (s ∷ ss) apart (inr p) (inr q) = one_number num a b ss apart.1 p q
 
--- a row of `naming` tells one id
+-- A row of `naming` gives one id.
 pub one_named : (ss : List SubGroup) (naming : Option ℤ) (a b : Option ℕ) → Differ (λ (s : SubGroup). s.row.num) ss → Names ss naming a → Names ss naming b → a ≡ b
 one_named ss None None None apart p q = refl
 one_named ss None None (Some b) apart p q = absurd q
@@ -298,7 +298,7 @@ same_later : (format : Format) (D E : Database) → D.trees ≡ E.trees → (t :
 same_later One D E same t = refl
 same_later Two D E same t = ap (λ (db : Trees). db t) same
 
--- databases with the same rows spell one airspace of a format at most
+-- Databases with the same rows represent at most one airspace of a format.
 pub one_airspace_of : (format : Format) (D E : Database) (a b : Airspace) → D.trees ≡ E.trees → SpellsAs format D a → SpellsAs format E b → a ≡ b
 one_airspace_of format D E a b same p q =
     let tree = λ (t : ℕ). ap (λ (db : Trees). db t) same in

@@ -1,4 +1,4 @@
--- How the schemas of the kinds of databases stand.
+-- Proofs about the presence of tables in the schemas of the formats.
 use Rattle.std.proofs.Common.{◌≡◌, refl}
 use Rattle.sqlite_tied.specs.Compute.{everything}
 use Rattle.space_sql_schema.specs.Tables.{no_schema, first_schema, second_schema}

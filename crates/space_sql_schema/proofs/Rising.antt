@@ -1,4 +1,4 @@
--- The rows of the entities of an airspace, in order.
+-- Proofs about the order of the rows of an airspace's entities.
 use Rattle.std.specs.Prelude.{◌≡◌, ◌⊎◌, ℕ, suc, ℤ, pos, ◌<◌, List, [], ◌∷◌, ◌++◌, map, IsPermutation, Option, Some, None, refl, false}
 use Rattle.std.specs.List.{AllByRecursion, AllZip, flat_map}
 use Rattle.std.specs.Ordering.{int_cmp, ordering_then, is_gt}
@@ -40,11 +40,11 @@ volume_total = then_total (on_total (λ (v : VolumeRow). v.entity) int_cmp_total
 pub cell_total : IsTotalOrder cell_cmp
 cell_total = then_total (on_total (λ (c : CellRow). c.entity) int_cmp_total) (then_total (on_total (λ (c : CellRow). c.volume) int_cmp_total) (on_total (λ (c : CellRow). c.place) int_cmp_total))
 
--- a list has one rising order
+-- A list has one ascending order.
 pub rises_once : {X : Type 0} (cmp : X → X → Ordering) → IsTotalOrder cmp → (xs ys : List X) → IsAscending (λ a b. cmp a b ≡ Less) xs → IsAscending (λ a b. cmp a b ≡ Less) ys → IsPermutation xs ys → ys ≡ xs
 rises_once cmp total xs ys p q same = sorted_unique cmp total xs ys p same (sorted_from_ascending cmp total ys (ascending_weaker _ (λ a b. is_gt (cmp a b) ≡ false) (λ a b h. ap is_gt h) ys q))
 
--- what rises piece by piece rises
+-- A flattened list is ascending if its parts and their elements are.
 pub ascending_flat : {A B : Type 0} (R : B → B → Type 0) (S : A → A → Type 0) (P : A → Type 0) (f : A → List B) → ((a b : A) → P a → P b → S a b → AllByRecursion (λ x. AllByRecursion (R x) (f b)) (f a))
     → ((a : A) → P a → IsAscending R (f a)) → (xs : List A) → AllByRecursion P xs → IsAscending S xs → IsAscending R (flat_map f xs)
 ascending_flat R S P f cross own [] all up = tt
@@ -221,7 +221,7 @@ all_sub_cells_rise serial subs each up = ascending_flat SubCellLess IsSubBefore 
 
 -- ---- the rows of `naming`
 
--- the number of the entity in a row of `naming`
+-- The number of the entity in a row of `naming`.
 pub named_in : Row → ℤ
 named_in (Int n ∷ rest) = n
 named_in _ = pos 0

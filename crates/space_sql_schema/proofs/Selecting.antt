@@ -1,4 +1,4 @@
--- What queries on one table show, and what updates and deletes leave.
+-- Proofs about queries on one table, and about what updates and deletes leave.
 use Rattle.std.proofs.Common.{◌≡◌, ℕ, List, [], ◌∷◌, ◌++◌, map, filter, flat_map, slice_get, Bool, true, false, cond, pos, negsuc, None, Some, Ok, refl, sym, ap, subst, ◌∙◌}
 use Rattle.std.specs.Prelude.{IsPermutation}
 use Rattle.std.specs.List.{list_all}
@@ -30,11 +30,11 @@ use Rattle.space_sql_schema.proofs.Steps.{went, same_value}
 abbrev pub equals : Term → Term → Term
 equals a b = op2 (Compare Eq Binary) a b
 
--- of the rows of a tree that pass the tests, these terms
+-- The query that shows these terms for the rows of a tree that pass the tests.
 abbrev pub query_of : ℕ → List Term → List Term → Query
 query_of t tests shown = record { from = inner t end; filter = tests; group = None; project = shown; distinct = false; collations = []; order = []; limit = lit (Int (negsuc 0)); offset = lit (Int (pos 0)) }
 
--- the key of meta is 1
+-- The test that the key of `meta` is 1.
 abbrev pub is_one : List Term
 is_one = equals (col 1 0) (lit (Int (pos 1))) ∷ []
 
@@ -43,7 +43,7 @@ kept_as_filter p f [] = refl
 kept_as_filter p f (x ∷ xs) = elim (p x) as (λ b. cond b (f x ∷ []) [] ++ flat_map (λ x. cond (p x) (f x ∷ []) []) xs ≡ map f (cond b (x ∷ filter p xs) (filter p xs)))
     [ true ↦ ap (λ l. f x ∷ l) (kept_as_filter p f xs) | false ↦ kept_as_filter p f xs ]
 
--- a query on one table shows the rows that pass, in some order
+-- A query on one table shows the rows that pass, in some order.
 pub shows : (t : ℕ) (fs project : List Term) (db : Trees) (params : Row) (rows : List Row) → overlay db [] t ≡ db t → IsAnswer (query_of t fs project) (overlay db []) params rows
     → IsPermutation (map (λ r. eval_all project (params ∷ r ∷ [])) (filter (λ r. list_all (holds (params ∷ r ∷ [])) fs) (db t))) rows
 shows t fs project db params rows here a =

@@ -1,4 +1,4 @@
--- What a statement in a transaction leaves.
+-- Proofs about the effect of a statement in a transaction.
 use Rattle.std.proofs.Common.{arith, ◌≡◌, ◌⊎◌, inl, inr, ℕ, ℤ, List, [], slice_get, Bool, true, false, cond, Option, Some, None, Ok, Err, Result, OnOk, OnErr, refl, sym, ap, subst, ◌∙◌, length, ◌/◌}
 use Rattle.std.specs.Prelude.{IsTrue}
 use Rattle.sqlite.specs.declared.types.Value.{Value}
@@ -61,7 +61,7 @@ chosen table top e = ap (λ b. cond b (Above top) Chosen) e
 counts_same : (task : Task) (mid next : Trees) (counter : Option Row) (top : ℤ) → task.table.is_counted ≡ false → Counts task mid counter top (Ok next) → next ≡ mid
 counts_same task mid next counter top e h = same_value (rw e at h)
 
--- what an INSERT of values leaves
+-- Lemmas about the effect of an INSERT of values.
 module _ (schema : Schema) (old new : State) (params : Row) (table : Table) (at : ℕ) (terms : List Term) (width : ℕ) (text : List ℕ) (count : ℕ) (has : old.now.schema ≡ schema) (listed : slice_get schema.tables at ≡ Some table)
     (uncounted : table.is_counted ≡ false) where
   pub record Inserted : Type 0 where
@@ -103,7 +103,7 @@ inside_keeps old new sql params (Ok n) h = record { was_open = λ _. h.1.was_ope
 inside_keeps old new sql params (Err e) (inl h) = kept_keeps old new h.1
 inside_keeps old new sql params (Err e) (inr h) = unchanged_keeps old new h.2
 
--- whatever a statement in a transaction does, the last commit stands
+-- No statement in a transaction changes the last commit.
 pub keeps : (old new : State) (sql : List ℕ) (params : Row) (r : Result ℕ Error) → (old.in_transaction ≡ false → new ≡ old) → (IsTrue old.in_transaction → ExecutesInside 0 sql params old new r) → KeepsCommit old new
 keeps old new sql params r ended runs = elim (cases_Bool old.in_transaction) [
   | inl on ↦ inside_keeps old new sql params r (runs on)
@@ -118,7 +118,7 @@ pub ok_map : {X : Type 0} (r : Result X Error) (A B : Type 0) → OnOk r A → (
 ok_map (Ok x) A B a f = f a
 ok_map (Err e) A B a f = tt
 
--- a statement alone
+-- A single statement is a step.
 pub steps_by : (old new : State) (sql : List ℕ) (params : Row) (r : Result ℕ Error) (X : Type 0) (e : Error) (R : Database → Database → Type 0) → (old.in_transaction ≡ false → (r ≡ Err e) × X) → (old.in_transaction ≡ false → new ≡ old)
     → (HasCleanDisk new → IsTrue old.in_transaction → ExecutesInside 0 sql params old new r) → Survives old new (λ _. ⊥) → (Executes sql params old new r → OnOk r (R old.now new.now)) → making.Steps R old new r
 steps_by old new sql params r X e R ended off runs survives each = record {
@@ -135,12 +135,12 @@ pub leads_on : (old new : State) (sql : List ℕ) (params : Row) (r : Result ℕ
     → (HasCleanDisk new → IsTrue old.in_transaction → ExecutesInside 0 sql params old new r) → Survives old new (λ _. ⊥) → (Executes sql params old new r → A old.now → OnOk r (B new.now)) → Leads A B old new r
 leads_on old new sql params r X e A B ended off runs survives each = steps_by old new sql params r X e (λ before after. A before → B after) ended off runs survives (λ h. turned r (A old.now) (B new.now) (each h))
 
--- the same of whatever rows there are
+-- A step that holds for each value holds for all values.
 pub of_all : {X T : Type 0} (r : Result X Error) (A B : T → Type 0) → ((t : T) → A t → OnOk r (B t)) → OnOk r ((t : T) → A t → B t)
 of_all (Ok x) A B f = f
 of_all (Err e) A B f = tt
 
--- and one after the other
+-- Steps compose.
 module _ {X Y Z : Type 0} (R Q T : Database → Database → Type 0) (a b d : State) where
   pub steps_then : (x : X) (y : Y) (z : Z) → (R a.now b.now → Q b.now d.now → T a.now d.now) → making.Steps R a b (Ok x) → making.Steps Q b d (Ok y) → making.Steps T a d (Ok z)
   steps_then x y z joins p q = record {

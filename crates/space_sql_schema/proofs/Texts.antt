@@ -1,4 +1,4 @@
--- The statements that make the tables.
+-- The texts of the statements that create the tables.
 use Rattle.std.specs.Prelude.{ℕ, List, codes}
 
 abbrev pub meta_text : List ℕ

@@ -1,4 +1,4 @@
--- The airspace that tables spell after they were brought to format 2 is the one before.
+-- Proofs that an upgrade to format 2 keeps the airspace that the tables represent.
 use Rattle.std.proofs.Common.{◌≡◌, [], map, sym, subst, ◌∙◌, pos, refl, ℤ}
 use Rattle.std.specs.Prelude.{IsPermutation}
 use Rattle.std.specs.List.{flat_map}
@@ -39,7 +39,7 @@ spells_upgraded old new a p upgraded =
       apart = (subst AreApart (sym it.volumes) p.apart.0, subst AreApart (sym it.cells) p.apart.1, subst AreApart (sym it.availabilities) p.apart.2, subst AreApart (sym it.bare.1) p.apart.3);
     }
 
--- and it was spelt before, where meta said format 1
+-- If `meta` had format 1 before the upgrade, the tables represented the same airspace then.
 pub spelt_before : (old new : Database) (a : Airspace) (serial : ℤ) → old.schema ≡ first_schema → HasMeta 1 serial (old.trees 0) → IsUpgraded old.trees new → SpellsAs Two new a → SpellsAs One old a
 spelt_before old new a serial schema meta upgraded p =
     let it = upgraded serial meta in
@@ -67,7 +67,7 @@ spelt_before old new a serial schema meta upgraded p =
       apart = (subst AreApart it.volumes p.apart.0, subst AreApart it.cells p.apart.1, subst AreApart it.availabilities p.apart.2, none_apart [] refl);
     }
 
--- and the rows obey the schema
+-- After the upgrade, the rows also obey the schema.
 pub upgraded_again : (old new : Database) → Upgrades old new → (a : Airspace) → SpellsAs One old a → IsDatabase new × SpellsAs Two new a
 upgraded_again old new upgrades a p =
     let upgraded = upgrades old.trees (p.schema, (refl, (refl, (refl, (refl, (refl, tt)))))) in

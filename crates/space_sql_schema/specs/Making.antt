@@ -1,4 +1,4 @@
--- What a statement of a transaction leaves, and what its end leaves.
+-- Definitions of the effects of a statement in a transaction and of its end.
 use Rattle.std.specs.Prelude.{◌≡◌, ℕ, ℤ, pos, nat_lt, if◌then◌else◌, true, List, [], ◌∷◌, map, IsTrue, Result, OnOk}
 use Rattle.std.specs.List.{AllByRecursion}
 use Rattle.sqlite_trees.specs.Tree.{Trees}
@@ -14,17 +14,17 @@ use Rattle.space_sql_schema.specs.declared.format.Format.TheVariants.{One, Two}
 use Rattle.space_sql_schema.specs.Tables.{no_schema, first_schema, second_schema}
 use Rattle.space_sql_schema.specs.Spelling.{SpellsAs, meta_columns}
 
--- the tables of a schema are there and no other, and these are their rows
+-- Holds if the database has exactly the tables of the schema, with these rows.
 abbrev pub HasRows : Schema → Trees → Database → Type 0
 HasRows schema rows db =
     (db.schema ≡ schema) × AllByRecursion (λ t. db.trees t.tree ≡ rows t.tree) schema.tables
 
--- the tables of a schema are there and no other, and they are empty
+-- Holds if the database has exactly the tables of the schema, and they are empty.
 abbrev pub IsBare : Schema → Database → Type 0
 IsBare schema db = HasRows schema (λ _. []) db
 
--- What statements do in a transaction that goes on: R holds of the database before and that after.
--- Whatever comes of them, the last commit stands, and a crash leaves what it would have left before.
+-- Holds if R relates the databases before and after the statements of an open transaction. Whatever
+-- the result, the last commit stays. A crash leaves what it would have left before.
 pub record Steps {X : Type 0} (R : Database → Database → Type 0) (old new : State)
     (result : Result X Error) : Type 0 where
   pub done : HasCleanDisk new
@@ -32,66 +32,69 @@ pub record Steps {X : Type 0} (R : Database → Database → Type 0) (old new : 
   pub kept : HasCleanDisk new → KeepsCommit old new
   pub survives : Survives old new (λ _. ⊥)
 
--- they lead from a database of which A holds to one of which B does
+-- Holds if the statements lead from a database with A to one with B.
 abbrev pub Leads : {X : Type 0} → (A B : Database → Type 0) → State → State → Result X Error
     → Type 0
 Leads A B old new result = Steps (λ before after. A before → B after) old new result
 
--- an airspace is spelt that is empty and was never changed
+-- Holds if the database represents an empty airspace that was never changed.
 abbrev pub SpellsEmptyAs : Format → Database → Type 0
 SpellsEmptyAs format db = SpellsAs format db (empty_at 0)
 
 abbrev pub SpellsEmpty : Database → Type 0
 SpellsEmpty db = SpellsEmptyAs Two db
 
--- the database of an empty airspace: an `IsDatabase` is what an opening asks of its rows
+-- Holds if the database represents an empty airspace, and its rows obey `IsDatabase`, which opening
+-- requires.
 abbrev pub IsMade : Database → Type 0
 IsMade db = IsDatabase db × SpellsEmpty db
 
--- trees that a commit may have left: those of a database of which P holds, whose trees obey its
--- schema
+-- Holds if the trees are those of a database with P whose rows obey its schema. A commit may have
+-- left them.
 abbrev pub AreOf : (P : Database → Type 0) → Trees → Type 0
 AreOf P trees = (db : Database) × (trees ≡ db.trees) × IsDatabase db × P db
 
--- what is seen is committed
+-- Holds if the visible database is committed.
 abbrev pub IsSettled : State → Type 0
 IsSettled s = IsTrue s.is_open × (s.committed ≡ s.now)
 
--- what is seen is committed, and spells an empty airspace where there was no table
+-- Holds if the visible database is committed, and represents an empty airspace if there was no
+-- table before.
 abbrev pub AreMade : State → State → Type 0
 AreMade old new = (old.now.schema ≡ no_schema → SpellsEmpty new.now) × IsSettled new
 
--- what is seen and what is committed are what was committed
+-- Holds if both the visible and the committed database are what was committed before.
 abbrev pub IsUndone : State → State → Type 0
 IsUndone old new = (new.now ≡ old.committed) × (new.committed ≡ old.committed)
 
--- the same of tables of format 1
+-- The same as `AreMade`, for tables of format 1.
 abbrev pub AreMadeFirst : State → State → Type 0
 AreMadeFirst old new = (old.now.schema ≡ no_schema → SpellsEmptyAs One new.now) × IsSettled new
 
--- trees that a commit may have left: those of an empty airspace, where there was no table
+-- Holds if, when there was no table before, the trees are those of an empty airspace. A commit may
+-- have left them.
 abbrev pub MayBeMade : State → Trees → Type 0
 MayBeMade old trees = old.now.schema ≡ no_schema → AreOf SpellsEmpty trees
 
 -- ---- from format 1 to format 2
 
--- the rows of the tables of format 1, and none of those that come
+-- The rows of the tables of format 1, with the later tables empty.
 abbrev pub first_rows : Trees → Trees
 first_rows trees t = if nat_lt t 10 then trees t else []
 
--- what statements do that make tables beside those of format 1: the rows stay, whatever they are,
--- and the new tables are empty
+-- Holds if the statements add tables beside those of format 1. The rows stay, whatever they are,
+-- and the new tables are empty.
 abbrev pub AddsTables : (before after : Schema) → Database → Database → Type 0
 AddsTables before after old new =
     (trees : Trees) → HasRows before (first_rows trees) old → HasRows after (first_rows trees) new
 
--- the one row of meta, with a format and a serial
+-- Holds if `meta` has one row, with this format and this serial.
 abbrev pub HasMeta : ℕ → ℤ → List Row → Type 0
 HasMeta format serial rows =
     map meta_columns rows ≡ (Int (pos 1) ∷ Int (pos format) ∷ Int serial ∷ []) ∷ []
 
--- Tables of format 2, of which those of format 1 have the rows of these trees, but that the format
--- in meta is 2, and the others have none.
+-- Holds if the tables of format 1 have the rows of these trees, except that the format in `meta` is
+-- 2. The other tables of format 2 are empty.
 pub record HasUpgraded (trees : Trees) (serial : ℤ) (db : Database) : Type 0 where
   pub schema : db.schema ≡ second_schema
   pub meta : HasMeta 2 serial (db.trees 0)
@@ -102,26 +105,28 @@ pub record HasUpgraded (trees : Trees) (serial : ℤ) (db : Database) : Type 0 w
   pub bare : (db.trees 10 ≡ []) × (db.trees 12 ≡ []) × (db.trees 15 ≡ [])
   pub sound : IsDatabase db
 
--- they are that where meta said format 1
+-- Holds if the database is upgraded from these trees, when `meta` had format 1.
 abbrev pub IsUpgraded : Trees → Database → Type 0
 IsUpgraded trees db = (serial : ℤ) → HasMeta 1 serial (trees 0) → HasUpgraded trees serial db
 
--- what a statement does that sets the format
+-- Holds if a statement sets the format to 2.
 abbrev pub SetsFormat : Database → Database → Type 0
 SetsFormat old new =
     (trees : Trees) → HasRows second_schema (first_rows trees) old → IsUpgraded trees new
 
--- what statements do that bring tables of format 1 to format 2
+-- Holds if statements upgrade tables of format 1 to format 2.
 abbrev pub Upgrades : Database → Database → Type 0
 Upgrades old new =
     (trees : Trees) → HasRows first_schema (first_rows trees) old → IsUpgraded trees new
 
--- what is seen is committed, and spells the airspace in format 2 that was spelt in format 1
+-- Holds if the visible database is committed, and represents in format 2 the airspace that it
+-- represented in format 1.
 abbrev pub AreUpgraded : State → State → Type 0
 AreUpgraded old new =
     ((a : Airspace) → SpellsAs One old.now a → SpellsAs Two new.now a) × IsSettled new
 
--- trees that a commit may have left: those of format 2 with the airspace that was spelt in format 1
+-- Holds if the trees are those of format 2 for the airspace that was represented in format 1. A
+-- commit may have left them.
 abbrev pub MayBeUpgraded : State → Trees → Type 0
 MayBeUpgraded old trees =
     (a : Airspace) → SpellsAs One old.now a → AreOf (λ db. SpellsAs Two db a) trees

@@ -1,4 +1,4 @@
--- Which of the tables of the formats a schema has.
+-- Definitions of which tables of the formats a schema has.
 use Rattle.std.specs.Prelude.{ℕ, Bool, ◌&&◌, if◌then◌else◌, List}
 use Rattle.std.specs.List.{list_all, list_any}
 use Rattle.sqlite_schema.specs.Names.{same_name}
@@ -8,27 +8,28 @@ use Rattle.space_sql_schema.specs.declared.format.Format.TheVariants.{One, Two}
 use Rattle.space_sql_schema.specs.declared.presence.Presence.{Presence}
 use Rattle.space_sql_schema.specs.declared.presence.Presence.TheVariants.{Missing, Partial, Whole}
 
--- names are compared without case
+-- Returns true if the table has this name. Case is ignored.
 abbrev pub is_named : List ℕ → Table → Bool
 is_named name table = same_name table.name name
 
 abbrev pub has_column : List ℕ → Table → Bool
 has_column name table = list_any (λ c. same_name c.name name) table.columns
 
--- the table has the name of ours, and all our columns
+-- Returns true if the table has the name of the expected one, and all its columns.
 abbrev pub stands_for : Table → Table → Bool
 stands_for ours table =
     is_named ours.name table && list_all (λ c. has_column c.name table) ours.columns
 
--- each of these tables is there
+-- Returns true if each expected table exists.
 abbrev pub has_all : List Table → List Table → Bool
 has_all ours tables = list_all (λ own. list_any (stands_for own) tables) ours
 
--- a table has the name of one of these
+-- Returns true if a table has the name of an expected one.
 abbrev pub has_some : List Table → List Table → Bool
 has_some ours tables = list_any (λ table. list_any (λ own. is_named own.name table) ours) tables
 
--- format 2 has the tables of format 1, too; of format 1 is what has no table that came later
+-- The presence of the tables. Format 2 includes the tables of format 1. Tables are of format 1 only
+-- if none of the later tables exists.
 abbrev pub presence_in : List Table → Presence
 presence_in tables =
     if has_all first_schema.tables tables

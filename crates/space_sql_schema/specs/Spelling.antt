@@ -1,4 +1,4 @@
--- Which airspace the tables spell.
+-- Definitions of the airspace that the tables represent.
 use Rattle.std.specs.Prelude.{◌≡◌, ℕ, ℤ, pos, ◌≤◌, ⊤, List, [], ◌∷◌, map, IsPermutation, Option, Some, None}
 use Rattle.std.specs.List.{AllByRecursion, flat_map}
 use Rattle.std.specs.Ordering.{int_cmp}
@@ -44,13 +44,13 @@ volume_values r = Int r.entity ∷ Int r.place ∷ Int r.alt_lower ∷ Int r.alt
 abbrev pub cell_values : CellRow → Row
 cell_values r = Int r.entity ∷ Int r.volume ∷ Int r.place ∷ Text r.token ∷ Int r.lo ∷ Int r.hi ∷ []
 
--- the number of an availability
+-- The number of an availability.
 abbrev pub availability_number : Availability → ℤ
 availability_number Unknown = pos 0
 availability_number Normal = pos 1
 availability_number Down = pos 2
 
--- a USS with what it has set
+-- The values of a USS and the availability that it set.
 abbrev pub availability_values : List ℕ × VersionedAvailability → Row
 availability_values s = Text s.0 ∷ Int (availability_number s.1.0) ∷ Text s.1.1 ∷ []
 
@@ -62,17 +62,19 @@ sub_values r = Int r.num ∷ Text r.id ∷ Text r.manager ∷ Int r.serial ∷ T
 abbrev pub sub_cell_values : SubCellRow → Row
 sub_cell_values r = Int r.subscription ∷ Int r.place ∷ Text r.token ∷ Int r.lo ∷ Int r.hi ∷ []
 
--- the number of an entity and that of the subscription that it names
+-- The values of an entity's number and the number of the subscription that it references.
 abbrev pub naming_values : ℤ → ℤ → Row
 naming_values entity subscription = Int entity ∷ Int subscription ∷ []
 
--- the rows of an entity with this number, where it names a subscription by its number or none
+-- The rows of `naming` of an entity, given the number of the subscription that it references, if
+-- any.
 abbrev pub naming_rows : ℤ → Option ℤ → List Row
 naming_rows entity None = []
 naming_rows entity (Some subscription) = naming_values entity subscription ∷ []
 
--- Where `sqlite` keeps them: place 0 of a row is its rowid, which is the column `one` of meta, `num`
--- of entity and subscription, and `entity` of naming; the columns follow.
+-- The columns at the positions where `sqlite` stores them. Position 0 of a row is its rowid: the
+-- column `one` of `meta`, `num` of `entity` and `subscription`, and `entity` of `naming`. The
+-- columns follow.
 
 abbrev pub meta_columns : Row → Row
 meta_columns r = column r 0 ∷ column r 2 ∷ column r 3 ∷ []
@@ -98,20 +100,20 @@ two_columns r = column r 0 ∷ column r 2 ∷ []
 abbrev pub three_columns : Row → Row
 three_columns r = column r 1 ∷ column r 2 ∷ column r 3 ∷ []
 
--- ---- what is spelt
+-- ---- the airspace of the rows
 
--- a subscription and its rows in the two tables
+-- A subscription and its rows in the two tables.
 pub record SubGroup : Type 0 where
   pub row : SubRow
   pub cells : List SubCellRow
   pub sub : Sub
 
--- a subscription under its id
+-- A subscription under its id.
 abbrev pub sub_pair_of : SubGroup → ℕ × Sub
 sub_pair_of g = (g.sub.id, g.sub)
 
--- the rows spell the subscription, and neither its serial nor its index is over the serial of the
--- airspace
+-- Holds if the rows represent the subscription, and neither its serial nor its index exceeds the
+-- serial of the airspace.
 pub record IsSubGroup (serial : ℕ) (g : SubGroup) : Type 0 where
   pub spelt : SpellsSub g.row g.cells g.sub
   pub most : g.sub.serial ≤ serial
@@ -120,8 +122,8 @@ pub record IsSubGroup (serial : ℕ) (g : SubGroup) : Type 0 where
 abbrev pub IsSubBefore : SubGroup → SubGroup → Type 0
 IsSubBefore g h = int_cmp g.row.num h.row.num ≡ Less
 
--- an entity and its rows in the three tables, and the number of the subscription to which its row of
--- `naming` refers, if it has one
+-- An entity, its rows in the three tables, and the number of the subscription to which its row of
+-- `naming` refers, if it has one.
 pub record Group : Type 0 where
   pub row : EntityRow
   pub volumes : List VolumeRow
@@ -129,28 +131,28 @@ pub record Group : Type 0 where
   pub naming : Option ℤ
   pub entity : Entity
 
--- an entity under its key
+-- An entity under its key.
 abbrev pub pair_of : Group → EntityKey × Entity
 pair_of g = (key_of g.entity, g.entity)
 
--- the rows of `naming` that an entity has, one at most
+-- The rows of `naming` of an entity, at most one.
 abbrev pub naming_rows_of : Group → List Row
 naming_rows_of g = naming_rows g.row.num g.naming
 
--- this number and id are those of one of the subscriptions
+-- Holds if the number and the id belong to one of the subscriptions.
 abbrev pub IsSubNumber : List SubGroup → ℤ → ℕ → Type 0
 IsSubNumber subs num id = Has {X = ℤ × ℕ} (map (λ s. (s.row.num, s.sub.id)) subs) (num, id)
 
--- the number in a row of `naming` is that of the subscription with the id that is named; where there
--- is no row none is named
+-- Holds if the number in a row of `naming` is that of the subscription with the referenced id.
+-- Without a row, no subscription is referenced.
 abbrev pub Names : List SubGroup → Option ℤ → Option ℕ → Type 0
 Names subs None None = ⊤
 Names subs None (Some id) = ⊥
 Names subs (Some num) None = ⊥
 Names subs (Some num) (Some id) = IsSubNumber subs num id
 
--- the rows spell the entity, its row of `naming` refers to the subscription that it names, and its
--- serial is not over that of the airspace
+-- Holds if the rows represent the entity, and its row of `naming` refers to the subscription that
+-- it references. Its serial does not exceed that of the airspace.
 pub record IsGroup (serial : ℕ) (subs : List SubGroup) (g : Group) : Type 0 where
   pub spelt : SpellsEntity g.row g.volumes g.cells (subscription_of g.entity.nature) g.entity
   pub names : Names subs g.naming (subscription_of g.entity.nature)
@@ -159,31 +161,32 @@ pub record IsGroup (serial : ℕ) (subs : List SubGroup) (g : Group) : Type 0 wh
 abbrev pub IsBefore : Group → Group → Type 0
 IsBefore g h = int_cmp g.row.num h.row.num ≡ Less
 
--- the texts of an availability read by their types
+-- Holds if the texts of an availability are valid for their types.
 pub record IsStated (s : List ℕ × VersionedAvailability) : Type 0 where
   pub uss : name_fault s.0 ≡ None
   pub version : ovn_fault s.1.1 ≡ None
 
--- The rowids of a table are numbers, and no two rows have one. `sqlite` keeps its tables so, and no
--- clause of it says so.
+-- Holds if the rowids of a table are numbers, and no two rows share one. `sqlite` stores its tables
+-- so, but none of its clauses says so.
 abbrev pub AreApart : List Row → Type 0
 AreApart rows = (ids : List ℤ) × IsAscending (λ m n. int_cmp m n ≡ Less) ids
     × IsPermutation (map (λ n. Int n) ids) (map rowid rows)
 
--- the rows of a table that came with format 2: in format 1 there are none
+-- The rows of a table that format 2 added. In format 1 there are none.
 abbrev pub later_rows : Format → Database → ℕ → List Row
 later_rows One db tree = []
 later_rows Two db tree = db.trees tree
 
--- The tables are those of the format and no other; meta has its one row; the rows of subscription
--- and subscription_cell fall into groups, one for each subscription of the airspace; those of entity,
--- volume, cell and naming into groups, one for each entity; and the rows of availability are what
--- each USS has set. So of format 1 the airspace has no subscription, and no entity names one.
+-- Holds if the tables are exactly those of the format, and they represent the airspace. The table
+-- `meta` has its one row. The rows of `subscription` and `subscription_cell` form one group for
+-- each subscription. Those of `entity`, `volume`, `cell` and `naming` form one group for each
+-- entity. The rows of `availability` are what each USS has set. So in format 1 the airspace has no
+-- subscription, and no entity references one.
 pub record SpellsAs (format : Format) (db : Database) (a : Airspace) : Type 0 where
   pub schema : db.schema ≡ schema_of format
   pub meta : map meta_columns (db.trees 0) ≡ meta_values (format_number format) a.serial ∷ []
   pub most : a.serial ≤ max_serial
-  -- by rising numbers
+  -- In ascending order of numbers.
   pub subs : List SubGroup
   pub subs_rising : IsAscending IsSubBefore subs
   pub each_sub : AllByRecursion (IsSubGroup a.serial) subs
@@ -192,7 +195,7 @@ pub record SpellsAs (format : Format) (db : Database) (a : Airspace) : Type 0 wh
   pub sub_cells : IsPermutation (flat_map (λ g. map sub_cell_values g.cells) subs)
       (map five_columns (later_rows format db 12))
   pub subs_kept : IsPermutation (map sub_pair_of subs) (entries a.subscriptions)
-  -- by rising numbers
+  -- In ascending order of numbers.
   pub groups : List Group
   pub rising : IsAscending IsBefore groups
   pub each : AllByRecursion (IsGroup a.serial subs) groups
@@ -211,6 +214,6 @@ pub record SpellsAs (format : Format) (db : Database) (a : Airspace) : Type 0 wh
   pub apart : AreApart (db.trees 3) × AreApart (db.trees 5) × AreApart (db.trees 8)
       × AreApart (later_rows format db 12)
 
--- the same of the format in which an airspace is kept
+-- Holds if the tables represent the airspace in format 2, the current format.
 abbrev pub Spells : Database → Airspace → Type 0
 Spells db a = SpellsAs Two db a

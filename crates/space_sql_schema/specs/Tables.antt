@@ -1,4 +1,4 @@
--- The tables of formats 1 and 2.
+-- Definitions of the tables of formats 1 and 2.
 use Rattle.std.specs.Prelude.{true, false, [], ◌∷◌, Some, None, codes, map, List, Option, ℕ, pos}
 use Rattle.sqlite.specs.Collation.TheVariants.{Binary}
 use Rattle.sqlite.specs.declared.types.Value.TheVariants.{Null, Int}
@@ -19,9 +19,9 @@ use Rattle.sqlite_catalog.specs.Listing.{automatic}
 use Rattle.space_sql_schema.specs.declared.format.Format.{Format}
 use Rattle.space_sql_schema.specs.declared.format.Format.TheVariants.{One, Two}
 
--- ---- columns and checks, in which the columns of a row count from 1
+-- ---- columns and checks; the columns of a row count from 1
 
--- a column that holds a value of its kind and no other
+-- A column that holds only values of its kind.
 abbrev pub filled : List ℕ → Kind → Column
 filled name kind = record {
   name = name;
@@ -50,11 +50,12 @@ is_up_to k most = op2 (Compare Le Binary) (col 1 k) (lit (Int (pos most)))
 abbrev pub is_between : ℕ → ℕ → ℕ → Term
 is_between k least most = op2 And (is_from k least) (is_up_to k most)
 
--- the one column is at most the other
+-- The check that one column is at most the other.
 abbrev pub are_in_order : ℕ → ℕ → Term
 are_in_order k l = op2 (Compare Le Binary) (col 1 k) (col 1 l)
 
--- these columns name a row of another table; this is done as that row is deleted
+-- A reference from these columns to a row of another table, with the action when that row is
+-- deleted.
 abbrev pub refers_to : List ℕ → List ℕ → List (List ℕ) → Action → Reference
 refers_to columns parent parent_columns action =
     record {
@@ -66,16 +67,16 @@ refers_to columns parent parent_columns action =
       is_deferred = false;
     }
 
--- these columns name a row of another table, with which the row goes
+-- A reference that deletes the row together with the referenced row.
 abbrev pub goes_with : List ℕ → List ℕ → List (List ℕ) → Reference
 goes_with columns parent parent_columns = refers_to columns parent parent_columns Cascade
 
--- these columns name a row of another table, which stays as long as they do
+-- A reference that prevents the deletion of the referenced row.
 abbrev pub holds_on_to : List ℕ → List ℕ → List (List ℕ) → Reference
 holds_on_to columns parent parent_columns = refers_to columns parent parent_columns Restrict
 
--- a table with this tree: its columns, the one that numbers its rows, its key, what no two rows
--- share, its checks and references
+-- A table with this tree: its columns, the column that numbers its rows, its key, its unique
+-- constraints, its checks and its references.
 abbrev pub table_of : List ℕ → ℕ → List Column → Option ℕ → List ℕ → List (List ℕ) → List Term
     → List Reference → Table
 table_of name tree columns key primary uniques checks references = record {
@@ -95,14 +96,14 @@ table_of name tree columns key primary uniques checks references = record {
 
 -- ---- the tables
 
--- `one` is its key and is 1
+-- The table `meta`. Its key `one` is 1.
 abbrev pub meta : ℕ → Table
 meta tree =
     table_of (codes "meta") tree
     (number (codes "one") ∷ number (codes "format") ∷ number (codes "serial") ∷ [])
     (Some 0) (0 ∷ []) [] (is_number 0 1 ∷ is_from 3 0 ∷ []) []
 
--- `num` is its key, and a kind and an id stand once
+-- The table `entity`. Its key is `num`, and a kind with an id is unique.
 abbrev pub entity : ℕ → Table
 entity tree =
     table_of (codes "entity") tree
@@ -113,7 +114,8 @@ entity tree =
     (op2 Or (is_number 2 0) (is_number 2 1)
     ∷ is_between 5 0 4 ∷ is_between 6 1 2147483647 ∷ is_from 7 0 ∷ []) []
 
--- an entity and a place are its key, and it goes with the row of its entity
+-- The table `volume`. Its key is an entity and a place. Its rows are deleted with the row of the
+-- entity.
 abbrev pub volume : ℕ → Table
 volume tree =
     table_of (codes "volume") tree
@@ -122,7 +124,8 @@ volume tree =
     None (1 ∷ 2 ∷ []) ((1 ∷ 2 ∷ []) ∷ []) (are_in_order 3 4 ∷ are_in_order 5 6 ∷ [])
     (goes_with (1 ∷ []) (codes "entity") (codes "num" ∷ []) ∷ [])
 
--- an entity, a volume and a place are its key, and it goes with the row of its volume
+-- The table `cell`. Its key is an entity, a volume and a place. Its rows are deleted with the row
+-- of the volume.
 abbrev pub cell : ℕ → Table
 cell tree =
     table_of (codes "cell") tree
@@ -131,14 +134,14 @@ cell tree =
     None (1 ∷ 2 ∷ 3 ∷ []) ((1 ∷ 2 ∷ 3 ∷ []) ∷ []) (are_in_order 5 6 ∷ [])
     (goes_with (1 ∷ 2 ∷ []) (codes "volume") (codes "entity" ∷ codes "place" ∷ []) ∷ [])
 
--- a USS is its key
+-- The table `availability`. Its key is a USS.
 abbrev pub availability : ℕ → Table
 availability tree =
     table_of (codes "availability") tree
     (text (codes "uss") ∷ number (codes "state") ∷ text (codes "version") ∷ [])
     None (1 ∷ []) ((1 ∷ []) ∷ []) (is_between 2 0 2 ∷ []) []
 
--- the index on `lo` and `hi` of the table `cell`
+-- The index on `lo` and `hi` of the table `cell`.
 abbrev pub cell_range : ℕ → ℕ → Index
 cell_range tree table = record {
   name = codes "cell_range";
@@ -149,7 +152,8 @@ cell_range tree table = record {
   is_unique = false;
 }
 
--- `num` is its key, and an id stands once; it is for intents, for constraints, or for both
+-- The table `subscription`. Its key is `num`, and an id is unique. A row is for intents, for
+-- constraints, or for both.
 abbrev pub subscription : ℕ → Table
 subscription tree =
     table_of (codes "subscription") tree
@@ -163,7 +167,8 @@ subscription tree =
     ∷ op2 Or (is_number 9 0) (is_number 9 1) ∷ op2 Or (is_number 8 1) (is_number 9 1)
     ∷ are_in_order 10 11 ∷ are_in_order 12 13 ∷ []) []
 
--- a subscription and a place are its key, and it goes with the row of its subscription
+-- The table `subscription_cell`. Its key is a subscription and a place. Its rows are deleted with
+-- the row of the subscription.
 abbrev pub subscription_cell : ℕ → Table
 subscription_cell tree =
     table_of (codes "subscription_cell") tree
@@ -172,7 +177,8 @@ subscription_cell tree =
     None (1 ∷ 2 ∷ []) ((1 ∷ 2 ∷ []) ∷ []) (are_in_order 4 5 ∷ [])
     (goes_with (1 ∷ []) (codes "subscription") (codes "num" ∷ []) ∷ [])
 
--- an entity is its key; it goes with the row of its entity, and holds on to that of a subscription
+-- The table `naming`. Its key is an entity. Its row is deleted with the row of the entity, and
+-- prevents the deletion of the row of the subscription.
 abbrev pub naming : ℕ → Table
 naming tree =
     table_of (codes "naming") tree
@@ -181,7 +187,7 @@ naming tree =
     (goes_with (0 ∷ []) (codes "entity") (codes "num" ∷ [])
     ∷ holds_on_to (2 ∷ []) (codes "subscription") (codes "num" ∷ []) ∷ [])
 
--- the index on `lo` and `hi` of the table `subscription_cell`
+-- The index on `lo` and `hi` of the table `subscription_cell`.
 abbrev pub subscription_cell_range : ℕ → ℕ → Index
 subscription_cell_range tree table = record {
   name = codes "subscription_cell_range";
@@ -192,7 +198,7 @@ subscription_cell_range tree table = record {
   is_unique = false;
 }
 
--- the index that keeps the first of a table's uniques
+-- The index that enforces the first unique constraint of a table.
 abbrev pub key_index : Table → List ℕ → ℕ → Index
 key_index table columns tree = automatic table 0 columns tree
 
@@ -201,8 +207,8 @@ key_index table columns tree = automatic table 0 columns tree
 abbrev pub no_schema : Schema
 no_schema = record { tables = []; indexes = []; views = [] }
 
--- the tables of format 1 and no other; each table and each index has its tree in the order in which
--- they are made
+-- The schema with exactly the tables of format 1. Each table and each index has its tree, in the
+-- order of their creation.
 abbrev pub first_schema : Schema
 first_schema = record {
   tables = meta 0 ∷ entity 1 ∷ volume 3 ∷ cell 5 ∷ availability 8 ∷ [];
@@ -213,11 +219,11 @@ first_schema = record {
   views = [];
 }
 
--- the tables that came with format 2
+-- The tables that format 2 added.
 abbrev pub later_tables : List Table
 later_tables = subscription 10 ∷ subscription_cell 12 ∷ naming 15 ∷ []
 
--- the tables of format 2 and no other: those of format 1, and then three more
+-- The schema with exactly the tables of format 2: those of format 1, followed by three more.
 abbrev pub second_schema : Schema
 second_schema = record {
   tables = meta 0 ∷ entity 1 ∷ volume 3 ∷ cell 5 ∷ availability 8 ∷ subscription 10
@@ -236,16 +242,16 @@ abbrev pub schema_of : Format → Schema
 schema_of One = first_schema
 schema_of Two = second_schema
 
--- the number of a format in `meta`
+-- The number of a format in `meta`.
 abbrev pub format_number : Format → ℕ
 format_number One = 1
 format_number Two = 2
 
--- the format in which an airspace is kept
+-- The schema of the current format.
 abbrev pub dss_schema : Schema
 dss_schema = schema_of Two
 
--- ---- the schema on the way, a table or an index a step
+-- ---- the intermediate schemas, one table or index a step
 
 abbrev pub schema_1 : Schema
 schema_1 = record { tables = meta 0 ∷ []; indexes = []; views = [] }
@@ -282,7 +288,7 @@ schema_5 = record {
   views = [];
 }
 
--- format 1 is between these
+-- Format 1 (`first_schema`) comes between `schema_5` and `schema_7`.
 
 abbrev pub schema_7 : Schema
 schema_7 = record {

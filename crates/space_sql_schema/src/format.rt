@@ -5,6 +5,6 @@
 pub enum Format {
     /// Format 1: entities and availabilities.
     One,
-    /// Format 2: subscriptions beside them, and which entity names one.
+    /// Format 2: adds subscriptions and the references of entities to them.
     Two,
 }

@@ -1,7 +1,7 @@
-//! Laws of tables, each named by a function that does nothing.
+//! Laws of tables, each stated by a function that does nothing.
 ghost use Rattle.space_sql_schema.specs.Laws.{OneAirspace};
 
-/// The tables spell one airspace at most.
+/// States that the tables represent at most one airspace.
 pub fn one_airspace()
     ensures { OneAirspace }
 {}

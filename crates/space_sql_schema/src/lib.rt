@@ -1,5 +1,5 @@
-//! The tables that keep an airspace: their schema, which airspace they spell, how they are made,
-//! and which of them a database has.
+//! The tables that store an airspace: their schema, the airspace that they represent, their
+//! creation, and their presence in a database.
 #![tactic(auto)]
 
 pub mod format;

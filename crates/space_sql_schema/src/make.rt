@@ -1,4 +1,4 @@
-//! The tables are made, in one transaction.
+//! Creation of the tables in one transaction.
 ghost use Rattle.std.specs.Prelude.{◌≡◌, false, OnOk, OnErr, IsTrue};
 ghost use Rattle.sqlite.specs.Held.{state};
 ghost use Rattle.sqlite.specs.State.{HasCleanDisk, Survives};
@@ -97,7 +97,7 @@ fn add_first_row<S: Alter>(tx: &mut Transaction<'_, S>) -> Result<usize, Error>
     )
 }
 
-// The first row of meta in tables of format 1.
+// Inserts the first row of `meta` into tables of format 1.
 fn add_old_row<S: Alter>(tx: &mut Transaction<'_, S>) -> Result<usize, Error>
     ensures same_reference { SameConnection tx.old tx.new }
     ensures leads { Within S.Store tx.old tx.new
@@ -109,7 +109,7 @@ fn add_old_row<S: Alter>(tx: &mut Transaction<'_, S>) -> Result<usize, Error>
     )
 }
 
-// The tables `meta` and `entity`.
+// Creates the tables `meta` and `entity`.
 fn make_heads<S: Alter>(tx: &mut Transaction<'_, S>) -> Result<(), Error>
     ensures same_reference { SameConnection tx.old tx.new }
     ensures leads { Within S.Store tx.old tx.new
@@ -120,7 +120,7 @@ fn make_heads<S: Alter>(tx: &mut Transaction<'_, S>) -> Result<(), Error>
     Ok(())
 }
 
-// The tables `volume` and `cell`.
+// Creates the tables `volume` and `cell`.
 fn make_extents<S: Alter>(tx: &mut Transaction<'_, S>) -> Result<(), Error>
     ensures same_reference { SameConnection tx.old tx.new }
     ensures leads { Within S.Store tx.old tx.new
@@ -131,7 +131,7 @@ fn make_extents<S: Alter>(tx: &mut Transaction<'_, S>) -> Result<(), Error>
     Ok(())
 }
 
-// The index on the ranges of cells, and the table `availability`.
+// Creates the index on the ranges of cells, and the table `availability`.
 fn make_rest<S: Alter>(tx: &mut Transaction<'_, S>) -> Result<(), Error>
     ensures same_reference { SameConnection tx.old tx.new }
     ensures leads { Within S.Store tx.old tx.new
@@ -152,7 +152,7 @@ fn make_four<S: Alter>(tx: &mut Transaction<'_, S>) -> Result<(), Error>
     Ok(())
 }
 
-// The tables of format 1.
+// Creates the tables of format 1.
 fn make_first<S: Alter>(tx: &mut Transaction<'_, S>) -> Result<(), Error>
     ensures same_reference { SameConnection tx.old tx.new }
     ensures leads { Within S.Store tx.old tx.new
@@ -163,7 +163,8 @@ fn make_first<S: Alter>(tx: &mut Transaction<'_, S>) -> Result<(), Error>
     Ok(())
 }
 
-// Those of format 1 first, so that tables that were brought to format 2 are the same.
+// Creates the tables of format 2. Those of format 1 come first, so that upgraded tables have the
+// same schema.
 fn make_both<S: Alter>(tx: &mut Transaction<'_, S>) -> Result<(), Error>
     ensures same_reference { SameConnection tx.old tx.new }
     ensures leads { Within S.Store tx.old tx.new
@@ -174,7 +175,7 @@ fn make_both<S: Alter>(tx: &mut Transaction<'_, S>) -> Result<(), Error>
     Ok(())
 }
 
-// All tables, and the first row of meta.
+// Creates all tables and the first row of `meta`.
 fn make_all<S: Alter>(tx: &mut Transaction<'_, S>) -> Result<(), Error>
     ensures same_reference { SameConnection tx.old tx.new }
     ensures leads { Within S.Store tx.old tx.new (Leads (IsBare no_schema) IsMade) result }
@@ -184,7 +185,7 @@ fn make_all<S: Alter>(tx: &mut Transaction<'_, S>) -> Result<(), Error>
     Ok(())
 }
 
-// All tables of format 1, and the first row of meta.
+// Creates all tables of format 1 and the first row of `meta`.
 fn make_all_first<S: Alter>(tx: &mut Transaction<'_, S>) -> Result<(), Error>
     ensures same_reference { SameConnection tx.old tx.new }
     ensures leads { Within S.Store tx.old tx.new
@@ -195,8 +196,10 @@ fn make_all_first<S: Alter>(tx: &mut Transaction<'_, S>) -> Result<(), Error>
     Ok(())
 }
 
-/// Makes the tables and the first row of `meta`, in one transaction. It is for a database that has
-/// no table: of any other it is only told that what an Ok leaves is committed.
+/// Creates the tables and the first row of `meta`, in one transaction.
+///
+/// It is for a database that has no table. For any other, the contract only says that `Ok` leaves a
+/// committed database.
 pub fn make_tables<S: Alter>(conn: &mut Connection<S>) -> Result<(), Error>
     requires { conn.old.in_transaction ≡ false }
     ensures ended { conn.new.in_transaction ≡ false }
@@ -214,8 +217,10 @@ pub fn make_tables<S: Alter>(conn: &mut Connection<S>) -> Result<(), Error>
     tx.commit()
 }
 
-/// Makes tables of format 1, in one transaction, as a service of before made them: for tests of the
-/// move to format 2. It is for a database that has no table.
+/// Creates tables of format 1, in one transaction, as earlier versions did, for tests of the
+/// upgrade to format 2.
+///
+/// It is for a database that has no table.
 pub fn make_format_1<S: Alter>(conn: &mut Connection<S>) -> Result<(), Error>
     requires { conn.old.in_transaction ≡ false }
     ensures ended { conn.new.in_transaction ≡ false }

@@ -1,4 +1,4 @@
-//! Which of the tables of the formats a database has.
+//! The presence of the tables of the formats in a database.
 ghost use Rattle.std.specs.Prelude.{◌≡◌};
 ghost use Rattle.std.specs.List.{list_any};
 ghost use Rattle.sqlite_schema.specs.Names.{same_name};
@@ -10,14 +10,15 @@ use crate::format::Format;
 use sqlite_schema::names::same_name;
 use sqlite_schema::schema::{Column, Schema, Table};
 
-/// How a database stands to the tables of the formats.
+/// The presence of the tables of the formats in a database.
 #[derive(Clone, Copy, Debug, PartialEq, Eq)]
 pub enum Presence {
-    /// It has none of them.
+    /// No table of the formats exists.
     Missing,
-    /// It has some, and lacks others or some of their columns.
+    /// Some tables exist, but others or some of their columns do not.
     Partial,
-    /// It has all those of a format, with their columns; of format 1, none of those that came later.
+    /// All tables of a format exist, with their columns. For format 1, none of the later tables
+    /// exists.
     Whole(Format),
 }
 
@@ -240,8 +241,9 @@ fn presence_in(tables: &[Table]) -> Presence
     }
 }
 
-/// How a schema stands to the tables of the formats. Further tables, columns and rules are not
-/// looked for. It takes no memory.
+/// Returns the presence of the tables of the formats in a schema.
+///
+/// It ignores further tables, columns and constraints. It allocates nothing.
 pub fn presence_of(schema: &Schema) -> Presence
     ensures exact { result ≡ presence_in schema.now.tables }
     ensures missing { schema.now ≡ no_schema → result ≡ Presence.Missing }
@@ -251,7 +253,7 @@ pub fn presence_of(schema: &Schema) -> Presence
     presence_in(schema.tables.as_slice())
 }
 
-/// Whether a schema has the table `meta` with its columns. It takes no memory.
+/// Returns true if a schema has the table `meta` with its columns. It allocates nothing.
 pub fn has_meta(schema: &Schema) -> bool
     ensures { result ≡ list_any (stands_for (meta 0)) schema.now.tables }
 {

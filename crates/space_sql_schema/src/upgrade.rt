@@ -1,4 +1,4 @@
-//! Tables of format 1 are brought to format 2, in one transaction.
+//! Upgrade of tables of format 1 to format 2, in one transaction.
 ghost use Rattle.std.specs.Prelude.{◌≡◌, false, OnOk, OnErr, IsTrue};
 ghost use Rattle.sqlite.specs.Held.{state};
 ghost use Rattle.sqlite.specs.State.{HasCleanDisk, Survives};
@@ -69,7 +69,7 @@ fn set_format<S: Alter>(tx: &mut Transaction<'_, S>) -> Result<usize, Error>
     tx.execute("UPDATE meta SET format = 2 WHERE one = 1", &[])
 }
 
-// The tables `subscription` and `subscription_cell`.
+// Creates the tables `subscription` and `subscription_cell`.
 fn make_subscriptions<S: Alter>(tx: &mut Transaction<'_, S>) -> Result<(), Error>
     ensures same_reference { SameConnection tx.old tx.new }
     ensures adds { Within S.Store tx.old tx.new (Steps (AddsTables first_schema schema_8)) result }
@@ -79,7 +79,7 @@ fn make_subscriptions<S: Alter>(tx: &mut Transaction<'_, S>) -> Result<(), Error
     Ok(())
 }
 
-// The index on the ranges of their cells, and the table `naming`.
+// Creates the index on the ranges of their cells, and the table `naming`.
 fn make_others<S: Alter>(tx: &mut Transaction<'_, S>) -> Result<(), Error>
     ensures same_reference { SameConnection tx.old tx.new }
     ensures adds { Within S.Store tx.old tx.new
@@ -90,7 +90,7 @@ fn make_others<S: Alter>(tx: &mut Transaction<'_, S>) -> Result<(), Error>
     Ok(())
 }
 
-/// Makes the tables of format 2 that format 1 has not.
+/// Creates the tables of format 2 that format 1 does not have.
 pub(crate) fn make_later<S: Alter>(tx: &mut Transaction<'_, S>) -> Result<(), Error>
     ensures same_reference { SameConnection tx.old tx.new }
     ensures adds { Within S.Store tx.old tx.new
@@ -101,7 +101,7 @@ pub(crate) fn make_later<S: Alter>(tx: &mut Transaction<'_, S>) -> Result<(), Er
     Ok(())
 }
 
-/// Brings tables of format 1 to format 2, in a transaction that goes on. The rows stay.
+/// Upgrades tables of format 1 to format 2, within an open transaction. The rows stay.
 pub fn upgrade_in_transaction<S: Alter>(tx: &mut Transaction<'_, S>) -> Result<(), Error>
     ensures same_reference { SameConnection tx.old tx.new }
     ensures upgrades { Within S.Store tx.old tx.new (Steps Upgrades) result }
@@ -111,8 +111,10 @@ pub fn upgrade_in_transaction<S: Alter>(tx: &mut Transaction<'_, S>) -> Result<(
     Ok(())
 }
 
-/// Brings tables of format 1 to format 2, in one transaction. It is for tables of format 1: of any
-/// other it is only told that what an Ok leaves is committed.
+/// Upgrades tables of format 1 to format 2, in one transaction.
+///
+/// It is for tables of format 1. For any other, the contract only says that `Ok` leaves a committed
+/// database.
 pub fn upgrade_tables<S: Alter>(conn: &mut Connection<S>) -> Result<(), Error>
     requires { conn.old.in_transaction ≡ false }
     ensures ended { conn.new.in_transaction ≡ false }

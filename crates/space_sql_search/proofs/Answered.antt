@@ -1,4 +1,4 @@
--- What is read of a connection, from what is read of its database.
+-- A proof that lifts a read of a database to a read of its connection.
 use Rattle.std.proofs.Common.{Ok}
 use Rattle.sqlite.specs.State.{State}
 use Rattle.entity_core.specs.Airspace.{Airspace}

@@ -1,4 +1,4 @@
--- What is asked for stays asked for.
+-- Proofs that requested ranges stay requested.
 use Rattle.std.proofs.Common.{List}
 use Rattle.std.specs.List.{AllByRecursion}
 use Rattle.grid_core.specs.Cell.{Cell}

@@ -1,4 +1,4 @@
--- Numbers that rows show are added to others.
+-- Proofs about adding the numbers that rows show to others.
 use Rattle.std.proofs.Common.{◌≡◌, ℤ, List, [], ◌∷◌, Ok, Err, Result, IfOk, OnOk, subst, sym}
 use Rattle.std.specs.List.{AllByRecursion}
 use Rattle.sqlite_value.specs.Order.{Row}
@@ -17,6 +17,6 @@ pub numbers_told : (table : CellTable) (sought : RangeMatch) (i : Interval) (db 
 numbers_told table sought i db rows sliced numbers (Ok x) e each shows = λ c there p. each c.num (subst (λ (l : List Row). Has l (Int c.num ∷ [])) (sym e) (shows c there p))
 numbers_told table sought i db rows sliced numbers (Err x) e each shows = tt
 
--- numbers that are there stay
+-- Numbers that are present stay present.
 pub numbers_stay : (table : CellTable) (sought : RangeMatch) (db : Database) (before after : List ℤ) (is : List Interval) → IsSubset before after → AllByRecursion (HasNumbers table sought db before) is → AllByRecursion (HasNumbers table sought db after) is
 numbers_stay table sought db before after is keeps all = all_turned (HasNumbers table sought db before) (HasNumbers table sought db after) (λ i h c there p. keeps c.num (h c there p)) is all

@@ -1,4 +1,4 @@
--- The candidates that meet are the entities and the subscriptions that meet.
+-- Proofs that the candidates that meet are exactly the entities and the subscriptions that meet.
 use Rattle.std.proofs.Common.{◌≡◌, inl, inr, ℕ, suc, ℤ, pos, ◌≤◌, List, [], ◌∷◌, map, flat_map, filter, Bool, true, Option, refl, sym, ap, subst, ◌∙◌, arith, Ordering}
 use Rattle.std.specs.Prelude.{◌≤ℤ◌, IsPermutation}
 use Rattle.std.specs.Cmp.{IsTotalOrder}
@@ -46,9 +46,9 @@ use Rattle.space_sql_search.proofs.Found.{got_has, has_got, near_found}
 above : (m n : ℕ) → m ≤ n → pos m ≤ℤ pos n
 above m n h = grind (arith, ints, h)
 
--- ---- what has a cell that touches a cell that is asked for is found
+-- ---- every item with a cell that touches a requested cell is found
 
--- a row of the table has this number and this cell's interval
+-- Holds if a row of the table has this number and this cell's interval.
 abbrev IsStored : CellTable → Database → ℤ → Cell → Type 0
 IsStored table db num c = IsCellIn table db (record { num = num; lo = pos (lo_of c); hi = pos (hi_of c) })
 
@@ -77,13 +77,13 @@ module _ (table : CellTable) (db : Database) (num : ℤ) (v : Extent) (valid : A
 
 -- ---- the rows of a cell
 
--- of rows that show these columns, others show some of them
+-- If rows show these columns, others show some of them.
 row_shown : (table : CellTable) (columns pick : Row → Row) (rows : List Row) (values : Row) (c : StoredCell) → ((r : Row) → stored_columns table r ≡ pick (columns r)) → pick values ≡ stored_values c → Has (map columns rows) values → Has (map (stored_columns table) rows) (stored_values c)
 row_shown table columns pick rows values c picks is there =
     let from = has_map columns rows values there in
     subst (Has (map (stored_columns table) rows)) (picks from.0 ∙ (ap pick (sym from.2) ∙ is)) (map_has (stored_columns table) rows from.0 from.1)
 
--- a volume, or a cell, has its place
+-- Every element of a list has a position.
 placed_has : {X : Type 0} (n : ℕ) (xs : List X) (x : X) → Has xs x → (k : ℕ) × Has (placed n xs) (k, x)
 placed_has n [] x h = absurd h
 placed_has {X} n (y ∷ xs) x (inl e) = (n, inl (ap (λ (z : X). (n, z)) e))
@@ -101,7 +101,7 @@ cell_placed vs v c there here =
 same_stored : (c d : StoredCell) → c.num ≡ d.num → c.lo ≡ d.lo → c.hi ≡ d.hi → stored_values c ≡ stored_values d
 same_stored c d num lo hi = cc
 
--- a row of cells of a group, among those of all groups, is in the table
+-- A row of cells of a group, among those of all groups, is in the table.
 cell_stored : {G C : Type 0} (table : CellTable) (columns pick : Row → Row) → ((r : Row) → stored_columns table r ≡ pick (columns r)) → (values : C → Row) (cells : G → List C) (gs : List G) (db : Database) → IsPermutation (flat_map (λ g. map values (cells g)) gs) (map columns (db.trees (tree_of table))) → (g : G) → Has gs g → (r : C) → Has (cells g) r → (c : StoredCell) → pick (values r) ≡ stored_values c → IsCellIn table db c
 cell_stored table columns pick picks values cells gs db moved g there r own c is =
     let listed = flat_has (λ g. map values (cells g)) gs g (values r) there (map_has values (cells g) r own) in
@@ -139,7 +139,7 @@ module _ (db : Database) (a : Airspace) (s : Spells db a) (areas : List Region) 
   pub near_subs : FindsNumbers OfSubscriptions asked db numbers → (found : Subscriptions) → HoldsNumbered (spelt_subs s) numbers found → HoldsNear (λ (s : Sub). meets_some s.volume areas) a.subscriptions found
   near_subs finds found held = near_found nat_cmp nat_cmp_total nat_cmp-IsAntisymmetric (spelt_subs s) s.subs_kept (λ (s : Sub). meets_some s.volume areas) numbers found (sub_found finds) held
 
--- ---- a part that has all that pass a test
+-- ---- a part that has every element that passes a test
 
 module _ {K X : Type 0} (R : K → K → Ordering) (total : IsTotalOrder R) (exact : IsAntisymmetric R) where
   pub one_filtered : (test : K × X → Bool) (part all : FinMap R X) → (is_near : X → Bool) → HoldsNear is_near all part → ((k : K) (x : X) → test (k, x) ≡ true → is_near x ≡ true) → filter test (entries part) ≡ filter test (entries all)
@@ -154,7 +154,7 @@ module _ {K X : Type 0} (R : K → K → Ordering) (total : IsTotalOrder R) (exa
       let t = has_filtered test (entries all) p h in
       has_kept test (entries part) p (got_has R total exact part p.0 p.1 (held.whole p.0 p.1 (has_got R total exact all p.0 p.1 t.0) (only p.0 p.1 t.1))) t.1)
 
--- ---- what is sought among them
+-- ---- the search within it
 
 pub one_meeting : (kind : Kind) (areas : List Region) (except : Option ℕ) (part all : Entities) → HoldsNear (λ (e : Entity). any_meet e.volumes areas) all part → meeting_in part kind areas except ≡ meeting_in all kind areas except
 unfolding meeting_in

@@ -1,4 +1,4 @@
--- What groups of rows spell, by the numbers of the rows, and the map that it becomes.
+-- Proofs about the items of groups of rows, by the numbers of the rows, and their map.
 use Rattle.std.proofs.Common.{◌≡◌, ◌⊎◌, inl, inr, ℤ, List, [], ◌∷◌, ◌++◌, map, Bool, true, false, cond, Some, refl, sym, ap, subst, ◌∙◌, is_eq, Equal, Ordering}
 use Rattle.std.specs.Prelude.{IsPermutation}
 use Rattle.std.specs.Ordering.{eq_by_cmp}
@@ -54,7 +54,7 @@ module _ {K X : Type 0} (R : K → K → Ordering) (total : IsTotalOrder R) (exa
   pub has_got : (m : FinMap R X) (k : K) (x : X) → Has (entries m) (k, x) → get m k ≡ Some x
   has_got m k x h = get-entries m k ∙ has_find k x (entries m) (entries_rise R (entries m) (entries_sorted m)) h
 
-  -- ---- what groups spell, each under its key, is what a map has
+  -- ---- the map of the items of groups, each under its key
 
   module _ {G : Type 0} (of : Spelt G K X R) (kept : IsPermutation (map of.pair of.groups) (entries of.all)) where
     abbrev Holds : List ℤ → FinMap R X → Type 0
@@ -66,7 +66,7 @@ module _ {K X : Type 0} (R : K → K → Ordering) (total : IsTotalOrder R) (exa
     got_group : (k : K) (x : X) → get of.all k ≡ Some x → (g : G) × Has of.groups g × ((k, x) ≡ of.pair g)
     got_group k x h = has_map of.pair of.groups (k, x) (has_moved (entries of.all) (map of.pair of.groups) (k, x) (IsPermutation-sym _ _ kept) (got_has of.all k x h))
 
-    -- where the numbers of all that passes a test are there, it is found
+    -- If the numbers include all items that pass a test, each of these items is found.
     pub near_found : (is_near : X → Bool) (numbers : List ℤ) (found : FinMap R X) → ((g : G) → Has of.groups g → is_near (of.pair g).1 ≡ true → Has numbers (of.number g)) → Holds numbers found → HoldsNear is_near of.all found
     near_found is_near numbers found listed h = record {
       part = h.part;
@@ -76,7 +76,7 @@ module _ {K X : Type 0} (R : K → K → Ordering) (total : IsTotalOrder R) (exa
           ap (λ (p : K × X). get found p.0) g.2 ∙ (h.whole g.0 g.1 number ∙ ap (λ (p : K × X). Some p.1) (sym g.2));
     }
 
-    -- ---- one number after the other
+    -- ---- one number after another
 
     pub none_numbered : (found : FinMap R X) → found ≡ empty → Holds [] found
     none_numbered found is = record {

@@ -1,4 +1,4 @@
--- Elements of lists, and lists that rise.
+-- Lemmas about elements of lists and ascending lists.
 use Rattle.std.proofs.Common.{◌≡◌, ◌⊎◌, inl, inr, ◌++◌, Bool, true, ◌&&◌, ℤ, int_eq, int_cmp, is_eq, arith, List, [], ◌∷◌, map, flat_map, refl, sym, ap, ap₂, subst, ◌∙◌}
 use Rattle.std.specs.Prelude.{IsPermutation}
 use Rattle.std.specs.List.{AllByRecursion, AllZip}
@@ -18,7 +18,7 @@ use Rattle.space_rows.proofs.Chunks.{all_joined}
 use Rattle.space_sql_search.specs.declared.interval.Interval.{Interval}
 use Rattle.space_sql_search.specs.SearchRanges.{interval_cmp}
 
--- ---- intervals that are equal are one
+-- ---- equality of intervals
 
 abbrev pub same_interval : Interval → Interval → Bool
 same_interval i j = int_eq i.lo j.lo && int_eq i.hi j.hi
@@ -67,11 +67,11 @@ flat_has f (z ∷ xs) x y (inr h) k = has_right (f z) (flat_map f xs) y (flat_ha
 pub has_moved : {X : Type 0} (xs ys : List X) (x : X) → IsPermutation xs ys → Has xs x → Has ys x
 has_moved xs ys x p h = has_contained ys x (Contains-permutation xs ys x p (contains_had xs x h))
 
--- one element more
+-- ---- appending an element
 pub each_more : {X : Type 0} (P : X → Type 0) (xs ys : List X) (x : X) → ys ≡ xs ++ x ∷ [] → AllByRecursion P xs → P x → AllByRecursion P ys
 each_more P xs ys x e all here = subst (AllByRecursion P) (sym e) (all_joined P xs (x ∷ []) all (here, tt))
 
--- lists in step
+-- ---- related lists
 pub zip_has : {X Y : Type 0} (R : X → Y → Type 0) (xs : List X) (ys : List Y) (y : Y) → AllZip R xs ys → Has ys y → (x : X) × Has xs x × R x y
 zip_has R [] [] y z h = absurd h
 zip_has R [] (w ∷ ys) y z h = absurd z
@@ -89,7 +89,7 @@ module _ {X : Type 0} (R : X → X → Ordering) (total : IsTotalOrder R) where
   not_both : (x y : X) → Below x y → ¬ Below y x
   not_both x y h k = never x (total.trans x y x h k)
 
-  -- lists that rise and have the same elements are one
+  -- Ascending lists with the same elements are equal.
   pub one_list : (xs ys : List X) → IsAscending Below xs → IsAscending Below ys → ((x : X) → Has xs x → Has ys x) → ((x : X) → Has ys x → Has xs x) → xs ≡ ys
   one_list [] [] up rise to from = refl
   one_list [] (y ∷ ys) up rise to from = absurd (from y (inl refl))

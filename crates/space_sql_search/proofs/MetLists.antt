@@ -1,4 +1,4 @@
--- Entities with the availabilities of their managers, one after the other.
+-- Proofs about adding the availabilities of managers to entities, one after the other.
 use Rattle.std.proofs.Common.{◌≡◌, List, [], ◌∷◌, ◌++◌, map, sym, ap, ◌∙◌, append_assoc, append-nil}
 use Rattle.sqlite.specs.Effect.{Database}
 use Rattle.entity_core.specs.declared.entity.Entity.{Entity}
@@ -8,7 +8,7 @@ use Rattle.space_core.specs.Met.{met_of}
 use Rattle.space_sql_schema.specs.Spelling.{Spells}
 use Rattle.space_sql_search.specs.Met.{AreWithAvailabilities, IsWithAvailability}
 
--- with what is made of those that are left, it is all
+-- Holds if `met`, followed by the results for the remaining entities, is the result for all.
 abbrev pub MakesAll : List Entity → List Met → List Entity → Database → Type 0
 MakesAll all met left db = (a : Airspace) → Spells db a → met ++ map (met_of a) left ≡ map (met_of a) all
 

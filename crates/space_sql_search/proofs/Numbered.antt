@@ -1,4 +1,4 @@
--- Entities and subscriptions, read one number after the other.
+-- Proofs about reading entities and subscriptions, one number after the other.
 use Rattle.std.proofs.Common.{◌≡◌, ℕ, ℤ, List, [], Some, None, ap}
 use Rattle.std.specs.FinMap.{insert, nat_cmp-IsAntisymmetric}
 use Rattle.std.specs.Ordering.{nat_cmp}

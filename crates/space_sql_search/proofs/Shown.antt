@@ -1,4 +1,4 @@
--- What the statements on a table of cells show.
+-- Proofs about the results of the statements on a table of cells.
 use Rattle.std.proofs.Common.{◌≡◌, ℕ, ◌+◌, List, [], ◌∷◌, ◌&&◌, Bool, true, false, codes, refl, sym, ap, subst, ◌∙◌, int_eq, int_le, arith}
 use Rattle.std.specs.List.{list_all}
 use Rattle.std.proofs.lemmas.Int.{ints}
@@ -30,12 +30,12 @@ use Rattle.space_sql_search.specs.CellTable.{StoredCell, lo_place, stored_column
 use Rattle.space_sql_search.specs.Numbers.{IsSought, ShowsNumbers}
 use Rattle.space_sql_search.proofs.Lists.{has_map, map_has, has_moved}
 
--- what is asked of the places of `lo` and `hi`
+-- The tests on the columns `lo` and `hi`.
 abbrev tests : RangeMatch → ℕ → ℕ → List Term
 tests Within k l = op2 (Compare Ge Binary) (col 1 k) (col 0 0) ∷ op2 (Compare Le Binary) (col 1 k) (col 0 1) ∷ []
 tests Exactly k l = op2 (Compare Eq Binary) (col 1 k) (col 0 0) ∷ op2 (Compare Eq Binary) (col 1 l) (col 0 1) ∷ []
 
--- the name of the column that is shown
+-- The name of the column that is shown.
 abbrev number_name : CellTable → List ℕ
 number_name OfEntities = codes "entity"
 number_name OfSubscriptions = codes "subscription"
@@ -54,7 +54,7 @@ text_is OfEntities Exactly = refl
 text_is OfSubscriptions Within = refl
 text_is OfSubscriptions Exactly = refl
 
--- nothing is written over it
+-- The tree is unchanged.
 same_rows : (table : CellTable) (trees : Trees) → overlay trees [] (tree_of table) ≡ trees (tree_of table)
 same_rows OfEntities trees = refl
 same_rows OfSubscriptions trees = refl

@@ -1,4 +1,4 @@
--- Entities and subscriptions that are found by their numbers.
+-- Definitions of finding entities and subscriptions by their numbers.
 use Rattle.std.specs.Prelude.{◌≡◌, ℕ, ℤ, true, Bool, List, [], ◌∷◌, ◌++◌, Some}
 use Rattle.std.specs.FinMap.{FinMap, get}
 use Rattle.std.specs.Ordering.{nat_cmp}
@@ -17,11 +17,12 @@ use Rattle.space_sql_search.specs.declared.search_ranges.SearchRanges.{SearchRan
 use Rattle.space_sql_search.specs.declared.cell_table.CellTable.{CellTable}
 use Rattle.space_sql_search.specs.Numbers.{FindsNumbers}
 
--- what stands in the first map stands in the second
+-- Holds if every entry of the first map is in the second.
 abbrev pub IsPart : {K X : Type 0} {R : K → K → Ordering} → FinMap R X → FinMap R X → Type 0
 IsPart {K} {X} part all = (k : K) (x : X) → get part k ≡ Some x → get all k ≡ Some x
 
--- things that have rows and cells: each group of rows has a number, and spells one under its key
+-- Items with rows and cells. Each group of rows has a number, and represents one item under its
+-- key.
 pub record Spelt (G K X : Type 0) (R : K → K → Ordering) : Type 0 where
   pub groups : List G
   pub number : G → ℤ
@@ -46,43 +47,43 @@ spelt_subs {db} {a} s = record {
   all = a.subscriptions;
 }
 
--- some of what is spelt, and all whose rows have one of the numbers
+-- Holds if `found` has some of the items, and all whose rows have one of the numbers.
 pub record HoldsNumbered {G K X : Type 0} {R : K → K → Ordering} (of : Spelt G K X R)
     (numbers : List ℤ) (found : FinMap R X) : Type 0 where
   pub part : IsPart found of.all
   pub whole : (g : G) → Has of.groups g → Has numbers (of.number g)
       → get found (of.pair g).0 ≡ Some (of.pair g).1
 
--- of the entities that the tables spell
+-- The same for the entities that the tables represent.
 abbrev pub HoldsEntities : List ℤ → Database → List Entity → Type 0
 HoldsEntities numbers db found =
     (a : Airspace) (s : Spells db a) → HoldsNumbered (spelt_entities s) numbers (entity_map found)
 
--- of the subscriptions
+-- The same for the subscriptions that the tables represent.
 abbrev pub HoldsSubs : List ℤ → Database → List Sub → Type 0
 HoldsSubs numbers db found =
     (a : Airspace) (s : Spells db a) → HoldsNumbered (spelt_subs s) numbers (subscription_map found)
 
--- those of one number more
+-- Holds if the items with one more number are added.
 abbrev pub AddsNumbered : {X : Type 0} → (List ℤ → Database → X → Type 0) → ℤ → Database → X → X
     → Type 0
 AddsNumbered Holds num db before after =
     (numbers : List ℤ) → Holds numbers db before → Holds (numbers ++ num ∷ []) db after
 
--- those of the numbers that the index of a table finds
+-- Holds if `found` has all items with the numbers that the index of a table finds.
 pub record HoldsFound {X : Type 0} (table : CellTable) (asked : SearchRanges)
     (Holds : List ℤ → Database → X → Type 0) (db : Database) (found : X) : Type 0 where
   pub numbers : List ℤ
   pub finds : FindsNumbers table asked db numbers
   pub holds : Holds numbers db found
 
--- some of what is there, and all that passes a test
+-- Holds if `found` has some of the items, and all that pass a test.
 pub record HoldsNear {K X : Type 0} {R : K → K → Ordering} (is_near : X → Bool)
     (all found : FinMap R X) : Type 0 where
   pub part : IsPart found all
   pub whole : (k : K) (x : X) → get all k ≡ Some x → is_near x ≡ true → get found k ≡ Some x
 
--- some of the subscriptions, and all of which the volume meets an area
+-- Holds if `found` has some of the subscriptions, and all whose volume meets an area.
 abbrev pub HoldsNearSubs : List Region → Subscriptions → List Sub → Type 0
 HoldsNearSubs areas all found =
     HoldsNear (λ (s : Sub). meets_some s.volume areas) all (subscription_map found)

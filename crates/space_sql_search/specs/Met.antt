@@ -1,4 +1,4 @@
--- What is found in tables, with what they say of who manages it.
+-- Definitions of the entities found, with the availabilities of their managers.
 use Rattle.std.specs.Prelude.{◌≡◌, ℕ, List, map, Option}
 use Rattle.sqlite.specs.Effect.{Database}
 use Rattle.grid_core.specs.Extent.{Region}
@@ -9,16 +9,16 @@ use Rattle.space_core.specs.declared.met.Met.{Met}
 use Rattle.space_core.specs.Met.{met_in, met_of}
 use Rattle.space_sql_schema.specs.Spelling.{Spells}
 
--- Each in the airspace that the tables spell, if they spell one:
+-- These definitions are about the airspace that the tables represent, if they represent one.
 
--- an entity with its manager's availability
+-- Holds if the result is the entity with its manager's availability.
 abbrev pub IsWithAvailability : Entity → Database → Met → Type 0
 IsWithAvailability e db met = (a : Airspace) → Spells db a → met ≡ met_of a e
 
--- entities with those of their managers
+-- Holds if the results are the entities with the availabilities of their managers.
 abbrev pub AreWithAvailabilities : List Entity → Database → List Met → Type 0
 AreWithAvailabilities es db met = (a : Airspace) → Spells db a → met ≡ map (met_of a) es
 
--- all entities that are sought
+-- Holds if the results are all entities that the search matches.
 abbrev pub FindsMet : Kind → List Region → Option ℕ → Database → List Met → Type 0
 FindsMet kind areas except db met = (a : Airspace) → Spells db a → met ≡ met_in a kind areas except

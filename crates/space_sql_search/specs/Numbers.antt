@@ -1,4 +1,4 @@
--- The numbers of what has certain cells.
+-- Definitions of the numbers of items with certain cells.
 use Rattle.std.specs.Prelude.{◌≡◌, ℤ, ◌≤ℤ◌, List, [], ◌∷◌, map}
 use Rattle.std.specs.List.{AllByRecursion}
 use Rattle.sqlite_value.specs.Order.{Row}
@@ -12,26 +12,26 @@ use Rattle.space_sql_search.specs.declared.cell_table.RangeMatch.TheVariants.{Wi
 use Rattle.space_sql_search.specs.declared.interval.Interval.{Interval}
 use Rattle.space_sql_search.specs.CellTable.{StoredCell, stored_columns, stored_values, tree_of}
 
--- a row of the table
+-- Holds if the cell is a row of the table.
 abbrev pub IsCellIn : CellTable → Database → StoredCell → Type 0
 IsCellIn table db c = Has (map (stored_columns table) (db.trees (tree_of table))) (stored_values c)
 
--- the interval of a cell begins in this one, or is this one
+-- Holds if the interval of the cell starts in this range, or equals it.
 abbrev pub IsSought : RangeMatch → Interval → StoredCell → Type 0
 IsSought Within i c = (i.lo ≤ℤ c.lo) × (c.lo ≤ℤ i.hi)
 IsSought Exactly i c = (c.lo ≡ i.lo) × (c.hi ≡ i.hi)
 
--- the rows show the numbers that stand by all cells that are sought
+-- Holds if the rows show the numbers of all matching cells.
 abbrev pub ShowsNumbers : CellTable → RangeMatch → Interval → Database → List Row → Type 0
 ShowsNumbers table sought i db rows =
     (c : StoredCell) → IsCellIn table db c → IsSought sought i c → Has rows (Int c.num ∷ [])
 
--- those numbers are among these
+-- Holds if those numbers are among these.
 abbrev pub HasNumbers : CellTable → RangeMatch → Database → List ℤ → Interval → Type 0
 HasNumbers table sought db numbers i =
     (c : StoredCell) → IsCellIn table db c → IsSought sought i c → Has numbers c.num
 
--- all that the index finds
+-- Holds if the numbers include all that the index finds for the ranges.
 pub record FindsNumbers (table : CellTable) (asked : SearchRanges) (db : Database) (numbers : List ℤ)
     : Type 0 where
   pub in_ranges : AllByRecursion (HasNumbers table Within db numbers) asked.ranges.items

@@ -1,4 +1,4 @@
--- What the index on the intervals of cells is asked for.
+-- Definitions of the intervals for which the index is queried.
 use Rattle.std.specs.Prelude.{ℕ, pos, ◌<◌, List, length}
 use Rattle.std.specs.List.{AllByRecursion}
 use Rattle.std.specs.List.Sorted.{IsStrictlySortedBy}
@@ -13,33 +13,34 @@ use Rattle.space_sql_search.specs.declared.interval.Interval.{Interval}
 abbrev pub interval_of : Cell → Interval
 interval_of c = record { lo = pos (lo_of c); hi = pos (hi_of c) }
 
--- no interval stands twice: they rise by their first places, and then by their last ones
+-- The order of intervals, by their first and then by their last positions. No interval occurs
+-- twice.
 abbrev pub interval_cmp : Interval → Interval → Ordering
 interval_cmp i j = ordering_then (int_cmp i.lo j.lo) (int_cmp i.hi j.hi)
 
 abbrev pub AreEachOnce : List Interval → Type 0
 AreEachOnce asked = IsStrictlySortedBy interval_cmp asked
 
--- what stands in the first list stands in the second
+-- Holds if every element of the first list is in the second.
 abbrev pub IsSubset : {X : Type 0} → List X → List X → Type 0
 IsSubset {X} xs ys = (x : X) → Has xs x → Has ys x
 
--- the intervals of the cells of levels below 13 that hold a cell are there
+-- Holds if the intervals of a cell's ancestors of levels below 13 are in the list.
 abbrev pub HasAncestors : List Interval → Cell → Type 0
 HasAncestors is c =
     (k : ℕ) → k < length c.digits → k < 13 → Has is (interval_of (parent_of c k))
 
--- what the first asks for, the second asks for too
+-- Holds if the second search has every interval of the first.
 abbrev pub KeepsAsked : SearchRanges → SearchRanges → Type 0
 KeepsAsked old new =
     IsSubset old.ranges.items new.ranges.items × IsSubset old.ancestors.items new.ancestors.items
 
--- a cell is asked for, and those that hold it
+-- Holds if the search has the intervals of a cell and its ancestors.
 pub record AsksFor (asked : SearchRanges) (c : Cell) : Type 0 where
   pub is_cell : IsCell c
   pub range : Has asked.ranges.items (interval_of c)
   pub ancestors : HasAncestors asked.ancestors.items c
 
--- all cells of areas
+-- Holds if the search has all cells of the areas.
 abbrev pub AsksForAll : SearchRanges → List Region → Type 0
 AsksForAll asked areas = AllByRecursion (λ r. AllByRecursion (AsksFor asked) r.cells) areas

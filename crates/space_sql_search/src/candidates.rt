@@ -16,23 +16,24 @@ use space_sql_lookup::subscription::read_sub_by_num;
 use sqlite::{Alter, Error, Transaction};
 use std::alloc::Global;
 
-/// Things that have rows and cells in the tables, each with a number: entities or subscriptions.
+/// Items with rows and cells in the tables, each with a number: entities or subscriptions.
 pub(crate) trait Candidates: Drop {
     /// The table of their cells.
     ghost cells: { CellTable };
 
-    /// They are some of what the tables spell, and all with one of the numbers.
+    /// Holds if they are some of the items that the tables represent, and all with one of the
+    /// numbers.
     ghost holds: { List ℤ → Database → Self → Type 0 };
 
-    /// The table of their cells.
+    /// Returns the table of their cells.
     fn cell_table() -> CellTable
         ensures { result ≡ cells };
 
-    /// None yet.
+    /// Returns an empty collection.
     fn none(alloc: Global) -> Self
         ensures { (db : Database) → holds [] db result };
 
-    /// Reads the one with a number, if there is one, and adds it.
+    /// Reads the item with a number, if there is one, and adds it.
     fn add<S: Alter>(
         &mut self,
         alloc: Global,
@@ -117,7 +118,7 @@ fn read_all<C: Candidates, S: Alter>(
     Ok(found)
 }
 
-/// What the index finds, each read once, by its number.
+/// Returns the items that the index finds, each read once, by its number.
 pub(crate) fn read_candidates<C: Candidates, S: Alter>(
     alloc: Global,
     tx: &mut Transaction<'_, S>,

@@ -2,14 +2,14 @@
 ghost use Rattle.std.specs.Prelude.{◌≡◌};
 ghost use Rattle.space_sql_search.specs.CellTable.{text_of};
 
-/// The table that keeps the cells of entities, or that of the cells of subscriptions.
+/// The table of cells of entities, or that of subscriptions.
 #[derive(Clone, Copy, Debug)]
 pub(crate) enum CellTable {
     OfEntities,
     OfSubscriptions,
 }
 
-/// Of an interval, the cells whose intervals begin in it, or those that have it.
+/// The match of a cell with an interval: the cell's interval starts in it, or equals it.
 #[derive(Clone, Copy, Debug)]
 pub(crate) enum RangeMatch {
     Within,
@@ -17,7 +17,7 @@ pub(crate) enum RangeMatch {
 }
 
 impl CellTable {
-    /// Asks for the numbers of those with a cell that is sought.
+    /// Returns the text of the query for the numbers of items with a matching cell.
     pub fn text(self, sought: RangeMatch) -> &'static str
         ensures { result.now ≡ text_of self sought }
     {

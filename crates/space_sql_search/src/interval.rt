@@ -4,14 +4,14 @@ ghost use Rattle.space_sql_search.specs.SearchRanges.{interval_of};
 
 use grid_core::cell::CellId;
 
-/// The places of the first and of the last cell of level 13 in a cell, among all of that level.
+/// The positions of the first and of the last cell of level 13 in a cell, among all of that level.
 #[derive(Clone, Copy, Debug, PartialEq, Eq, PartialOrd, Ord)]
 pub(crate) struct Interval {
     pub lo: i64,
     pub hi: i64,
 }
 
-/// The interval of a cell.
+/// Returns the interval of a cell.
 pub(crate) fn interval_of(cell: CellId) -> Interval
     ensures { result ≡ interval_of cell }
 {

@@ -1,5 +1,5 @@
-//! The entities and the subscriptions that meet areas, found by the indexes on the intervals of
-//! cells.
+//! Search for the entities and the subscriptions that meet areas, by the indexes on the intervals
+//! of cells.
 #![tactic(auto)]
 
 mod candidates;

@@ -1,4 +1,4 @@
-//! Entities with the availabilities of their managers, which are read in the same transaction.
+//! Entities with the availabilities of their managers, read in the same transaction.
 ghost use Rattle.std.specs.Prelude.{◌≡◌, [], unwrap_or};
 ghost use Rattle.space_sql_schema.specs.Within.{SameConnection, Within};
 ghost use Rattle.space_sql_select.specs.Reading.{Reads};
@@ -36,7 +36,7 @@ fn with_availability<S: Alter>(
     })
 }
 
-/// Each entity with its manager's availability, in their order.
+/// Returns each entity with its manager's availability, in the same order.
 pub(crate) fn with_availabilities<S: Alter>(
     alloc: Global,
     tx: &mut Transaction<'_, S>,

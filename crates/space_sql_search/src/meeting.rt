@@ -1,4 +1,4 @@
-//! The entities that meet areas, read of a connection.
+//! The entities that meet areas, read from a connection.
 ghost use Rattle.std.specs.Prelude.{◌≡◌, false};
 ghost use Rattle.sqlite.specs.Held.{state};
 ghost use Rattle.space_core.specs.Met.{met_in};
@@ -57,7 +57,7 @@ fn read_meeting_alone<S: Alter>(
     Ok(met)
 }
 
-// Of a store that still works after it.
+// Reads the entities that meet, if the store is alive after it.
 fn read_meeting_alive<S: Alter>(
     alloc: Global,
     conn: &mut Connection<S>,
@@ -78,11 +78,15 @@ fn read_meeting_alive<S: Alter>(
     Ok(met)
 }
 
-/// The entities of a kind, but the one of an id, of which some volume meets some area, by rising
-/// ids, each with its manager's availability, as the tables spell them. Where they spell no
-/// airspace, anything may come of it. It reads the rows of `cell` that the index on `lo` and `hi`
-/// finds, those of the entities that have them, and the row of `availability` of each manager of
-/// what meets, all in one transaction. An error is one of the store, or want of memory.
+/// Returns the entities of a kind that meet an area, in ascending order of ids, each with its
+/// manager's availability.
+///
+/// It excludes the entity with the id `except`. If the tables represent no airspace, the result is
+/// unspecified.
+///
+/// It reads the rows of `cell` that the index on `lo` and `hi` finds, and the rows of their
+/// entities. It also reads the row of `availability` of each manager of an entity that meets. All
+/// reads are in one transaction. Returns an error if the store fails or memory runs out.
 pub fn read_meeting<S: Alter>(
     alloc: Global,
     conn: &mut Connection<S>,

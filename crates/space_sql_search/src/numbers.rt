@@ -1,5 +1,5 @@
-//! The numbers of what has a cell in an interval, or one with an interval, which the index on `lo`
-//! and `hi` of a table of cells finds.
+//! The numbers of items with a matching cell, found by the index on `lo` and `hi` of a table of
+//! cells.
 ghost use Rattle.std.specs.Prelude.{◌≡◌, ℤ, [], ◌∷◌, OnOk, IfOk};
 ghost use Rattle.std.specs.List.{AllByRecursion};
 ghost use Rattle.std.specs.List.Sorted.{IsStrictlySortedBy};
@@ -91,8 +91,8 @@ fn order_numbers(numbers: &mut Vec<i64>)
     numbers.dedup();
 }
 
-/// The numbers of those with a cell in a table that starts in one of the ranges, or with one that
-/// has the interval of one of the ancestors; each once.
+/// Returns the numbers of the items with a cell that starts in one of the ranges, or that has the
+/// interval of one of the ancestors. Each number occurs once.
 pub(crate) fn find_numbers<S: Alter>(
     alloc: Global,
     tx: &mut Transaction<'_, S>,

@@ -1,4 +1,5 @@
-//! What the index is asked for: the intervals of the cells of areas and of those that hold them.
+//! The intervals for which the index is queried: those of the cells of areas and of their
+//! ancestors.
 ghost use Rattle.std.specs.Prelude.{IfOk, OnOk};
 ghost use Rattle.std.specs.List.{AllByRecursion};
 ghost use Rattle.space_sql_search.specs.SearchRanges.{AreEachOnce, AsksFor, AsksForAll, HasAncestors, IsSubset, KeepsAsked};
@@ -8,7 +9,7 @@ use grid_core::cell::CellId;
 use grid_core::volume::Area;
 use std::alloc::{AllocError, Global};
 
-/// Intervals of cells, and of the cells of levels below 13 that hold them.
+/// Intervals of cells, and of their ancestors of levels below 13.
 #[derive(Debug, Drop)]
 pub(crate) struct SearchRanges {
     pub ranges: Vec<Interval>,
@@ -46,7 +47,7 @@ fn order_intervals(intervals: &mut Vec<Interval>)
     intervals.dedup();
 }
 
-/// The intervals of the cells of areas, and of those that hold these, each once.
+/// Returns the intervals of the cells of areas and of their ancestors, each once.
 pub(crate) fn asked_of(alloc: Global, areas: &[Area]) -> Result<SearchRanges, AllocError>
     ensures each { IfOk result (λ asked. AsksForAll asked areas.now) }
     ensures once { IfOk result (λ asked. AreEachOnce asked.ranges.items

@@ -1,4 +1,4 @@
-//! The subscriptions that meet areas, read of a connection.
+//! The subscriptions that meet areas, read from a connection.
 ghost use Rattle.std.specs.Prelude.{◌≡◌, false};
 ghost use Rattle.sqlite.specs.Held.{state};
 ghost use Rattle.entity_core.specs.Search.{subscribers_in, subscriptions_in};
@@ -33,7 +33,7 @@ fn read_subs_alone<S: Alter>(
     Ok(found)
 }
 
-// Of a store that still works after it.
+// Reads the subscriptions near areas, if the store is alive after it.
 fn read_subs_alive<S: Alter>(
     alloc: Global,
     conn: &mut Connection<S>,
@@ -50,7 +50,7 @@ fn read_subs_alive<S: Alter>(
     Ok(found)
 }
 
-// Some subscriptions, and all of which the volume meets some area.
+// Returns some subscriptions, among them all whose volume meets an area.
 fn read_near<S: Alter>(
     alloc: Global,
     conn: &mut Connection<S>,
@@ -65,10 +65,11 @@ fn read_near<S: Alter>(
     read_subs_alive(alloc, conn, &asked)
 }
 
-/// The subscriptions of a supplier of which the volume meets an area, by rising ids, as the tables
-/// spell them. Where they spell no airspace, anything may come of it. It reads the rows of
-/// `subscription_cell` that the index on `lo` and `hi` finds, and those of the subscriptions that
-/// have them, all in one transaction. An error is one of the store, or want of memory.
+/// Returns the subscriptions of a USS whose volume meets an area, in ascending order of ids.
+///
+/// If the tables represent no airspace, the result is unspecified. It reads the rows of
+/// `subscription_cell` that the index on `lo` and `hi` finds, and those of their subscriptions, in
+/// one transaction. Returns an error if the store fails or memory runs out.
 pub fn find_subscriptions_of<S: Alter>(
     alloc: Global,
     conn: &mut Connection<S>,
@@ -85,8 +86,8 @@ pub fn find_subscriptions_of<S: Alter>(
     Ok(own)
 }
 
-/// The subscriptions that are for a kind and of which the volume meets some area, by rising ids,
-/// whoever manages them. All else is as of those of a supplier.
+/// Returns the subscriptions for a kind whose volume meets an area, in ascending order of ids,
+/// whoever manages them. Otherwise it behaves like `find_subscriptions_of`.
 pub fn find_subscribers<S: Alter>(
     alloc: Global,
     conn: &mut Connection<S>,

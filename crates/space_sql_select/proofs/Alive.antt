@@ -1,4 +1,5 @@
--- What a text without a statement tells of a connection: it is refused, and then all is as it was.
+-- Proofs about testing a connection with a text without a statement, which it rejects without a
+-- change.
 use Rattle.std.specs.Prelude.{◌≡◌, Option, Some, None, IsSome, List, [], Result, Ok, Err, ℕ, OnOk, refl}
 use Rattle.std.proofs.Common.{inl, inr, ap, subst, sym, ◌∙◌}
 use Rattle.sqlite_tied.specs.Compute.{everything}
@@ -19,7 +20,7 @@ returning_of : Result Compiled CompileError → Option Returning
 returning_of (Ok c) = c.returning
 returning_of (Err e) = None
 
--- no schema makes a statement of it that shows rows
+-- No schema makes it a statement that returns rows.
 shows_none : (schema : Schema) → returning_of (understood schema []) ≡ None
 unfolding understood everything returning_of
 shows_none schema = refl

@@ -1,4 +1,4 @@
--- Maps by their entries.
+-- Lemmas about maps and their entries.
 use Rattle.std.proofs.Common.{◌≡◌, ◌≤◌, List, [], ◌∷◌, ◌++◌, filter, length, Bool, true, false, cond, Some, None, refl, sym, ap, subst, ◌∙◌, arith, Ordering, Less, Equal, Greater, length-append, is_eq}
 use Rattle.std.specs.Prelude.{IsPermutation}
 use Rattle.std.specs.List.{AllByRecursion}
@@ -20,7 +20,7 @@ module _ {K X : Type 0} (R : K → K → Ordering) (o : IsTotalOrder R) where
   below_misses k l [] e all = tt
   below_misses k l (f ∷ es) e all = (ap is_eq (o.congr k l f.0 e ∙ all.0), below_misses k l es e all.1)
 
-  -- of rising entries at most one has a key
+  -- At most one of ascending entries has a key.
   pub one_hit : (k : K) (es : List (K × X)) → IsAscending (EntryLess R) es → length (filter (hits k) es) ≤ 1
   one_hit k [] up = omega arith
   one_hit k (e ∷ es) up = go (R k e.0) refl (one_hit k es up.1)
@@ -38,7 +38,7 @@ module _ {K X : Type 0} (R : K → K → Ordering) (o : IsTotalOrder R) where
       go true p h more = absurd (omega (arith, h))
       go false p h more = more h
 
-  -- what stands beside some entries of a map has another key than they
+  -- An entry beside some entries of a map has a key that none of them has.
   pub new_key : (m m' : FinMap R X) (p : K × X) (ps : List (K × X)) → IsPermutation (p ∷ (ps ++ entries m)) (entries m') → get m p.0 ≡ None
   new_key m m' p ps same =
       let few = one_hit p.0 (entries m') (entries_rise R (entries m') (entries_sorted m')) in
@@ -63,10 +63,10 @@ module _ {K X : Type 0} (R : K → K → Ordering) (o : IsTotalOrder R) where
       go Equal h more = absurd cc
       go Greater h more = IsPermutation-trans _ _ _ (IsPermutation-middle ((k, v) ∷ []) e es) (IsPermutation-cons e _ _ (more h))
 
-  -- a new entry beside the others
+  -- Inserting under a new key adds the entry to the others.
   pub inserted : (m : FinMap R X) (k : K) (v : X) → get m k ≡ None → IsPermutation ((k, v) ∷ entries m) (entries (insert m k v))
   inserted m k v h = subst (IsPermutation ((k, v) ∷ entries m)) (sym (entries-insert o m k v)) (put_new k v (entries m) (sym (get-entries m k) ∙ h))
 
-  -- one entry goes from those to come to those that are there
+  -- Inserting an entry moves it from the remaining entries to the map.
   pub moves_in : (m : FinMap R X) (p : K × X) (ps : List (K × X)) → get m p.0 ≡ None → IsPermutation (ps ++ entries (insert m p.0 p.1)) (p ∷ (ps ++ entries m))
   moves_in m p ps h = IsPermutation-trans _ _ _ (IsPermutation-append_right ps _ _ (IsPermutation-sym _ _ (inserted m p.0 p.1 h))) (IsPermutation-middle ps p (entries m))

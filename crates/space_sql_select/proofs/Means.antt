@@ -1,4 +1,4 @@
--- What the statements mean.
+-- Proofs of what the statements mean.
 use Rattle.std.proofs.Common.{◌≡◌, ℕ, List, refl, codes, [], ◌∷◌, None, pos, negsuc, false, map}
 use Rattle.sqlite.specs.declared.types.Value.TheVariants.{Int}
 use Rattle.sqlite_tied.specs.Compute.{everything}
@@ -13,7 +13,7 @@ use Rattle.sqlite.specs.Collation.TheVariants.{Binary}
 use Rattle.space_sql_schema.specs.Tables.{dss_schema}
 use Rattle.space_sql_select.proofs.Texts.{metas_read}
 
--- all rows of a table that pass some tests, some columns of each
+-- The query that shows some columns of all rows of a table that pass some tests.
 abbrev pub simple : ℕ → List Term → List Term → Query
 simple t filter project = record {
   from = inner t end;
@@ -33,11 +33,11 @@ up place = (col 1 place, ascending Binary)
 abbrev pub cols : List ℕ → List Term
 cols places = map (col 1) places
 
--- the rows of a table that pass some tests, some columns of each, in an order
+-- The query that shows some columns of the rows of a table that pass some tests, in an order.
 abbrev pub listing : ℕ → List Term → List ℕ → List ℕ → Query
 listing t tests shown order = record (simple t tests (cols shown)) { order = map up order }
 
--- what the text of a reading means
+-- Holds if the text means such a query without tests.
 pub record Lists (text : List ℕ) (t : ℕ) (shown order : List ℕ) : Type 0 where
   pub names : List (List ℕ)
   pub is : command_of (understood dss_schema text) ≡ Select (record { lets = []; body = listing t [] shown order }) names

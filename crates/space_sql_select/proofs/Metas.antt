@@ -1,4 +1,4 @@
--- What the rows of `meta` say is so of the database.
+-- Proofs that the rows of `meta` describe the database.
 use Rattle.std.proofs.Common.{◌≡◌, ◌↔◌, ℕ, List, [], ◌∷◌, map, codes, Bool, IsTrue, refl, sym, subst, ◌∙◌}
 use Rattle.std.specs.Prelude.{IsPermutation}
 use Rattle.std.proofs.lemmas.List.Sorted.{IsPermutation-sym}

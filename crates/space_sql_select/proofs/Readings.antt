@@ -1,4 +1,4 @@
--- Readings in a transaction, alone and one after the other.
+-- Proofs about reads in a transaction, single and in sequence.
 use Rattle.std.proofs.Common.{◌≡◌, ◌⊎◌, inl, inr, List, ℕ, Ok, Err, Result, IfOk, OnOk, sym, ap, subst, ◌∙◌, arith}
 use Rattle.std.specs.Prelude.{IfErr, IsTrue, Vec}
 use Rattle.std.specs.Global.{Global}
@@ -17,7 +17,7 @@ use Rattle.space_sql_schema.specs.Spelling.{Spells}
 use Rattle.space_sql_select.specs.Reading.{Reads, ReadsAlive, ReadsAlone, ReadsTables}
 use Rattle.space_sql_select.specs.Selecting.{Answers}
 
--- a query leaves all as it was
+-- A query changes nothing.
 pub shown_same : (sql : List ℕ) (params : Row) (old new : State) (rows : List Row) → IsPlain (understood old.now.schema sql) → Shown sql params old new rows → IsUnchanged old new
 unfolding Shown
 shown_same sql params old new rows plain h =
@@ -30,7 +30,7 @@ unfolding IsNotRun
 not_run_kept sql params old new e (inl h) = inl h.1
 not_run_kept sql params old new e (inr h) = inr h.3
 
--- a query that fails leaves all as it was, or has ended the transaction
+-- A query that fails changes nothing, or has rolled the transaction back.
 pub query_kept : (sql : List ℕ) (params : Row) (old new : State) (e : Error) → IsPlain (understood old.now.schema sql) → FailsToQuery sql params old new e → IsUnchanged old new ⊎ IsRolledBack old new
 unfolding FailsToQuery
 query_kept sql params old new e plain (inl h) = not_run_kept sql params old new e h
@@ -47,7 +47,7 @@ module _ (sql : List ℕ) (plain : IsPlain (understood dss_schema sql)) (params 
   failed e (inl h) has = kept_keeps old new (query_kept sql params old new e (ours has) h)
   failed e (inr h) has = unchanged_keeps old new h.5
 
-  -- a statement alone
+  -- A single statement is a read.
   pub reads_on : (P : Database → List Row → Type 0) (r : Result (Vec Row Global) Error) → (HasCleanDisk new → IfOk r (λ rows. Shown sql params old new rows.items))
       → (HasCleanDisk new → IfErr r (λ e. FailsToQuery sql params old new e ⊎ IsTooLate sql params old new e)) → Survives old new (λ _. ⊥)
       → ((rows : List Row) → old.now.schema ≡ dss_schema → Shown sql params old new rows → P old.now rows) → Reads (λ db rows. P db rows.items) old new r
@@ -59,7 +59,7 @@ module _ (sql : List ℕ) (plain : IsPlain (understood dss_schema sql)) (params 
   }
   reads_on P (Err e) ok err survives shown = record { answer = λ clean. tt; same = λ clean. tt; kept = λ clean. failed e (err clean); survives = survives }
 
--- one reading, and then another of what the first left
+-- Two reads in sequence are a read.
 pub reads_then : {X Y : Type 0} (P : Database → X → Type 0) (Q : Database → Y → Type 0) (a b d : State) (x : X) (r : Result Y Error) → Reads P a b (Ok x) → Reads Q b d r → Reads (λ db y. P db x × Q db y) a d r
 reads_then P Q a b d x (Ok y) p q =
     let mid = λ (clean : HasCleanDisk d). let c : HasCleanDisk b = omega (arith, q.survives.clean) in c in
@@ -79,10 +79,10 @@ reads_then P Q a b d x (Err e) p q =
       survives = survives_then a b d _ _ (λ _. ⊥) (λ _ db none. none) (λ _ db none. none) p.survives q.survives;
     }
 
--- ---- in a transaction of its own
+-- ---- in a separate transaction
 
 module _ {X : Type 0} (P : Database → X → Type 0) (old mid new : State) (x : X) where
-  -- of a store that works after it
+  -- A read stays one if the store is alive after it.
   pub reads_alive : (IsTrue old.is_open → old.now ≡ old.committed) → ReadsAlone P old mid (Ok x) → (HasCleanDisk new → IsUnchanged mid new) → Survives mid new (λ _. ⊥) → ReadsAlive P old new (Ok x)
   reads_alive settled alone same survives =
       let cleaned = λ (clean : HasCleanDisk new). let c : HasCleanDisk mid = omega (arith, survives.clean) in c in
@@ -96,17 +96,17 @@ module _ {X : Type 0} (P : Database → X → Type 0) (old mid new : State) (x :
         survives = survives_then old mid new _ _ (λ _. ⊥) (λ _ db none. none) (λ _ db none. none) alone.survives survives;
       }
 
--- what was read, judged
+-- A read, followed by a check of what was read, is a read.
 pub alive_judged : {X Y : Type 0} (P : Database → X → Type 0) (Q : Database → Y → Type 0) (old new : State) (x : X) (r : Result Y Error) → ((db : Database) → db.schema ≡ dss_schema → P db x → IfOk r (Q db)) → ReadsAlive P old new (Ok x) → ReadsAlive Q old new r
 alive_judged P Q old new x (Ok y) f p = record { answer = λ clean has. f old.now has (p.answer clean has); rests = p.rests; is_open = p.is_open; survives = p.survives }
 alive_judged P Q old new x (Err e) f p = record { answer = λ clean. tt; rests = λ clean. tt; is_open = λ clean. tt; survives = p.survives }
 
--- of the airspace that the tables spell
+-- A read of the tables is a read of the airspace that they represent.
 pub reads_spelt : {X : Type 0} (P : Database → X → Type 0) (Q : Airspace → X → Type 0) (old new : State) (r : Result X Error) → ((db : Database) (x : X) → P db x → (a : Airspace) → Spells db a → Q a x) → ReadsAlive P old new r → ReadsTables old new r Q
 reads_spelt P Q old new (Ok x) f p = record { answer = λ clean a s. f old.now x (p.answer clean s.schema) a s; rests = p.rests; is_open = p.is_open; survives = p.survives }
 reads_spelt P Q old new (Err e) f p = record { answer = λ clean. tt; rests = λ clean. tt; is_open = λ clean. tt; survives = p.survives }
 
--- an error of any kind tells no more
+-- An error of any kind says nothing more.
 pub reads_failed : {X Y : Type 0} (P : Database → X → Type 0) (Q : Database → Y → Type 0) (a d : State) (e f : Error) (r : Result Y Error) → r ≡ Err f → Reads P a d (Err e) → Reads Q a d r
 reads_failed P Q a d e f r is p = subst (Reads Q a d) (sym is) (record { answer = λ clean. tt; same = λ clean. tt; kept = p.kept; survives = p.survives })
 
@@ -117,11 +117,11 @@ pub on_ok : {X : Type 0} (r : Result X Error) (A : Type 0) → A → OnOk r A
 on_ok (Ok x) A a = a
 on_ok (Err e) A a = tt
 
--- the same text with the same parameters
+-- Equal texts with equal parameters have the same results.
 pub reads_asked : (old new : State) (r : Result (Vec Row Global) Error) (sql text : List ℕ) (p q : Row) → sql ≡ text → p ≡ q → Reads (λ db rows. Answers sql p db rows.items) old new r → Reads (λ db rows. Answers text q db rows.items) old new r
 reads_asked old new r sql text p q e f h = subst (λ (l : List ℕ). Reads (λ db rows. Answers l q db rows.items) old new r) e (subst (λ (l : Row). Reads (λ db rows. Answers sql l db rows.items) old new r) f h)
 
--- what was read is judged
+-- A read, followed by a check of what was read, is a read.
 pub reads_judged : {X Y : Type 0} (P : Database → X → Type 0) (Q : Database → Y → Type 0) (a d : State) (x : X) (r : Result Y Error) → ((db : Database) → P db x → IfOk r (Q db)) → Reads P a d (Ok x) → Reads Q a d r
 reads_judged P Q a d x (Ok y) f p = record { answer = λ clean has. f a.now (p.answer clean has); same = p.same; kept = p.kept; survives = p.survives }
 reads_judged P Q a d x (Err e) f p = record { answer = λ clean. tt; same = λ clean. tt; kept = p.kept; survives = p.survives }

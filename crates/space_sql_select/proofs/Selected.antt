@@ -1,4 +1,4 @@
--- What a SELECT from one table shows: the rows that pass its tests, in its order.
+-- Proofs that a SELECT from one table shows the rows that pass its tests, in its order.
 use Rattle.std.proofs.Common.{◌≡◌, ℕ, List, [], ◌∷◌, ◌++◌, map, filter, Bool, true, false, cond, refl, sym, ap, subst, ◌∙◌, Ordering, Less}
 use Rattle.std.specs.Prelude.{IsPermutation}
 use Rattle.std.specs.List.{list_all, flat_map}
@@ -26,21 +26,21 @@ module _ (t : ℕ) (tests : List Term) (shown order : List ℕ) (db : Trees) (pa
   abbrev q : Query
   q = listing t tests shown order
 
-  -- the rows of the table that pass
+  -- The rows of the table that pass.
   abbrev pub passing : List Row
   passing = filter (λ r. list_all (holds (params ∷ r ∷ [])) tests) (db t)
 
   kept_are : a.kept ≡ map (λ r. output q (params ∷ r ∷ [])) passing
   kept_are = a.distinct ∙ (ap (map (output q)) (a.grouped ∙ filtered t tests db params here) ∙ map-map (output q) (λ r. params ∷ r ∷ []) passing)
 
-  -- in some order
+  -- The rows that pass are shown, in some order.
   pub selects_all : IsPermutation (map (λ r. eval_all (cols shown) (params ∷ r ∷ [])) passing) rows
   selects_all =
       let moved = IsPermutation-map (λ (o : Output). o.1) _ _ a.same in
       let from = ap (map (λ (o : Output). o.1)) kept_are ∙ map-map (λ (o : Output). o.1) (λ r. output q (params ∷ r ∷ [])) passing in
       subst (λ k. IsPermutation k rows) from (subst (IsPermutation (map (λ (o : Output). o.1) a.kept)) (sym a.shown) moved)
 
-  -- where their columns are those of a list that rises, the rows are that list
+  -- If the columns are those of an ascending list, the rows are that list.
   pub selects_one : {X : Type 0} (encode : X → Row) (columns : Row → Row) (pick : Row → Output) (cmp : X → X → Ordering) → ((r : Row) → output q (params ∷ r ∷ []) ≡ pick (columns r)) → ((c : Row) → (pick c).1 ≡ c)
       → ((x y : X) → cmp x y ≡ Less → output_cmp q (pick (encode x)) (pick (encode y)) ≡ Less) → (xs : List X) → IsAscending (λ x y. cmp x y ≡ Less) xs → IsPermutation (map encode xs) (map columns passing) → rows ≡ map encode xs
   selects_one {X} encode columns pick cmp picks whole less xs rises same =

@@ -1,4 +1,4 @@
--- What a reading of a whole table shows.
+-- Proofs about reading a whole table.
 use Rattle.std.proofs.Common.{◌≡◌, ℕ, List, [], ◌∷◌, map, filter, true, refl, sym, ap, subst, Ordering, Less, Equal, Greater}
 use Rattle.std.specs.Prelude.{IsPermutation}
 use Rattle.std.specs.Ordering.{ordering_then}
@@ -31,11 +31,11 @@ module _ (text : List ℕ) (t : ℕ) (shown order : List ℕ) (l : Lists text t 
       let read = reads_as text [] old new dss_schema has _ l.is l.plain l.unlisted rows h in
       read.answer Null
 
-  -- the rows of the table, in some order
+  -- All rows of the table are shown, in some order.
   pub lists_all : IsPermutation (map (λ r. eval_all (cols shown) ([] ∷ r ∷ [])) (old.now.trees t)) rows
   lists_all = subst (λ l. IsPermutation (map (λ r. eval_all (cols shown) ([] ∷ r ∷ [])) l) rows) (all_pass (old.now.trees t)) (selects_all t [] shown order old.now.trees [] rows here answer)
 
-  -- where the columns are those of a list that rises, the rows are that list
+  -- If the columns are those of an ascending list, the rows are that list.
   pub lists_one : {X : Type 0} (encode : X → Row) (columns : Row → Row) (pick : Row → Output) (cmp : X → X → Ordering) → ((r : Row) → output (listing t [] shown order) ([] ∷ r ∷ []) ≡ pick (columns r)) → ((c : Row) → (pick c).1 ≡ c)
       → ((x y : X) → cmp x y ≡ Less → output_cmp (listing t [] shown order) (pick (encode x)) (pick (encode y)) ≡ Less) → (xs : List X) → IsAscending (λ x y. cmp x y ≡ Less) xs → IsPermutation (map encode xs) (map columns (old.now.trees t)) → rows ≡ map encode xs
   lists_one encode columns pick cmp picks whole less xs rises same =

@@ -1,4 +1,4 @@
--- The statement that reads `meta`.
+-- The text of the statement that reads `meta`.
 use Rattle.std.specs.Prelude.{ℕ, List, codes}
 
 abbrev pub metas_read : List ℕ

@@ -1,4 +1,4 @@
--- Rows are typed one after the other.
+-- Proofs that rows are typed one after the other.
 use Rattle.std.specs.Prelude.{◌≡◌, ℕ, ℤ, ◌+◌, ◌≤◌, List, [], ◌∷◌, ◌++◌, map, length, drop, refl, pos, IsUtf8}
 use Rattle.std.proofs.Common.{sym, ap, ap₂, ◌∙◌, subst}
 use Rattle.std.proofs.Math.ListN.{drop_of_length-le}
@@ -19,14 +19,14 @@ use Rattle.space_sql_select.specs.declared.sub_rows.NamingRow.{NamingRow}
 same_text : (s t : List ℕ) → Text s ≡ Text t → s ≡ t
 same_text s t e = cc
 
--- the text that a column has is UTF-8
+-- The text of a text column is UTF-8.
 pub written_text : (v : Value) (t : List ℕ) → IsText v → v ≡ Text t → IsUtf8 t
 written_text v t p e = subst IsUtf8 (same_text p.0 t (sym p.1 ∙ e)) p.2
 
 pub is_text : (t : List ℕ) → IsUtf8 t → IsText (Text t)
 is_text t u = (t, refl, u)
 
--- ---- what the values of a typed row are
+-- ---- the values of a typed row
 
 pub entity_typed : (row : Row) (x : EntityRow) → IsRowOf entity_values IsWrittenEntity row x → IsEntityRow row
 entity_typed row x p =
@@ -77,7 +77,7 @@ pub naming_back : (r : NamingRow) → naming_of_values (values_of_naming r) ≡ 
 unfolding naming_of_values
 naming_back r = refl
 
--- rows are those of one typed list
+-- Rows are the values of one typed list.
 pub one_typed : {X : Type 0} (values : X → Row) (decode : Row → X) → ((x : X) → decode (values x) ≡ x) → (rows : List Row) (xs ys : List X) → rows ≡ map values xs → rows ≡ map values ys → xs ≡ ys
 one_typed values decode back rows xs ys p q = sym (map_back values decode back xs) ∙ (ap (map decode) (sym p ∙ q) ∙ map_back values decode back ys)
 

@@ -1,4 +1,4 @@
--- Texts without a fault are UTF-8.
+-- Proofs that texts without a fault are UTF-8.
 use Rattle.std.specs.Prelude.{◌≡◌, ℕ, zero, suc, ◌<◌, Bool, true, false, IsTrue, List, [], ◌∷◌, length, None, Some, Option, if◌then◌else◌, IsUtf8, IsAscii, slice_index, refl}
 use Rattle.std.specs.List.{list_all}
 use Rattle.std.proofs.Common.{arith, inl, inr}

@@ -1,4 +1,4 @@
--- What the table `meta` says.
+-- Definitions of what the table `meta` says.
 use Rattle.std.specs.Prelude.{◌≡◌, ◌≢◌, ℕ, pos, ◌≤◌, List, [], ◌∷◌, map}
 use Rattle.sqlite_value.specs.declared.value.Value.{Value}
 use Rattle.sqlite_value.specs.declared.value.Value.TheVariants.{Int}
@@ -10,7 +10,7 @@ use Rattle.space_sql_select.specs.declared.meta.Meta.{Meta}
 use Rattle.space_sql_select.specs.declared.meta.Meta.TheVariants.{Ours, Other, Neither}
 use Rattle.space_sql_select.specs.Reading.{ShowsAll}
 
--- meta has one row, and its format is neither 1 nor 2
+-- Holds if `meta` has one row, and its format is neither 1 nor 2.
 pub record IsOtherFormat (db : Database) : Type 0 where
   pub one : Value
   pub format : Value
@@ -22,7 +22,7 @@ pub record IsOtherFormat (db : Database) : Type 0 where
 abbrev pub ShowsMeta : Database → List Row → Type 0
 ShowsMeta db rows = ShowsAll meta_columns 0 db rows
 
--- one row, and its format is neither 1 nor 2
+-- Holds if there is one row, and its format is neither 1 nor 2.
 pub record AreOtherFormat (rows : List Row) : Type 0 where
   pub one : Value
   pub format : Value
@@ -31,7 +31,7 @@ pub record AreOtherFormat (rows : List Row) : Type 0 where
   pub not_one : format ≢ Int (pos 1)
   pub not_two : format ≢ Int (pos 2)
 
--- what the rows of meta say
+-- Holds if the rows of `meta` say this.
 abbrev pub IsMeta : List Row → Meta → Type 0
 IsMeta rows (Ours serial) = (rows ≡ meta_values 2 serial ∷ []) × (serial ≤ max_serial)
 IsMeta rows Other = AreOtherFormat rows

@@ -1,4 +1,4 @@
--- Rows of an answer as rows of the tables.
+-- Definitions of the rows of a result as rows of the tables.
 use Rattle.std.specs.Prelude.{◌≡◌, ℤ, List, [], ◌∷◌, map, length, ℕ, IsUtf8}
 use Rattle.std.specs.List.{AllByRecursion}
 use Rattle.std.specs.Ordering.{int_cmp, ordering_then}
@@ -19,11 +19,11 @@ use Rattle.space_sql_select.specs.declared.sub_rows.NamingRow.{NamingRow}
 abbrev pub IsNumber : Value → Type 0
 IsNumber v = (n : ℤ) × (v ≡ Int n)
 
--- a text that is UTF-8
+-- Holds if the value is a UTF-8 text.
 abbrev pub IsText : Value → Type 0
 IsText v = (t : List ℕ) × (v ≡ Text t) × IsUtf8 t
 
--- the row has the columns of a table, of their kinds
+-- Holds if the row has the columns of a table, of their kinds.
 abbrev pub IsEntityRow : Row → Type 0
 IsEntityRow r =
     (length r ≡ 9) × IsNumber (column r 0) × IsNumber (column r 1) × IsText (column r 2)
@@ -67,15 +67,15 @@ IsNumberRow r = (length r ≡ 1) × IsNumber (column r 0)
 
 -- ---- typed rows
 
--- the row of a number alone
+-- The row of a single number.
 abbrev pub number_values : ℤ → Row
 number_values n = Int n ∷ []
 
--- the values of a row of naming
+-- The values of a row of `naming`.
 abbrev pub values_of_naming : NamingRow → Row
 values_of_naming r = naming_values r.entity r.subscription
 
--- its texts are UTF-8
+-- Holds if the texts of the row are UTF-8.
 pub record IsWrittenEntity (r : EntityRow) : Type 0 where
   pub id : IsUtf8 r.id
   pub manager : IsUtf8 r.manager
@@ -103,13 +103,13 @@ IsWrittenNaming r = Unit {0}
 abbrev pub IsWrittenNumber : ℤ → Type 0
 IsWrittenNumber n = Unit {0}
 
--- the values are those of a typed row whose texts are UTF-8
+-- Holds if the values are those of a typed row whose texts are UTF-8.
 pub record IsRowOf {X : Type 0} (values : X → Row) (IsWritten : X → Type 0) (row : Row) (x : X)
     : Type 0 where
   pub written : IsWritten x
   pub values_are : row ≡ values x
 
--- the rows are those of typed rows whose texts are UTF-8
+-- Holds if the rows are those of typed rows whose texts are UTF-8.
 pub record AreRowsOf {X : Type 0} (values : X → Row) (IsWritten : X → Type 0) (rows : List Row)
     (xs : List X) : Type 0 where
   pub written : AllByRecursion IsWritten xs

@@ -1,4 +1,4 @@
-//! What a supplier has set, as a row of `availability` says.
+//! The availability that a USS set, from a row of `availability`.
 ghost use Rattle.std.specs.Prelude.{◌≡◌, None, IfOk};
 ghost use Rattle.sqlite_value.specs.Order.{column};
 ghost use Rattle.sqlite_value.specs.declared.value.Value.TheVariants.{Int, Text as Words};
@@ -15,7 +15,7 @@ use space_rows::texts;
 use sqlite::Row;
 use std::alloc::{AllocError, Global};
 
-/// What a supplier has set.
+/// The availability that a USS set.
 #[derive(Drop)]
 pub struct AvailabilityRecord {
     pub uss: UssId,
@@ -64,7 +64,7 @@ fn availability_in(row: &Row, at: usize) -> Option<Availability>
     }
 }
 
-/// What a row says that a supplier has set, if it says that.
+/// Returns the availability that a row says a USS set, if it says one.
 pub fn availability_record_in(
     alloc: Global,
     row: &Row,

@@ -1,4 +1,4 @@
-//! Single SELECTs of a connection, and their rows as rows of the tables.
+//! Single SELECTs of a connection, and conversion of their rows to rows of the tables.
 #![tactic(auto)]
 
 pub mod availability_record;

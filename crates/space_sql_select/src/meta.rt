@@ -1,4 +1,4 @@
-//! What the rows of `meta` say.
+//! The content of the table `meta`.
 ghost use Rattle.std.specs.Prelude.{◌≡◌, ◌↔◌, false, [], ◌∷◌, IfOk, IsTrue};
 ghost use Rattle.sqlite_value.specs.Order.{column};
 ghost use Rattle.sqlite_value.specs.declared.value.Value.TheVariants.{Int};
@@ -11,12 +11,12 @@ use crate::rows::number_in;
 use crate::select::select;
 use sqlite::{Alter, Connection, Error, Row};
 
-/// What the rows of `meta` say.
+/// The content of the table `meta`.
 #[derive(Clone, Copy)]
 pub enum Meta {
-    /// There is one, of format 2, with this serial.
+    /// One row, of format 2, with this serial.
     Ours(u64),
-    /// There is one, of a format that is neither 1 nor 2.
+    /// One row, of a format that is neither 1 nor 2.
     Other,
     Neither,
 }
@@ -57,7 +57,7 @@ fn meta_of_row(row: &Row) -> Meta
     }
 }
 
-/// What the rows of `meta` say.
+/// Returns what the rows of `meta` say.
 pub fn meta_of(rows: &[Row]) -> Meta
     ensures { IsMeta rows.now result }
 {
@@ -73,7 +73,7 @@ pub fn meta_of(rows: &[Row]) -> Meta
     }
 }
 
-// Whether they say another format.
+// Returns true if the rows say another format.
 fn is_other(rows: &[Row]) -> bool
     ensures { IsTrue result ↔ AreOtherFormat rows.now }
 {
@@ -84,8 +84,10 @@ fn is_other(rows: &[Row]) -> bool
     }
 }
 
-/// Whether the table `meta` has one row, of a format that is neither 1 nor 2. It may be asked of a
-/// database with any tables; what it says is promised of one with the schema of format 2.
+/// Returns true if the table `meta` has one row, of a format that is neither 1 nor 2.
+///
+/// It may be called for a database with any tables. The contract describes its result only for one
+/// with the schema of format 2.
 pub fn has_other_format<S: Alter>(conn: &mut Connection<S>) -> Result<bool, Error>
     requires { conn.old.in_transaction ≡ false }
     ensures outside { conn.new.in_transaction ≡ false }

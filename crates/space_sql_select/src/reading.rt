@@ -1,4 +1,4 @@
-//! What is known of a connection, and whether it still works.
+//! Facts about a connection, and a test that its store is alive.
 ghost use Rattle.std.specs.Prelude.{◌≡◌, false, Err, OnOk, IsTrue};
 ghost use Rattle.sqlite.specs.declared.error.Error.TheVariants.{InvalidQuery};
 ghost use Rattle.sqlite.specs.Held.{state};
@@ -6,7 +6,7 @@ ghost use Rattle.sqlite.specs.State.{HasCleanDisk, IsLive, IsUnchanged, Survives
 
 use sqlite::{Alter, Connection, Error, Row};
 
-/// What is known of a connection at any time. It does nothing.
+/// States what holds of a connection at any time. It does nothing.
 pub fn connection_facts<S: Alter>(conn: &Connection<S>)
     ensures live { IsLive (state S.Store conn.now) }
     ensures settled { let s = state S.Store conn.now in
@@ -16,7 +16,7 @@ pub fn connection_facts<S: Alter>(conn: &Connection<S>)
     let _ = conn.is_autocommit();
 }
 
-// Whether a text without a statement was refused as such.
+// Returns `Ok` if a text without a statement was rejected as such.
 fn refused(told: Result<Row, Error>) -> Result<(), Error>
     ensures { OnOk result (told ≡ Err InvalidQuery) }
 {
@@ -27,9 +27,11 @@ fn refused(told: Result<Row, Error>) -> Result<(), Error>
     }
 }
 
-/// Tests whether the store still works, by a text without a statement, which an open connection refuses
-/// to read. It writes nothing, and once it was asked it takes no memory, as long as the connection
-/// keeps the text.
+/// Tests that the store is alive, with a text without a statement, which an open connection
+/// rejects.
+///
+/// It writes nothing. After the first call it allocates nothing, as long as the connection caches
+/// the text.
 pub fn is_store_alive<S: Alter>(conn: &mut Connection<S>) -> Result<(), Error>
     requires { conn.old.in_transaction ≡ false }
     ensures outside { conn.new.in_transaction ≡ false }

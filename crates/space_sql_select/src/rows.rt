@@ -1,4 +1,4 @@
-//! Rows of an answer as rows of the tables.
+//! Conversion of the rows of a result to rows of the tables.
 ghost use Rattle.std.specs.Prelude.{◌≡◌, ◌↔◌, IfOk, IsTrue, MatchOption};
 ghost use Rattle.sqlite_value.specs.Order.{column};
 ghost use Rattle.sqlite_value.specs.declared.value.Value.TheVariants.{Int, Text as Words};
@@ -12,7 +12,7 @@ use sqlite::types::ValueRef;
 use sqlite::{Error, Row};
 use std::alloc::Global;
 
-/// Whether a column is a number.
+/// Returns true if a column is a number.
 pub(crate) fn is_number(row: &Row, at: usize) -> bool
     ensures { IsTrue result ↔ IsNumber (column row.now at) }
 {
@@ -22,7 +22,7 @@ pub(crate) fn is_number(row: &Row, at: usize) -> bool
     }
 }
 
-/// Whether a column is a text that is UTF-8.
+/// Returns true if a column is a UTF-8 text.
 pub(crate) fn is_text(row: &Row, at: usize) -> bool
     ensures { IsTrue result ↔ IsText (column row.now at) }
 {
@@ -32,7 +32,7 @@ pub(crate) fn is_text(row: &Row, at: usize) -> bool
     }
 }
 
-/// The number of a column, if it is one.
+/// Returns the number in a column, if it is one.
 pub fn number_in(row: &Row, at: usize) -> Option<i64>
     ensures { Finds (λ n. column row.now at ≡ Int n) result }
 {
@@ -42,7 +42,7 @@ pub fn number_in(row: &Row, at: usize) -> Option<i64>
     }
 }
 
-/// The text of a column, if it is one and UTF-8.
+/// Returns the text in a column, if it is one and UTF-8.
 pub fn text_in(row: &Row, at: usize) -> Option<&str>
     ensures { MatchOption result (¬ IsText (column row.now at))
         (λ t. column row.now at ≡ Words t.now) }
@@ -53,14 +53,14 @@ pub fn text_in(row: &Row, at: usize) -> Option<&str>
     }
 }
 
-/// The number of a column that is one.
+/// Returns the number in a column that is one.
 pub(crate) fn number_at(row: &Row, at: usize) -> Result<i64, Error>
     ensures { IfOk result (λ n. column row.now at ≡ Int n) }
 {
     row.get(at)
 }
 
-/// The text of a column that is one and UTF-8.
+/// Returns the text in a column that is one and UTF-8.
 pub(crate) fn text_at(row: &Row, at: usize) -> Result<Text, Error>
     ensures { IfOk result (λ t. column row.now at ≡ Words t) }
 {
@@ -107,7 +107,8 @@ fn is_number_row(row: &Row) -> bool
     row.column_count() == 1 && is_number(row, 0)
 }
 
-/// The row as one of `entity`, if its values are of its kinds and its texts are UTF-8.
+/// Returns the row as one of `entity`, if its values are of the right kinds and its texts are
+/// UTF-8.
 pub fn entity_row(row: &Row) -> Result<Option<EntityRow>, Error>
     ensures { IfOk result (λ o. Finds (IsRowOf entity_values IsWrittenEntity row.now) o) }
 {
@@ -168,7 +169,8 @@ fn number_row(row: &Row) -> Result<Option<i64>, Error>
     Ok(Some(number_at(row, 0)?))
 }
 
-/// The rows as rows of `entity`, if their values are of its kinds and their texts are UTF-8.
+/// Returns the rows as rows of `entity`, if their values are of the right kinds and their texts are
+/// UTF-8.
 pub fn entity_rows(alloc: Global, rows: &[Row]) -> Result<Option<Vec<EntityRow>>, Error>
     ensures { IfOk result (λ o. FindsList (AreRowsOf entity_values IsWrittenEntity rows.now) o) }
 {
@@ -182,7 +184,7 @@ pub fn entity_rows(alloc: Global, rows: &[Row]) -> Result<Option<Vec<EntityRow>>
     Ok(Some(out))
 }
 
-/// The rows as rows of `volume`.
+/// Returns the rows as rows of `volume`, if their values are of the right kinds.
 pub fn volume_rows(alloc: Global, rows: &[Row]) -> Result<Option<Vec<VolumeRow>>, Error>
     ensures { IfOk result (λ o. FindsList (AreRowsOf volume_values IsWrittenVolume rows.now) o) }
 {
@@ -196,7 +198,8 @@ pub fn volume_rows(alloc: Global, rows: &[Row]) -> Result<Option<Vec<VolumeRow>>
     Ok(Some(out))
 }
 
-/// The rows as rows of `cell`.
+/// Returns the rows as rows of `cell`, if their values are of the right kinds and their texts are
+/// UTF-8.
 pub fn cell_rows(alloc: Global, rows: &[Row]) -> Result<Option<Vec<CellRow>>, Error>
     ensures { IfOk result (λ o. FindsList (AreRowsOf cell_values IsWrittenCell rows.now) o) }
 {
@@ -210,7 +213,7 @@ pub fn cell_rows(alloc: Global, rows: &[Row]) -> Result<Option<Vec<CellRow>>, Er
     Ok(Some(out))
 }
 
-/// The rows as single numbers.
+/// Returns the rows as numbers, if each one is a single number.
 pub fn number_rows(alloc: Global, rows: &[Row]) -> Result<Option<Vec<i64>>, Error>
     ensures { IfOk result (λ o. FindsList (AreRowsOf number_values IsWrittenNumber rows.now) o) }
 {

@@ -1,4 +1,4 @@
-//! One SELECT, in a transaction and outside one.
+//! A single SELECT, in a transaction or outside one.
 ghost use Rattle.std.specs.Prelude.{◌≡◌, false};
 ghost use Rattle.sqlite.specs.Held.{state};
 ghost use Rattle.sqlite.specs.Values.{bound};
@@ -10,7 +10,7 @@ use crate::reading::{connection_facts, is_store_alive};
 use sqlite::types::ValueRef;
 use sqlite::{Alter, Connection, Error, Row, Transaction};
 
-/// The answer of a SELECT in a transaction.
+/// Returns the result of a SELECT in a transaction.
 pub fn query<S: Alter>(
     tx: &mut Transaction<'_, S>,
     sql: &str,
@@ -41,7 +41,7 @@ fn query_alone<S: Alter>(
     Ok(rows)
 }
 
-/// The answer of a SELECT, of a store that still works after it. It leaves the tables as they are.
+/// Returns the result of a SELECT, if the store is alive after it. It leaves the tables unchanged.
 pub fn select<S: Alter>(
     conn: &mut Connection<S>,
     sql: &str,

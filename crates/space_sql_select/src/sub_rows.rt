@@ -1,4 +1,4 @@
-//! Rows of an answer as rows of the tables that keep subscriptions.
+//! Conversion of the rows of a result to rows of the tables that store subscriptions.
 ghost use Rattle.std.specs.Prelude.{◌≡◌, ◌↔◌, IfOk, IsTrue};
 ghost use Rattle.space_rows.specs.Finds.{Finds, FindsList};
 ghost use Rattle.space_sql_schema.specs.Spelling.{sub_values, sub_cell_values};
@@ -14,7 +14,7 @@ use std::alloc::Global;
 pub struct NamingRow {
     /// The `num` of an entity.
     pub entity: i64,
-    /// The `num` of the subscription that it names.
+    /// The `num` of the subscription that it references.
     pub subscription: i64,
 }
 
@@ -57,7 +57,8 @@ fn is_naming_row(row: &Row) -> bool
     row.column_count() == 2 && (is_number(row, 0) && is_number(row, 1))
 }
 
-/// The row as one of `subscription`, if its values are of its kinds and its texts are UTF-8.
+/// Returns the row as one of `subscription`, if its values are of the right kinds and its texts are
+/// UTF-8.
 pub fn sub_row(row: &Row) -> Result<Option<SubRow>, Error>
     ensures { IfOk result (λ o. Finds (IsRowOf sub_values IsWrittenSub row.now) o) }
 {
@@ -108,7 +109,8 @@ fn naming_row(row: &Row) -> Result<Option<NamingRow>, Error>
     }))
 }
 
-/// The rows as rows of `subscription`, if their values are of its kinds and their texts are UTF-8.
+/// Returns the rows as rows of `subscription`, if their values are of the right kinds and their
+/// texts are UTF-8.
 pub fn sub_rows(alloc: Global, rows: &[Row]) -> Result<Option<Vec<SubRow>>, Error>
     ensures { IfOk result (λ o. FindsList (AreRowsOf sub_values IsWrittenSub rows.now) o) }
 {
@@ -122,7 +124,8 @@ pub fn sub_rows(alloc: Global, rows: &[Row]) -> Result<Option<Vec<SubRow>>, Erro
     Ok(Some(out))
 }
 
-/// The rows as rows of `subscription_cell`.
+/// Returns the rows as rows of `subscription_cell`, if their values are of the right kinds and
+/// their texts are UTF-8.
 pub fn sub_cell_rows(alloc: Global, rows: &[Row]) -> Result<Option<Vec<SubCellRow>>, Error>
     ensures { IfOk result (λ o. FindsList (AreRowsOf sub_cell_values IsWrittenSubCell rows.now) o) }
 {
@@ -136,7 +139,7 @@ pub fn sub_cell_rows(alloc: Global, rows: &[Row]) -> Result<Option<Vec<SubCellRo
     Ok(Some(out))
 }
 
-/// The rows as rows of `naming`.
+/// Returns the rows as rows of `naming`, if their values are of the right kinds.
 pub fn naming_rows(alloc: Global, rows: &[Row]) -> Result<Option<Vec<NamingRow>>, Error>
     ensures { IfOk result (λ o. FindsList (AreRowsOf values_of_naming IsWrittenNaming rows.now) o) }
 {

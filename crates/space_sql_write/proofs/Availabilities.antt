@@ -1,4 +1,4 @@
--- What a USS has set is replaced.
+-- Proofs that the availability of a USS is replaced.
 use Rattle.std.proofs.Common.{◌≡◌, ℕ, ◌<◌, ℤ, List, [], ◌∷◌, ◌++◌, filter, not, ◌&&◌, Bool, true, false, Ok, Err, Result, OnOk, refl, sym, ap, subst, ◌∙◌, arith}
 use Rattle.std.specs.Prelude.{IsPermutation}
 use Rattle.std.specs.Ordering.{eq_by_cmp}
@@ -47,7 +47,7 @@ use Rattle.space_sql_write.proofs.Entries.{others, inserted}
 use Rattle.space_sql_write.proofs.Numbered.{made}
 use Rattle.space_sql_write.proofs.Spelt.{AreStated, entities_later, lay_out, own_entities, own_stated, own_subs, subs_later}
 
--- ---- the row is deleted
+-- ---- deleting the row
 
 clear_availability_is : command_of (understood dss_schema clear_availability_text) ≡ Delete 4 (record { lets = []; body = query_of 8 (is_first 1) (col 1 0 ∷ []) })
 unfolding understood everything
@@ -61,7 +61,7 @@ no_works : (db : Trees) (ids : List ℤ) → works dss_schema Enforced 0 8 (take
 unfolding everything
 no_works db ids = refl
 
--- as the test of the statement is computed
+-- The test of the statement, as it is computed.
 abbrev names : List ℕ → Row → Bool
 names uss c = is_true (binary (Compare Eq Binary) (column c 0) (Text uss)) && true
 
@@ -77,7 +77,7 @@ clears_availability old new uss (Ok count) h = λ l _ has.
     let left = some_left availability_values three_columns l.availabilities (db 8) has.availabilities (λ c. not (names uss c)) (λ s. not (eq_by_cmp text_cmp uss s.0)) (λ s. ap not (names_uss uss s)) in
     subst (λ d. LaysOut d (without_availability_row uss l)) (sym u.is) (availabilities_relaid old.now u.next l has u.step.tables _ (subst (AreRows availability_values three_columns _) (sym u.rows) left))
 
--- ---- the airspace with it
+-- ---- the new airspace
 
 text_exact : IsAntisymmetric text_cmp
 text_exact = slice_cmp-IsAntisymmetric nat_cmp-IsAntisymmetric
@@ -86,14 +86,14 @@ module _ (m : Availabilities) (uss : List ℕ) (stated : VersionedAvailability) 
   together : IsPermutation ((uss, stated) ∷ others text_cmp nat_list_cmp_total text_exact uss (entries m)) (entries (insert m uss stated))
   together = inserted text_cmp nat_list_cmp_total text_exact m uss stated
 
-  -- the rows are what each USS has set, with what is set
+  -- With the new availability, the rows are what each USS has set.
   stated_set : AreStated (entries m) m → AreStated (filter (λ (s : List ℕ × VersionedAvailability). not (eq_by_cmp text_cmp uss s.0)) (entries m) ++ (uss, stated) ∷ []) (insert m uss stated)
   stated_set are = record {
     are = IsPermutation-trans _ _ _ (IsPermutation-sym _ _ together) (IsPermutation-append_comm ((uss, stated) ∷ []) (others text_cmp nat_list_cmp_total text_exact uss (entries m)));
     stated = recursion_from_All IsStated _ (All-permutation IsStated _ _ together (All-from_recursion IsStated ((uss, stated) ∷ others text_cmp nat_list_cmp_total text_exact uss (entries m)) (is, all-filter IsStated _ (entries m) are.stated)));
   }
 
--- what a USS has set is replaced, and the serial goes on
+-- The availability of the USS is replaced, and the serial increases by one.
 pub sets_availability : (old replaced new : Database) (uss : List ℕ) (availability : Availability) (version : List ℕ) → ReplacesAvailability uss (availability, version) old replaced → RelaysSound (λ l. l.serial < max_serial) with_next_serial replaced new
     → MakesChange (Avail uss availability version) [] old new
 sets_availability old replaced new uss availability version replaces raises a p fits =

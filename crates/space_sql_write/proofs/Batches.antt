@@ -1,4 +1,4 @@
--- The changes of a round are made one after the other.
+-- Proofs that the changes of a batch are made one after the other.
 use Rattle.std.proofs.Common.{◌≡◌, ℕ, ◌+◌, ◌<◌, ◌≤◌, List, [], ◌∷◌, length, get_or, drop, sym, ap, subst, ◌∙◌}
 use Rattle.std.proofs.lemmas.List.{drop_all, drop_more}
 use Rattle.sqlite.specs.Effect.{Database}
@@ -8,7 +8,7 @@ use Rattle.space_core.specs.Batch.{changed_once}
 use Rattle.space_sql_write.specs.Numbering.{KeepsNumbers, KeepsNumbersThroughout, Throughout}
 use Rattle.space_sql_write.specs.Statements.{MakesChange, MakesRest, MakesBatch}
 
--- what holds throughout holds at the start
+-- A property that holds throughout a batch holds at its start.
 at_start : (P : Airspace → Type 0) (batch : List BatchChange) (a : Airspace) → Throughout P batch a → P a
 at_start P [] a all = all
 at_start P (c ∷ cs) a all = all.0
@@ -19,14 +19,15 @@ numbers_on c cs a old mid new one others = record {
   subscriptions = λ id all num at. others.subscriptions id all.1 num (one.subscriptions id all.0 (at_start _ cs (changed_once c a) all.1) num at);
 }
 
--- a change, and those that follow it
+-- A change, followed by the remaining changes, makes the batch.
 pub change_then : (c : BatchChange) (cs : List BatchChange) (old mid new : Database) → MakesChange c.change c.notify.items old mid → MakesRest cs mid new → MakesBatch (c ∷ cs) old new
 change_then c cs old mid new one others a p fits =
     let it = one a p fits.0 in
     let rest = others (changed_once c a) it.0 fits.1 it.1 in
     (rest.0, rest.1, numbers_on c cs a old mid new it.2 rest.2)
 
--- What the changes before a place do: with whatever those from it on do, they do what all of them do.
+-- Holds if the changes before an index, followed by any effect of the remaining ones, have the
+-- effect of all.
 abbrev pub LeadsTo : ℕ → List BatchChange → Database → Database → Type 0
 LeadsTo i batch old mid = (new : Database) → MakesRest (drop i batch) mid new → MakesRest batch old new
 

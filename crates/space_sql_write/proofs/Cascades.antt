@@ -1,4 +1,4 @@
--- A delete whose children are gone sets off nothing.
+-- Proofs that a delete without child rows triggers nothing.
 use Rattle.std.proofs.Common.{◌≡◌, ◌⊎◌, inl, inr, ℕ, ℤ, List, [], ◌∷◌, map, filter, ◌||◌, Bool, true, false, cond, Ok, refl, sym, ap, subst, ◌∙◌, Some, is_eq}
 use Rattle.std.specs.Prelude.{IsPermutation, find, unwrap_or, Option}
 use Rattle.std.specs.List.{list_any, AllByRecursion}
@@ -44,9 +44,9 @@ in_pairs [] m h = h
 in_pairs (o ∷ olds) m (inl e) = inl (ap (λ (p : Row × Row). p.0) e)
 in_pairs (o ∷ olds) m (inr h) = inr (in_pairs olds m h)
 
--- ---- the rows that a delete takes out
+-- ---- the rows that a delete removes
 
--- the row of a number is the one that has it
+-- The row found by a rowid is the one that has it.
 found : (rows xs : List Row) (r : Row) → PairApart rows → ((x : Row) → Has xs x → Has rows x) → Has rows r → Has xs r → find (has_rowid (id_in (rowid r))) xs ≡ Some r
 found rows [] r apart sub there h = absurd h
 found rows (x ∷ xs) r apart sub there h = go (has_rowid (id_in (rowid r)) x) refl h (λ k. found rows xs r apart (λ y m. sub y (inr m)) there k)
@@ -59,7 +59,7 @@ found rows (x ∷ xs) r apart sub there h = go (has_rowid (id_in (rowid r)) x) r
 pub taken_row : (rows : List Row) (r : Row) → PairApart rows → Has rows r → row_at rows (id_in (rowid r)) ≡ r
 taken_row rows r apart h = ap (λ (o : Option Row). unwrap_or o []) (found rows rows r apart (λ x k. k) h h)
 
--- each row that is taken out has P, where each that passes has it
+-- If each row that passes has P, each removed row has P.
 pub taken_have : (P : Row → Type 0) (hit : Row → Bool) (rows : List Row) (ids : List ℤ) → PairApart rows → IsPermutation (map (λ r. id_in (rowid r)) (filter hit rows)) ids → ((r : Row) → Has rows r → hit r ≡ true → P r) → AllByRecursion P (map (row_at rows) ids)
 taken_have P hit rows ids apart same each =
     all_map_back ids (recursion_from_All (λ id. P (row_at rows id)) ids (All-permutation (λ id. P (row_at rows id)) (map (λ r. id_in (rowid r)) (filter hit rows)) ids same (All-from_recursion (λ id. P (row_at rows id)) (map (λ r. id_in (rowid r)) (filter hit rows)) (own rows (λ x h. h)))))
@@ -76,13 +76,13 @@ taken_have P hit rows ids apart same each =
         go true e more = (subst P (sym (taken_row rows x apart (sub x (inl refl)))) (each x (sub x (inl refl)) e), more)
         go false e more = more
 
--- ---- works that are idle
+-- ---- idle works
 
--- the test of a child's column against a number
+-- Holds if the column of a child row differs from a number.
 abbrev pub differs : ℕ → ℤ → Row → Type 0
 differs place num r = is_true (binary (Compare Eq Binary) (column r place) (Int num)) ≡ false
 
--- where no row bears the number, a work that acts on those that do is idle
+-- If no row has the number, a work that acts on rows with it is idle.
 module _ (num : ℤ) (w : Work) (at place : ℕ) (same : (r : Row) (m : Row × Row) → is_child_of w r m ≡ true → is_true (binary (Compare Eq Binary) (column r at) (column m.0 place)) ≡ true) (olds : List Row) (moves : w.moves ≡ pairs olds []) where
   pub idle : (db : Trees) → AllByRecursion (λ m. column m place ≡ Int num) olds → AllByRecursion (differs at num) (db w.child.tree) → IsIdle db w
   idle db all none r h e =
@@ -104,14 +104,14 @@ two_idle : (db : Trees) (u v : Work) → IsIdle db u → IsIdle db v → AreIdle
 two_idle db u v p q w (inl e) = subst (IsIdle db) (sym e) p
 two_idle db u v p q w (inr h) = one_idle db v q w h
 
--- a write that sets off what has no child
+-- A write whose works are idle has no further effect.
 pub quiet_step : (db next : Trees) (edit : Edit) (ws : List Work) → works dss_schema Enforced 0 edit.table.tree (taken_by db edit) edit.news ≡ ws → ((mid : Trees) → Applies dss_schema Enforced db edit mid → AreIdle mid ws)
     → Acts dss_schema Enforced db edit (Ok next) → Applies dss_schema Enforced db edit next
 quiet_step db next edit ws are idle (inl refused) = absurd (let e = refused.2 in cc)
 quiet_step db next edit ws are idle (inr (inl big)) = absurd (let e = big.3 in cc)
 quiet_step db next edit ws are idle (inr (inr went)) = subst (Applies dss_schema Enforced db edit) (sym (all_idle dss_schema Enforced went.2.0 went.0 next ws (idle went.0 went.1) (rw are at went.2.1))) went.1
 
--- ---- volumes, whose cells are gone
+-- ---- volumes without cells
 
 cell_reference : Reference
 cell_reference = record { columns = 1 ∷ 2 ∷ []; parent = codes "volume"; parent_columns = codes "entity" ∷ codes "place" ∷ []; on_delete = Cascade; on_update = NoAction; is_deferred = false }
@@ -142,7 +142,7 @@ volumes_quiet db next ids num all none wrote =
       | inr one ↦ quiet_step db next edit (cell_work olds ∷ []) one (λ mid step. one_idle mid (cell_work olds) (quiet mid step)) wrote
     ]
 
--- ---- the entity, whose volumes are gone, and which names nothing
+-- ---- an entity without volumes and references
 
 volume_reference : Reference
 volume_reference = record { columns = 1 ∷ []; parent = codes "entity"; parent_columns = codes "num" ∷ []; on_delete = Cascade; on_update = NoAction; is_deferred = false }
@@ -184,7 +184,7 @@ entity_quiet db next ids num all none unnamed wrote =
       | inr two ↦ quiet_step db next edit (volume_work olds ∷ naming_work olds ∷ []) two (λ mid step. two_idle mid (volume_work olds) (naming_work olds) (volumes mid step) (namings mid step)) wrote
     ]
 
--- ---- the subscription, whose cells are gone, and which no entity names
+-- ---- a subscription without cells that no entity references
 
 sub_cell_reference : Reference
 sub_cell_reference = record { columns = 1 ∷ []; parent = codes "subscription"; parent_columns = codes "num" ∷ []; on_delete = Cascade; on_update = NoAction; is_deferred = false }

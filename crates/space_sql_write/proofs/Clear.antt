@@ -1,4 +1,4 @@
--- A delete takes out the rows that pass, where no two rows have one rowid.
+-- Proofs that a delete removes the rows that pass, if no two rows share a rowid.
 use Rattle.std.proofs.Common.{◌≡◌, ◌⊎◌, inl, inr, ℤ, List, [], ◌∷◌, map, filter, not, ◌||◌, Bool, true, false, cond, refl, sym, ap, subst, ◌∙◌, is_eq, int_cmp}
 use Rattle.std.specs.Prelude.{IsPermutation}
 use Rattle.std.specs.List.{list_any, AllByRecursion}
@@ -26,7 +26,7 @@ use Rattle.sqlite_trees.specs.Tree.{IsAscending}
 use Rattle.space_sql_schema.specs.Spelling.{AreApart}
 use Rattle.space_sql_write.proofs.Lists.{all_there, has_filtered, filter_on, alone}
 
--- each row has a number, and no two rows have one
+-- Holds if each row has a number as its rowid, and no two rows share one.
 pub record PairApart (rows : List Row) : Type 0 where
   pub numbers : (r : Row) → Has rows r → is_int (rowid r) ≡ true
   pub apart : (a b : Row) → Has rows a → Has rows b → is_eq (value_cmp (rowid a) (rowid b)) ≡ true → a ≡ b
@@ -68,7 +68,7 @@ numbers_of hit rows = map (λ r. id_in (rowid r)) (filter hit rows)
 pub ties_itself : (r : Row) → is_int (rowid r) ≡ true → has_rowid (id_in (rowid r)) r ≡ true
 ties_itself r int = subst (λ v. is_eq (value_cmp (rowid r) v) ≡ true) (int_is (rowid r) int) (ap is_eq (tied_itself value_cmp_total (rowid r)))
 
--- a row that does not pass has no number of one that does
+-- A row that does not pass has the number of no row that does.
 misses : (hit : Row → Bool) (rows from : List Row) (r : Row) → PairApart rows → Has rows r → hit r ≡ false → ((x : Row) → Has from x → Has rows x) → AllByRecursion (λ id. has_rowid id r ≡ false) (numbers_of hit from)
 misses hit rows [] r sound there no' sub = tt
 misses hit rows (x ∷ from) r sound there no' sub = go (hit x) refl (misses hit rows from r sound there no' (λ y has. sub y (inr has)))
@@ -83,7 +83,7 @@ misses hit rows (x ∷ from) r sound there no' sub = go (hit x) refl (misses hit
       more,
     )
 
--- a row that passes is among them
+-- A row that passes is among those with the numbers.
 hits : (hit : Row → Bool) (from : List Row) (r : Row) → Has from r → hit r ≡ true → is_int (rowid r) ≡ true → AllByRecursion (λ id. has_rowid id r ≡ false) (numbers_of hit from) → ⊥
 hits hit [] r there passed int all = there
 hits hit (x ∷ from) r (inl same) passed int all = let e = ties_itself r int in let first = subst (λ b. AllByRecursion (λ id. has_rowid id r ≡ false) (map (λ y. id_in (rowid y)) (cond b (x ∷ filter hit from) (filter hit from)))) (ap hit (sym same) ∙ passed) all in
@@ -94,7 +94,7 @@ hits hit (x ∷ from) r (inr more) passed int all = go (hit x) refl (hits hit fr
     go true e rest h = rest h.1
     go false e rest h = rest h
 
--- so the rows that are left are those that do not pass
+-- The remaining rows are those that do not pass.
 pub clears : (hit : Row → Bool) (rows : List Row) (ids : List ℤ) → PairApart rows → IsPermutation (numbers_of hit rows) ids → without_all rows ids ≡ filter (λ r. not (hit r)) rows
 clears hit rows ids sound same = gone_by_ids ids rows ∙ filter_on _ _ rows (λ r there. ap not (each r there (cases_Bool (hit r)) (cases_Bool (list_any (λ id. has_rowid id r) ids))))
   where
@@ -104,7 +104,7 @@ clears hit rows ids sound same = gone_by_ids ids rows ∙ filter_on _ _ rows (λ
         (recursion_from_All (λ id. has_rowid id r ≡ false) (numbers_of hit rows) (All-permutation (λ id. has_rowid id r ≡ false) ids (numbers_of hit rows) (IsPermutation-sym (numbers_of hit rows) ids same) (All-from_recursion (λ id. has_rowid id r ≡ false) ids (any_none (λ id. has_rowid id r) ids none)))))
     each r there (inr no') found = none_any (λ id. has_rowid id r) ids (recursion_from_All (λ id. has_rowid id r ≡ false) ids (All-permutation (λ id. has_rowid id r ≡ false) (numbers_of hit rows) ids same (All-from_recursion (λ id. has_rowid id r ≡ false) (numbers_of hit rows) (misses hit rows rows r sound there no' (λ x has. has))))) ∙ sym no'
 
--- ---- apart, by a rising list of numbers
+-- ---- distinct rowids, by an ascending list of numbers
 
 past_number : (m n : ℤ) (ids : List ℤ) → int_cmp m n ≡ Equal → AllByRecursion (λ k. int_cmp n k ≡ Less) ids → AllByRecursion (λ k. is_eq (int_cmp m k) ≡ false) ids
 past_number m n [] e all = tt
@@ -144,7 +144,7 @@ pair_apart rows it = record { numbers = λ r h. number r h; apart = pair }
         let count = ap length same in
         alone (filter (λ r. q (rowid r)) rows) a b (omega (arith, moved, mine, theirs, short, long, few, count)) (has_filtered (λ r. q (rowid r)) rows a h (ap is_eq (tied_itself value_cmp_total (rowid a)))) (has_filtered (λ r. q (rowid r)) rows b k e)
 
--- and so is what is kept of it
+-- Filtering keeps the rowids distinct.
 pub apart_kept : (p : Row → Bool) (rows : List Row) → AreApart rows → AreApart (filter p rows)
 apart_kept p rows it = (
   filter (λ n. q (Int n)) it.0,

@@ -1,4 +1,4 @@
--- The entries of a map with one more, or without one.
+-- Lemmas about the entries of a map with one entry more or fewer.
 use Rattle.std.proofs.Common.{◌≡◌, inl, inr, ◌≤◌, List, [], ◌∷◌, filter, length, not, Bool, true, false, cond, Option, Some, None, refl, sym, ap, subst, ◌∙◌, arith, is_eq, Ordering, Less, Equal, Greater}
 use Rattle.std.specs.Prelude.{IsPermutation, IsSome}
 use Rattle.std.specs.List.{AllByRecursion}
@@ -20,7 +20,7 @@ module _ {K X : Type 0} (R : K → K → Ordering) (o : IsTotalOrder R) (exact :
   abbrev pub hits : K → K × X → Bool
   hits k e = eq_by_cmp R k e.0
 
-  -- the entries of other keys
+  -- The entries with other keys.
   abbrev pub others : K → List (K × X) → List (K × X)
   others k es = filter (λ e. not (hits k e)) es
 
@@ -32,7 +32,7 @@ module _ {K X : Type 0} (R : K → K → Ordering) (o : IsTotalOrder R) (exact :
   lower_misses k l [] e all = tt
   lower_misses k l (f ∷ es) e all = (ap is_eq (o.trans k l f.0 e all.0), lower_misses k l es e all.1)
 
-  -- of rising entries at most one has a key
+  -- At most one of ascending entries has a key.
   pub one_hit : (k : K) (es : List (K × X)) → IsAscending (EntryLess R) es → length (filter (hits k) es) ≤ 1
   one_hit k [] up = omega arith
   one_hit k (e ∷ es) up = go (R k e.0) refl (one_hit k es up.1)
@@ -62,7 +62,7 @@ module _ {K X : Type 0} (R : K → K → Ordering) (o : IsTotalOrder R) (exact :
   pub few_hits : (k : K) (m : FinMap R X) → length (filter (hits k) (entries m)) ≤ 1
   few_hits k m = one_hit k (entries m) (rising m)
 
-  -- an entry, and those of other keys
+  -- Inserting an entry leaves it and those with other keys.
   pub inserted : (m : FinMap R X) (k : K) (x : X) → IsPermutation ((k, x) ∷ others k (entries m)) (entries (insert m k x))
   inserted m k x = subst (IsPermutation ((k, x) ∷ others k (entries m))) (sym (entries-insert o m k x)) (put_beside k x (entries m) (rising m))
 
@@ -77,11 +77,11 @@ module _ {K X : Type 0} (R : K → K → Ordering) (o : IsTotalOrder R) (exact :
       go true h e more = let key = exact k f.0 (equal_of (R k f.0) h) in let value = sym (same_Some f.1 x e) in inl (λ i. (key i, value i))
       go false h e more = inr (more e)
 
-  -- what is found is among the entries
+  -- An entry that is found is among the entries.
   pub entry_there : (m : FinMap R X) (k : K) (x : X) → get m k ≡ Some x → Has (entries m) (k, x)
   entry_there m k x e = find_there k (entries m) x (sym (get-entries m k) ∙ e)
 
-  -- what is removed is not found
+  -- A removed key is not found.
   pub none_removed : (m : FinMap R X) (k : K) → get (remove m k) k ≡ None
   none_removed m k = get-remove o m k k ∙ ap (λ c. cond (is_eq c) None (get m k)) (tied_itself o k)
 

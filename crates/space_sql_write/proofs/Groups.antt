@@ -1,4 +1,4 @@
--- Groups of rows under rising numbers, each with its entry in a map.
+-- Lemmas about groups of rows under ascending numbers, each with its entry in a map.
 use Rattle.std.proofs.Common.{◌≡◌, ◌⊎◌, inl, inr, ◌≤◌, ℤ, List, [], ◌∷◌, ◌++◌, map, filter, flat_map, length, not, Bool, true, false, cond, refl, sym, ap, subst, ◌∙◌, arith, int_eq, is_eq, Ordering, Less, Equal, Greater}
 use Rattle.std.specs.Prelude.{IsPermutation, IsSome, Some}
 use Rattle.std.specs.List.{AllByRecursion}
@@ -18,7 +18,7 @@ use Rattle.space_sql_write.proofs.Lists.{all_from, alone, equal_of, filter_joine
 use Rattle.space_sql_write.proofs.Entries.{entry_there, few_hits, hits, inserted, none_removed, removed, some_of}
 use Rattle.space_sql_write.proofs.Joining.{put_by, put_permutes}
 
--- the groups of other numbers
+-- Returns true if the group has another number.
 abbrev pub is_other : {G : Type 0} → (G → ℤ) → ℤ → G → Bool
 is_other number num g = not (int_eq (number g) num)
 
@@ -34,7 +34,7 @@ module _ {G R : Type 0} (number : G → ℤ) (key : R → ℤ) (f : G → List R
       ∙ (ap (λ l. cond (not (int_eq m num)) (r ∷ l) l) (own_left m rs all.1)
       ∙ elim (not (int_eq m num)) as (λ b. cond b (r ∷ cond b rs []) (cond b rs []) ≡ cond b (r ∷ rs) []) [ true ↦ refl | false ↦ refl ])
 
-  -- the rows that do not bear the number are those of the other groups
+  -- The rows without the number are those of the other groups.
   pub rows_of_others : (gs : List G) → Borne key number f gs → flat_map f (filter (is_other number num) gs) ≡ filter (λ r. not (int_eq (key r) num)) (flat_map f gs)
   rows_of_others [] all = refl
   rows_of_others (g ∷ gs) all = sym (
@@ -50,11 +50,11 @@ module _ {G R : Type 0} (number : G → ℤ) (key : R → ℤ) (f : G → List R
   pub others_left : (gs : List G) (rs : List R) → Borne key number f gs → IsPermutation (flat_map f gs) rs → IsPermutation (flat_map f (filter (is_other number num) gs)) (filter (λ r. not (int_eq (key r) num)) rs)
   others_left gs rs borne same = subst (λ k. IsPermutation k (filter (λ r. not (int_eq (key r) num)) rs)) (sym (rows_of_others gs borne)) (IsPermutation-filter (λ r. not (int_eq (key r) num)) _ _ same)
 
--- the same of one row a group
+-- The same, for one row per group.
 pub heads_left : {G R : Type 0} (key : R → ℤ) (row : G → R) (num : ℤ) (gs : List G) (rs : List R) → IsPermutation (map row gs) rs → IsPermutation (map row (filter (is_other (λ g. key (row g)) num) gs)) (filter (λ r. not (int_eq (key r) num)) rs)
 heads_left key row num gs rs same = subst (λ k. IsPermutation k (filter (λ r. not (int_eq (key r) num)) rs)) (filter-map (λ r. not (int_eq (key r) num)) row gs) (IsPermutation-filter (λ r. not (int_eq (key r) num)) _ _ same)
 
--- ---- a group joins the others
+-- ---- adding a group
 
 module _ {G : Type 0} (number : G → ℤ) (new : G) (gs : List G) where
   abbrev pub placed : List G
@@ -89,7 +89,7 @@ module _ {G K X : Type 0} (number : G → ℤ) (pair : G → K × X) (R : K → 
   abbrev pub IsLess : G → G → Type 0
   IsLess g h = int_cmp (number g) (number h) ≡ Less
 
-  -- one of the groups has the number and the key
+  -- Holds if one of the groups has the number and the key.
   abbrev pub IsAt : ℤ → K → List G → Type 0
   IsAt num k gs = (g : G) × Has gs g × (number g ≡ num) × ((pair g).0 ≡ k)
 
@@ -98,7 +98,7 @@ module _ {G K X : Type 0} (number : G → ℤ) (pair : G → K × X) (R : K → 
   after g (x ∷ gs) all h (inl same) e = let less = all.0 in let tie = tied_itself int_cmp_total (number g) in absurd (let both = sym less ∙ (ap (int_cmp (number g)) (ap number (sym same) ∙ sym e) ∙ tie) in cc)
   after g (x ∷ gs) all h (inr k) e = after g gs all.1 h k e
 
-  -- no two groups have one number
+  -- No two groups have the same number.
   pub one_of_number : (gs : List G) → IsAscending IsLess gs → (g h : G) → Has gs g → Has gs h → number g ≡ number h → g ≡ h
   one_of_number [] up g h a b e = absurd a
   one_of_number (x ∷ gs) up g h (inl p) (inl q) e = p ∙ sym q
@@ -109,7 +109,7 @@ module _ {G K X : Type 0} (number : G → ℤ) (pair : G → K × X) (R : K → 
   abbrev pub hits_key : K → G → Bool
   hits_key k g = eq_by_cmp R k (pair g).0
 
-  -- and at most one has a key
+  -- At most one group has a key.
   pub few : (gs : List G) (m : FinMap R X) (k : K) → IsPermutation (map pair gs) (entries m) → length (filter (hits_key k) gs) ≤ 1
   few gs m k kept =
       let one = few_hits R o exact k m in
@@ -122,7 +122,7 @@ module _ {G K X : Type 0} (number : G → ℤ) (pair : G → K × X) (R : K → 
     its_own : hits_key k it.0 ≡ true
     its_own = ap (λ q. eq_by_cmp R k q) it.3 ∙ ap is_eq (tied_itself o k)
 
-    -- the group of the key is that of the number
+    -- The group with the key is the group with the number.
     agrees : (g : G) → Has gs g → hits_key k g ≡ int_eq (number g) num
     agrees g there = go (cases_Bool (int_eq (number g) num)) (cases_Bool (hits_key k g))
       where
@@ -133,7 +133,7 @@ module _ {G K X : Type 0} (number : G → ℤ) (pair : G → K × X) (R : K → 
             let one = alone (filter (hits_key k) gs) g it.0 (few gs m k kept) (has_filtered (hits_key k) gs g there found) (has_filtered (hits_key k) gs it.0 it.1 its_own) in
             absurd (let same = ap number one ∙ it.2 in let tie = ap (λ n. int_eq n num) same ∙ ap is_eq (tied_itself int_cmp_total num) in let no' = sym tie ∙ other in cc)
 
-    -- the groups of other numbers are those of other keys
+    -- The groups with other numbers are those with other keys.
     pub kept_left : IsPermutation (map pair (filter (is_other number num) gs)) (entries (remove m k))
     kept_left =
         let same = filter-map (λ e. not (hits R o exact k e)) pair gs ∙ ap (map pair) (filter_on (λ g. not (hits_key k g)) (is_other number num) gs (λ g there. ap not (agrees g there))) in
@@ -146,18 +146,18 @@ module _ {G K X : Type 0} (number : G → ℤ) (pair : G → K × X) (R : K → 
       | inr other ↦ ap not other
     ])
 
-    -- where no group has the key, all groups are of other keys
+    -- If no group has the key, all groups have other keys.
     pub kept_stand : IsPermutation (map pair gs) (entries (remove m k))
     kept_stand =
         let same = filter_all (λ e. not (hits R o exact k e)) (map pair gs) (all_map (λ e. not (hits R o exact k e) ≡ true) pair gs other_keys) in
         subst (IsPermutation (map pair gs)) (sym (removed R o exact m k)) (subst (λ l. IsPermutation l (filter (λ e. not (hits R o exact k e)) (entries m))) same (IsPermutation-filter (λ e. not (hits R o exact k e)) _ _ kept))
 
-  -- a group joins those of other keys
+  -- A new group is added to those with other keys.
   pub kept_joined : (new : G) (gs : List G) (m : FinMap R X) → IsPermutation (map pair gs) (entries (remove m (pair new).0)) → IsPermutation (map pair (put_by number new gs)) (entries (insert m (pair new).0 (pair new).1))
   kept_joined new gs m kept =
       IsPermutation-trans _ _ _ (IsPermutation-map pair _ _ (turned number new gs)) (IsPermutation-trans _ _ _ (IsPermutation-cons (pair new) _ _ (subst (IsPermutation (map pair gs)) (removed R o exact m (pair new).0) kept)) (inserted R o exact m (pair new).0 (pair new).1))
 
-  -- the group of a number stands alone
+  -- Only one group has a number.
   none_of_past : (m : ℤ) (gs : List G) → AllByRecursion (λ g. int_cmp m (number g) ≡ Less) gs → filter (λ g. int_eq (number g) m) gs ≡ []
   none_of_past m [] all = refl
   none_of_past m (g ∷ gs) all = rw (turned_less m (number g) all.0) (none_of_past m gs all.1)
@@ -175,9 +175,9 @@ module _ {G K X : Type 0} (number : G → ℤ) (pair : G → K × X) (R : K → 
       other x (y ∷ hs) all h (inl e) = subst (λ z. int_eq (number x) (number z) ≡ false) (sym e) (ap is_eq all.0)
       other x (y ∷ hs) all h (inr m) = other x hs all.1 h m
 
-  -- ---- who keeps its number
+  -- ---- groups that keep their number
 
-  -- the groups of the map, each with its entry
+  -- Each entry of the map has a group.
   pub group_there : (gs : List G) (m : FinMap R X) → IsPermutation (map pair gs) (entries m) → (k : K) (x : X) → get m k ≡ Some x → (g : G) × Has gs g × (pair g ≡ (k, x))
   group_there gs m kept k x found =
       let it = mapped_from pair gs (k, x) (moved (map pair gs) (entries m) (k, x) kept (entry_there R o exact m k x found)) in
@@ -190,7 +190,7 @@ module _ {G K X : Type 0} (number : G → ℤ) (pair : G → K × X) (R : K → 
     pub others_at : (n : ℤ) (l : K) → int_eq n num ≡ false → IsAt n l gs → IsAt n l (filter (is_other number num) gs)
     others_at n l other at = (at.0, has_filtered (is_other number num) gs at.0 at.1 (ap (λ m. not (int_eq m num)) at.2 ∙ ap not other), at.2, at.3)
 
-    -- whoever is left does
+    -- The remaining groups keep their numbers.
     pub left_at : (m : FinMap R X) (n : ℤ) (l : K) → IsAt n l gs → IsSome (get (remove m k) l) → IsAt n l (filter (is_other number num) gs)
     left_at m n l at there = elim (cases_Bool (int_eq n num)) [
       | inl same ↦
@@ -200,7 +200,7 @@ module _ {G K X : Type 0} (number : G → ℤ) (pair : G → K × X) (R : K → 
       | inr other ↦ others_at n l other at
     ]
 
-    -- where the group is replaced, all do
+    -- If a group is replaced under its number, all groups keep their numbers.
     pub replaced_at : (new : G) → number new ≡ num → (pair new).0 ≡ k → (n : ℤ) (l : K) → IsAt n l gs → IsAt n l (placed number new (filter (is_other number num) gs))
     replaced_at new own key n l at = elim (cases_Bool (int_eq n num)) [
       | inl same ↦
@@ -209,6 +209,6 @@ module _ {G K X : Type 0} (number : G → ℤ) (pair : G → K × X) (R : K → 
       | inr other ↦ let it = others_at n l other at in (it.0, has_placed number new (filter (is_other number num) gs) it.0 (inr it.1), it.2, it.3)
     ]
 
-  -- where one joins, all do
+  -- If a group is added, all groups keep their numbers.
   pub placed_at : (new : G) (gs : List G) (n : ℤ) (l : K) → IsAt n l gs → IsAt n l (placed number new gs)
   placed_at new gs n l at = (at.0, has_placed number new gs at.0 (inr at.1), at.2, at.3)

@@ -1,4 +1,4 @@
--- A row is inserted into one of the tables.
+-- Proofs that a row is inserted into one of the tables.
 use Rattle.std.proofs.Common.{◌≡◌, ◌/◌, ℕ, List, [], ◌∷◌, false, slice_get, length, Some, Ok, Err, Result, OnOk, refl, sym, subst, ◌∙◌}
 use Rattle.sqlite.specs.declared.types.Value.TheVariants.{Null, Int, Text}
 use Rattle.sqlite.specs.Order.{Row}
@@ -35,7 +35,7 @@ use Rattle.space_sql_write.proofs.Relaying.{OthersStand, entities_relaid, volume
 use Rattle.space_sql_write.proofs.Joining.{one_more}
 use Rattle.space_sql_write.proofs.Selecting.{fresh_one, one_put}
 
--- one row was put, and it was new
+-- Holds if one row was inserted, and it was new.
 record Joined (old new : Database) (table : Table) (one : Row) : Type 0 where
   next : Trees
   is : new ≡ record { schema = dss_schema; trees = next }
@@ -155,7 +155,7 @@ inserts_sub_cell old new r (Ok count) h = λ l _ has.
     let more = one_more sub_cell_values five_columns l.sub_cells r (stored_sub_cell db r) (next_rowid (db 12)) (db 12) refl refl it.fresh has.sub_cells in
     subst (λ d. LaysOut d (with_sub_cells (r ∷ []) l)) (sym it.is) (sub_cells_relaid old.now it.next l has it.stand _ (subst (AreRows sub_cell_values five_columns _) (sym it.rows) more))
 
--- ---- what a USS has set
+-- ---- availabilities
 
 insert_availability_is : command_of (understood dss_schema insert_availability_text) ≡ Insert 4 (Values (lit Null ∷ col 0 0 ∷ col 0 1 ∷ col 0 2 ∷ []) 4)
 unfolding understood everything

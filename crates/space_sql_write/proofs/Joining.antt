@@ -1,4 +1,4 @@
--- A row of a new rowid joins a table.
+-- Proofs that a row with a new rowid is added to a table.
 use Rattle.std.proofs.Common.{◌≡◌, ℤ, List, [], ◌∷◌, ◌++◌, map, false, refl, sym, ap, subst, ◌∙◌, Ordering, Less, Equal, Greater, is_eq, int_eq, int_cmp}
 use Rattle.std.specs.Prelude.{IsPermutation}
 use Rattle.std.specs.List.{AllByRecursion}
@@ -26,7 +26,7 @@ joins new (r ∷ rows) fresh = go (value_cmp (rowid r) (rowid new)) refl (joins 
     go Equal e more = absurd (let taken = rw e at fresh in cc)
     go Greater e more = IsPermutation-refl _
 
--- ---- a list that rises by numbers, with one more in its place
+-- ---- an ascending list with one more element
 
 module _ {X : Type 0} (key : X → ℤ) where
   abbrev pub put_by : X → List X → List X
@@ -65,7 +65,7 @@ module _ {X : Type 0} (key : X → ℤ) where
 
 -- ---- rowids
 
--- no rowid of the rows is that of a new one
+-- No existing row has the rowid of a new one.
 others_have : (new : Row) (n : ℤ) (rows : List Row) (ids : List ℤ) → rowid new ≡ Int n → is_taken rows new ≡ false → IsPermutation (map (λ m. Int m) ids) (map rowid rows) → AllByRecursion (λ m. int_eq m n ≡ false) ids
 others_have new n rows ids is fresh same =
     let Other = λ (v : Value). is_eq (value_cmp v (rowid new)) ≡ false in
@@ -73,7 +73,7 @@ others_have new n rows ids is fresh same =
     let moved = recursion_from_All Other _ (All-permutation Other _ _ (IsPermutation-sym _ _ same) (All-from_recursion Other _ theirs)) in
     all_weaker _ (λ m. int_eq m n ≡ false) (λ m h. ap is_eq (sym (value_cmp-Int m n)) ∙ (ap (λ v. is_eq (value_cmp (Int m) v)) (sym is) ∙ h)) ids (all_unmap Other (λ m. Int m) ids moved)
 
--- the rows stay apart
+-- The rowids stay distinct.
 apart_joined : (new : Row) (n : ℤ) (rows : List Row) → rowid new ≡ Int n → is_taken rows new ≡ false → AreApart rows → AreApart (put_row new rows)
 apart_joined new n rows is fresh it = (
   put_by (λ m. m) n it.0,
@@ -82,7 +82,7 @@ apart_joined new n rows is fresh it = (
       (IsPermutation-trans _ _ _ (subst (λ v. IsPermutation (Int n ∷ map (λ m. Int m) it.0) (v ∷ map rowid rows)) (sym is) (IsPermutation-cons (Int n) _ _ it.2)) (IsPermutation-map rowid _ _ (joins new rows fresh))),
 )
 
--- and the table has one row more
+-- The table has one more row.
 pub one_more : {R : Type 0} (encode : R → Row) (columns : Row → Row) (rs : List R) (r : R) (new : Row) (n : ℤ) (rows : List Row) → columns new ≡ encode r → rowid new ≡ Int n → is_taken rows new ≡ false → AreRows encode columns rs rows
     → AreRows encode columns (rs ++ r ∷ []) (put_row new rows)
 one_more encode columns rs r new n rows is number fresh has = record {

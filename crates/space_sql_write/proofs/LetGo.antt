@@ -1,4 +1,4 @@
--- What is let go of goes one after the other.
+-- Proofs that items are purged one after the other.
 use Rattle.std.proofs.Common.{◌≡◌, ℕ, ◌+◌, ◌<◌, ◌≤◌, List, [], ◌∷◌, length, get_or, drop, Bool, true, false, cond, Option, None, sym, ap, subst, ◌∙◌, Ordering}
 use Rattle.std.specs.Prelude.{IsSome}
 use Rattle.std.specs.Cmp.{IsTotalOrder}
@@ -15,7 +15,7 @@ use Rattle.entity_purge.specs.PurgeItem.{without_items, without_item}
 use Rattle.space_sql_write.specs.Statements.{MakesLess, MakesLessAll, MakesLessRest}
 use Rattle.space_sql_write.proofs.Numbered.{numbers_stand, numbers_then}
 
--- ---- who is left was there
+-- ---- remaining items existed before
 
 was_some : {X : Type 0} (b : Bool) (x : Option X) → IsSome (cond b None x) → IsSome x
 was_some true x h = absurd (let none = h in cc)
@@ -36,7 +36,7 @@ sub_was (Subscription k ∷ gs) a id h = was_kept nat_cmp_total a.subscriptions 
 
 -- ---- one after the other
 
--- one, and those that follow it
+-- Purging an item, then the remaining ones, purges all.
 pub less_then : (g : PurgeItem) (gs : List PurgeItem) (old mid new : Database) → MakesLess g old mid → MakesLessRest gs mid new → MakesLessAll (g ∷ gs) old new
 less_then g gs old mid new one others a p can =
     let b = without_item a g in
@@ -45,7 +45,8 @@ less_then g gs old mid new one others a p can =
     let rest = others b it.0 can.1 it.1 in
     (rest.0, rest.1, numbers_then a b c old mid new (λ k before after. entity_was gs b k after) (λ k before after. sub_was gs b k after) it.2 rest.2)
 
--- What those before a place leave: with whatever those from it on do, they do what all of them do.
+-- Holds if purging the items before an index, followed by any effect of the remaining ones, has the
+-- effect of all.
 abbrev pub LeadsTo : ℕ → List PurgeItem → Database → Database → Type 0
 LeadsTo i gone old mid = (new : Database) → MakesLessRest (drop i gone) mid new → MakesLessRest gone old new
 

@@ -1,4 +1,4 @@
--- Elements of lists, and tests of them.
+-- Lemmas about elements of lists and tests of them.
 use Rattle.std.proofs.Common.{◌≡◌, inl, inr, ◌≤◌, List, [], ◌∷◌, ◌++◌, map, filter, length, not, ◌&&◌, Bool, true, false, cond, refl, sym, ap, subst, subst₂, ◌∙◌, arith, is_eq, Ordering, Less, Equal, Greater}
 use Rattle.std.specs.Prelude.{IsPermutation}
 use Rattle.std.proofs.lemmas.List.Sorted.{All-permutation, IsPermutation-append_comm, IsPermutation-cons}
@@ -47,7 +47,7 @@ module _ {X : Type 0} where
       go true e (inr k) more = let it = more k in (inr it.0, it.1)
       go false e k more = let it = more k in (inr it.0, it.1)
 
-  -- tests that agree on the elements
+  -- Tests that agree on the elements filter a list equally.
   pub filter_on : (p q : X → Bool) (xs : List X) → ((x : X) → Has xs x → p x ≡ q x) → filter p xs ≡ filter q xs
   filter_on p q [] h = refl
   filter_on p q (x ∷ xs) h = ap (λ b. cond b (x ∷ filter p xs) (filter p xs)) (h x (inl refl)) ∙ ap (λ l. cond (q x) (x ∷ l) l) (filter_on p q xs (λ y k. h y (inr k)))
@@ -56,7 +56,7 @@ module _ {X : Type 0} where
   filter_joined p [] ys = refl
   filter_joined p (x ∷ xs) ys = elim (p x) as (λ b. cond b (x ∷ filter p (xs ++ ys)) (filter p (xs ++ ys)) ≡ cond b (x ∷ filter p xs) (filter p xs) ++ filter p ys) [ true ↦ ap (λ l. x ∷ l) (filter_joined p xs ys) | false ↦ filter_joined p xs ys ]
 
-  -- of a list of one element at most
+  -- Two elements of a list with at most one element are equal.
   pub alone : (xs : List X) (a b : X) → length xs ≤ 1 → Has xs a → Has xs b → a ≡ b
   alone [] a b few h k = absurd h
   alone (x ∷ []) a b few (inl p) (inl q) = p ∙ sym q
@@ -72,11 +72,11 @@ module _ {X : Type 0} where
       go true e more = (e, more)
       go false e more = more
 
-  -- the one that passes does
+  -- The only element that is filtered passes the test.
   pub one_passes : (p : X → Bool) (xs : List X) (x : X) → filter p xs ≡ x ∷ [] → p x ≡ true
   one_passes p xs x e = let all = subst (AllByRecursion (λ y. p y ≡ true)) e (passing p xs) in all.0
 
-  -- the elements that pass are changed
+  -- Lemmas about a list in which the elements that pass a test are mapped.
   module _ (hit : X → Bool) (f : X → X) where
     abbrev pub turned : X → X
     turned y = cond (hit y) (f y) y
@@ -93,7 +93,7 @@ module _ {X : Type 0} where
         go true h e more = absurd (let none = e in cc)
         go false h e more = let it = more e in (ap (λ l. x ∷ l) it.0, ap (λ l. x ∷ l) it.1)
 
-    -- where one passes
+    -- If exactly one element passes, only that one is mapped.
     pub one_turned : (xs : List X) (x : X) → filter hit xs ≡ x ∷ [] → IsPermutation (rest xs ++ f x ∷ []) (map turned xs)
     one_turned [] x e = absurd (let none = e in cc)
     one_turned (y ∷ ys) x e = go (hit y) refl e (one_turned ys x)
@@ -107,13 +107,13 @@ module _ {X : Type 0} where
             subst₂ (λ l m. IsPermutation (l ++ f x ∷ []) (f y ∷ m)) (sym it.0) (sym it.1) (subst (λ z. IsPermutation (ys ++ f x ∷ []) (f z ∷ ys)) (sym head) (IsPermutation-append_comm ys (f x ∷ [])))
         go false h e more = IsPermutation-cons y _ _ (more e)
 
--- of one element
+-- If the image of a list has one element, the list has one.
 pub one_row : {X Y : Type 0} (f : X → Y) (xs : List X) (y : Y) → map f xs ≡ y ∷ [] → (x : X) × (xs ≡ x ∷ []) × (f x ≡ y)
 one_row f [] y e = absurd cc
 one_row f (x ∷ []) y e = (x, refl, cc)
 one_row f (x ∷ z ∷ xs) y e = absurd cc
 
--- of an element of a list made by a function
+-- An element of the image is the image of an element.
 pub mapped_from : {X Y : Type 0} (f : X → Y) (xs : List X) (y : Y) → Has (map f xs) y → (x : X) × Has xs x × (y ≡ f x)
 mapped_from f [] y h = absurd h
 mapped_from f (x ∷ xs) y (inl e) = (x, inl refl, e)
@@ -124,7 +124,7 @@ mapped_there f [] x h = absurd h
 mapped_there f (y ∷ xs) x (inl e) = inl (ap f e)
 mapped_there f (y ∷ xs) x (inr h) = inr (mapped_there f xs x h)
 
--- what is in a list is in one with the same elements
+-- Permutations have the same elements.
 pub moved : {X : Type 0} (xs ys : List X) (x : X) → IsPermutation xs ys → Has ys x → Has xs x
 moved xs ys x same there = all_there (λ y. Has xs y) ys (recursion_from_All (λ y. Has xs y) ys (All-permutation (λ y. Has xs y) xs ys same (All-from_recursion (λ y. Has xs y) xs (all_from (λ y. Has xs y) xs (λ y h. h))))) x there
 

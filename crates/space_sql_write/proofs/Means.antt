@@ -1,4 +1,4 @@
--- What the statements mean.
+-- Proofs of what the statements mean.
 use Rattle.std.proofs.Common.{◌≡◌, ℕ, List, refl, [], ◌∷◌, pos, false, codes}
 use Rattle.sqlite.specs.declared.types.Value.TheVariants.{Null, Int}
 use Rattle.sqlite_tied.specs.Compute.{everything}
@@ -12,7 +12,7 @@ use Rattle.space_sql_schema.specs.Tables.{dss_schema}
 use Rattle.space_sql_schema.proofs.Selecting.{equals, query_of, is_one}
 use Rattle.space_sql_write.proofs.Texts.{clear_cells_text, clear_volumes_text, clear_naming_text, clear_row_text, clear_sub_cells_text, clear_sub_row_text, raise_serial_text, raise_notes_text, number_text, sub_number_text, update_sub_row_text}
 
--- a column is the first parameter
+-- The test that a column is the first parameter.
 abbrev pub is_first : ℕ → List Term
 is_first place = equals (col 1 place) (col 0 0) ∷ []
 
@@ -102,7 +102,8 @@ pub sub_number_unlisted : reads_listing dss_schema sub_number_text ≡ false
 unfolding understood everything
 sub_number_unlisted = refl
 
--- the row that an update of `subscription` shows: its number, and then all columns as they are to be
+-- The row that an update of `subscription` shows: its number, then all columns with their new
+-- values.
 abbrev pub replaced_row : List Term
 replaced_row = col 1 0 ∷ col 1 0 ∷ lit Null ∷ col 0 1 ∷ col 0 2 ∷ col 0 3 ∷ col 0 4 ∷ col 0 5 ∷ col 0 6 ∷ col 0 7 ∷ col 0 8 ∷ col 0 9 ∷ col 0 10 ∷ col 0 11 ∷ col 0 12 ∷ []
 

@@ -1,4 +1,4 @@
--- Entities and subscriptions keep their numbers.
+-- Proofs that entities and subscriptions keep their numbers.
 use Rattle.std.proofs.Common.{◌≡◌, ℕ, ◌<◌, ◌^◌, ℤ, List, [], ◌∷◌, map, true, refl, sym, ap, subst, ◌∙◌}
 use Rattle.std.specs.Prelude.{IsPermutation, IsSome}
 use Rattle.std.specs.Ordering.{nat_cmp}
@@ -53,14 +53,14 @@ at_from num id ss there =
 pub number_from : (num : ℤ) (id : ℕ) (ss : List SubGroup) (s : SubGroup) → Has ss s → s.row.num ≡ num → s.sub.id ≡ id → IsSubNumber ss num id
 number_from num id ss s there number own = subst (λ (x : ℤ × ℕ). Has {X = ℤ × ℕ} (map (λ (s : SubGroup). (s.row.num, s.sub.id)) ss) x) (λ i. (number i, own i)) (mapped_there (λ (s : SubGroup). (s.row.num, s.sub.id)) ss s there)
 
--- ---- between the rows of a table and typed rows
+-- ---- rows of a table and typed rows
 
 module _ {R : Type 0} (values : R → Row) (columns : Row → Row) (rs : List R) (rows : List Row) (same : IsPermutation (map values rs) (map columns rows)) where
-  -- the typed row of a row
+  -- Each row has a typed row.
   typed_of : (row : Row) → Has rows row → (r : R) × Has rs r × (columns row ≡ values r)
   typed_of row there = mapped_from values rs (columns row) (moved (map values rs) (map columns rows) (columns row) same (mapped_there columns rows row there))
 
-  -- and back
+  -- Each typed row has a row.
   row_of : (r : R) → Has rs r → (row : Row) × Has rows row × (values r ≡ columns row)
   row_of r there = mapped_from columns rows (values r) (moved (map columns rows) (map values rs) (values r) (IsPermutation-sym _ _ same) (mapped_there values rs r there))
 
@@ -73,7 +73,7 @@ same_texts m n e = cc
 -- ---- rows of entities
 
 module _ (db : Database) (a : Airspace) (p : Spells db a) where
-  -- the row of a kind and an id is that of their entity
+  -- A row with a kind and an id is that of their entity.
   number_in : (k : EntityKey) (num : ℤ) → k.1 < 2 ^ 128 → IsEntityAt db k num → IsNumberOf num k p.groups
   number_in k num low at =
       let row = mapped_from entity_head (db.trees 1) _ at in
@@ -84,7 +84,7 @@ module _ (db : Database) (a : Airspace) (p : Spells db a) where
       let passes : is_of (kind_number k.0) (printed k.1) it.0.row ≡ true = rw (kind, id, (Decides-int_eq (kind_number k.0) (kind_number k.0)).1 refl, tied_itself nat_list_cmp_total (printed k.1)) in
       record { group = it.0; there = it.1; number = own; key = key_from a.serial p.subs k it.0 low (all_there (IsGroup a.serial p.subs) p.groups p.each it.0 it.1) passes }
 
-  -- an id that an entity has is short
+  -- The id of an entity fits 128 bits.
   short_key : (k : EntityKey) → IsSome (get a.entities k) → k.1 < 2 ^ 128
   short_key k there =
       let some = some_of (get a.entities k) there in
@@ -129,7 +129,7 @@ module _ (db : Database) (l : Layout) (ss : List SubGroup) (gs : List Group) (b 
       let text = at 1 ∙ ap Text (head.spelt.sub.id ∙ ap printed it.3) in
       subst (Has (map sub_head (db.trees 10))) (λ i. own i ∷ text i ∷ []) (mapped_there sub_head (db.trees 10) row.0 row.1)
 
--- whoever keeps its number in groups keeps it in rows
+-- A number that is kept in groups is kept in rows.
 pub keeps_numbers : (old new : Database) (a b : Airspace) (p : Spells old a) (l : Layout) (ss : List SubGroup) (gs : List Group) → LaysOut new l → AreRowsOf l ss gs b → ((num : ℤ) (k : EntityKey) → IsNumberOf num k p.groups → IsSome (get b.entities k) → IsNumberOf num k gs)
     → ((num : ℤ) (id : ℕ) → IsSubNumber p.subs num id → IsSome (get b.subscriptions id) → IsSubNumber ss num id) → KeepsNumbers a b old new
 keeps_numbers old new a b p l ss gs has are entities subs = record {
@@ -137,14 +137,14 @@ keeps_numbers old new a b p l ss gs has are entities subs = record {
   subscriptions = λ id before after num at. sub_number_out new l ss gs b has are id num (subs num id (sub_number_in old a p id num (short_id old a p id before) at) after);
 }
 
--- ---- what comes of a change is made
+-- ---- the result of a change
 
--- from the rows of the changed airspace
+-- The rows of the changed airspace are its result.
 pub made : (old new : Database) (a b : Airspace) (p : Spells old a) (l : Layout) (ss : List SubGroup) (gs : List Group) → LaysOut new l → IsDatabase new → AreRowsOf l ss gs b → ((num : ℤ) (k : EntityKey) → IsNumberOf num k p.groups → IsSome (get b.entities k) → IsNumberOf num k gs)
     → ((num : ℤ) (id : ℕ) → IsSubNumber p.subs num id → IsSome (get b.subscriptions id) → IsSubNumber ss num id) → Makes a b old new
 made old new a b p l ss gs has sound are entities subs = (spell_out new l ss gs b has are, sound, keeps_numbers old new a b p l ss gs has are entities subs)
 
--- where nobody is told
+-- If no subscription is notified, the result is the same.
 pub made_untold : (old new : Database) (a b : Airspace) → Makes a b old new → Makes a (with_notified_subs b (is_one_of [])) old new
 made_untold old new a b it = subst (λ m. Makes a (record b { subscriptions = m }) old new) (sym (none_told b.subscriptions)) it
 

@@ -1,4 +1,4 @@
--- The numbers of entities and subscriptions are found.
+-- Proofs that the numbers of entities and subscriptions are found.
 use Rattle.std.proofs.Common.{◌≡◌, inl, ℕ, ◌<◌, ◌^◌, ℤ, List, [], ◌∷◌, map, filter, length, ◌&&◌, Bool, true, false, Option, Some, None, refl, sym, ap, subst, subst₂, ◌∙◌, arith, int_eq, get_or}
 use Rattle.std.specs.Prelude.{IsPermutation}
 use Rattle.std.specs.Ordering.{eq_by_cmp}
@@ -46,9 +46,9 @@ use Rattle.space_sql_write.proofs.Rows.{rows_passing}
 use Rattle.space_sql_write.proofs.Updating.{names, names_id}
 use Rattle.space_sql_write.proofs.Spelt.{lay_out}
 
--- ---- what a query shows
+-- ---- the result of a query
 
--- the numbers of the rows that pass are those of the typed rows that pass
+-- The numbers of the rows that pass are those of the typed rows that pass.
 module _ {R : Type 0} (encode : R → Row) (number : R → ℤ) (at : (r : R) → column (encode r) 0 ≡ Int (number r)) (columns : Row → Row) (rs : List R) (rows : List Row) (same : IsPermutation (map encode rs) (map columns rows)) where
   numbers_passing : (test : Row → Bool) (passes : R → Bool) → ((r : R) → test (encode r) ≡ passes r) → (shown : List Row) → IsPermutation (map (λ c. column (columns c) 0 ∷ []) (filter (λ c. test (columns c)) rows)) shown → IsPermutation (numbers_of number passes rs) shown
   numbers_passing test passes agree shown it =
@@ -57,7 +57,7 @@ module _ {R : Type 0} (encode : R → Row) (number : R → ℤ) (at : (r : R) �
       let to = map-map (λ c. column c 0 ∷ []) columns (filter (λ c. test (columns c)) rows) in
       IsPermutation-trans _ _ _ (subst₂ (λ a b. IsPermutation a b) from to first) it
 
--- as the tests of the statement are computed
+-- The tests of the statement, as they are computed.
 abbrev tests_of : ℤ → List ℕ → Row → Bool
 tests_of kind id c = is_true (binary (Compare Eq Binary) (column c 1) (Int kind)) && (is_true (binary (Compare Eq Binary) (column c 2) (Text id)) && true)
 
@@ -84,7 +84,7 @@ shows_sub_numbers old new id rows h = λ l has.
       numbers_passing sub_values (λ s. s.num) (λ s. refl) sub_columns l.subs (db 10) has.subs.same (names id) (has_id id) (names_id id) rows (shows 10 (is_first 2) (col 1 0 ∷ []) db params rows refl (read.answer Null)),
     )
 
--- ---- from the rows that are shown to the groups
+-- ---- from shown rows to groups
 
 module _ {G R : Type 0} (row : G → R) (number : R → ℤ) (passes : R → Bool) (gs : List G) (shown : List Row) (same : IsPermutation (numbers_of number passes (map row gs)) shown) where
   abbrev Is : ℤ → Type 0
@@ -93,7 +93,7 @@ module _ {G R : Type 0} (row : G → R) (number : R → ℤ) (passes : R → Boo
   same_number : (m n : ℤ) → ◌≡◌ {A = Value} (Int m) (Int n) → m ≡ n
   same_number m n e = cc
 
-  -- a number that is shown is that of a group whose row passes
+  -- A number that is shown is that of a group whose row passes.
   one_shown : (num : ℤ) → IsShown shown (Some num) → Is num
   one_shown num it =
       let r = mapped_from (λ r. Int (number r) ∷ []) (filter passes (map row gs)) it.0 (moved _ shown it.0 same it.1) in
@@ -102,14 +102,14 @@ module _ {G R : Type 0} (row : G → R) (number : R → ℤ) (passes : R → Boo
       let is = same_number (number r.0) num (sym (ap (λ c. column c 0) r.2) ∙ it.2) in
       (g.0, g.1, ap passes (sym g.2) ∙ f.1, ap number (sym g.2) ∙ is)
 
-  -- where none is shown, the row of no group passes
+  -- If no number is shown, no group's row passes.
   none_shown : IsShown shown None → (g : G) → Has gs g → passes (row g) ≡ true → ⊥
   none_shown none g there pass =
       let f = has_filtered passes (map row gs) (row g) (mapped_there row gs g there) pass in
       let from = mapped_there (λ r. Int (number r) ∷ []) (filter passes (map row gs)) (row g) f in
       subst (λ l. Has l (Int (number (row g)) ∷ [])) none (moved shown _ _ (IsPermutation-sym _ _ same) from)
 
--- ---- which rows pass
+-- ---- the rows that pass
 
 pub same_text : (a b : List ℕ) → eq_by_cmp text_cmp a b ≡ true → a ≡ b
 same_text a b e = slice_cmp-IsAntisymmetric nat_cmp-IsAntisymmetric a b (equal_of _ e)
@@ -124,31 +124,31 @@ module _ (serial : ℕ) (ss : List SubGroup) (k : EntityKey) where
   abbrev is_its : EntityRow → Bool
   is_its = is_of (kind_number k.0) (printed k.1)
 
-  -- the row of an entity of the key passes
+  -- The row of an entity with the key passes.
   passes_own : (g : Group) → IsGroup serial ss g → key_of g.entity ≡ k → is_its g.row ≡ true
   passes_own g is e =
       let kind : g.row.kind ≡ kind_number k.0 = is.spelt.entity.kind ∙ ap (λ (q : EntityKey). kind_number q.0) e in
       let id : g.row.id ≡ printed k.1 = is.spelt.entity.id ∙ ap (λ (q : EntityKey). printed q.1) e in
       rw (kind, id, (Decides-int_eq (kind_number k.0) (kind_number k.0)).1 refl, tied_itself nat_list_cmp_total (printed k.1))
 
-  -- and no other
+  -- A row that passes is that of an entity with the key.
   pub key_from : (g : Group) → k.1 < 2 ^ 128 → IsGroup serial ss g → is_its g.row ≡ true → key_of g.entity ≡ k
   key_from g low is e =
       let kind = one_kind (kind_of g.entity.nature) k.0 (sym is.spelt.entity.kind ∙ same_int g.row.kind (kind_number k.0) (first_of_two _ _ e)) in
       let id = one_id g.row.id g.entity.id k.1 is.spelt.kept.id low is.spelt.entity.id (same_text g.row.id (printed k.1) (last_of_two _ _ e)) in
       λ i. (kind i, id i)
 
--- the row of a subscription of the id passes
+-- The row of a subscription with the id passes.
 pub sub_passes : (n id : ℕ) (s : SubGroup) → IsSubGroup n s → s.sub.id ≡ id → has_id (printed id) s.row ≡ true
 sub_passes n id s is e =
     let own : s.row.id ≡ printed id = is.spelt.sub.id ∙ ap printed e in
     rw (own, tied_itself nat_list_cmp_total (printed id))
 
--- and no other
+-- A row that passes is that of a subscription with the id.
 pub id_from : (n id : ℕ) (s : SubGroup) → id < 2 ^ 128 → IsSubGroup n s → has_id (printed id) s.row ≡ true → s.sub.id ≡ id
 id_from n id s low is e = one_id s.row.id s.sub.id id is.spelt.kept.id low is.spelt.sub.id (same_text s.row.id (printed id) e)
 
--- ---- what is found of the rows that are shown
+-- ---- the number found in the rows
 
 abbrev own_row : Group → EntityRow
 own_row g = g.row
@@ -180,7 +180,7 @@ finds_sub id shown found old new low is told a p = let it = told (layout_of old 
         let key = id_from a.serial id s.0 low (all_there (IsSubGroup a.serial) p.subs p.each_sub s.0 s.1) s.2 in
         subst (λ (x : ℤ × ℕ). Has (map number_and_id p.subs) x) (λ i. (s.3 i, key i)) (mapped_there number_and_id p.subs s.0 s.1)
 
--- the first row
+-- The first row is among the rows.
 pub first_there : {X : Type 0} (xs : List X) (x : X) → 0 < length xs → x ≡ get_or xs 0 x → Has xs x
 first_there [] x low e = absurd (omega (arith, low))
 first_there (y ∷ xs) x low e = inl e

@@ -1,4 +1,4 @@
--- The airspace with an entity.
+-- Proofs about the airspace with a stored entity.
 use Rattle.std.proofs.Common.{◌≡◌, inl, inr, ℕ, ◌+◌, ◌<◌, ◌≤◌, ℤ, pos, List, [], ◌∷◌, ◌++◌, false, Option, Some, None, refl, sym, subst, arith, int_eq, is_eq, ap, ◌≤ℤ◌}
 use Rattle.std.specs.List.{AllByRecursion}
 use Rattle.std.specs.FinMap.{insert, remove}
@@ -29,7 +29,7 @@ use Rattle.space_sql_write.proofs.Removed.{entities_left}
 use Rattle.space_sql_write.proofs.Rows.{none_left_of}
 use Rattle.space_sql_write.proofs.Spelt.{AreEntities, AreStated, AreSubs, entities_later, lay_out, own_entities, own_namings, own_stated, own_subs, subs_later}
 
--- ---- room for an entity
+-- After the rows of a number are removed, there is room for the entity.
 
 pub room_left : (e : Entity) (num : ℤ) (old found new : Database) → FindsNumber (key_of e) (Some num) old found → Relays Always (without_rows num) found new → MakesRoom e num old new
 room_left e num old found new finds clears a p =
@@ -39,10 +39,10 @@ room_left e num old found new finds clears a p =
 pub room_there : (e : Entity) (num : ℤ) (old new : Database) → num ≡ pos e.serial → FindsNumber (key_of e) None old new → MakesRoom e num old new
 room_there e num old new is finds a p = let it = finds a p in inr (it.1, is, subst (λ db. LaysOut db (layout_of old a p)) (sym it.0) (lay_out old a p))
 
--- ---- an entity that is not there yet
+-- ---- a new entity
 
 module _ (n : ℕ) (ss : List SubGroup) (rows : List EntityRow) (volumes : List VolumeRow) (cells : List CellRow) (namings : List Naming) (gs : List Group) (m : Entities) where
-  -- all rows are those of the entities without it
+  -- If no group has the key, the rows are those of the entities without it.
   pub entities_stand : (k : EntityKey) → AreEntities n ss rows volumes cells namings gs m → ((num : ℤ) → ¬ IsNumberOf num k gs) → AreEntities n ss rows volumes cells namings gs (remove m k)
   entities_stand k are none = record {
     rising = are.rising;
@@ -75,11 +75,11 @@ module _ (n : ℕ) (ss : List SubGroup) (rows : List EntityRow) (volumes : List 
 pub lower_differs : (m : ℤ) (n s t : ℕ) → m ≤ℤ pos n → n ≤ s → t ≡ s + 1 → int_eq m (pos t) ≡ false
 lower_differs m n s t low under is = ap is_eq (Less-from_lt m (pos t) (omega (arith, ints, low, under, is)))
 
--- no number is that of a later serial
+-- No number equals a later serial.
 numbers_below : (s t : ℕ) (ss : List SubGroup) (gs : List Group) → t ≡ s + 1 → AllByRecursion (IsGroup s ss) gs → AllByRecursion (λ (g : Group). int_eq g.row.num (pos t) ≡ false) gs
 numbers_below s t ss gs is = all_turned (IsGroup s ss) (λ (g : Group). int_eq g.row.num (pos t) ≡ false) (λ g h. lower_differs g.row.num g.entity.serial s t h.spelt.entity.most h.most is) gs
 
--- ---- an entity is put
+-- ---- storing an entity
 
 module _ (e : Entity) (num : ℤ) (named : Option ℤ) (old found room rows new : Database) (finds : FindsNaming e named old found) (makes : MakesRoom e num found room) (inserts : InsertsEntity e num named room rows) (raises : RelaysSound (λ l. l.serial < max_serial) with_next_serial rows new) where
   puts_beside : (a : Airspace) (l : Layout) (ss : List SubGroup) (gs : List Group) → Fits (Put e) [] a → l.serial ≡ a.serial → LaysOut room l → Names ss named (subscription_of e.nature) → AreSubs (a.serial + 1) l.subs l.sub_cells ss a.subscriptions
@@ -114,7 +114,7 @@ module _ (e : Entity) (num : ℤ) (named : Option ℤ) (old found room rows new 
             (subst (λ n. AllByRecursion (λ (g : Group). int_eq g.row.num n ≡ false) p.groups) (sym none.1) (numbers_below a.serial e.serial p.subs p.groups fits.due.0 p.each)) p refl (λ n k at. of_at n k _ (placed_at number pair_of key_cmp key_total key_exact _ p.groups n k (at_of n k p.groups at)))
       ]
 
--- ---- the number of what is named
+-- ---- the number of the referenced subscription
 
 pub names_one : (e : Entity) (id : ℕ) (num : ℤ) (old new : Database) → subscription_of e.nature ≡ Some id → FindsSubNumber id (Some num) old new → FindsNaming e (Some num) old new
 names_one e id num old new is finds a p = let it = finds a p in (it.0, subst (Names p.subs (Some num)) (sym is) it.1)

@@ -1,4 +1,4 @@
--- The rows of one table are changed, and those of the others stand.
+-- Lemmas about changes of one table that leave the others unchanged.
 use Rattle.std.specs.Prelude.{◌≡◌, ◌≢◌, ℕ, List, [], ◌∷◌, map}
 use Rattle.std.specs.List.{AllByRecursion}
 use Rattle.std.proofs.Common.{refl, sym, subst}
@@ -15,11 +15,11 @@ use Rattle.space_sql_schema.specs.Tables.{dss_schema}
 use Rattle.space_sql_schema.specs.Spelling.{meta_values, entity_values, volume_values, cell_values, availability_values, sub_values, sub_cell_values, meta_columns, entity_columns, six_columns, three_columns, sub_columns, five_columns, two_columns}
 use Rattle.space_sql_write.specs.Layout.{Layout, LaysOut, AreRows, Naming, values_of_naming}
 
--- tables of format 2 with these rows
+-- A database of format 2 with these rows.
 abbrev pub tables_with : Trees → Database
 tables_with trees = record { schema = dss_schema; trees = trees }
 
--- all tables but one stand
+-- Holds if all tables but one are unchanged.
 abbrev pub OthersStand : Trees → Trees → ℕ → Type 0
 OthersStand old next t = AllByRecursion (λ (table : Table). table.tree ≢ t → next table.tree ≡ old table.tree) dss_schema.tables
 

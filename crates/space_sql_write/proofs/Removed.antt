@@ -1,4 +1,4 @@
--- The airspace without an entity.
+-- Proofs about the airspace without a removed entity.
 use Rattle.std.proofs.Common.{◌≡◌, ℕ, ◌<◌, ℤ, List, [], filter, not, Option, Some, None, refl, sym, subst, arith, int_eq}
 use Rattle.std.specs.Prelude.{IsSome}
 use Rattle.std.specs.List.{AllByRecursion}
@@ -31,7 +31,7 @@ own_number num (Some subscription) = (refl, tt)
 namings_borne : (gs : List Group) → Borne (λ (n : Naming). n.0) number own_namings gs
 namings_borne gs = all_of _ (λ (g : Group). own_number g.row.num g.naming) gs
 
--- the rows that are left are those of the entities but one
+-- The remaining rows are those of the other entities.
 pub entities_left : (n : ℕ) (ss : List SubGroup) (rows : List EntityRow) (volumes : List VolumeRow) (cells : List CellRow) (namings : List Naming) (gs : List Group) (m : Entities) (num : ℤ) (k : EntityKey) → AreEntities n ss rows volumes cells namings gs m → IsNumberOf num k gs
     → AreEntities n ss (filter (λ (e : EntityRow). not (int_eq e.num num)) rows) (filter (λ (v : VolumeRow). not (int_eq v.entity num)) volumes) (filter (λ (c : CellRow). not (int_eq c.entity num)) cells) (filter (λ (n : Naming). not (int_eq n.0 num)) namings)
     (filter (is_other number num) gs) (remove m k)
@@ -45,11 +45,11 @@ entities_left n ss rows volumes cells namings gs m num k are it = record {
   kept = kept_left number pair_of key_cmp key_total key_exact gs are.rising m are.kept num k (it.group, it.there, it.number, it.key);
 }
 
--- the entities that are left keep their numbers
+-- The remaining entities keep their numbers.
 numbers_left : (db : Database) (a : Airspace) (p : Spells db a) (num : ℤ) (k : EntityKey) → IsNumberOf num k p.groups → (n : ℤ) (j : EntityKey) → IsNumberOf n j p.groups → IsSome (get (remove a.entities k) j) → IsNumberOf n j (filter (is_other number num) p.groups)
 numbers_left db a p num k it n j at there = of_at n j _ (left_at number pair_of key_cmp key_total key_exact p.groups p.rising num k (at_of num k p.groups it) a.entities n j (at_of n j p.groups at) there)
 
--- the number is found, and its rows are removed: the serial stays
+-- If the number is found and its rows are removed, the entity is purged. The serial stays.
 pub lets_entity_go : (old found new : Database) (kind : Kind) (id : ℕ) (num : ℤ) → FindsNumber (kind, id) (Some num) old found → RelaysSound Always (without_rows num) found new → MakesLess (Entity kind id) old new
 lets_entity_go old found new kind id num finds clears a p can =
     let it = finds a p in
@@ -63,7 +63,8 @@ lets_entity_go old found new kind id num finds clears a p can =
       stated = own_stated old a p;
     }) (numbers_left old a p num (kind, id) it.1) (λ n k at there. at)
 
--- the number is found, its rows are removed, and the serial goes on
+-- If the number is found, its rows are removed and the serial increases by one, the entity is
+-- removed.
 pub removes_entity : (old found new : Database) (kind : Kind) (id : ℕ) (num : ℤ) → FindsNumber (kind, id) (Some num) old found → RelaysSound (λ l. l.serial < max_serial) (λ l. with_next_serial (without_rows num l)) found new
     → MakesChange (Remove kind id) [] old new
 removes_entity old found new kind id num finds removes a p fits =

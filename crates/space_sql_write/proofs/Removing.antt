@@ -1,4 +1,4 @@
--- Rows are removed, those that refer to others first.
+-- Proofs that rows are removed, starting with those that refer to others.
 use Rattle.std.proofs.Common.{◌≡◌, ℕ, ℤ, List, [], ◌∷◌, ◌&&◌, true, Ok, Err, Result, OnOk, refl, sym, ap, subst, ◌∙◌, int_eq}
 use Rattle.sqlite_keyed.proofs.KeyedLemmas.{same_int}
 use Rattle.sqlite_tied.specs.Compute.{everything}
@@ -50,7 +50,7 @@ head_number num r int e =
     let equal : int_eq (id_in (rowid r)) num ≡ true = sym (bears_number (id_in (rowid r)) num) ∙ (ap (λ v. is_true (binary (Compare Eq Binary) v (Int num)) && true) (sym is) ∙ e) in
     is ∙ ap Int (same_int (id_in (rowid r)) num equal)
 
--- ---- rows to which no other refers
+-- ---- rows without references to them
 
 no_cells_works : (db : Trees) (ids : List ℤ) → works dss_schema Enforced 0 5 (taken_by db (edit_of db (cell 5) ids Given 0 [])) [] ≡ []
 unfolding everything
@@ -91,7 +91,7 @@ clears_sub_cells old new num (Ok count) h = λ l _ has.
     let left = rows_left 0 sub_cell_values (λ (r : SubCellRow). r.subscription) (λ r. refl) five_columns l.sub_cells (db 12) has.sub_cells num in
     subst (λ d. LaysOut d (without_sub_cells num l)) (sym u.is) (sub_cells_relaid old.now u.next l has u.step.tables _ (subst (AreRows sub_cell_values five_columns _) (sym u.rows) left))
 
--- ---- volumes, whose cells are gone
+-- ---- volumes without cells
 
 pub clears_volumes : (old new : State) (num : ℤ) (r : Result ℕ Error) → Executes clear_volumes_text (Int num ∷ []) old new r → OnOk r (Relays (LacksCells num) (without_volumes num) old.now new.now)
 clears_volumes old new num (Err e) h = tt
@@ -105,7 +105,7 @@ clears_volumes old new num (Ok count) h = λ l gone has.
     let left = rows_left 0 volume_values (λ (r : VolumeRow). r.entity) (λ r. refl) six_columns l.volumes (db 3) has.volumes num in
     subst (λ d. LaysOut d (without_volumes num l)) (sym u.is) (volumes_relaid old.now u.next l has u.step.tables _ (subst (AreRows volume_values six_columns _) (sym u.rows) left))
 
--- ---- the row of the entity, whose volumes are gone, and which names nothing
+-- ---- the row of an entity without volumes and references
 
 row_cleared : (old new : State) (num : ℤ) (count : ℕ) → Executes clear_row_text (Int num ∷ []) old new (Ok count) → (l : Layout) → LacksParts num l → LaysOut old.now l → LaysOut new.now (without_entity_row num l) × IsDatabase new.now
 row_cleared old new num count h l gone has =
@@ -122,7 +122,7 @@ pub clears_row : (old new : State) (num : ℤ) (r : Result ℕ Error) → Execut
 clears_row old new num (Err e) h = tt
 clears_row old new num (Ok count) h = ((λ l gone has. (row_cleared old new num count h l gone has).0), (λ l gone has. (row_cleared old new num count h l gone has).1))
 
--- ---- the row of the subscription, whose cells are gone, and which no entity names
+-- ---- the row of a subscription without cells that no entity references
 
 sub_row_cleared : (old new : State) (num : ℤ) (count : ℕ) → Executes clear_sub_row_text (Int num ∷ []) old new (Ok count) → (l : Layout) → IsFree num l → LaysOut old.now l → LaysOut new.now (without_sub_row num l) × IsDatabase new.now
 sub_row_cleared old new num count h l gone has =

@@ -1,4 +1,4 @@
--- From typed rows to the rows that a table has.
+-- Lemmas that relate typed rows to the rows of a table.
 use Rattle.std.proofs.Common.{◌≡◌, ℤ, List, [], ◌∷◌, map, filter, not, ◌&&◌, Bool, true, false, cond, refl, ap, subst₂, ◌∙◌, int_eq}
 use Rattle.std.specs.Prelude.{IsPermutation}
 use Rattle.std.specs.List.{AllByRecursion}
@@ -17,23 +17,23 @@ use Rattle.std.proofs.Common.{ℕ}
 use Rattle.space_sql_write.specs.Layout.{AreRows}
 use Rattle.space_sql_write.proofs.Clear.{apart_kept}
 
--- what holds of each element, by a map
+-- A property of the image of each element holds for the mapped list.
 pub all_mapped : {X Y : Type 0} (P : Y → Type 0) (f : X → Y) (xs : List X) → AllByRecursion (λ x. P (f x)) xs → AllByRecursion P (map f xs)
 all_mapped P f [] all = tt
 all_mapped P f (x ∷ xs) all = (all.0, all_mapped P f xs all.1)
 
 module _ {R : Type 0} (encode : R → Row) (columns : Row → Row) (rs : List R) (rows : List Row) (same : IsPermutation (map encode rs) (map columns rows)) where
-  -- what holds of each typed row holds of each row
+  -- A property of each typed row holds for each row.
   pub rows_all : (P : Row → Type 0) → AllByRecursion (λ r. P (encode r)) rs → AllByRecursion (λ r. P (columns r)) rows
   rows_all P all = all_unmap P columns rows (recursion_from_All P (map columns rows) (All-permutation P (map encode rs) (map columns rows) same (All-from_recursion P (map encode rs) (all_mapped P encode rs all))))
 
-  -- the typed rows that pass are those of the rows that pass
+  -- The typed rows that pass are those of the rows that pass.
   pub rows_passing : (test : Row → Bool) (passes : R → Bool) → ((r : R) → test (encode r) ≡ passes r) → IsPermutation (map encode (filter passes rs)) (map columns (filter (λ r. test (columns r)) rows))
   rows_passing test passes agree = subst₂ (λ a b. IsPermutation a b) (filter-map test encode rs ∙ ap (map encode) (filter_same (λ r. test (encode r)) passes agree rs)) (filter-map test columns rows) (IsPermutation-filter test _ _ same)
 
--- ---- the rows that bear a number
+-- ---- the rows with a number
 
--- as a test `column = ?1` is computed
+-- The test `column = ?1`, as it is computed.
 abbrev pub bears : ℕ → ℤ → Row → Bool
 bears place num r = is_true (binary (Compare Eq Binary) (column r place) (Int num)) && true
 
@@ -41,7 +41,7 @@ pub bears_number : (m num : ℤ) → (is_true (binary (Compare Eq Binary) (Int m
 bears_number m num = and_true _ ∙ at_ints false Eq m num
 
 module _ {R : Type 0} (encode : R → Row) (columns : Row → Row) (rs : List R) (rows : List Row) (has : AreRows encode columns rs rows) where
-  -- some rows are left
+  -- If only the rows that pass remain, they are those of the typed rows that pass.
   pub some_left : (test : Row → Bool) (passes : R → Bool) → ((r : R) → test (encode r) ≡ passes r) → AreRows encode columns (filter passes rs) (filter (λ r. test (columns r)) rows)
   some_left test passes agree = record { same = rows_passing encode columns rs rows has.same test passes agree; apart = apart_kept (λ r. test (columns r)) rows has.apart }
 
@@ -49,11 +49,11 @@ module _ {R : Type 0} (place : ℕ) (encode : R → Row) (key : R → ℤ) (at :
   bears_key : (num : ℤ) (r : R) → bears place num (encode r) ≡ int_eq (key r) num
   bears_key num r = ap (λ v. is_true (binary (Compare Eq Binary) v (Int num)) && true) (at r) ∙ bears_number (key r) num
 
-  -- those that are left without a number
+  -- The remaining rows are those of the typed rows without the number.
   pub rows_left : (num : ℤ) → AreRows encode columns (filter (λ r. not (int_eq (key r) num)) rs) (filter (λ r. not (bears place num (columns r))) rows)
   rows_left num = some_left encode columns rs rows has (λ c. not (bears place num c)) (λ r. not (int_eq (key r) num)) (λ r. ap not (bears_key num r))
 
-  -- those of a number
+  -- The rows with the number are those of the typed rows with it.
   pub rows_of : (num : ℤ) → IsPermutation (map encode (filter (λ r. int_eq (key r) num) rs)) (map columns (filter (λ r. bears place num (columns r)) rows))
   rows_of num = rows_passing encode columns rs rows has.same (bears place num) (λ r. int_eq (key r) num) (bears_key num)
 
@@ -61,7 +61,7 @@ module _ {R : Type 0} (place : ℕ) (encode : R → Row) (key : R → ℤ) (at :
   every_numbered [] = tt
   every_numbered (x ∷ xs) = ((key x, at x), every_numbered xs)
 
-  -- each row has a number
+  -- Each row has a number in the column.
   pub rows_numbered : AllByRecursion (λ r. (k : ℤ) × (column (columns r) place ≡ Int k)) rows
   rows_numbered = rows_all encode columns rs rows has.same (λ c. (k : ℤ) × (column c place ≡ Int k)) (every_numbered rs)
 
@@ -72,11 +72,11 @@ module _ {R : Type 0} (place : ℕ) (encode : R → Row) (key : R → ℤ) (at :
   every_other num [] all = tt
   every_other num (x ∷ xs) all = (ap (λ v. is_true (binary (Compare Eq Binary) v (Int num))) (at x) ∙ (at_ints false Eq (key x) num ∙ all.0), every_other num xs all.1)
 
-  -- where no typed row has the number, no row does
+  -- If no typed row has the number, no row has it.
   pub rows_other : (num : ℤ) → AllByRecursion (λ r. int_eq (key r) num ≡ false) rs → AllByRecursion (λ r. IsOther num (columns r)) rows
   rows_other num all = rows_all encode columns rs rows has.same (IsOther num) (every_other num rs all)
 
--- those that are left do not have it
+-- The remaining rows do not have the number.
 pub none_left_of : {R : Type 0} (key : R → ℤ) (num : ℤ) (rs : List R) → AllByRecursion (λ r. int_eq (key r) num ≡ false) (filter (λ r. not (int_eq (key r) num)) rs)
 none_left_of key num [] = tt
 none_left_of {R} key num (r ∷ rs) = go (int_eq (key r) num) refl (none_left_of key num rs)

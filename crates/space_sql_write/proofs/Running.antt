@@ -1,4 +1,4 @@
--- Statements in a transaction, alone and one after the other.
+-- Proofs about statements in a transaction, single and in sequence.
 use Rattle.std.proofs.Common.{arith, ◌⊎◌, inl, inr, ℕ, List, true, cond, Option, Some, None, Ok, Err, Result, IfOk, OnOk, IfErr, refl, ap, subst, ◌∙◌}
 use Rattle.std.specs.Prelude.{IsTrue}
 use Rattle.sqlite_schema.specs.declared.command.Returning.{Returning}
@@ -44,7 +44,7 @@ module _ (old new : State) (sql : List ℕ) (params : Row) where
       go None s = let u = s.3.0 in record { was_open = u.was_open; is_open = u.is_open; now_is = refl; committed_is = u.committed_is; mode = u.mode ∙ on }
       go (Some what) s = let u = s.1.shown in record { was_open = u.was_open; is_open = u.is_open; now_is = refl; committed_is = u.committed_is ∙ ap (λ b. cond b old.committed new.now) on; mode = u.mode ∙ on }
 
-  -- a query that has no RETURNING leaves all as it was
+  -- A query without RETURNING changes nothing.
   pub shown_same : (rows : List Row) → IsPlain (understood old.now.schema sql) → Shown sql params old new rows → IsUnchanged old new
   unfolding Shown
   shown_same rows plain h =
@@ -70,7 +70,7 @@ module _ (old new : State) (sql : List ℕ) (params : Row) where
   query_keeps e (inl h) = kept_keeps old new (failed_kept e h)
   query_keeps e (inr h) = unchanged_keeps old new h.5
 
-  -- what is answered of the rows of a query
+  -- A result that is computed from the rows of a query is a run.
   pub query_runs : {X : Type 0} (items : X → List Row) (R : X → Database → Database → Type 0) (r : Result X Error) → (HasCleanDisk new → IfOk r (λ x. Shown sql params old new (items x)))
       → (HasCleanDisk new → IfErr r (λ e. FailsToQuery sql params old new e ⊎ IsTooLate sql params old new e)) → Survives old new (λ _. ⊥) → ((x : X) → Shown sql params old new (items x) → R x old.now new.now) → Runs R old new r
   query_runs items R (Ok x) shown fails survives each = record {
@@ -100,31 +100,31 @@ module _ {X Y Z : Type 0} (R : X → Database → Database → Type 0) (Q : Y �
     survives = survives_then a b d _ _ (λ _. ⊥) (λ _ db none. none) (λ _ db none. none) p.survives q.survives;
   }
 
--- the last one answers for all
+-- The result of the last run is the result of both.
 pub runs_last : {X Y : Type 0} (R : X → Database → Database → Type 0) (Q T : Y → Database → Database → Type 0) (a b d : State) (x : X) (r : Result Y Error) → ((y : Y) → R x a.now b.now → Q y b.now d.now → T y a.now d.now)
     → Runs R a b (Ok x) → Runs Q b d r → Runs T a d r
 runs_last R Q T a b d x (Ok y) joins p q = runs_then R Q T a b d x y y (joins y) p q
 runs_last R Q T a b d x (Err e) joins p q = runs_failed R Q T a b d x e e p q
 
 module _ {X Z : Type 0} (R : X → Database → Database → Type 0) (T : Z → Database → Database → Type 0) (a b : State) where
-  -- an error, whatever was to be told
+  -- A run that ends with an error is a run for any relation.
   pub runs_err : (e f : Error) → Runs R a b (Err e) → Runs T a b (Err f)
   runs_err e f p = record { done = λ clean on. tt; kept = p.kept; survives = p.survives }
 
-  -- what is told of an answer, and no more
+  -- A run with a result is a run for what follows from it.
   pub runs_as_well : (x : X) (z : Z) → (R x a.now b.now → T z a.now b.now) → Runs R a b (Ok x) → Runs T a b (Ok z)
   runs_as_well x z turns p = record { done = λ clean on. let it = p.done clean on in (turns it.0, it.1); kept = p.kept; survives = p.survives }
 
-  -- an error after an answer
+  -- A result can be followed by an error.
   pub runs_ok_err : (x : X) (f : Error) → Runs R a b (Ok x) → Runs T a b (Err f)
   runs_ok_err x f p = record { done = λ clean on. tt; kept = p.kept; survives = p.survives }
 
-  -- what is made of an answer
+  -- A result that is computed from another is a run.
   pub runs_made : (Q : Z → Type 0) (x : X) (r : Result Z Error) → IfOk r Q → ((z : Z) → Q z → R x a.now b.now → T z a.now b.now) → Runs R a b (Ok x) → Runs T a b r
   runs_made Q x (Ok z) made turns p = runs_as_well x z (turns z made) p
   runs_made Q x (Err e) made turns p = runs_ok_err x e p
 
--- less is told, whatever comes of it
+-- A run is a run for a weaker relation.
 pub runs_weaker : {X : Type 0} (R T : X → Database → Database → Type 0) (a b : State) (r : Result X Error) → ((x : X) → R x a.now b.now → T x a.now b.now) → Runs R a b r → Runs T a b r
 runs_weaker R T a b (Ok x) turns p = runs_as_well R T a b x x (turns x) p
 runs_weaker R T a b (Err e) turns p = runs_err R T a b e e p

@@ -1,4 +1,4 @@
--- What deletes leave, and what updates of one row do.
+-- Proofs about the effects of deletes and of updates of one row.
 use Rattle.std.proofs.Common.{◌≡◌, ℕ, ℤ, List, [], ◌∷◌, map, filter, not, ◌&&◌, slice_get, Bool, true, false, Some, Ok, refl, sym, ap, subst, ◌∙◌}
 use Rattle.std.specs.Prelude.{IsPermutation}
 use Rattle.std.specs.List.{list_all}
@@ -28,7 +28,8 @@ use Rattle.space_sql_schema.proofs.Selecting.{query_of, shows, deletes, updates}
 use Rattle.space_sql_write.proofs.Clear.{pair_apart, clears}
 use Rattle.space_sql_write.proofs.Relaying.{OthersStand}
 
--- the rows that pass are gone, and what else the delete may have done is told by `step`
+-- Holds if the rows that pass are deleted. The field `step` describes the other effects of the
+-- delete.
 pub record Cleared (old new : Database) (table : Table) (hit : Row → Bool) : Type 0 where
   pub ids : List ℤ
   pub next : Trees
@@ -37,7 +38,7 @@ pub record Cleared (old new : Database) (table : Table) (hit : Row → Bool) : T
   pub rows : next table.tree ≡ filter (λ r. not (hit r)) (old.trees table.tree)
   pub sound : IsDatabase new
 
--- the row of a table that passes is changed to another, whose rowid is the same
+-- Holds if the row of a table that passes is changed to another with the same rowid.
 pub record Changed (old new : Database) (table : Table) (hit : Row → Bool) (row : Row) : Type 0 where
   pub next : Trees
   pub is : new ≡ record { schema = dss_schema; trees = next }
@@ -68,7 +69,7 @@ first_fresh : (a b : Bool) → (not a && b) ≡ true → a ≡ false
 first_fresh true b h = cc
 first_fresh false b h = refl
 
--- one row was put beside those that are left, and it was new
+-- Lemmas about an edit that adds one new row to the remaining ones.
 module _ (db next : Trees) (edit : Edit) (new : Row) (is : edit.news ≡ new ∷ []) (step : Applies dss_schema Enforced db edit next) where
   pub fresh_one : is_taken (left_by db edit) new ≡ false
   fresh_one = first_fresh (is_taken (left_by db edit) new) _ (rw is at step.fresh)
@@ -81,7 +82,7 @@ module _ (text : List ℕ) (params : Row) (table : Table) (at : ℕ) (tests proj
   abbrev hits : Row → Bool
   hits r = list_all (holds (params ∷ r ∷ [])) tests
 
-  -- what is written of a row that is shown
+  -- The edit that writes one shown row.
   abbrev writes : Trees → Row → Edit
   writes db shown = edit_of db table (ids_of (shown ∷ [])) Given 1 (shown ∷ [])
 

@@ -1,4 +1,4 @@
--- The serial goes on by one.
+-- Proofs that the serial increases by one.
 use Rattle.std.proofs.Common.{◌≡◌, ℕ, ◌+◌, ◌<◌, ◌^◌, ℤ, pos, [], ◌∷◌, map, filter, cond, Some, None, Ok, Err, Result, OnOk, refl, sym, ap, subst, ◌∙◌, arith}
 use Rattle.std.specs.Prelude.{IsPermutation}
 use Rattle.std.proofs.lemmas.Bool.{lt-ltb}

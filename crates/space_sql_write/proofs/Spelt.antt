@@ -1,4 +1,4 @@
--- From an airspace that is spelt to the rows, and back.
+-- Proofs that convert an airspace to its rows, and rows to an airspace.
 use Rattle.std.proofs.Common.{◌≡◌, ◌≤◌, ◌+◌, ℕ, ℤ, List, [], ◌∷◌, map, flat_map, Option, Some, None, sym, subst, subst₂, ◌∙◌, Less, refl, arith}
 use Rattle.std.specs.Prelude.{IsPermutation}
 use Rattle.std.specs.List.{AllByRecursion}
@@ -52,7 +52,7 @@ one_rises n (Some a) = (tt, tt)
 namings_rise : (gs : List Group) → IsAscending IsBefore gs → IsAscending NamingLess (flat_map own_namings gs)
 namings_rise gs up = ascending_flat NamingLess IsBefore (λ _. Unit {0}) own_namings (λ g h _ _ less. cross_namings g.row.num h.row.num g.naming h.naming less) (λ g _. one_rises g.row.num g.naming) gs (all_of (λ _. Unit {0}) (λ _. tt) gs) up
 
--- ---- what is spelt is laid out
+-- ---- from the airspace to the rows
 
 pub lay_out : (db : Database) (a : Airspace) (p : Spells db a) → LaysOut db (layout_of db a p)
 lay_out db a p = record {
@@ -100,7 +100,7 @@ lay_out db a p = record {
 
 -- ---- the rows of an airspace
 
--- the rows are those of subscriptions, by groups of rising numbers
+-- Holds if the rows are those of subscriptions, in groups with ascending numbers.
 pub record AreSubs (serial : ℕ) (rows : List SubRow) (cells : List SubCellRow) (ss : List SubGroup) (m : Subscriptions) : Type 0 where
   pub rising : IsAscending IsSubBefore ss
   pub each : AllByRecursion (IsSubGroup serial) ss
@@ -108,7 +108,8 @@ pub record AreSubs (serial : ℕ) (rows : List SubRow) (cells : List SubCellRow)
   pub cells_are : IsPermutation (flat_map (λ (s : SubGroup). s.cells) ss) cells
   pub kept : IsPermutation (map sub_pair_of ss) (entries m)
 
--- the rows are those of entities, by groups of rising numbers; they name some of these subscriptions
+-- Holds if the rows are those of entities, in groups with ascending numbers, which reference some
+-- of these subscriptions.
 pub record AreEntities (serial : ℕ) (ss : List SubGroup) (rows : List EntityRow) (volumes : List VolumeRow) (cells : List CellRow) (namings : List Naming) (gs : List Group) (m : Entities) : Type 0 where
   pub rising : IsAscending IsBefore gs
   pub each : AllByRecursion (IsGroup serial ss) gs
@@ -118,12 +119,12 @@ pub record AreEntities (serial : ℕ) (ss : List SubGroup) (rows : List EntityRo
   pub namings_are : IsPermutation (flat_map own_namings gs) namings
   pub kept : IsPermutation (map pair_of gs) (entries m)
 
--- the rows are what each USS has set
+-- Holds if the rows are what each USS has set.
 pub record AreStated (rows : List (List ℕ × VersionedAvailability)) (m : Availabilities) : Type 0 where
   pub are : IsPermutation (entries m) rows
   pub stated : AllByRecursion IsStated (entries m)
 
--- together they are those of an airspace
+-- Holds if the rows are those of an airspace.
 pub record AreRowsOf (l : Layout) (ss : List SubGroup) (gs : List Group) (a : Airspace) : Type 0 where
   pub serial : l.serial ≡ a.serial
   pub most : a.serial ≤ max_serial
@@ -131,7 +132,7 @@ pub record AreRowsOf (l : Layout) (ss : List SubGroup) (gs : List Group) (a : Ai
   pub entities : AreEntities a.serial ss l.entities l.volumes l.cells l.namings gs a.entities
   pub stated : AreStated l.availabilities a.availabilities
 
--- what is laid out of the rows of an airspace is spelt
+-- A database with the rows of an airspace represents it.
 pub spell_out : (db : Database) (l : Layout) (ss : List SubGroup) (gs : List Group) (a : Airspace) → LaysOut db l → AreRowsOf l ss gs a → Spells db a
 spell_out db l ss gs a has are = record {
   schema = has.schema;
@@ -156,7 +157,7 @@ spell_out db l ss gs a has are = record {
   apart = (has.volumes.apart, has.cells.apart, has.availabilities.apart, has.sub_cells.apart);
 }
 
--- ---- the rows that stand as the serial goes on
+-- ---- the rows that stay valid with the next serial
 
 pub subs_later : (n : ℕ) (rows : List SubRow) (cells : List SubCellRow) (ss : List SubGroup) (m : Subscriptions) → AreSubs n rows cells ss m → AreSubs (n + 1) rows cells ss m
 subs_later n rows cells ss m are = record {

@@ -1,4 +1,4 @@
--- The airspace without a subscription.
+-- Proofs about the airspace without a removed subscription.
 use Rattle.std.proofs.Common.{◌≡◌, inl, inr, ℕ, ◌<◌, ℤ, List, [], ◌∷◌, map, filter, not, true, false, Option, Some, None, refl, sym, ap, subst, ◌∙◌, arith, int_eq, nat_eq}
 use Rattle.std.specs.Prelude.{IsSome}
 use Rattle.std.specs.List.{AllByRecursion}
@@ -35,13 +35,13 @@ use Rattle.space_sql_write.proofs.Numbered.{at_from, made, number_from, sub_numb
 use Rattle.space_sql_write.proofs.Lists.{all_from, all_there, has_filtered, mapped_there, moved}
 use Rattle.space_sql_write.proofs.Spelt.{AreEntities, AreSubs, entities_later, lay_out, own_entities, own_namings, own_stated, own_subs, subs_later}
 
--- the subscriptions of other numbers keep theirs
+-- The subscriptions with other numbers keep them.
 pub others_number : (num n : ℤ) (id : ℕ) (ss : List SubGroup) → int_eq n num ≡ false → IsSubNumber ss n id → IsSubNumber (filter (is_other sub_number num) ss) n id
 others_number num n id ss other there =
     let it = at_from n id ss there in
     number_from n id (filter (is_other sub_number num) ss) it.0 (has_filtered (is_other sub_number num) ss it.0 it.1 (ap (λ m. not (int_eq m num)) it.2 ∙ ap not other)) it.2 it.3
 
--- what entities name stands where each keeps the number of what it names
+-- References of entities stay valid if each referenced subscription keeps its number.
 pub names_turned : (n : ℕ) (ss ts : List SubGroup) (gs : List Group) → ((g : Group) → Has gs g → Names ss g.naming (subscription_of g.entity.nature) → Names ts g.naming (subscription_of g.entity.nature)) → AllByRecursion (IsGroup n ss) gs → AllByRecursion (IsGroup n ts) gs
 names_turned n ss ts gs turns each = all_from (IsGroup n ts) gs (λ g there. let h = all_there (IsGroup n ss) gs each g there in record { spelt = h.spelt; names = turns g there h.names; most = h.most })
 
@@ -49,7 +49,7 @@ pub entities_turned : (n : ℕ) (ss ts : List SubGroup) (rows : List EntityRow) 
     → AreEntities n ss rows volumes cells namings gs m → AreEntities n ts rows volumes cells namings gs m
 entities_turned n ss ts rows volumes cells namings gs m turns are = record { rising = are.rising; each = names_turned n ss ts gs turns are.each; rows_are = are.rows_are; volumes_are = are.volumes_are; cells_are = are.cells_are; namings_are = are.namings_are; kept = are.kept }
 
--- ---- the rows that are left are those of the subscriptions but one
+-- ---- the remaining rows are those of the other subscriptions
 
 cells_borne : (n : ℕ) (ss : List SubGroup) → AllByRecursion (IsSubGroup n) ss → Borne (λ (c : SubCellRow). c.subscription) sub_number (λ (s : SubGroup). s.cells) ss
 cells_borne n ss each = all_turned (IsSubGroup n) (λ s. AllByRecursion (λ (c : SubCellRow). c.subscription ≡ s.row.num) s.cells) (λ s p. sub_cells_of s.row.num s.cells _ p.spelt.cells_are) ss each
@@ -64,7 +64,7 @@ subs_left n rows cells ss m num id are there = record {
   kept = kept_left sub_number sub_pair_of nat_cmp nat_cmp_total nat_cmp-IsAntisymmetric ss are.rising m are.kept num id (at_from num id ss there);
 }
 
--- ---- what no intent names
+-- ---- subscriptions that no intent references
 
 no_map : {X Y : Type 0} (f : X → Y) (xs : List X) → map f xs ≡ [] → xs ≡ []
 no_map f [] e = refl
@@ -78,7 +78,7 @@ same_id : (id : ℕ) → nat_eq id id ≡ true
 same_id id = eq-eqb id id refl
 
 module _ (db : Database) (a : Airspace) (p : Spells db a) (num : ℤ) (id : ℕ) (there : IsSubNumber p.subs num id) (free : dependents_in a.entities id ≡ []) where
-  -- the entity does not name it by its id
+  -- The entity does not reference the subscription by its id.
   not_by_id : (g : Group) → Has p.groups g → ¬ (subscription_of g.entity.nature ≡ Some id)
   not_by_id g has e =
       let passes : is_naming id (pair_of g) ≡ true = ap (is_id id) e ∙ same_id id in
@@ -86,7 +86,7 @@ module _ (db : Database) (a : Airspace) (p : Spells db a) (num : ℤ) (id : ℕ)
       let found = has_filtered (is_naming id) (entries a.entities) (pair_of g) kept passes in
       subst (λ xs. Has xs (pair_of g)) (none_names a.entities id free) found
 
-  -- nor by its number
+  -- The entity does not reference the subscription by its number.
   not_by_number : (g : Group) → Has p.groups g → (named : Option ℕ) → subscription_of g.entity.nature ≡ named → Names p.subs (Some num) named → ⊥
   not_by_number g has None e names = names
   not_by_number g has (Some k) e names = not_by_id g has (e ∙ ap Some (one_number num k id p.subs (sub_numbers_differ p.subs p.subs_rising) names there))
@@ -113,13 +113,13 @@ module _ (db : Database) (a : Airspace) (p : Spells db a) (num : ℤ) (id : ℕ)
   pub entities_unnamed : AreEntities a.serial (filter (is_other sub_number num) p.subs) (layout_of db a p).entities (layout_of db a p).volumes (layout_of db a p).cells (layout_of db a p).namings p.groups a.entities
   entities_unnamed = entities_turned _ _ _ _ _ _ _ _ _ (λ g has names. names_left g has g.naming (subscription_of g.entity.nature) refl names) (own_entities db a p)
 
--- the subscriptions that are left keep their numbers
+-- The remaining subscriptions keep their numbers.
 sub_numbers_left : (db : Database) (a : Airspace) (p : Spells db a) (num : ℤ) (id : ℕ) → IsSubNumber p.subs num id → (n : ℤ) (k : ℕ) → IsSubNumber p.subs n k → IsSome (get (remove a.subscriptions id) k) → IsSubNumber (filter (is_other sub_number num) p.subs) n k
 sub_numbers_left db a p num id it n k at there =
     let left = left_at sub_number sub_pair_of nat_cmp nat_cmp_total nat_cmp-IsAntisymmetric p.subs p.subs_rising num id (at_from num id p.subs it) a.subscriptions n k (at_from n k p.subs at) there in
     number_from n k _ left.0 left.1 left.2 left.3
 
--- the number is found, and its rows are removed: the serial stays
+-- If the number is found and its rows are removed, the subscription is purged. The serial stays.
 pub lets_sub_go : (old found new : Database) (id : ℕ) (num : ℤ) → FindsSubNumber id (Some num) old found → RelaysSound (IsUnnamed num) (without_sub_rows num) found new → MakesLess (Subscription id) old new
 lets_sub_go old found new id num finds clears a p can =
     let it = finds a p in
@@ -134,7 +134,8 @@ lets_sub_go old found new id num finds clears a p can =
       stated = own_stated old a p;
     }) (λ n k at there. at) (sub_numbers_left old a p num id it.1)
 
--- the number is found, its rows are removed, and the serial goes on
+-- If the number is found, its rows are removed and the serial increases by one, the subscription is
+-- removed.
 pub removes_sub : (old found left new : Database) (id : ℕ) (num : ℤ) → FindsSubNumber id (Some num) old found → Relays (IsUnnamed num) (without_sub_rows num) found left → RelaysSound (λ l. l.serial < max_serial) with_next_serial left new
     → MakesChange (RemoveSub id) [] old new
 removes_sub old found left new id num finds clears raises a p fits =

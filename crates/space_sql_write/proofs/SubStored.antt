@@ -1,4 +1,4 @@
--- The airspace with a subscription.
+-- Proofs about the airspace with a stored subscription.
 use Rattle.std.proofs.Common.{◌≡◌, inl, inr, ℕ, ◌+◌, ◌<◌, ◌≤◌, ℤ, pos, List, [], ◌∷◌, ◌++◌, map, filter, false, Option, Some, None, refl, sym, subst, ◌∙◌, ap, arith, int_eq}
 use Rattle.std.specs.List.{AllByRecursion}
 use Rattle.std.specs.Ordering.{nat_cmp}
@@ -31,7 +31,7 @@ use Rattle.space_sql_write.proofs.Spelt.{AreEntities, AreSubs, entities_later, l
 
 -- ---- the row of a subscription
 
--- the row of the number stands alone
+-- Only one row has the number.
 has_sub : (db : Database) (a : Airspace) (p : Spells db a) (num : ℤ) (id : ℕ) → IsSubNumber p.subs num id → HasSub num (layout_of db a p)
 has_sub db a p num id there =
     let it = at_from num id p.subs there in
@@ -47,7 +47,7 @@ finds_stored s num old found new finds replaces a p = let it = finds a p in inl 
 pub finds_inserted : (s : Sub) (old found new : Database) → FindsSubNumber s.id None old found → InsertsSub s (pos s.serial) found new → StoresSub s old new
 finds_inserted s old found new finds inserts a p = let it = finds a p in inr (it.1, subst (λ db. InsertsSub s (pos s.serial) db new) it.0 inserts)
 
--- ---- its statements together
+-- ---- its statements in sequence
 
 pub replaces_all : (s : Sub) (num : ℤ) (old cleared updated new : Database) (row : SubRow) (cells : List SubCellRow) → row.num ≡ num → SpellsSub row cells s → Relays Always (without_sub_cells num) old cleared
     → Relays (HasSub row.num) (λ l. with_sub_row row (without_sub_row row.num l)) cleared updated → Relays Always (with_sub_cells cells) updated new → ReplacesSub s num old new
@@ -97,11 +97,11 @@ module _ (n : ℕ) (rows : List SubRow) (cells : List SubCellRow) (ss : List Sub
       kept = kept_joined sub_number sub_pair_of nat_cmp nat_cmp_total nat_cmp-IsAntisymmetric new_group ss m are.kept;
     }
 
--- no number is that of a later serial
+-- No number equals a later serial.
 numbers_below : (s t : ℕ) (ss : List SubGroup) → t ≡ s + 1 → AllByRecursion (IsSubGroup s) ss → AllByRecursion (λ (g : SubGroup). int_eq g.row.num (pos t) ≡ false) ss
 numbers_below s t ss is = all_turned (IsSubGroup s) (λ (g : SubGroup). int_eq g.row.num (pos t) ≡ false) (λ g h. lower_differs g.row.num g.sub.serial s t h.spelt.sub.most h.most is) ss
 
--- ---- what is named keeps its number
+-- ---- referenced subscriptions keep their numbers
 
 number_placed : (num : ℤ) (id : ℕ) (new : SubGroup) (ss : List SubGroup) → IsSubNumber ss num id → IsSubNumber (placed sub_number new ss) num id
 number_placed num id new ss there =
@@ -119,7 +119,7 @@ names_by ss ts turns None (Some k) names = names
 names_by ss ts turns (Some n) None names = names
 names_by ss ts turns (Some n) (Some k) names = turns n k names
 
--- ---- a subscription is put
+-- ---- storing a subscription
 
 module _ (s : Sub) (old stored new : Database) (raises : RelaysSound (λ l. l.serial < max_serial) with_next_serial stored new) (a : Airspace) (p : Spells old a) (fits : Fits (PutSub s) [] a) where
   abbrev PutsItself : Type 0

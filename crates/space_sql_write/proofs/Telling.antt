@@ -1,4 +1,4 @@
--- Telling nobody, and one more.
+-- Lemmas about notifying no subscription, and one more.
 use Rattle.std.proofs.Common.{◌≡◌, ◌∙◌, ℕ, List, [], ◌∷◌, map, refl, sym, ap, subst}
 use Rattle.std.specs.Prelude.{IsPermutation}
 use Rattle.std.specs.Ordering.{nat_cmp}
@@ -19,7 +19,7 @@ all_stay : (ss : List (ℕ × Sub)) → map (notified_if (is_one_of [])) ss ≡ 
 all_stay [] = refl
 all_stay (s ∷ ss) = ap (λ l. s ∷ l) (all_stay ss)
 
--- where nobody is told, all subscriptions stay
+-- If no subscription is notified, all stay the same.
 pub none_told : (m : Subscriptions) → notified_where (is_one_of []) m ≡ m
 none_told m = same_subs (notified_where (is_one_of []) m) m (entries-told (is_one_of []) m ∙ all_stay (entries m))
 

@@ -1,4 +1,4 @@
--- Subscriptions are told of a change.
+-- Proofs that subscriptions are notified of a change.
 use Rattle.std.proofs.Common.{◌≡◌, inl, inr, ℕ, ◌+◌, ◌<◌, ◌≤◌, ◌^◌, ℤ, pos, ◌+ℤ◌, List, [], ◌∷◌, map, filter, flat_map, length, ◌||◌, Bool, true, false, cond, Some, refl, sym, ap, subst, ◌∙◌, arith, nat_eq}
 use Rattle.std.specs.Prelude.{IsPermutation}
 use Rattle.std.specs.Ordering.{int_cmp, eq_by_cmp, nat_cmp, is_eq}
@@ -32,7 +32,7 @@ use Rattle.space_sql_write.proofs.Numbered.{made, sub_number}
 use Rattle.space_sql_write.proofs.SubRemoved.{entities_turned}
 use Rattle.space_sql_write.proofs.SubStored.{names_by}
 
--- ---- a subscription that was told
+-- ---- a notified subscription
 
 told_spelt : (row : SubRow) (cells : List SubCellRow) (s : Sub) → s.index + 1 ≤ max_serial → SpellsSub row cells s → SpellsSub (notified_row row) cells (notified_again s)
 told_spelt row cells s most p = record {
@@ -61,7 +61,7 @@ number_and_id g = (g.row.num, g.sub.id)
 abbrev told_group : SubGroup → SubGroup
 told_group g = record { row = notified_row g.row; cells = g.cells; sub = notified_again g.sub }
 
--- two tests of ids
+-- Two tests of ids agree.
 same_test : (id k : ℕ) → eq_by_cmp nat_cmp id k ≡ nat_eq id k
 same_test id k = elim (eqb_tells id k) [
   | inl same ↦ ap is_eq (ap (nat_cmp id) (sym same.1) ∙ tied_itself nat_cmp_total id) ∙ sym same.0
@@ -71,13 +71,13 @@ same_test id k = elim (eqb_tells id k) [
   ]
 ]
 
--- the rows of a subscription that is there
+-- A subscription that exists has rows.
 pub sub_there : (db : Database) (a : Airspace) (p : Spells db a) (id : ℕ) (s : Sub) → get a.subscriptions id ≡ Some s → (g : SubGroup) × Has p.subs g × (g.sub.id ≡ id) × (g.sub ≡ s)
 sub_there db a p id s found =
     let it = group_there sub_number sub_pair_of nat_cmp nat_cmp_total nat_cmp-IsAntisymmetric p.subs a.subscriptions p.subs_kept id s found in
     (it.0, it.1, ap (λ (x : ℕ × Sub). x.0) it.2, ap (λ (x : ℕ × Sub). x.1) it.2)
 
--- ---- one is told
+-- ---- notifying one subscription
 
 module _ (old : Database) (a : Airspace) (p : Spells old a) (id : ℕ) (s : Sub) (found : get a.subscriptions id ≡ Some s) (low : s.index < a.serial) where
   abbrev test : ℕ × Sub → Bool
@@ -89,7 +89,7 @@ module _ (old : Database) (a : Airspace) (p : Spells old a) (id : ℕ) (s : Sub)
   is_group : (h : SubGroup) → Has p.subs h → IsSubGroup a.serial h
   is_group h there = all_there (IsSubGroup a.serial) p.subs p.each_sub h there
 
-  -- its rows
+  -- The rows of the subscription.
   own : (g : SubGroup) × Has p.subs g × (g.sub.id ≡ id) × (g.sub ≡ s)
   own = sub_there old a p id s found
 

@@ -1,4 +1,4 @@
--- The statements.
+-- The texts of the statements.
 use Rattle.std.specs.Prelude.{ℕ, List, codes}
 
 abbrev pub clear_cells_text : List ℕ

@@ -1,4 +1,4 @@
--- Subscriptions are told one after the other, after a change.
+-- Proofs that subscriptions are notified one after the other, after a change.
 use Rattle.std.proofs.Common.{◌≡◌, inl, inr, ℕ, zero, suc, ◌+◌, ◌<◌, ◌≤◌, List, [], ◌∷◌, ◌++◌, map, take, get_or, length, ◌||◌, Bool, true, false, cond, Some, Less, refl, sym, ap, subst, ◌∙◌, arith, nat_eq}
 use Rattle.std.specs.Prelude.{IsSome, option_map}
 use Rattle.std.specs.List.{list_any}
@@ -30,7 +30,7 @@ use Rattle.space_sql_write.proofs.Numbered.{numbers_stand, numbers_then}
 use Rattle.space_sql_write.proofs.Telling.{none_told, same_subs, spells_untold}
 use Rattle.space_sql_write.proofs.Tells.{sub_there}
 
--- ---- ids that rise are told once
+-- ---- ascending ids are notified once
 
 differ : (y x : ℕ) → nat_cmp y x ≡ Less → nat_eq y x ≡ false
 differ y x less = elim (eqb_tells y x) [
@@ -43,7 +43,7 @@ has_at [] i x l e = absurd (omega (arith, l))
 has_at (y ∷ xs) zero x l e = inl e
 has_at (y ∷ xs) (suc i) x l e = inr (has_at xs i x (omega (arith, l)) e)
 
--- no id before one is the same
+-- No earlier id is the same.
 not_before : (xs : List ℕ) (i x : ℕ) → i < length xs → x ≡ get_or xs i x → IsStrictlySortedBy nat_cmp xs → list_any (λ k. nat_eq k x) (take i xs) ≡ false
 unfolding IsStrictlySortedBy
 not_before [] i x l e up = absurd (omega (arith, l))
@@ -71,7 +71,7 @@ module _ (m : Subscriptions) (xs : List ℕ) (x : ℕ) (new : list_any (λ k. na
       both e (nat_eq x e.0 || false) (list_any (λ k. nat_eq k e.0) xs) (λ h. subst (λ n. list_any (λ k. nat_eq k n) xs ≡ false) (eqb-true x e.0 (one_true (nat_eq x e.0) h)) new)
       ∙ ap (λ b. pair_of e.0 (cond b (notified_again e.1) e.1)) (sym (list_any-append (λ k. nat_eq k e.0) xs (x ∷ [])))
 
-  -- one more is told
+  -- Notifying one more subscription adds it to the notified ones.
   told_twice : notified_where (is_one_of (x ∷ [])) (notified_where (is_one_of xs) m) ≡ notified_where (is_one_of (xs ++ x ∷ [])) m
   told_twice = same_subs _ _ (
       entries-told (is_one_of (x ∷ [])) (notified_where (is_one_of xs) m)
@@ -80,17 +80,17 @@ module _ (m : Subscriptions) (xs : List ℕ) (x : ℕ) (new : list_any (λ k. na
       ∙ (map_same (λ e. notified_if (is_one_of (x ∷ [])) (notified_if (is_one_of xs) e)) (notified_if (is_one_of (xs ++ x ∷ []))) each (entries m)
       ∙ sym (entries-told (is_one_of (xs ++ x ∷ [])) m)))))
 
-  -- it is as it was before
+  -- The subscription is the same as before.
   still : (s : Sub) → get m x ≡ Some s → get (notified_where (is_one_of xs) m) x ≡ Some s
   still s found = told_once m (is_one_of xs) x ∙ (ap (option_map (λ (y : Sub). (notified_if (is_one_of xs) (x, y)).1)) found ∙ ap (λ b. Some (cond b (notified_again s) s)) new)
 
--- who is there is there as it is told
+-- A subscription that exists still exists when it is notified.
 found_told : (test : ℕ × Sub → Bool) (m : Subscriptions) (id : ℕ) → IsSome (get m id) → IsSome (get (notified_where test m) id)
 found_told test m id there =
     let some = some_of (get m id) there in
     subst IsSome (sym (told_once m test id ∙ ap (option_map (λ (y : Sub). (notified_if test (id, y)).1)) some.1)) refl
 
--- the first of them are told
+-- Holds if the first subscriptions are notified.
 abbrev pub TellsFirst : ℕ → List ℕ → Database → Database → Type 0
 TellsFirst i ids old new = (a : Airspace) → Spells old a → CanTell a ids → IsDatabase old → Makes a (with_notified_subs a (is_one_of (take i ids))) old new
 
@@ -128,21 +128,21 @@ module _ (told : List ℕ) (old mid new : Database) (a b : Airspace) (p : Spells
       let most = index_most old a p id it.0 it.1 in
       (it.0, ap (λ m. get m id) same ∙ it.1, omega (arith, most, next))
 
-  -- those that were there are told
+  -- The subscriptions that existed before are notified.
   told_of : Makes a (with_notified_subs b (is_one_of [])) old mid → AreThere a told → Makes a (with_notified_subs b (is_one_of told)) old new
   told_of it are =
       let plain = subst (λ m. Makes a (record b { subscriptions = m }) old mid) (none_told b.subscriptions) it in
       let after = tells b plain.0 (record { rising = are.rising; there = All-weaker (λ id. IsSome (get a.subscriptions id)) (CanRise b) can_rise told are.there }) plain.1 in
       (after.0, after.1, numbers_then a b (with_notified_subs b (is_one_of told)) old mid new (λ k before later. later) (λ k before later. subst (λ m. IsSome (get m k)) (sym same) before) plain.2 after.2)
 
--- nobody is told
+-- No subscription is notified.
 told_none : (told : List ℕ) (old mid new : Database) (a b : Airspace) → told ≡ [] → NotifiesRows told mid new → Makes a b old mid → Makes a b old new
 told_none told old mid new a b none tells it =
     let after = subst (λ ids. NotifiesRows ids mid new) none tells b it.0 (tells_nobody b) it.1 in
     let plain = subst (λ m. Makes b (record b { subscriptions = m }) mid new) (none_told b.subscriptions) after in
     (plain.0, plain.1, numbers_then a b b old mid new (λ k before later. later) (λ k before later. later) it.2 plain.2)
 
--- a change that tells nobody, and then the telling
+-- A change without notifications, followed by the notifications, makes the change.
 pub changes_told : (change : Change) (told : List ℕ) (old mid new : Database) → MakesChange change [] old mid → NotifiesRows told mid new → MakesChange change told old new
 changes_told (Put e) told old mid new makes tells a p fits = told_of told old mid new a (with_entity a e) p refl refl tells (makes a p (record { room = fits.room; due = fits.due; tells = nobody a })) fits.tells
 changes_told (Remove kind id) told old mid new makes tells a p fits = told_of told old mid new a (without_entity a (kind, id)) p refl refl tells (makes a p (record { room = fits.room; due = fits.due; tells = nobody a })) fits.tells

@@ -1,4 +1,4 @@
--- The row of a subscription is changed.
+-- Proofs that the row of a subscription is changed.
 use Rattle.std.proofs.Common.{◌≡◌, ℕ, ◌<◌, ℤ, pos, ◌+ℤ◌, List, [], ◌∷◌, map, filter, not, ◌&&◌, Bool, true, false, Ok, Err, Result, OnOk, refl, sym, ap, subst, ◌∙◌, int_eq}
 use Rattle.std.specs.Prelude.{IsPermutation}
 use Rattle.std.proofs.lemmas.List.Sorted.{IsPermutation-map, IsPermutation-sym, IsPermutation-trans}
@@ -39,7 +39,7 @@ use Rattle.space_sql_write.proofs.Joining.{one_more}
 use Rattle.space_sql_write.proofs.Serials.{added}
 use Rattle.space_sql_write.proofs.Rows.{bears, rows_left, rows_of, rows_passing, some_left}
 
--- as it is stored
+-- The row as it is stored.
 abbrev stored : SubRow → Row
 stored r = Int r.num ∷ Null ∷ Text r.id ∷ Text r.manager ∷ Int r.serial ∷ Text r.version ∷ Int r.notes ∷ Text r.url ∷ Int r.for_intents ∷ Int r.for_constraints ∷ Int r.alt_lower ∷ Int r.alt_upper ∷ Int r.time_start ∷ Int r.time_end ∷ []
 
@@ -70,7 +70,7 @@ updates_sub_row old new r (Ok count) h = λ l one has.
 
 -- ---- its index
 
--- as the test of the statement is computed
+-- The test of the statement, as it is computed.
 abbrev pub names : List ℕ → Row → Bool
 names id c = is_true (binary (Compare Eq Binary) (column c 1) (Text id)) && true
 

@@ -1,4 +1,4 @@
--- What a change in one transaction leaves.
+-- Definitions of the effect of a change in one transaction.
 use Rattle.std.specs.Prelude.{IsTrue, Result, OnOk, OnErr}
 use Rattle.sqlite_trees.specs.Tree.{Trees}
 use Rattle.sqlite.specs.Effect.{Database}
@@ -8,15 +8,15 @@ use Rattle.entity_core.specs.Airspace.{Airspace}
 use Rattle.space_sql_schema.specs.Spelling.{Spells}
 use Rattle.space_sql_schema.specs.Making.{AreOf, IsSettled, IsUndone}
 
--- trees that a commit may have left: those of a database that spells what comes of the airspace
--- that was spelt
+-- Holds if the trees are those of a database that represents the changed airspace. A commit may
+-- have left them.
 abbrev pub MayBeChanged : (P : Airspace → Type 0) (change : Airspace → Airspace)
     → State → Trees → Type 0
 MayBeChanged P change old trees =
     (a : Airspace) → Spells old.now a → P a → AreOf (λ db. Spells db (change a)) trees
 
--- What a change leaves of an airspace that the tables spell and of which P holds: the changed one,
--- committed, or else the last commit as it was. A crash leaves one of the two.
+-- Holds if, when the tables represent an airspace with P, the changed airspace is committed, or the
+-- last commit stays as it was. A crash leaves one of the two.
 pub record Commits {X : Type 0} (P : Airspace → Type 0) (change : Airspace → Airspace)
     (old new : State) (result : Result X Error) : Type 0 where
   pub done : HasCleanDisk new
@@ -25,7 +25,8 @@ pub record Commits {X : Type 0} (P : Airspace → Type 0) (change : Airspace →
   pub err : HasCleanDisk new → IsTrue new.is_open → OnErr result (IsUndone old new)
   pub crash : Survives old new (MayBeChanged P change old)
 
--- Where a change is made, Keeps holds of the airspace, the tables before it and those that it leaves.
+-- Holds if, when a change is made, `Keeps` relates the airspace, the tables before the change and
+-- those after it.
 abbrev pub HoldsAcrossChange : {X : Type 0} → (P : Airspace → Type 0)
     → (Keeps : Airspace → Database → Database → Type 0) → State → State → Result X Error → Type 0
 HoldsAcrossChange P Keeps old new result =

@@ -1,4 +1,4 @@
--- How the rows of an entity come into the tables.
+-- Definitions of how the rows of an entity are stored.
 use Rattle.std.specs.Prelude.{◌≡◌, ◌⊎◌, ℤ, pos, List, Option}
 use Rattle.sqlite.specs.Effect.{Database}
 use Rattle.entity_core.specs.declared.entity.Entity.{Entity}
@@ -11,16 +11,16 @@ use Rattle.space_rows.specs.Rows.{SpellsEntity}
 use Rattle.space_sql_schema.specs.Spelling.{Spells, Names}
 use Rattle.space_sql_write.specs.Layout.{Always, LaysOut, IsNumberOf, Relays, layout_of, without_rows, with_rows}
 
--- The number is that of the subscription that an entity names, and there is none where it names
--- none. The tables stay as they are.
+-- Holds if the number is that of the subscription that an entity references, or there is neither.
+-- The tables stay the same.
 abbrev pub FindsNaming : Entity → Option ℤ → Database → Database → Type 0
 FindsNaming e named old new =
     (a : Airspace) (p : Spells old a)
     → (new ≡ old) × Names p.subs named (subscription_of e.nature)
 
--- Room is made for an entity under a number. Where the tables have its kind and id, it is that
--- entity's number, and its rows are gone. Where they do not, it is the serial of the entity, and
--- all rows stand.
+-- Holds if there is room for an entity under a number. If the tables have an entity of its kind and
+-- id, the number is that entity's, and its rows are removed. Otherwise the number is the serial of
+-- the entity, and all rows stay.
 abbrev pub MakesRoom : Entity → ℤ → Database → Database → Type 0
 MakesRoom e num old new =
     (a : Airspace) (p : Spells old a)
@@ -28,8 +28,8 @@ MakesRoom e num old new =
     ⊎ (((n : ℤ) → ¬ IsNumberOf n (key_of e) p.groups)
     × (num ≡ pos e.serial) × LaysOut new (layout_of old a p))
 
--- Rows that spell the entity under the number join the others, and one by which it names what it
--- names.
+-- Holds if rows that represent the entity under the number are added to the others, with a row for
+-- its reference.
 pub record InsertsEntity (e : Entity) (num : ℤ) (named : Option ℤ) (old new : Database) : Type 0
   where
     pub row : EntityRow

@@ -1,4 +1,4 @@
--- What statements in a transaction do.
+-- Definitions of the effects of statements in a transaction.
 use Rattle.std.specs.Prelude.{◌≡◌, ℕ, ℤ, Bool, true, ◌&&◌, IsTrue, List, [], ◌∷◌, map, filter, Option, Result, IfOk, MatchOption, IsPermutation}
 use Rattle.std.specs.Ordering.{int_eq, eq_by_cmp}
 use Rattle.sqlite_value.specs.declared.value.Value.TheVariants.{Int}
@@ -20,14 +20,14 @@ use Rattle.space_sql_schema.specs.Spelling.{Spells, IsSubNumber}
 use Rattle.space_sql_write.specs.Numbering.{Makes, MakesAll}
 use Rattle.space_sql_write.specs.Layout.{Layout, LaysOut, IsNumberOf, Relays, has_id}
 
--- the transaction goes on, and the last commit stands
+-- Holds if the transaction stays open, and the last commit stays.
 pub record GoesOn (old new : State) : Type 0 where
   pub inside : new.in_transaction ≡ true
   pub committed : new.committed ≡ old.committed
 
--- Statements run in a transaction that goes on, and R holds of what they answer, the database
--- before and that after. Whatever comes of them, the last commit stands, and a crash leaves what it
--- would have left before.
+-- Holds if R relates the result of statements in an open transaction, the database before them, and
+-- the one after them. Whatever the result, the last commit stays. A crash leaves what it would have
+-- left before.
 pub record Runs {X : Type 0} (R : X → Database → Database → Type 0) (old new : State)
     (result : Result X Error) : Type 0 where
   pub done : HasCleanDisk new → IsTrue old.in_transaction
@@ -35,83 +35,85 @@ pub record Runs {X : Type 0} (R : X → Database → Database → Type 0) (old n
   pub kept : HasCleanDisk new → IsTrue old.in_transaction → KeepsCommit old new
   pub survives : Survives old new (λ _. ⊥)
 
--- whether a row of `entity` is of this kind and id
+-- Returns true if a row of `entity` has this kind and id.
 abbrev pub is_of : ℤ → List ℕ → EntityRow → Bool
 is_of kind id row = int_eq row.kind kind && eq_by_cmp text_cmp row.id id
 
--- the numbers of the rows that pass a test, as a query shows them
+-- The numbers of the rows that pass a test, as a query shows them.
 abbrev pub numbers_of : {R : Type 0} → (R → ℤ) → (R → Bool) → List R → List Row
 numbers_of number passes rows = map (λ r. Int (number r) ∷ []) (filter passes rows)
 
--- these numbers of the rows of a table are shown, in any order, and the tables stay as they are
+-- Holds if these numbers of the rows of a table are shown, in any order, and the tables stay the
+-- same.
 abbrev pub ShowsNumbers : {R : Type 0} → (Layout → List R) → (R → ℤ) → (R → Bool) → List Row
     → Database → Database → Type 0
 ShowsNumbers rows number passes shown old new =
     (l : Layout) → LaysOut old l
     → (new ≡ old) × IsPermutation (numbers_of number passes (rows l)) shown
 
--- of the entities of a kind and an id
+-- Holds if the numbers of the entities with a kind and an id are shown.
 abbrev pub ShowsEntities : ℤ → List ℕ → List Row → Database → Database → Type 0
 ShowsEntities kind id = ShowsNumbers (λ l. l.entities) (λ e. e.num) (is_of kind id)
 
--- of the subscriptions of an id
+-- Holds if the numbers of the subscriptions with an id are shown.
 abbrev pub ShowsSubs : List ℕ → List Row → Database → Database → Type 0
 ShowsSubs id = ShowsNumbers (λ l. l.subs) (λ s. s.num) (has_id id)
 
--- one of the numbers that are shown, or none where none is
+-- Holds if the result is one of the shown numbers, or none if none is shown.
 abbrev pub IsShown : List Row → Option ℤ → Type 0
 IsShown shown found =
     MatchOption found (shown ≡ []) (λ num. (row : Row) × Has shown row × (column row 0 ≡ Int num))
 
--- the number under which the tables have an entity is found, if they have it, and they stay as they
--- are
+-- Holds if the result is the number of an entity, if the tables have it, and the tables stay the
+-- same.
 abbrev pub FindsNumber : EntityKey → Option ℤ → Database → Database → Type 0
 FindsNumber k found old new =
     (a : Airspace) (p : Spells old a)
     → (new ≡ old) × Finds (λ num. IsNumberOf num k p.groups) found
 
--- the number under which the tables have a subscription is found, if they have it, and they stay as
--- they are
+-- Holds if the result is the number of a subscription, if the tables have it, and the tables stay
+-- the same.
 abbrev pub FindsSubNumber : ℕ → Option ℤ → Database → Database → Type 0
 FindsSubNumber id found old new =
     (a : Airspace) (p : Spells old a)
     → (new ≡ old) × Finds (λ num. IsSubNumber p.subs num id) found
 
--- a change of the rows, after which they obey the schema
+-- Holds if the rows are changed, and obey the schema afterwards.
 abbrev pub RelaysSound : (P : Layout → Type 0) (change : Layout → Layout)
     → Database → Database → Type 0
 RelaysSound P change old new =
     Relays P change old new × ((l : Layout) → P l → LaysOut old l → IsDatabase new)
 
--- whatever airspace was spelt, if the change fits and may tell these, what comes of it is made
+-- Holds if a change that fits and may notify these subscriptions is made in any airspace that the
+-- tables represented.
 abbrev pub MakesChange : Change → List ℕ → Database → Database → Type 0
 MakesChange change told old new =
     (a : Airspace) → Spells old a → Fits change told a
     → Makes a (changed change told a) old new
 
--- whatever airspace was spelt, if each change of a round fits what those before it leave, what
--- comes of all of them is made
+-- Holds if all changes of a batch are made in any airspace that the tables represented. Each change
+-- must fit the airspace that the previous ones leave.
 abbrev pub MakesBatch : List BatchChange → Database → Database → Type 0
 MakesBatch batch old new =
     (a : Airspace) → Spells old a → FitAll batch a → MakesAll batch a old new
 
--- the same of changes that may be none, if the rows obeyed the schema
+-- The same for changes that can be none, if the rows obeyed the schema.
 abbrev pub MakesRest : List BatchChange → Database → Database → Type 0
 MakesRest batch old new =
     (a : Airspace) → Spells old a → FitAll batch a → IsDatabase old → MakesAll batch a old new
 
--- whatever airspace was spelt, if one thing can be let go of, the airspace without it is made
+-- Holds if one item is purged from any airspace that the tables represented, if it can be.
 abbrev pub MakesLess : PurgeItem → Database → Database → Type 0
 MakesLess gone old new =
     (a : Airspace) → Spells old a → CanPurge gone a → Makes a (without_item a gone) old new
 
--- whatever airspace was spelt, if each of these can be let go of in what those before it leave, the
--- airspace without all of them is made
+-- Holds if all items are purged from any airspace that the tables represented. Each item must be
+-- purgeable from the airspace that the previous ones leave.
 abbrev pub MakesLessAll : List PurgeItem → Database → Database → Type 0
 MakesLessAll gone old new =
     (a : Airspace) → Spells old a → CanPurgeAll gone a → Makes a (without_items gone a) old new
 
--- the same of what may be nothing, if the rows obeyed the schema
+-- The same for items that can be none, if the rows obeyed the schema.
 abbrev pub MakesLessRest : List PurgeItem → Database → Database → Type 0
 MakesLessRest gone old new =
     (a : Airspace) → Spells old a → CanPurgeAll gone a → IsDatabase old

@@ -1,4 +1,4 @@
-//! What a USS has set is replaced.
+//! Setting the availability of a USS.
 ghost use Rattle.std.specs.Prelude.{◌≡◌, []};
 ghost use Rattle.space_core.specs.declared.space.Change.TheVariants.{Avail};
 ghost use Rattle.space_sql_schema.specs.Spelling.{IsStated, availability_number};

@@ -1,4 +1,4 @@
-//! The changes of a round, made in one transaction.
+//! A batch of changes, made in one transaction.
 ghost use Rattle.std.specs.Prelude.{◌≡◌, ◌∷◌, false};
 ghost use Rattle.sqlite.specs.Held.{state};
 ghost use Rattle.space_core.specs.Batch.{FitAll, changed_all};
@@ -40,15 +40,17 @@ fn write_batch<S: Alter>(
     write_rest(alloc, tx, rest)
 }
 
-/// Makes the first change of a round and the rest of them, one after the other, in one transaction,
-/// as `make_change` makes one. Who is there before the round and after each of its changes keeps
-/// its number. It is for tables that spell an airspace in which the first fits, and each of the
-/// others in what those before it leave.
+/// Makes the changes of a batch, one after the other, in one transaction, as `commit_change` makes
+/// one.
+///
+/// Each item that exists before the batch and after each of its changes keeps its number. It is for
+/// tables that represent an airspace in which the first change fits, and each other one fits the
+/// airspace that the previous ones leave.
 ///
 /// # Errors
 ///
-/// An error of the database, or want of memory. While the connection stays open, it shows what was
-/// committed before.
+/// Returns an error if the database fails or memory runs out. While the connection stays open, the
+/// previously committed database is visible.
 pub fn commit_batch<S: Alter>(
     alloc: Global,
     conn: &mut Connection<S>,

@@ -37,7 +37,7 @@ fn write_one<S: Alter>(
     }
 }
 
-/// Makes a change, in which the subscriptions of these ids are told.
+/// Makes a change, and notifies the subscriptions with these ids.
 pub(crate) fn write_change<S: Alter>(
     alloc: Global,
     tx: &mut Transaction<'_, S>,
@@ -52,15 +52,17 @@ pub(crate) fn write_change<S: Alter>(
     notify_all(alloc, tx, notify)
 }
 
-/// Makes a change in one transaction, in which the subscriptions of these ids are told, and the
-/// serial goes on by one. Who is there before and after keeps its number. It is for tables that
-/// spell an airspace in which the change fits and may tell these: of others it is told that what an
-/// Ok leaves is committed, and no more.
+/// Makes a change in one transaction, and notifies the subscriptions with these ids. The serial
+/// increases by one.
+///
+/// Each item that exists before and after keeps its number. It is for tables that represent an
+/// airspace in which the change fits and can notify these subscriptions. For others, the contract
+/// only says that `Ok` leaves a committed database.
 ///
 /// # Errors
 ///
-/// An error of the database, or want of memory. While the connection stays open, it shows what was
-/// committed before.
+/// Returns an error if the database fails or memory runs out. While the connection stays open, the
+/// previously committed database is visible.
 pub fn commit_change<S: Alter>(
     alloc: Global,
     conn: &mut Connection<S>,

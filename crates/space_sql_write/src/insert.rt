@@ -1,4 +1,4 @@
-//! The rows of an entity are inserted, those of a table before those that refer to them.
+//! Insertion of the rows of an entity, those of a table before those that refer to them.
 ghost use Rattle.std.specs.Prelude.{[], ◌∷◌, Some};
 ghost use Rattle.space_sql_schema.specs.Within.{SameConnection, Within};
 ghost use Rattle.space_sql_write.specs.Layout.{Always, Relays, with_cells, with_entity_row, with_extents, with_naming, with_rows, with_volumes};
@@ -113,7 +113,8 @@ fn insert_extents<S: Alter>(
     insert_all(tx, cells)
 }
 
-/// Inserts the rows of an entity, and one by which it names the subscription of a number.
+/// Inserts the rows of an entity, and the row by which it references the subscription with a
+/// number.
 pub(crate) fn insert_rows<S: Alter>(
     tx: &mut Transaction<'_, S>,
     row: &EntityRow,

@@ -1,4 +1,4 @@
-//! Rows that join those of their table.
+//! Insertion of rows into their table.
 ghost use Rattle.std.specs.Prelude.{◌≡◌, List, [], ◌∷◌, ◌++◌};
 ghost use Rattle.space_sql_schema.specs.Within.{SameConnection, Within};
 ghost use Rattle.space_sql_write.specs.Layout.{Always, Layout, Relays};
@@ -8,7 +8,7 @@ use sqlite::{Alter, Error, Transaction};
 
 /// A row that is inserted into its table.
 pub(crate) trait Inserted: Drop {
-    /// Rows join those of the table.
+    /// The rows of the tables with further rows added.
     ghost join: { List Self → Layout → Layout };
 
     /// Inserts the row.
@@ -17,10 +17,10 @@ pub(crate) trait Inserted: Drop {
         ensures inserts { Within S.Store tx.old tx.new
             (Runs (λ _. Relays Always (join (self.now ∷ [])))) result };
 
-    /// Where none joins, all stands.
+    /// States that adding no rows changes nothing.
     ghost none: { (l : Layout) → join [] l ≡ l };
 
-    /// One joins after others.
+    /// States that a row can be added after others.
     ghost more: { (rows : List Self) (row : Self) (l : Layout)
         → join (row ∷ []) (join rows l) ≡ join (rows ++ row ∷ []) l };
 }

@@ -1,4 +1,4 @@
-//! One change of the airspace in the tables, or the changes of a round, in one transaction.
+//! Changes of the airspace in the tables, one or a batch, in one transaction.
 #![tactic(auto)]
 
 mod availability;

@@ -1,4 +1,4 @@
-//! Subscriptions are told of a change.
+//! Notification of subscriptions of a change.
 ghost use Rattle.space_sql_schema.specs.Within.{SameConnection, Within};
 ghost use Rattle.space_sql_write.specs.Layout.{CanBeTold, with_notified_row};
 ghost use Rattle.space_sql_write.specs.Statements.{RelaysSound, Runs};
@@ -8,7 +8,7 @@ use entity_core::entity_id::EntityId;
 use sqlite::{Alter, Error, Transaction, params};
 use std::alloc::Global;
 
-// The index of the subscription with an id goes on by one.
+// Increases the index of the subscription with an id by one.
 fn raise_notes<S: Alter>(tx: &mut Transaction<'_, S>, id: &str) -> Result<usize, Error>
     ensures same_reference { SameConnection tx.old tx.new }
     ensures raises { Within S.Store tx.old tx.new
@@ -29,7 +29,7 @@ fn tell<S: Alter>(alloc: Global, tx: &mut Transaction<'_, S>, id: EntityId) -> R
     Ok(())
 }
 
-/// The index of each of these subscriptions goes on by one.
+/// Increases the index of each of these subscriptions by one.
 pub(crate) fn notify_all<S: Alter>(
     alloc: Global,
     tx: &mut Transaction<'_, S>,

@@ -1,4 +1,4 @@
-//! The numbers under which the tables have entities and subscriptions.
+//! The numbers under which the tables store entities and subscriptions.
 ghost use Rattle.std.specs.Prelude.{IfOk};
 ghost use Rattle.space_sql_schema.specs.Within.{SameConnection, Within};
 ghost use Rattle.space_sql_write.specs.Statements.{FindsNumber, FindsSubNumber, IsShown, Runs, ShowsEntities, ShowsSubs};
@@ -9,7 +9,7 @@ use space_rows::numbers::kind_number;
 use sqlite::{Alter, Error, Row, Transaction, params};
 use std::alloc::Global;
 
-// The numbers of the rows of a kind and an id.
+// Returns the numbers of the rows with a kind and an id.
 fn numbers<S: Alter>(tx: &mut Transaction<'_, S>, kind: i64, id: &str) -> Result<Vec<Row>, Error>
     ensures same_reference { SameConnection tx.old tx.new }
     ensures shows { Within S.Store tx.old tx.new
@@ -21,7 +21,7 @@ fn numbers<S: Alter>(tx: &mut Transaction<'_, S>, kind: i64, id: &str) -> Result
     )
 }
 
-// The numbers of the subscriptions of an id.
+// Returns the numbers of the subscriptions with an id.
 fn sub_numbers<S: Alter>(tx: &mut Transaction<'_, S>, id: &str) -> Result<Vec<Row>, Error>
     ensures same_reference { SameConnection tx.old tx.new }
     ensures shows { Within S.Store tx.old tx.new
@@ -30,7 +30,7 @@ fn sub_numbers<S: Alter>(tx: &mut Transaction<'_, S>, id: &str) -> Result<Vec<Ro
     tx.query_all("SELECT num FROM subscription WHERE id = ?1", params![id])
 }
 
-// The first of the numbers that are shown, if there is one.
+// Returns the first of the numbers that are shown, if there is one.
 fn first_number(rows: &[Row]) -> Result<Option<i64>, Error>
     ensures { IfOk result (λ found. IsShown rows.now found) }
 {
@@ -40,7 +40,7 @@ fn first_number(rows: &[Row]) -> Result<Option<i64>, Error>
     }
 }
 
-/// The number of an entity, if the tables have it.
+/// Returns the number of an entity, if the tables have it.
 pub(crate) fn number_of<S: Alter>(
     alloc: Global,
     tx: &mut Transaction<'_, S>,
@@ -56,7 +56,7 @@ pub(crate) fn number_of<S: Alter>(
     first_number(rows.as_slice())
 }
 
-/// The number of a subscription, if the tables have it.
+/// Returns the number of a subscription, if the tables have it.
 pub(crate) fn sub_number_of<S: Alter>(
     alloc: Global,
     tx: &mut Transaction<'_, S>,

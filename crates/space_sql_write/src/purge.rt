@@ -1,4 +1,4 @@
-//! What is let go of goes from the tables in one transaction, and the serial stays.
+//! Purging of items from the tables, in one transaction that leaves the serial unchanged.
 ghost use Rattle.std.specs.Prelude.{◌≡◌, ◌∷◌, false};
 ghost use Rattle.sqlite.specs.Held.{state};
 ghost use Rattle.entity_purge.specs.PurgeItem.{CanPurgeAll, without_items};
@@ -46,7 +46,7 @@ fn let_sub_go<S: Alter>(
     clear_sub(tx, num)
 }
 
-// Lets go of one thing. It is an error where it is not there, or where an intent names it.
+// Purges one item. Returns an error if it does not exist or an intent references it.
 fn let_one_go<S: Alter>(
     alloc: Global,
     tx: &mut Transaction<'_, S>,
@@ -89,15 +89,17 @@ fn let_each_go<S: Alter>(
     let_rest_go(alloc, tx, rest)
 }
 
-/// Lets go of the first of these and of the rest of them, one after the other, in one transaction:
-/// their rows go, and the serial stays. Who stays keeps its number. It is for tables that spell an
-/// airspace in which the first is there, and each of the others in what those before it leave, and
-/// no intent names it.
+/// Purges items, one after the other, in one transaction: removes their rows, and leaves the serial
+/// unchanged.
+///
+/// Each remaining item keeps its number. It is for tables that represent an airspace in which the
+/// first item exists. Each other one exists after the previous ones are purged. No intent
+/// references an item when it is purged.
 ///
 /// # Errors
 ///
-/// An error of the database, or want of memory. While the connection stays open, it shows what was
-/// committed before.
+/// Returns an error if the database fails or memory runs out. While the connection stays open, the
+/// previously committed database is visible.
 pub fn purge_all<S: Alter>(
     alloc: Global,
     conn: &mut Connection<S>,

@@ -1,4 +1,4 @@
-//! An entity is put in the place of the one that has its kind and id.
+//! Storing of an entity in place of the one with its kind and id.
 ghost use Rattle.std.specs.Prelude.{◌≤ℤ◌, pos, IfOk, []};
 ghost use Rattle.space_core.specs.declared.space.Change.TheVariants.{Put};
 ghost use Rattle.space_sql_schema.specs.Within.{SameConnection, Within};
@@ -14,7 +14,7 @@ use space_rows::entity::rows_of;
 use sqlite::{Alter, Error, Transaction};
 use std::alloc::Global;
 
-// The number under which the rows of an entity are to stand. Those that stand under it are removed.
+// Returns the number for the rows of an entity, after removing the rows that have it.
 fn make_room<S: Alter>(
     alloc: Global,
     tx: &mut Transaction<'_, S>,
@@ -38,8 +38,8 @@ fn make_room<S: Alter>(
     }
 }
 
-// The number of the subscription that an entity names, if it names one. It is an error where that
-// one is not there.
+// Returns the number of the subscription that an entity references, if it references one. Returns
+// an error if that subscription does not exist.
 fn naming_of<S: Alter>(
     alloc: Global,
     tx: &mut Transaction<'_, S>,
@@ -74,7 +74,7 @@ fn insert_entity<S: Alter>(
     insert_rows(tx, &row, &volumes, &cells, named)
 }
 
-/// Puts an entity. It keeps the number of the one that has its kind and id, if there is one.
+/// Stores an entity. It keeps the number of the one with its kind and id, if there is one.
 pub(crate) fn put_entity<S: Alter>(
     alloc: Global,
     tx: &mut Transaction<'_, S>,

@@ -1,4 +1,4 @@
-//! The rows of an entity are removed, those that refer to others first.
+//! Removal of the rows of an entity, those that refer to others first.
 ghost use Rattle.std.specs.Prelude.{◌<◌, []};
 ghost use Rattle.entity_core.specs.Serial.{max_serial};
 ghost use Rattle.space_core.specs.declared.space.Change.TheVariants.{Remove};
@@ -45,7 +45,7 @@ fn clear_row<S: Alter>(tx: &mut Transaction<'_, S>, num: i64) -> Result<usize, E
     tx.execute("DELETE FROM entity WHERE num = ?1", params![num])
 }
 
-// Removes the volumes of an entity and their cells, and what it names is not kept.
+// Removes the volumes of an entity, their cells, and its row of `naming`.
 fn clear_parts<S: Alter>(tx: &mut Transaction<'_, S>, num: i64) -> Result<(), Error>
     ensures same_reference { SameConnection tx.old tx.new }
     ensures clears { Within S.Store tx.old tx.new
@@ -68,7 +68,7 @@ pub(crate) fn clear_entity<S: Alter>(tx: &mut Transaction<'_, S>, num: i64) -> R
     Ok(())
 }
 
-// Removes the entity of a number, and the serial goes on by one.
+// Removes the entity with a number, and increases the serial by one.
 fn remove_numbered<S: Alter>(tx: &mut Transaction<'_, S>, num: i64) -> Result<(), Error>
     ensures same_reference { SameConnection tx.old tx.new }
     ensures removes { Within S.Store tx.old tx.new
@@ -80,7 +80,7 @@ fn remove_numbered<S: Alter>(tx: &mut Transaction<'_, S>, num: i64) -> Result<()
     Ok(())
 }
 
-/// Removes the entity of a kind and an id. It is an error where there is none.
+/// Removes the entity with a kind and an id. Returns an error if there is none.
 pub(crate) fn remove_entity<S: Alter>(
     alloc: Global,
     tx: &mut Transaction<'_, S>,

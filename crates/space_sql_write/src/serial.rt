@@ -7,7 +7,7 @@ ghost use Rattle.space_sql_write.specs.Statements.{Runs, RelaysSound};
 
 use sqlite::{Alter, Error, Transaction};
 
-/// The serial goes on by one.
+/// Increases the serial by one.
 pub(crate) fn raise_serial<S: Alter>(tx: &mut Transaction<'_, S>) -> Result<usize, Error>
     ensures same_reference { SameConnection tx.old tx.new }
     ensures raises { Within S.Store tx.old tx.new

@@ -1,5 +1,5 @@
-//! Rows of a subscription are inserted, that of the subscription before those of its cells, or take
-//! the place of older ones.
+//! Insertion and update of rows of a subscription, that of the subscription before those of its
+//! cells.
 ghost use Rattle.std.specs.Prelude.{[], ◌∷◌};
 ghost use Rattle.space_sql_schema.specs.Within.{SameConnection, Within};
 ghost use Rattle.space_sql_write.specs.Layout.{Always, HasSub, Relays, with_sub_cells, with_sub_row, without_sub_row};
@@ -40,7 +40,7 @@ pub(crate) fn insert_sub_row<S: Alter>(
     )
 }
 
-/// Puts the row of a subscription in the place of the one of its number.
+/// Updates the row of a subscription with its number.
 pub(crate) fn update_sub_row<S: Alter>(
     tx: &mut Transaction<'_, S>,
     row: &SubRow,

@@ -1,4 +1,4 @@
-//! A subscription is put in the place of the one that has its id.
+//! Storing of a subscription in place of the one with its id.
 ghost use Rattle.std.specs.Prelude.{◌≤ℤ◌, pos, []};
 ghost use Rattle.space_core.specs.declared.space.Change.TheVariants.{PutSub};
 ghost use Rattle.space_sql_schema.specs.Within.{SameConnection, Within};
@@ -15,8 +15,8 @@ use space_rows::sub::rows_of_sub;
 use sqlite::{Alter, Error, Transaction};
 use std::alloc::Global;
 
-// The rows of a subscription take the place of those of a number. Its row is changed and not
-// removed, since intents may name it.
+// Replaces the rows of a subscription with a number. Its row is updated and not removed, since
+// intents can reference it.
 fn replace_sub<S: Alter>(
     alloc: Global,
     tx: &mut Transaction<'_, S>,
@@ -50,8 +50,7 @@ fn insert_sub<S: Alter>(
     insert_all(tx, &cells)
 }
 
-// Stores the rows of a subscription, under the number of the one that has its id, or under its
-// serial.
+// Stores the rows of a subscription, under the number of the one with its id, or under its serial.
 fn store_sub<S: Alter>(alloc: Global, tx: &mut Transaction<'_, S>, sub: &Sub) -> Result<(), Error>
     ensures same_reference { SameConnection tx.old tx.new }
     ensures stores { Within S.Store tx.old tx.new (Runs (λ _. StoresSub sub.now)) result }
@@ -68,7 +67,7 @@ fn store_sub<S: Alter>(alloc: Global, tx: &mut Transaction<'_, S>, sub: &Sub) ->
     }
 }
 
-/// Puts a subscription. It keeps the number of the one that has its id, if there is one.
+/// Stores a subscription. It keeps the number of the one with its id, if there is one.
 pub(crate) fn put_sub<S: Alter>(
     alloc: Global,
     tx: &mut Transaction<'_, S>,

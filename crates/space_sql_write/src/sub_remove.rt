@@ -1,4 +1,4 @@
-//! The rows of a subscription are removed, cells first.
+//! Removal of the rows of a subscription, cells first.
 ghost use Rattle.std.specs.Prelude.{[]};
 ghost use Rattle.space_core.specs.declared.space.Change.TheVariants.{RemoveSub};
 ghost use Rattle.space_sql_schema.specs.Within.{SameConnection, Within};
@@ -34,7 +34,7 @@ fn clear_sub_row<S: Alter>(tx: &mut Transaction<'_, S>, num: i64) -> Result<usiz
     tx.execute("DELETE FROM subscription WHERE num = ?1", params![num])
 }
 
-/// Removes all rows of a subscription that no entity names.
+/// Removes all rows of a subscription that no entity references.
 pub(crate) fn clear_sub<S: Alter>(tx: &mut Transaction<'_, S>, num: i64) -> Result<(), Error>
     ensures same_reference { SameConnection tx.old tx.new }
     ensures clears { Within S.Store tx.old tx.new
@@ -45,8 +45,8 @@ pub(crate) fn clear_sub<S: Alter>(tx: &mut Transaction<'_, S>, num: i64) -> Resu
     Ok(())
 }
 
-/// Removes the subscription of an id. It is an error where there is none, or where an intent names
-/// it.
+/// Removes the subscription with an id. Returns an error if there is none, or if an intent
+/// references it.
 pub(crate) fn remove_sub<S: Alter>(
     alloc: Global,
     tx: &mut Transaction<'_, S>,

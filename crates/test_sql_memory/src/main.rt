@@ -1,10 +1,10 @@
-//! Serves streams of requests over tables in memory, and compares searches, for tests: no command
-//! of `dss` keeps its tables in memory.
+//! Serves streams of requests over tables in memory, and compares searches, for tests. No command
+//! of `dss` stores its tables in memory.
 //!
-//! The first word names the token file. Each further one is the name of a stream of requests, whose
-//! answers are printed, or `cell:` with the token of a cell: of each kind it is told how many of
-//! the references meet the cell, and whether the search by the index on cells and one that goes
-//! through all references find the same.
+//! The first argument is the token file. Each further one is the name of a stream of requests,
+//! whose responses are printed, or `cell:` with the token of a cell. For a cell, it prints for each
+//! kind how many of the references meet the cell. It also prints whether the search by the index
+//! finds the same as one through all references.
 #![tactic(auto)]
 
 use entity_core::entity::Entity;
@@ -23,10 +23,10 @@ use token_conf::token_table::TokenTable;
 use wire_http::{Counted, FixedClock, serve_stream};
 use wire_route::routes::Routes;
 
-/// The moment of each request, in seconds since 1970.
+/// The time of each request, in seconds since 1970.
 const NOW: u64 = 5_000;
 
-// Answers the requests of a file.
+// Serves the requests of a file.
 fn serve_file(
     rt: &HostRuntime,
     routes: &Routes,
@@ -50,12 +50,12 @@ fn serve_file(
     Some(())
 }
 
-// Whether they are the same references, in the same order.
+// Returns true if they are the same references, in the same order.
 fn are_same(found: &[Met], sought: &[Entity]) -> bool {
     found.len() == sought.len() && found.iter().zip(sought).all(|(m, e)| m.entity.id == e.id)
 }
 
-// Compares the search by the index with one that goes through all references of the kind.
+// Compares the search by the index with one through all references of the kind.
 fn compare_searches(
     rt: &HostRuntime,
     space: &mut SqlSpace<MemStore>,

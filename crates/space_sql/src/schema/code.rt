@@ -1,4 +1,4 @@
-//! Whether two expressions are one. Of operators it knows those that the rules of a table have:
+//! Equality of expressions. It knows the operators that the constraints of a table use:
 //! comparisons, AND and OR.
 ghost use Rattle.std.specs.Prelude.{◌≡◌, IsTrue};
 

@@ -1,12 +1,12 @@
-//! Whether two lists are one, element by element.
+//! Equality of two lists, element by element.
 ghost use Rattle.std.specs.Prelude.{◌≡◌, IsTrue};
 
 use sqlite_items::Items;
 use sqlite_value::value::Bytes;
 
-/// What can be found to be one.
+/// A value that can be tested for equality.
 pub(crate) trait Same {
-    /// Whether the two are one. It may say no of two that are.
+    /// Returns true only if the two are equal. It can return false for equal values.
     fn same(&self, other: &Self) -> bool
         ensures { IsTrue result → self.now ≡ other.now };
 }
