@@ -268,8 +268,8 @@ fn served_by_copy<A: Alter + Drop, M: Moments, L: Listen + Drop, T: TokenSource 
 ///
 /// It has a mirror as long as memory lasts, and watches the token file. The pending changes of a
 /// batch are committed at its end, all or none. What ended at least the retention ago is purged, a
-/// chunk at a time, as long as there is a mirror. With a quota, the stored
-/// entities and subscriptions of each USS are limited.
+/// chunk at a time, as long as there is a mirror. With a quota, the stored entities and
+/// subscriptions of each USS are limited.
 pub fn serve<F: Start, M: Moments, L: Listen + Drop, T: TokenSource + Drop, E: Write>(
     alloc: Global,
     space: SqlSpace<FileStore<FileFrom<F>>>,

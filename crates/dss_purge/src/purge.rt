@@ -13,8 +13,9 @@ const CHUNK: usize = 256;
 // More chunks than any space has.
 const MOST_CHUNKS: u64 = 4_294_967_296;
 
-/// Purges everything that ended at or before `until`, chunk by chunk, and returns how much that
-/// was. After a fault, the chunks before it stand.
+/// Purges what ended at or before `until`, chunk by chunk, and returns how much that was.
+///
+/// Keeps subscriptions that an intent still references. After a fault, the chunks before it stand.
 pub fn purge_space<S: PurgeEnded + Drop>(
     space: &mut S,
     until: u64,
