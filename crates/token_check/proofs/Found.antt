@@ -58,8 +58,8 @@ cons-none (Some text) rest h = let bad : true ≡ false = h in cc
 texts-turn : (values : List Value) (i : ℕ) (value : Value) → i < length values → value ≡ get_or values i value → texts_of (items_view (drop i values)) ≡ option_and_then (λ text. option_map (λ texts. text ∷ texts) (texts_of (items_view (drop (i + 1) values)))) (as_str (view value))
 texts-turn values i value within at = ap texts_of (items_view-drop values i value within ∙ ap (λ (v : Value). item (view v) (items_view (drop (i + 1) values))) (sym at))
 
--- If the first value is a text, the values from an index are all texts exactly if those after it
--- are.
+-- If the value at an index is a text, the values from there on are all texts exactly if those after
+-- it are.
 pub texts-go_on : (values : List Value) (i : ℕ) (value : Value) → i < length values → value ≡ get_or values i value → is_some (as_str (view value)) ≡ true → is_some (texts_of (items_view (drop i values))) ≡ is_some (texts_of (items_view (drop (i + 1) values)))
 texts-go_on values i value within at some = ap is_some (texts-turn values i value within at) ∙ cons-some (as_str (view value)) _ some
 
