@@ -10,8 +10,8 @@ use space_sql::space::SqlSpace;
 use sqlite::{Alter, FileFrom, FileStore, Start};
 use wire_http::Moments;
 
-/// States that the next start of `serve` finds what the clients of this one were told as done, once
-/// it is closed.
+/// States that the next start of `serve` finds what this one, once it is closed, has reported to
+/// its clients as done.
 ///
 /// It relates what `opened` opens (clause `finds`), what `serve` then closes (clause `served`), and
 /// what `SqlSpace::open` opens next.

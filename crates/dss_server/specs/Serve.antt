@@ -47,8 +47,8 @@ moments_of all = map (λ asked. asked.moment) all
 module _ {S M : Type 0} (g : spaces.Ghosts S) (k : settles.Ghosts S) (m : moments.Ghosts M)
     (callers : Callers) where
   -- States that the service executed exactly these calls of requests, in this order, under one
-  -- table of callers. The calls form batches, and each batch was committed or rolled back at its
-  -- end.
+  -- table of callers. The calls form batches. Each batch ended with a commit, which may have
+  -- failed.
   pub record ServesBy (old new : Service S) (clock clock' : M) : Type 0 where
     pub all : List RequestCall
     pub batches : List Batch
@@ -109,7 +109,7 @@ module _ {S M : Type 0} (g : spaces.Ghosts S) (k : settles.Ghosts S) (m : moment
   -- States that the service executed exactly these calls of requests, in one order for all clients.
   -- Each call was checked against one token table. The first table is that of the start. Each later
   -- one was read whole from the token file as it then was, and has the same salt.
-  -- The calls form batches, and each batch was committed or rolled back at its end. A client whose
+  -- The calls form batches. Each batch ended with a commit, which may have failed. A client whose
   -- reply was deferred received it unchanged only if the changes were committed.
   -- Purge chunks ran between batches. They removed only what had ended at least the retention
   -- before a time of the clock. Without a retention nothing was purged.

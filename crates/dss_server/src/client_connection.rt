@@ -170,8 +170,8 @@ impl<T: Socket> ClientConnection<T> {
         self.has_place = false;
     }
 
-    /// Returns the fault of a client whose timeout has passed. A client that has no open request
-    /// and no unread response has none.
+    /// Returns the fault of a client whose timeout has passed. Returns `None` if the client is idle
+    /// or closing.
     pub(crate) fn late_fault(&self) -> Option<StreamFault> {
         match self.phase {
             Phase::Idle | Phase::Ending => None,
